@@ -1,0 +1,4 @@
+pub mod Number
+pub mod Checksum
+pub mod Base
+pub mod Value

@@ -1,0 +1,18 @@
+-- The number whose bytes a field has (FIT protocol, "Base types").
+use Rattle.std.specs.Prelude.{ℕ, ◌+◌, ◌*◌, ◌-◌, ◌^◌, ◌-ℤ◌, ℤ, pos, List, [], ◌∷◌, reverse, nat_lt, if◌then◌else◌}
+use Rattle.fit_base.specs.declared.order.Arch.{Arch}
+use Rattle.fit_base.specs.declared.order.Arch.TheVariants.{Little, Big}
+
+-- the sum of byte i times 256 ^ i, counted from the front
+abbrev pub low_first : List ℕ → ℕ
+low_first [] = 0
+low_first (byte ∷ bytes) = byte + 256 * low_first bytes
+
+-- the same sum, counted from the front or from the back
+abbrev pub number : Arch → List ℕ → ℕ
+number Little bytes = low_first bytes
+number Big bytes = low_first (reverse bytes)
+
+-- a number of this many bytes, read as two's complement
+abbrev pub twos_complement : ℕ → ℕ → ℤ
+twos_complement size n = if nat_lt n (2 ^ (8 * size - 1)) then pos n else pos n -ℤ pos (2 ^ (8 * size))
