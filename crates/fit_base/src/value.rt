@@ -70,4 +70,31 @@ impl<'a> FieldValue<'a> {
             0
         }
     }
+
+    /// The number of the value at this index, below `count`. Of a type with a sign it is the number
+    /// before the sign is read, and of a float its bits.
+    pub fn unsigned(&self, i: usize) -> u64
+        requires { i < count_of self.now }
+        ensures { result ≡ unsigned_at self.now i }
+    {
+        let Some(base) = BaseType::of(self.base) else {
+            unreachable!();
+        };
+        let size = base.size();
+        number_of(self.arch, &self.bytes[i * size..i * size + size])
+    }
+
+    /// Whether the value at this index, below `count`, is its type's invalid value, which stands for
+    /// no value. Of the type `byte` every value is invalid exactly where all bytes of the field are
+    /// FF.
+    pub fn is_invalid(&self, i: usize) -> bool
+        requires { i < count_of self.now }
+        ensures { IsTrue result ↔ IsInvalidAt self.now i }
+    {
+        match BaseType::of(self.base) {
+            Some(BaseType::Byte) => self.bytes.iter().all(|byte| *byte == 0xFF),
+            Some(base) => self.unsigned(i) == base.invalid(),
+            None => unreachable!(),
+        }
+    }
 }
