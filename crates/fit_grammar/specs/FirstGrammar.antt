@@ -1,8 +1,7 @@
 -- The files that are read so far: a header of 14 bytes and records that are nothing, one plain definition of
 -- message 0, or that and one data message. Everything else of the grammar is refused as not read yet.
-use Rattle.std.specs.Prelude.{◌≡◌, ◌≢◌, ℕ, ◌<◌, ◌≤◌, List, [], ◌∷◌, ◌++◌, length, All, Option, None, Some, IsSomeAnd, ◌⊎◌}
+use Rattle.std.specs.Prelude.{◌≡◌, ◌≢◌, ℕ, ◌<◌, ◌≤◌, List, [], ◌∷◌, ◌++◌, length, All, None, Some, ◌⊎◌}
 use Rattle.fit_base.specs.declared.order.Arch.TheVariants.{Little}
-use Rattle.fit_base.specs.Base.{base_type, row_of}
 use Rattle.fit_grammar.specs.declared.definition.FieldDefinition.{FieldDefinition}
 use Rattle.fit_grammar.specs.declared.definition.Definition.{Definition}
 use Rattle.fit_grammar.specs.declared.fault.FaultKind.{FaultKind}
@@ -83,4 +82,4 @@ abbrev pub IsFaultOf : List ℕ → FileFault → Type 0
 IsFaultOf bytes fault =
     ((fault.kind ≢ Memory) × FirstRefusal bytes fault.kind fault.place)
     ⊎ ((fault.kind ≡ Memory) × ItemBeginsAt bytes fault.place
-       × ((kind : FaultKind) (place : ℕ) → FirstRefusal bytes kind place → fault.place ≤ place))
+    × ((kind : FaultKind) (place : ℕ) → FirstRefusal bytes kind place → fault.place ≤ place))

@@ -1,13 +1,13 @@
 -- The refusal of bytes that are no file: what their shortest beginning that shows a fault shows.
-use Rattle.std.specs.Prelude.{◌≡◌, ◌≢◌, ℕ, ◌+◌, ◌*◌, ◌/◌, ◌<◌, ◌≤◌, List, [], ◌∷◌, ◌++◌, length, take, slice_index, slice_range, Option, None, Some, IsSomeAnd, ◌⊎◌}
+use Rattle.std.specs.Prelude.{◌≡◌, ◌≢◌, ℕ, ◌+◌, ◌*◌, ◌/◌, ◌<◌, ◌≤◌, List, [], ◌∷◌, ◌++◌, length, take, slice_index, slice_range, Option, None, IsSomeAnd, ◌⊎◌}
 use Rattle.fit_base.specs.Number.{low_first}
 use Rattle.fit_base.specs.Checksum.{crc}
 use Rattle.fit_grammar.specs.declared.frame.Frame.{Frame}
 use Rattle.fit_grammar.specs.declared.fault.FaultKind.{FaultKind}
-use Rattle.fit_grammar.specs.declared.fault.FaultKind.TheVariants.{Truncated, HeaderSize, Magic, Protocol, HeaderCrc, UndefinedLocal, SplitMessage, FileCrc, TrailingBytes, Memory, Developer, NotYet}
+use Rattle.fit_grammar.specs.declared.fault.FaultKind.TheVariants.{Truncated, HeaderSize, Magic, Protocol, HeaderCrc, UndefinedLocal, SplitMessage, FileCrc, TrailingBytes, Developer}
 use Rattle.fit_grammar.specs.Item.{Item, head_of, DefinitionHead, DeveloperHead, DataHead, content_size}
 use Rattle.fit_grammar.specs.Records.{in_force, Records}
-use Rattle.fit_grammar.specs.File.{FileValue, FileOf, IsHeader, IsClosing, ChecksHeader, mark}
+use Rattle.fit_grammar.specs.File.{IsHeader, IsClosing, ChecksHeader, mark}
 
 -- a good header and a row of whole items, at the front of a file
 pub record Front : Type 0 where
@@ -45,8 +45,8 @@ abbrev pub SplitsAtFirst : Front → List ℕ → Type 0
 SplitsAtFirst front tail =
     (byte : ℕ) × (tail ≡ byte ∷ [])
     × (((local : ℕ) × (head_of byte ≡ DefinitionHead local) × (front.size < length front.records + 6))
-       ⊎ ((local : ℕ) × (offset : Option ℕ) × (head_of byte ≡ DataHead local offset)
-          × IsSomeAnd (in_force front.items local) (λ d. front.size < length front.records + (1 + content_size d))))
+    ⊎ ((local : ℕ) × (offset : Option ℕ) × (head_of byte ≡ DataHead local offset)
+    × IsSomeAnd (in_force front.items local) (λ d. front.size < length front.records + (1 + content_size d))))
 
 -- six bytes of a definition show that the whole of it passes the end of the data
 abbrev pub SplitsAtCount : Front → List ℕ → Type 0
