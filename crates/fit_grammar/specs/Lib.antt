@@ -1,5 +1,6 @@
 pub mod Item
 pub mod Records
+pub mod Table
 pub mod Message
 pub mod File
 pub mod Refusal

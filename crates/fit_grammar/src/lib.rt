@@ -4,7 +4,9 @@
 mod definition;
 mod fault;
 mod frame;
+mod table;
 
 pub use definition::{Definition, FieldDefinition};
 pub use fault::{FaultKind, FileFault};
 pub use frame::Frame;
+pub use table::Table;
