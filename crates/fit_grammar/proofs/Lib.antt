@@ -1,2 +1,4 @@
 pub mod Spelling
+pub mod Steps
 pub mod InForce
+pub mod Reading

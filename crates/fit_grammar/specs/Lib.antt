@@ -1,6 +1,7 @@
 pub mod Item
 pub mod Records
 pub mod Table
+pub mod Step
 pub mod Message
 pub mod File
 pub mod Refusal
