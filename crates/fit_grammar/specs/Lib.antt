@@ -1,5 +1,6 @@
 pub mod Item
 pub mod Records
+pub mod Reading
 pub mod Table
 pub mod Step
 pub mod Message

@@ -8,6 +8,7 @@ ghost use Rattle.fit_grammar.specs.Step.{IsStep, IsStepItem, ItemAtFront, ItemBe
 
 use crate::definition::Definition;
 use crate::head::{Head, read_head};
+use crate::spelled::DefinitionMessage;
 use crate::table::Table;
 
 /// A data message, lent from the window that it was read from and the table of definitions.
@@ -23,10 +24,10 @@ pub struct DataMessage<'a> {
     pub content: &'a [u8],
 }
 
-/// An item of a file's records.
+/// An item of a file's records. It holds a few words, and no definition.
 #[derive(Drop)]
 pub enum Item<'a> {
-    Definition(Definition),
+    Definition(DefinitionMessage<'a>),
     Data(DataMessage<'a>),
 }
 
@@ -118,7 +119,8 @@ fn next_definition<'a>(window: &'a [u8]) -> Step<'a>
     if window.len() < used {
         return Step::NeedMore;
     }
-    Step::Item(Item::Definition(Definition::read(window)), used)
+    let message = DefinitionMessage::new(&window[..used]);
+    Step::Item(Item::Definition(message), used)
 }
 
 // The data message at the front of the window under this definition, where all of it is there.
