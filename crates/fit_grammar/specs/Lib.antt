@@ -4,6 +4,8 @@ pub mod Reading
 pub mod Table
 pub mod Step
 pub mod Message
+pub mod Lent
+pub mod Shown
 pub mod File
 pub mod Refusal
 pub mod FirstGrammar
