@@ -1,3 +1,4 @@
+pub mod Encoding
 pub mod Spelling
 pub mod Steps
 pub mod Stated

@@ -13,6 +13,7 @@ mod message;
 mod spelled;
 mod table;
 mod time;
+mod writing;
 
 pub use data::DataMessage;
 pub use definition::{Definition, FieldDefinition};
@@ -23,3 +24,4 @@ pub use item::{Item, ItemFault, Step, least_length, next_item};
 pub use message::{Message, message_of};
 pub use spelled::DefinitionMessage;
 pub use table::Table;
+pub use writing::{write_data, write_definition};
