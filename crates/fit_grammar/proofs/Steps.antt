@@ -33,11 +33,11 @@ item_not_begun f window i used p q =
     absurd (omega (arith, none, length-append (drop used window) q.rest))
 
 -- the head of an item
-abbrev item_head : Item → Head
+abbrev pub item_head : Item → Head
 item_head (Defines d) = DefinitionHead d.local
 item_head (Data local offset content) = DataHead local offset
 
-spelling_head : (i : Item) (a x rest : List ℕ) (byte : ℕ) → Spells i a → a ++ x ≡ byte ∷ rest → head_of byte ≡ item_head i
+pub spelling_head : (i : Item) (a x rest : List ℕ) (byte : ℕ) → Spells i a → a ++ x ≡ byte ∷ rest → head_of byte ≡ item_head i
 spelling_head (Defines d) a x rest byte p e =
     let laid = sym (ap (λ (z : List ℕ). z ++ x) p.laid_out) ∙ e in
     let first : byte ≡ p.first = cc in
