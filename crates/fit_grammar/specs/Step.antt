@@ -42,6 +42,11 @@ abbrev pub least_length_of : (ℕ → Option Definition) → List ℕ → Result
 least_length_of definition_for [] = Ok 1
 least_length_of definition_for (first ∷ rest) = length_by definition_for (head_of first) (first ∷ rest)
 
+-- a spelling of this whole length has at least so many bytes, and exactly so many where six bytes of it are there
+pub record IsLeastLength (n there whole : ℕ) : Type 0 where
+  pub least : n ≤ whole
+  pub exact : 6 ≤ there → n ≡ whole
+
 -- the first bytes of the window spell the item, which is defined
 pub record ItemAtFront (definition_for : ℕ → Option Definition) (window : List ℕ) (item : Item) (used : ℕ) : Type 0 where
   pub within : used ≤ length window

@@ -1,10 +1,11 @@
 // Reading one item from the front of a window of bytes.
 
-ghost use Rattle.std.specs.Prelude.{◌≡◌, ◌≤◌, ℕ, Option, length, slice_index};
+ghost use Rattle.std.specs.Prelude.{◌≡◌, ◌≤◌, ◌++◌, ℕ, List, Option, IfOk, length, slice_index};
 ghost use Rattle.fit_grammar.specs.declared.definition.Definition.{Definition as AnyDefinition};
-ghost use Rattle.fit_grammar.specs.Item.{Item as AnyItem, head_of, DefinitionHead, DataHead};
+ghost use Rattle.fit_grammar.specs.Item.{Item as AnyItem, Spells, head_of, DefinitionHead, DataHead};
+ghost use Rattle.fit_grammar.specs.Records.{IsDefinedBy};
 ghost use Rattle.fit_grammar.specs.Table.{definition_in};
-ghost use Rattle.fit_grammar.specs.Step.{IsStep, IsStepItem, ItemAtFront, ItemBegun, ShowsUndefined, ShowsDeveloper, least_length_of, definition_length_of};
+ghost use Rattle.fit_grammar.specs.Step.{IsLeastLength, IsStep, IsStepItem, ItemAtFront, ItemBegun, ShowsUndefined, ShowsDeveloper, least_length_of, definition_length_of};
 
 use crate::data::DataMessage;
 use crate::definition::Definition;
@@ -41,6 +42,16 @@ pub enum Step<'a> {
 /// How many bytes the item at the front of the window has at least, as far as the window shows. Of a
 /// data message and of six bytes of a definition it is the number of all its bytes.
 pub fn least_length(window: &[u8], table: &Table) -> Result<usize, ItemFault>
+    ensures answer { result ≡ least_length_of (definition_in table.now) window.now }
+    // What that says of each item that the window begins.
+    ensures holds { (i : AnyItem) (rest : List ℕ) → Spells i (window.now ++ rest) → IsDefinedBy (definition_in table.now) i
+        → IfOk result (λ n. IsLeastLength n (length window.now) (length (window.now ++ rest))) }
+{
+    length_at(window, table)
+}
+
+// The same, by the first byte.
+fn length_at(window: &[u8], table: &Table) -> Result<usize, ItemFault>
     ensures { result ≡ least_length_of (definition_in table.now) window.now }
 {
     let [first, ..] = window else {
