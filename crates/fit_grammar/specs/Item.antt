@@ -1,0 +1,61 @@
+-- Items, which are definitions and data messages, and the bytes that spell them (FIT protocol, "Records").
+use Rattle.std.specs.Prelude.{◌≡◌, ℕ, ◌/◌, ◌%◌, List, [], ◌∷◌, length, flat_map, sum_by, Option, Some, None, nat_lt, ◌==◌, if◌then◌else◌}
+use Rattle.fit_base.specs.declared.order.Arch.{Arch}
+use Rattle.fit_base.specs.declared.order.Arch.TheVariants.{Little, Big}
+use Rattle.fit_base.specs.Number.{number}
+use Rattle.fit_grammar.specs.declared.definition.FieldDefinition.{FieldDefinition}
+use Rattle.fit_grammar.specs.declared.definition.Definition.{Definition}
+
+-- a definition; or a data message with its local number, the time offset of a compressed timestamp, and its content
+pub data Item : Type 0 where
+  Defines : Definition → Item
+  Data : ℕ → Option ℕ → List ℕ → Item
+
+-- what the first byte of an item says: a definition of a local number, one that announces developer fields,
+-- or data of a local number, with a time offset or none
+pub data Head : Type 0 where
+  DefinitionHead : ℕ → Head
+  DeveloperHead : Head
+  DataHead : ℕ → Option ℕ → Head
+
+-- bit 7 compresses a timestamp beside the local number in bits 5 and 6; else bit 6 tells definitions from data,
+-- bit 5 of a definition announces developer fields, and bits 0 to 3 are the local number; other bits are reserved
+abbrev pub head_of : ℕ → Head
+head_of byte =
+    if nat_lt byte 64 then DataHead (byte % 16) None
+    else if nat_lt byte 128 then (if byte / 32 % 2 == 0 then DefinitionHead (byte % 16) else DeveloperHead)
+    else DataHead (byte / 32 % 4) (Some (byte % 32))
+
+-- the low bit of the architecture byte decides
+abbrev pub arch_of : ℕ → Arch
+arch_of byte = if byte % 2 == 0 then Little else Big
+
+-- the three bytes of a field in a definition
+abbrev pub field_bytes : FieldDefinition → List ℕ
+field_bytes field = field.number ∷ field.size ∷ field.base ∷ []
+
+-- the bytes of a definition; those named here may be anything that says what it has to
+pub record SpellsDefinition (d : Definition) (bytes : List ℕ) : Type 0 where
+  pub first : ℕ
+  pub reserved : ℕ
+  pub architecture : ℕ
+  pub global_1 : ℕ
+  pub global_2 : ℕ
+  pub laid_out : bytes ≡ first ∷ reserved ∷ architecture ∷ global_1 ∷ global_2 ∷ length d.fields.items ∷ flat_map field_bytes d.fields.items
+  pub head : head_of first ≡ DefinitionHead d.local
+  pub arch : arch_of architecture ≡ d.arch
+  pub global : number d.arch (global_1 ∷ global_2 ∷ []) ≡ d.global
+
+-- the bytes of a data message
+pub record SpellsData (local : ℕ) (offset : Option ℕ) (content bytes : List ℕ) : Type 0 where
+  pub first : ℕ
+  pub laid_out : bytes ≡ first ∷ content
+  pub head : head_of first ≡ DataHead local offset
+
+abbrev pub Spells : Item → List ℕ → Type 0
+Spells (Defines d) bytes = SpellsDefinition d bytes
+Spells (Data local offset content) bytes = SpellsData local offset content bytes
+
+-- how many bytes of content a data message has under a definition
+abbrev pub content_size : Definition → ℕ
+content_size d = sum_by (λ field. field.size) d.fields.items

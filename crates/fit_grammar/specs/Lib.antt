@@ -1,0 +1,10 @@
+pub mod Item
+pub mod Records
+pub mod Message
+pub mod File
+pub mod Refusal
+pub mod FirstGrammar
+pub use Rattle.fit_base.specs.Number
+pub use Rattle.fit_base.specs.Checksum
+pub use Rattle.fit_base.specs.Base
+pub use Rattle.fit_base.specs.Value

@@ -1,0 +1,38 @@
+-- Rows of items under the definitions in force (FIT protocol, "Records").
+use Rattle.std.specs.Prelude.{◌≡◌, ℕ, List, [], ◌∷◌, ◌++◌, length, Option, Some, None, ◌==◌, if◌then◌else◌, IsSomeAnd}
+use Rattle.std.specs.Option.{option_or}
+use Rattle.fit_grammar.specs.declared.definition.Definition.{Definition}
+use Rattle.fit_grammar.specs.Item.{Item, Defines, Data, Spells, content_size}
+
+-- the definition that an item gives to a local number
+abbrev pub definition_by : Item → ℕ → Option Definition
+definition_by (Defines d) local = if d.local == local then Some d else None
+definition_by (Data _ _ _) local = None
+
+-- the definition in force behind these items: the last one with the local number
+abbrev pub in_force : List Item → ℕ → Option Definition
+in_force [] local = None
+in_force (item ∷ items) local = option_or (in_force items local) (definition_by item local)
+
+-- a data message has a definition in force whose sizes add up to the length of its content
+abbrev pub IsDefined : List Item → Item → Type 0
+IsDefined before (Defines d) = Unit {0}
+IsDefined before (Data local offset content) =
+    IsSomeAnd (in_force before local) (λ d. content_size d ≡ length content)
+
+-- the bytes, behind an item's own, and the item
+pub record Begins (before : List Item) (item : Item) (bytes rest : List ℕ) : Type 0 where
+  pub own : List ℕ
+  pub joined : bytes ≡ own ++ rest
+  pub spelled : Spells item own
+  pub defined : IsDefined before item
+
+-- behind the items before, the bytes are spellings of these items, in order, joined
+abbrev pub RecordsAfter : List Item → List ℕ → List Item → Type 0
+RecordsAfter before bytes [] = bytes ≡ []
+RecordsAfter before bytes (item ∷ items) =
+    (rest : List ℕ) × Begins before item bytes rest × RecordsAfter (before ++ item ∷ []) rest items
+
+-- the bytes are spellings of the items, in order, joined, each data message with its definition
+abbrev pub Records : List ℕ → List Item → Type 0
+Records bytes items = RecordsAfter [] bytes items

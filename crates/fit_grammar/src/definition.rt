@@ -1,0 +1,24 @@
+use arrayvec::ArrayVec;
+use fit_base::Arch;
+
+/// A field as a definition gives it: its number in the profile, how many bytes it has, and its base type
+/// byte. Three bytes in a definition message.
+#[derive(Clone, Copy, Debug, PartialEq, Eq)]
+pub struct FieldDefinition {
+    pub number: u8,
+    pub size: u8,
+    pub base: u8,
+}
+
+/// A definition message: how the data messages with its local number are laid out, until the next
+/// definition of that local number.
+#[derive(Debug, Drop)]
+pub struct Definition {
+    /// The local message number, 0 to 15.
+    pub local: u8,
+    /// The architecture of the definition's and the data messages' numbers.
+    pub arch: Arch,
+    /// The global message number of the profile.
+    pub global: u16,
+    pub fields: ArrayVec<FieldDefinition, 255>,
+}

@@ -1,0 +1,36 @@
+/// What is wrong with the bytes of a file.
+#[derive(Clone, Copy, Debug, PartialEq, Eq)]
+pub enum FaultKind {
+    /// The input ends before the closing checksum is whole.
+    Truncated,
+    /// Byte 0 is not 12 or 14.
+    HeaderSize,
+    /// Bytes 8 to 11 are not `.FIT`.
+    Magic,
+    /// The major protocol version is not 1 or 2.
+    Protocol,
+    /// The header's checksum is given and wrong.
+    HeaderCrc,
+    /// A data message of a local number that has no definition in force.
+    UndefinedLocal(u8),
+    /// An item passes the end of the data.
+    SplitMessage,
+    /// The closing checksum is wrong.
+    FileCrc,
+    /// A byte follows the closing checksum.
+    TrailingBytes,
+    /// A growth was refused.
+    Memory,
+    /// A definition announces developer fields.
+    Developer,
+    /// The file is a FIT file, of a form that is not read yet.
+    NotYet,
+}
+
+/// Why bytes are not read as a file: the first check that fails, in the order of the bytes, and its place,
+/// an offset in bytes from the front of the file.
+#[derive(Clone, Copy, Debug, PartialEq, Eq)]
+pub struct FileFault {
+    pub kind: FaultKind,
+    pub place: usize,
+}
