@@ -14,11 +14,15 @@ abbrev pub in_force : List Item → ℕ → Option Definition
 in_force [] local = None
 in_force (item ∷ items) local = option_or (in_force items local) (definition_by item local)
 
--- a data message has a definition in force whose sizes add up to the length of its content
+-- where local numbers have these definitions, a data message has one whose sizes add up to the length of its content
+abbrev pub IsDefinedBy : (ℕ → Option Definition) → Item → Type 0
+IsDefinedBy definition_for (Defines d) = Unit {0}
+IsDefinedBy definition_for (Data local offset content) =
+    IsSomeAnd (definition_for local) (λ d. content_size d ≡ length content)
+
+-- the same behind these items
 abbrev pub IsDefined : List Item → Item → Type 0
-IsDefined before (Defines d) = Unit {0}
-IsDefined before (Data local offset content) =
-    IsSomeAnd (in_force before local) (λ d. content_size d ≡ length content)
+IsDefined before item = IsDefinedBy (in_force before) item
 
 -- the bytes, behind an item's own, and the item
 pub record Begins (before : List Item) (item : Item) (bytes rest : List ℕ) : Type 0 where
