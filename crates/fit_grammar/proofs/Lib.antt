@@ -1,0 +1,12 @@
+pub mod Spelling
+pub mod Alignment
+pub mod Headers
+pub mod Quiet
+pub mod Fronts
+pub mod Blocked
+pub mod NotYetQuiet
+pub mod Refused
+pub mod Accepted
+pub mod Closed
+pub mod HeaderRefused
+pub mod WantOfMemory
