@@ -4,16 +4,14 @@ use Rattle.std.specs.Prelude.{slice_index, IsSomeAnd}
 use Rattle.std.proofs.lemmas.List.{length-append, get_or-take, take-append-drop, length-take-le}
 use Rattle.fit_grammar.specs.declared.definition.Definition.{Definition}
 use Rattle.fit_grammar.specs.declared.fault.FaultKind.{FaultKind}
-use Rattle.fit_grammar.specs.declared.fault.FaultKind.TheVariants.{Truncated, HeaderSize, Magic, Protocol, HeaderCrc, UndefinedLocal, SplitMessage, FileCrc, TrailingBytes, Memory, Developer, NotYet}
+use Rattle.fit_grammar.specs.declared.fault.FaultKind.TheVariants.{Truncated, HeaderSize, Magic, Protocol, HeaderCrc, UndefinedLocal, SplitMessage, FileCrc, TrailingBytes, Memory, Developer}
 use Rattle.fit_grammar.specs.Item.{Item, Head, head_of, DefinitionHead, DeveloperHead, DataHead, content_size}
 use Rattle.fit_grammar.specs.Records.{in_force}
-use Rattle.fit_grammar.specs.Refusal.{Front, front_bytes, front_end, TailShows, SplitsAtFirst, SplitsAtCount}
-use Rattle.fit_grammar.specs.FirstGrammar.{FirstRefusal, PassesFirst}
+use Rattle.fit_grammar.specs.Refusal.{Front, front_bytes, front_end, IsFront, TailShows, SplitsAtFirst, SplitsAtCount, Refusal}
 use Rattle.fit_grammar.proofs.Spelling.{spelling_not_empty}
 use Rattle.fit_grammar.proofs.Quiet.{ItemInside, item_quiet}
 use Rattle.fit_grammar.proofs.Blocked.{Blocked, Mute, tail_not_empty}
-use Rattle.fit_grammar.proofs.NotYetQuiet.{IsFirstFront}
-use Rattle.fit_grammar.proofs.Refused.{Stands, refused, refused_not_yet, cut_short}
+use Rattle.fit_grammar.proofs.Refused.{Stands, refused, cut_short}
 
 -- the first byte behind a front shows no fault: it begins an item whose least length is within the data
 abbrev pub AcceptsHead : Front → Head → Type 0
@@ -63,31 +61,23 @@ accepted_mute Magic f byte after tail more lt a e n sh = sh
 accepted_mute HeaderCrc f byte after tail more lt a e n sh = sh
 accepted_mute Truncated f byte after tail more lt a e n sh = sh
 accepted_mute Memory f byte after tail more lt a e n sh = sh
-accepted_mute NotYet f byte after tail more lt a e n sh = sh
 
 -- fewer than six bytes do not show a number of fields
 few_quiet : (f : Front) (tail : List ℕ) → length tail < 6 → SplitsAtCount f tail → ⊥
 few_quiet f tail lt h = omega (arith, h.0)
 
 -- nothing shorter than one byte shows a fault
-pub stands_one : (b : List ℕ) (f : Front) (rest : List ℕ) → IsFirstFront f → b ≡ front_bytes f ++ rest → Stands b f rest 1
+pub stands_one : (b : List ℕ) (f : Front) (rest : List ℕ) → IsFront f → b ≡ front_bytes f ++ rest → Stands b f rest 1
 stands_one b f rest p e = record {
-  first = p; joined = e;
+  is_front = p; joined = e;
   blocked = λ more. absurd (omega arith);
   mute = λ kind tail after is lt shown. omega (arith, tail_not_empty kind f tail shown);
-  passed = λ byte after is more lt. absurd (omega arith);
 }
 
--- the first byte passes the first grammar
-pub head_not_yet : (b : List ℕ) (f : Front) (byte : ℕ) (after : List ℕ) → IsFirstFront f → b ≡ front_bytes f ++ (byte ∷ after) → length f.records < f.size → AcceptsHead f (head_of byte) → PassesFirst f.items (head_of byte) → FirstRefusal b NotYet (front_end f)
-head_not_yet b f byte after p e lt a passes =
-    refused_not_yet b f byte after (stands_one b f (byte ∷ after) p e)
-    (λ kind tail more is short shown. accepted_mute kind f byte after tail more lt a is (few_quiet f tail (omega arith)) shown) lt passes
-
 -- a definition whose number of fields shows that it passes the end of the data
-pub count_refused : (b : List ℕ) (f : Front) (byte : ℕ) (after : List ℕ) → IsFirstFront f → b ≡ front_bytes f ++ (byte ∷ after) → length f.records < f.size → AcceptsHead f (head_of byte) → (PassesFirst f.items (head_of byte) → ⊥)
-    → (local : ℕ) → head_of byte ≡ DefinitionHead local → 6 ≤ length (byte ∷ after) → f.size < length f.records + (6 + 3 * slice_index (byte ∷ after) 5) → FirstRefusal b SplitMessage (front_end f)
-count_refused b f byte after p e lt a first local head six past =
+pub count_refused : (b : List ℕ) (f : Front) (byte : ℕ) (after : List ℕ) → IsFront f → b ≡ front_bytes f ++ (byte ∷ after) → length f.records < f.size → AcceptsHead f (head_of byte) 
+    → (local : ℕ) → head_of byte ≡ DefinitionHead local → 6 ≤ length (byte ∷ after) → f.size < length f.records + (6 + 3 * slice_index (byte ∷ after) 5) → Refusal b SplitMessage (front_end f)
+count_refused b f byte after p e lt a local head six past =
     let rest = byte ∷ after in
     let tail = take 6 rest in
     let parts : tail ++ drop 6 rest ≡ rest = take-append-drop 6 rest in
@@ -98,28 +88,25 @@ count_refused b f byte after p e lt a first local head six past =
       omega (arith, past, get_or-take 6 rest 5 0 (omega arith))
     ) in
     refused SplitMessage b f tail (drop 6 rest) (record {
-      first = p; joined = e ∙ ap (λ (l : List ℕ). front_bytes f ++ l) (sym parts);
+      is_front = p; joined = e ∙ ap (λ (l : List ℕ). front_bytes f ++ l) (sym parts);
       blocked = λ _ item own u joined inside. item_quiet SplitMessage f tail (drop 6 rest) item own u inside (sym joined) (lt, inr shown);
       mute = λ kind t more is short sh. accepted_mute kind f byte after t more lt a (sym parts ∙ is) (few_quiet f t (omega arith)) sh;
-      passed = λ other more is two less passes. first (subst (λ (n : ℕ). PassesFirst f.items (head_of n)) (sym (ap (λ (l : List ℕ). slice_index l 0) (sym parts ∙ is))) passes);
     }) (lt, inr shown)
 
 -- the bytes end within an item that has begun
-pub ends_within : (b : List ℕ) (f : Front) (byte : ℕ) (after : List ℕ) → IsFirstFront f → b ≡ front_bytes f ++ (byte ∷ after) → length f.records < f.size → AcceptsHead f (head_of byte) → (PassesFirst f.items (head_of byte) → ⊥)
-    → Blocked f (byte ∷ after) → ((tail more : List ℕ) → byte ∷ after ≡ tail ++ more → SplitsAtCount f tail → ⊥) → FirstRefusal b Truncated (length b)
-ends_within b f byte after p e lt a first blocked count =
+pub ends_within : (b : List ℕ) (f : Front) (byte : ℕ) (after : List ℕ) → IsFront f → b ≡ front_bytes f ++ (byte ∷ after) → length f.records < f.size → AcceptsHead f (head_of byte) 
+    → Blocked f (byte ∷ after) → ((tail more : List ℕ) → byte ∷ after ≡ tail ++ more → SplitsAtCount f tail → ⊥) → Refusal b Truncated (length b)
+ends_within b f byte after p e lt a blocked count =
     cut_short b f (byte ∷ after) (record {
-      first = p; joined = e; blocked = λ _. blocked;
+      is_front = p; joined = e; blocked = λ _. blocked;
       mute = λ kind tail more is short shown. accepted_mute kind f byte after tail more lt a is (count tail more is) shown;
-      passed = λ other more is two less passes. first (subst (λ (n : ℕ). PassesFirst f.items (head_of n)) (sym (ap (λ (l : List ℕ). slice_index l 0) is)) passes);
     }) blocked (λ full. absurd (omega arith))
 
 -- the bytes end where an item is to begin
-pub ends_before : (b : List ℕ) (f : Front) → IsFirstFront f → b ≡ front_bytes f ++ [] → length f.records < f.size → FirstRefusal b Truncated (length b)
+pub ends_before : (b : List ℕ) (f : Front) → IsFront f → b ≡ front_bytes f ++ [] → length f.records < f.size → Refusal b Truncated (length b)
 ends_before b f p e lt =
     let blocked : Blocked f [] = λ item own u joined inside. omega (arith, ap length joined, length-append own u, spelling_not_empty item own inside.spelled) in
     cut_short b f [] (record {
-      first = p; joined = e; blocked = λ _. blocked;
+      is_front = p; joined = e; blocked = λ _. blocked;
       mute = λ kind tail more is short shown. omega (arith, tail_not_empty kind f tail shown, ap length is, length-append tail more);
-      passed = λ byte more is two less. absurd (omega arith);
     }) blocked (λ full. absurd (omega arith))

@@ -3,12 +3,13 @@ use Rattle.std.proofs.Common.{◌≡◌, ℕ, ◌+◌, ◌<◌, ◌≤◌, List,
 use Rattle.std.proofs.lemmas.List.{length-append, length-take, append-nil}
 use Rattle.fit_grammar.specs.declared.frame.Frame.{Frame}
 use Rattle.fit_grammar.specs.declared.fault.FaultKind.{FaultKind}
-use Rattle.fit_grammar.specs.declared.fault.FaultKind.TheVariants.{Truncated, HeaderSize, Magic, Protocol, HeaderCrc, UndefinedLocal, SplitMessage, FileCrc, TrailingBytes, Memory, Developer, NotYet}
+use Rattle.fit_grammar.specs.declared.fault.FaultKind.TheVariants.{Truncated, HeaderSize, Magic, Protocol, HeaderCrc, UndefinedLocal, SplitMessage, FileCrc, TrailingBytes, Memory, Developer}
 use Rattle.fit_grammar.specs.Item.{Item}
 use Rattle.fit_grammar.specs.Refusal.{Front, front_bytes, front_end, IsFront, TailShows, place_behind, ShowsBehind, Shows}
 use Rattle.fit_grammar.proofs.Spelling.{spelling_not_empty}
 use Rattle.fit_grammar.proofs.Headers.{header_quiet}
 use Rattle.fit_grammar.proofs.Quiet.{ItemInside}
+use Rattle.fit_grammar.proofs.Alignment.{GoesOn}
 use Rattle.fit_grammar.proofs.Fronts.{ShowsLater, later}
 
 -- no item begins the rest within the data
@@ -71,7 +72,6 @@ tail_not_empty Magic g tail sh = absurd sh
 tail_not_empty HeaderCrc g tail sh = absurd sh
 tail_not_empty Truncated g tail sh = absurd sh
 tail_not_empty Memory g tail sh = absurd sh
-tail_not_empty NotYet g tail sh = absurd sh
 
 
 -- behind a front the header shows nothing
@@ -102,3 +102,12 @@ pub quiet_behind : (b : List ℕ) (f : Front) (rest : List ℕ) (limit : ℕ) �
 quiet_behind b f rest limit p e blocked mute n kind place lt s =
     let l = later kind place n b f rest p e (behind kind place n b f rest p e s) in
     mute_here l.0 b f rest limit n kind place l.1 blocked mute lt
+
+-- a row that goes on with an item: the item begins the rest, within the data
+pub blocked_row : (f g : Front) (rest y : List ℕ) (item : Item) (others : List Item) → IsFront g → f.size ≡ g.size → GoesOn [] f.records f.items rest g.records g.items y (item ∷ others) → Blocked f rest → ⊥
+blocked_row f g rest y item others q size go blocked =
+    let first = go.goes_on.1 in
+    let joined : rest ≡ first.own ++ (go.goes_on.0 ++ y) = go.rest_is ∙ ap (λ (l : List ℕ). l ++ y) first.joined ∙ append_assoc first.own go.goes_on.0 y in
+    let inside : length f.records + length first.own ≤ f.size =
+    omega (arith, q.inside, size, ap length go.bytes_are, length-append f.records go.bytes, ap length first.joined, length-append first.own go.goes_on.0) in
+    blocked item first.own (go.goes_on.0 ++ y) joined (record { spelled = first.spelled; defined = first.defined; inside = inside })

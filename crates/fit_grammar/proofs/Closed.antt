@@ -5,14 +5,11 @@ use Rattle.std.proofs.lemmas.List.{length-append}
 use Rattle.fit_base.specs.Number.{low_first}
 use Rattle.fit_base.specs.Checksum.{crc}
 use Rattle.fit_grammar.specs.declared.fault.FaultKind.{FaultKind}
-use Rattle.fit_grammar.specs.declared.fault.FaultKind.TheVariants.{Truncated, HeaderSize, Magic, Protocol, HeaderCrc, UndefinedLocal, SplitMessage, FileCrc, TrailingBytes, Memory, Developer, NotYet}
+use Rattle.fit_grammar.specs.declared.fault.FaultKind.TheVariants.{Truncated, HeaderSize, Magic, Protocol, HeaderCrc, UndefinedLocal, SplitMessage, FileCrc, TrailingBytes, Memory, Developer}
 use Rattle.fit_grammar.specs.Item.{Item}
 use Rattle.fit_grammar.specs.File.{FileValue, FileOf, IsHeader, IsClosing}
-use Rattle.fit_grammar.specs.Refusal.{Front, front_bytes, front_end, TailShows}
-use Rattle.fit_grammar.specs.FirstGrammar.{FirstRefusal}
-use Rattle.fit_grammar.proofs.Spelling.{bytes_one}
-use Rattle.fit_grammar.proofs.NotYetQuiet.{IsFirstFront}
-use Rattle.fit_grammar.proofs.Refused.{Stands, refused, cut_short, closed_blocked}
+use Rattle.fit_grammar.specs.Refusal.{Front, front_bytes, front_end, IsFront, TailShows, Refusal}
+use Rattle.fit_grammar.proofs.Refused.{Stands, refused, cut_short, closed_blocked, closing_mute}
 
 -- behind all the records one byte shows nothing
 full_mute : (kind : FaultKind) (f : Front) (tail : List ℕ) → length f.records ≡ f.size → TailShows kind f tail → 2 ≤ length tail
@@ -27,61 +24,40 @@ full_mute Magic f tail full sh = absurd sh
 full_mute HeaderCrc f tail full sh = absurd sh
 full_mute Truncated f tail full sh = absurd sh
 full_mute Memory f tail full sh = absurd sh
-full_mute NotYet f tail full sh = absurd sh
 
 -- the input ends within the checksum
-pub closing_cut : (b : List ℕ) (f : Front) (rest : List ℕ) → IsFirstFront f → b ≡ front_bytes f ++ rest → length f.records ≡ f.size → length rest < 2 → FirstRefusal b Truncated (length b)
+pub closing_cut : (b : List ℕ) (f : Front) (rest : List ℕ) → IsFront f → b ≡ front_bytes f ++ rest → length f.records ≡ f.size → length rest < 2 → Refusal b Truncated (length b)
 closing_cut b f rest p e full short =
     cut_short b f rest (record {
-      first = p; joined = e; blocked = λ _. closed_blocked f rest full;
+      is_front = p; joined = e; blocked = λ _. closed_blocked f rest full;
       mute = λ kind tail more is lt shown. omega (arith, full_mute kind f tail full shown);
-      passed = λ byte more is two less. absurd (omega arith);
     }) (closed_blocked f rest full) (λ _. short)
 
 -- the checksum is wrong
-pub closing_wrong : (b : List ℕ) (f : Front) (tail after : List ℕ) → IsFirstFront f → b ≡ front_bytes f ++ (tail ++ after) → length f.records ≡ f.size → length tail ≡ 2 → low_first tail ≢ crc (front_bytes f) → FirstRefusal b FileCrc (front_end f)
+pub closing_wrong : (b : List ℕ) (f : Front) (tail after : List ℕ) → IsFront f → b ≡ front_bytes f ++ (tail ++ after) → length f.records ≡ f.size → length tail ≡ 2 → low_first tail ≢ crc (front_bytes f) → Refusal b FileCrc (front_end f)
 closing_wrong b f tail after p e full two wrong =
     refused FileCrc b f tail after (record {
-      first = p; joined = e; blocked = λ _. closed_blocked f (tail ++ after) full;
+      is_front = p; joined = e; blocked = λ _. closed_blocked f (tail ++ after) full;
       mute = λ kind t more is lt shown. omega (arith, full_mute kind f t full shown);
-      passed = λ byte more is more_than less. absurd (omega arith);
     }) (full, two, wrong)
 
--- less than a file and a byte shows no fault, behind a right checksum
-right_mute : (kind : FaultKind) (f : Front) (closing after tail more : List ℕ) → length f.records ≡ f.size → IsClosing (front_bytes f) closing → closing ++ after ≡ tail ++ more → length tail < 3 → TailShows kind f tail → ⊥
-right_mute FileCrc f closing after tail more full c is lt sh =
-    let one = bytes_one closing tail after more (c.whole ∙ sym sh.1) is in
-    sh.2 (sym (ap low_first one.0) ∙ c.right)
-right_mute TrailingBytes f closing after tail more full c is lt sh = omega (arith, sh.1)
-right_mute (UndefinedLocal local) f closing after tail more full c is lt sh = omega (arith, sh.0)
-right_mute Developer f closing after tail more full c is lt sh = omega (arith, sh.0)
-right_mute SplitMessage f closing after tail more full c is lt sh = omega (arith, sh.0)
-right_mute HeaderSize f closing after tail more full c is lt sh = sh
-right_mute Protocol f closing after tail more full c is lt sh = sh
-right_mute Magic f closing after tail more full c is lt sh = sh
-right_mute HeaderCrc f closing after tail more full c is lt sh = sh
-right_mute Truncated f closing after tail more full c is lt sh = sh
-right_mute Memory f closing after tail more full c is lt sh = sh
-right_mute NotYet f closing after tail more full c is lt sh = sh
-
 -- a byte follows the checksum
-pub closing_followed : (b : List ℕ) (f : Front) (closing : List ℕ) (byte : ℕ) (after : List ℕ) → IsFirstFront f → b ≡ front_bytes f ++ (closing ++ byte ∷ after) → length f.records ≡ f.size → IsClosing (front_bytes f) closing → FirstRefusal b TrailingBytes (front_end f + 2)
+pub closing_followed : (b : List ℕ) (f : Front) (closing : List ℕ) (byte : ℕ) (after : List ℕ) → IsFront f → b ≡ front_bytes f ++ (closing ++ byte ∷ after) → length f.records ≡ f.size → IsClosing (front_bytes f) closing → Refusal b TrailingBytes (front_end f + 2)
 closing_followed b f closing byte after p e full c =
     let tail = closing ++ byte ∷ [] in
     let parts : tail ++ after ≡ closing ++ byte ∷ after = append_assoc closing (byte ∷ []) after in
     let three : length tail ≡ 3 = omega (arith, length-append closing (byte ∷ []), c.whole) in
     let front : take 2 tail ≡ closing = ap (λ (k : ℕ). take k tail) (sym c.whole) ∙ take-append_seam closing (byte ∷ []) in
     refused TrailingBytes b f tail after (record {
-      first = p; joined = e ∙ ap (λ (l : List ℕ). front_bytes f ++ l) (sym parts); blocked = λ _. closed_blocked f (tail ++ after) full;
-      mute = λ kind t more is lt shown. right_mute kind f closing (byte ∷ after) t more full c (sym parts ∙ is) (omega arith) shown;
-      passed = λ other more is two less. absurd (omega arith);
+      is_front = p; joined = e ∙ ap (λ (l : List ℕ). front_bytes f ++ l) (sym parts); blocked = λ _. closed_blocked f (tail ++ after) full;
+      mute = λ kind t more is lt shown. closing_mute kind f closing (byte ∷ after) t more full c (sym parts ∙ is) (omega arith) shown;
     }) (full, three, subst (λ (l : List ℕ). IsClosing (front_bytes f) l) (sym front) c)
 
 -- a front with all its records and the right checksum is a file
-pub closing_right : (b : List ℕ) (f : Front) (closing : List ℕ) → IsFirstFront f → b ≡ front_bytes f ++ closing → length f.records ≡ f.size → IsClosing (front_bytes f) closing → FileOf b (record { frame = f.frame; items = f.items })
+pub closing_right : (b : List ℕ) (f : Front) (closing : List ℕ) → IsFront f → b ≡ front_bytes f ++ closing → length f.records ≡ f.size → IsClosing (front_bytes f) closing → FileOf b (record { frame = f.frame; items = f.items })
 closing_right b f closing p e full c = record {
   header = f.header; records = f.records; closing = closing; joined = e;
-  is_header = subst (λ (n : ℕ). IsHeader f.header f.frame n) (sym full) p.is_front.is_header;
-  are_records = p.is_front.are_records;
+  is_header = subst (λ (n : ℕ). IsHeader f.header f.frame n) (sym full) p.is_header;
+  are_records = p.are_records;
   is_closing = c;
 }

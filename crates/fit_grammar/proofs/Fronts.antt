@@ -4,12 +4,19 @@ use Rattle.std.proofs.lemmas.List.{take-append-drop, length-append, length-take}
 use Rattle.fit_grammar.specs.declared.fault.FaultKind.{FaultKind}
 use Rattle.fit_grammar.specs.Item.{Item}
 use Rattle.fit_grammar.specs.Records.{RecordsAfter}
-use Rattle.fit_grammar.specs.File.{IsHeader}
+use Rattle.fit_grammar.specs.File.{FileValue, FileOf, IsHeader}
 use Rattle.fit_grammar.specs.Refusal.{Front, front_bytes, front_end, IsFront, TailShows, place_behind, ShowsBehind}
 use Rattle.fit_grammar.proofs.Alignment.{GoesOn, Aligned, longer, shorter, aligned}
 use Rattle.fit_grammar.specs.declared.frame.Frame.{Frame}
 use Rattle.fit_grammar.proofs.Headers.{same_header}
 use Rattle.fit_grammar.proofs.Quiet.{ItemInside, item_quiet}
+
+-- a file is a front with all its records
+abbrev pub file_front : (b : List ℕ) (v : FileValue) → FileOf b v → Front
+file_front b v h = record { frame = v.frame; size = length h.records; header = h.header; records = h.records; items = v.items }
+
+pub file_is_front : (b : List ℕ) (v : FileValue) (h : FileOf b v) → IsFront (file_front b v h)
+file_is_front b v h = record { is_header = h.is_header; are_records = h.are_records; inside = omega arith }
 
 -- two fronts of the same bytes have one header, and their records are aligned
 pub record SameFronts (f g : Front) (x y : List ℕ) : Type 0 where

@@ -4,7 +4,6 @@ pub mod Headers
 pub mod Quiet
 pub mod Fronts
 pub mod Blocked
-pub mod NotYetQuiet
 pub mod Refused
 pub mod Accepted
 pub mod Closed

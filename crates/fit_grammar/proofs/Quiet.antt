@@ -4,7 +4,7 @@ use Rattle.std.specs.Prelude.{slice_index, IsSomeAnd}
 use Rattle.std.proofs.lemmas.List.{get_or_append_left, length-append}
 use Rattle.fit_grammar.specs.declared.definition.Definition.{Definition}
 use Rattle.fit_grammar.specs.declared.fault.FaultKind.{FaultKind}
-use Rattle.fit_grammar.specs.declared.fault.FaultKind.TheVariants.{Truncated, HeaderSize, Magic, Protocol, HeaderCrc, UndefinedLocal, SplitMessage, FileCrc, TrailingBytes, Memory, Developer, NotYet}
+use Rattle.fit_grammar.specs.declared.fault.FaultKind.TheVariants.{Truncated, HeaderSize, Magic, Protocol, HeaderCrc, UndefinedLocal, SplitMessage, FileCrc, TrailingBytes, Memory, Developer}
 use Rattle.fit_grammar.specs.Item.{Item, Defines, Data, Spells, Head, head_of, DefinitionHead, DeveloperHead, DataHead, content_size}
 use Rattle.fit_grammar.specs.Records.{Begins, IsDefined, in_force}
 use Rattle.fit_grammar.specs.Refusal.{Front, TailShows, SplitsAtFirst, SplitsAtCount}
@@ -110,4 +110,3 @@ item_quiet Magic g tail after item own u p e sh = sh
 item_quiet HeaderCrc g tail after item own u p e sh = sh
 item_quiet Truncated g tail after item own u p e sh = sh
 item_quiet Memory g tail after item own u p e sh = sh
-item_quiet NotYet g tail after item own u p e sh = sh

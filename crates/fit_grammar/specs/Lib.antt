@@ -3,7 +3,6 @@ pub mod Records
 pub mod Message
 pub mod File
 pub mod Refusal
-pub mod FirstGrammar
 pub use Rattle.fit_base.specs.Number
 pub use Rattle.fit_base.specs.Checksum
 pub use Rattle.fit_base.specs.Base

@@ -23,8 +23,6 @@ pub enum FaultKind {
     Memory,
     /// A definition announces developer fields.
     Developer,
-    /// The file is a FIT file, of a form that is not read yet.
-    NotYet,
 }
 
 /// Why bytes are not read as a file: the first check that fails, in the order of the bytes, and its place,
