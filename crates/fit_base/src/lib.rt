@@ -6,6 +6,8 @@ mod checksum;
 mod number;
 mod order;
 mod putting;
+#[cfg(test)]
+mod tests;
 mod value;
 
 pub use base::BaseType;
