@@ -1,4 +1,5 @@
 pub mod Register
+pub mod Blocks
 pub mod Entries
 pub mod Numbers
 pub mod Powers

@@ -6,6 +6,7 @@ mod checksum;
 mod number;
 mod order;
 mod putting;
+mod tables;
 #[cfg(test)]
 mod tests;
 mod value;
