@@ -1,0 +1,8 @@
+pub mod Register
+pub mod Blocks
+pub mod Entries
+pub mod Numbers
+pub mod Powers
+pub mod Signs
+pub mod Fields
+pub mod Values

@@ -1,0 +1,110 @@
+// The checksum of a FIT file, by tables.
+
+ghost use Rattle.std.specs.Prelude.{◌≡◌, ◌/◌, ◌%◌, ◌<◌, [], ◌∷◌, length, replicate};
+ghost use Rattle.fit_base.specs.Checksum.{crc_from, crc};
+
+use crate::tables::AFTER;
+use std::marker::Model;
+
+/// The checksum of a FIT file, over the bytes that were added so far. Contracts see its register.
+#[derive(Clone, Copy, Debug, PartialEq, Eq)]
+pub struct Crc {
+    register: u16,
+}
+
+impl Model for Crc {
+    ghost use Rattle.std.specs.Prelude.{ℕ};
+
+    ghost Value = { ℕ };
+
+    ghost view = { λ c. c.register };
+
+    ghost inverse = { λ n. record { register = n } };
+}
+
+impl Crc {
+    /// The checksum of no bytes.
+    pub fn new() -> Self
+        ensures { result ≡ 0 }
+    {
+        Crc { register: 0 }
+    }
+
+    /// Adds these bytes behind those that were added before.
+    pub fn add(&mut self, bytes: &[u8])
+        ensures { self.new ≡ crc_from self.old bytes.now }
+    {
+        self.register = after_bytes(self.register, bytes);
+    }
+
+    /// The checksum of all bytes so far. A file holds its low byte first.
+    pub fn value(&self) -> u16
+        ensures { result ≡ self.now }
+    {
+        self.register
+    }
+}
+
+// Eight bytes at a time, and then the rest one by one.
+fn after_bytes(mut register: u16, bytes: &[u8]) -> u16
+    ensures { result ≡ crc_from register bytes.now }
+{
+    let blocks = bytes.len() / 8;
+    for k in 0..blocks {
+        register = after_block(register, &bytes[8 * k..8 * k + 8]);
+    }
+    after_few(register, &bytes[8 * blocks..])
+}
+
+fn after_few(mut register: u16, bytes: &[u8]) -> u16
+    ensures { result ≡ crc_from register bytes.now }
+{
+    for byte in bytes {
+        register = after_byte(register, *byte);
+    }
+    register
+}
+
+fn after_byte(register: u16, byte: u8) -> u16
+    ensures { result ≡ crc_from register (byte ∷ []) }
+{
+    (register >> 8) ^ entry(0, low_byte(register) ^ byte)
+}
+
+// The register goes into the first two bytes, and then each byte has its own way to the end.
+fn after_block(register: u16, block: &[u8]) -> u16
+    requires { length block.now ≡ 8 }
+    ensures { result ≡ crc_from register block.now }
+{
+    entry(7, low_byte(register) ^ block[0])
+        ^ entry(6, high_byte(register) ^ block[1])
+        ^ entry(5, block[2])
+        ^ entry(4, block[3])
+        ^ entry(3, block[4])
+        ^ entry(2, block[5])
+        ^ entry(1, block[6])
+        ^ entry(0, block[7])
+}
+
+// The register after this byte and this many zero bytes, from a register of zero.
+#[inline]
+fn entry(zeros: usize, byte: u8) -> u16
+    requires { zeros < 8 }
+    ensures { result ≡ crc (byte ∷ replicate zeros 0) }
+{
+    AFTER[zeros][byte as usize]
+}
+
+#[inline]
+fn low_byte(register: u16) -> u8
+    ensures { result ≡ register % 256 }
+{
+    (register & 0xff) as u8
+}
+
+#[inline]
+fn high_byte(register: u16) -> u8
+    ensures { result ≡ register / 256 }
+{
+    (register >> 8) as u8
+}
