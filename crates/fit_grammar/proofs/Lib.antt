@@ -1,4 +1,7 @@
 pub mod Spelling
+pub mod Steps
+pub mod InForce
+pub mod Reading
 pub mod Alignment
 pub mod Headers
 pub mod Quiet

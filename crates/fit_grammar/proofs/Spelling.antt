@@ -41,7 +41,7 @@ bytes_one (a ∷ c) (b ∷ k) x y same e =
     let bytes : c ≡ k = rest.0 in
     (cc, rest.1)
 
-definition_same : (d c : Definition) → d.local ≡ c.local → d.arch ≡ c.arch → d.global ≡ c.global → d.fields.items ≡ c.fields.items → d ≡ c
+pub definition_same : (d c : Definition) → d.local ≡ c.local → d.arch ≡ c.arch → d.global ≡ c.global → d.fields.items ≡ c.fields.items → d ≡ c
 definition_same d c local arch global items =
     let made : (l : ℕ) (a : Arch) (g : ℕ) (fs : List FieldDefinition) → Definition = λ l a g fs. record { local = l; arch = a; global = g; fields = record { items = fs } } in
     let e : made d.local d.arch d.global d.fields.items ≡ made c.local c.arch c.global c.fields.items = rw (local, arch, global, items) refl in

@@ -1,5 +1,8 @@
 pub mod Item
 pub mod Records
+pub mod Reading
+pub mod Table
+pub mod Step
 pub mod Message
 pub mod File
 pub mod Refusal

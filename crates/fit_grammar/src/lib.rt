@@ -4,7 +4,15 @@
 mod definition;
 mod fault;
 mod frame;
+mod head;
+mod item;
+pub mod laws;
+mod spelled;
+mod table;
 
 pub use definition::{Definition, FieldDefinition};
 pub use fault::{FaultKind, FileFault};
 pub use frame::Frame;
+pub use item::{DataMessage, Item, ItemFault, Step, least_length, next_item};
+pub use spelled::DefinitionMessage;
+pub use table::Table;
