@@ -69,13 +69,14 @@ few_quiet f tail lt h = omega (arith, h.0)
 -- nothing shorter than one byte shows a fault
 pub stands_one : (b : List ℕ) (f : Front) (rest : List ℕ) → IsFront f → b ≡ front_bytes f ++ rest → Stands b f rest 1
 stands_one b f rest p e = record {
-  is_front = p; joined = e;
+  is_front = p;
+  joined = e;
   blocked = λ more. absurd (omega arith);
   mute = λ kind tail after is lt shown. omega (arith, tail_not_empty kind f tail shown);
 }
 
 -- a definition whose number of fields shows that it passes the end of the data
-pub count_refused : (b : List ℕ) (f : Front) (byte : ℕ) (after : List ℕ) → IsFront f → b ≡ front_bytes f ++ (byte ∷ after) → length f.records < f.size → AcceptsHead f (head_of byte) 
+pub count_refused : (b : List ℕ) (f : Front) (byte : ℕ) (after : List ℕ) → IsFront f → b ≡ front_bytes f ++ (byte ∷ after) → length f.records < f.size → AcceptsHead f (head_of byte)
     → (local : ℕ) → head_of byte ≡ DefinitionHead local → 6 ≤ length (byte ∷ after) → f.size < length f.records + (6 + 3 * slice_index (byte ∷ after) 5) → Refusal b SplitMessage (front_end f)
 count_refused b f byte after p e lt a local head six past =
     let rest = byte ∷ after in
@@ -85,20 +86,23 @@ count_refused b f byte after p e lt a local head six past =
     let shown : SplitsAtCount f tail = (
       long,
       (local, ap head_of (get_or-take 6 rest 0 0 (omega arith)) ∙ head),
-      omega (arith, past, get_or-take 6 rest 5 0 (omega arith))
+      omega (arith, past, get_or-take 6 rest 5 0 (omega arith)),
     ) in
     refused SplitMessage b f tail (drop 6 rest) (record {
-      is_front = p; joined = e ∙ ap (λ (l : List ℕ). front_bytes f ++ l) (sym parts);
+      is_front = p;
+      joined = e ∙ ap (λ (l : List ℕ). front_bytes f ++ l) (sym parts);
       blocked = λ _ item own u joined inside. item_quiet SplitMessage f tail (drop 6 rest) item own u inside (sym joined) (lt, inr shown);
       mute = λ kind t more is short sh. accepted_mute kind f byte after t more lt a (sym parts ∙ is) (few_quiet f t (omega arith)) sh;
     }) (lt, inr shown)
 
 -- the bytes end within an item that has begun
-pub ends_within : (b : List ℕ) (f : Front) (byte : ℕ) (after : List ℕ) → IsFront f → b ≡ front_bytes f ++ (byte ∷ after) → length f.records < f.size → AcceptsHead f (head_of byte) 
+pub ends_within : (b : List ℕ) (f : Front) (byte : ℕ) (after : List ℕ) → IsFront f → b ≡ front_bytes f ++ (byte ∷ after) → length f.records < f.size → AcceptsHead f (head_of byte)
     → Blocked f (byte ∷ after) → ((tail more : List ℕ) → byte ∷ after ≡ tail ++ more → SplitsAtCount f tail → ⊥) → Refusal b Truncated (length b)
 ends_within b f byte after p e lt a blocked count =
     cut_short b f (byte ∷ after) (record {
-      is_front = p; joined = e; blocked = λ _. blocked;
+      is_front = p;
+      joined = e;
+      blocked = λ _. blocked;
       mute = λ kind tail more is short shown. accepted_mute kind f byte after tail more lt a is (count tail more is) shown;
     }) blocked (λ full. absurd (omega arith))
 
@@ -107,6 +111,8 @@ pub ends_before : (b : List ℕ) (f : Front) → IsFront f → b ≡ front_bytes
 ends_before b f p e lt =
     let blocked : Blocked f [] = λ item own u joined inside. omega (arith, ap length joined, length-append own u, spelling_not_empty item own inside.spelled) in
     cut_short b f [] (record {
-      is_front = p; joined = e; blocked = λ _. blocked;
+      is_front = p;
+      joined = e;
+      blocked = λ _. blocked;
       mute = λ kind tail more is short shown. omega (arith, tail_not_empty kind f tail shown, ap length is, length-append tail more);
     }) blocked (λ full. absurd (omega arith))

@@ -31,13 +31,17 @@ cons_on before i own ra is x rb js y a b j own_b more ea eb eo ei g =
 pub aligned : (before : List Item) (a : List ℕ) (is : List Item) (x b : List ℕ) (js : List Item) (y : List ℕ) → RecordsAfter before a is → RecordsAfter before b js → a ++ x ≡ b ++ y → Aligned before a is x b js y
 aligned before a [] x b js y p q e =
     longer js (record {
-      bytes = b; items_are = refl; bytes_are = ap (λ (l : List ℕ). l ++ b) (sym p);
+      bytes = b;
+      items_are = refl;
+      bytes_are = ap (λ (l : List ℕ). l ++ b) (sym p);
       rest_is = ap (λ (l : List ℕ). l ++ x) (sym p) ∙ e;
       goes_on = subst (λ (l : List Item). RecordsAfter l b js) (sym (append-nil before)) q;
     })
 aligned before a (i ∷ is) x b [] y p q e =
     shorter i is (record {
-      bytes = a; items_are = refl; bytes_are = ap (λ (l : List ℕ). l ++ a) (sym q);
+      bytes = a;
+      items_are = refl;
+      bytes_are = ap (λ (l : List ℕ). l ++ a) (sym q);
       rest_is = ap (λ (l : List ℕ). l ++ y) (sym q) ∙ sym e;
       goes_on = subst (λ (l : List Item). RecordsAfter l a (i ∷ is)) (sym (append-nil before)) p;
     })

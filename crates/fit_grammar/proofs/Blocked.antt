@@ -52,7 +52,8 @@ shows_right_here f rest count kind place s =
     let none : s.bytes ≡ [] = s.goes_on in
     let same : s.front ≡ f = same_front s.front f (sym s.frame_is) (sym s.size_is) (sym s.header_is) (s.records_are ∙ ap (λ (l : List ℕ). f.records ++ l) none ∙ append-nil f.records) (s.items_are ∙ append-nil f.items) in
     record {
-      tail = s.tail; after = s.after;
+      tail = s.tail;
+      after = s.after;
       rest_is = s.rest_is ∙ ap (λ (l : List ℕ). l ++ (s.tail ++ s.after)) none;
       shown = subst (λ (g : Front). TailShows kind g s.tail) same s.shown;
       there = s.there ∙ ap (place_behind kind) same;
@@ -72,7 +73,6 @@ tail_not_empty Magic g tail sh = absurd sh
 tail_not_empty HeaderCrc g tail sh = absurd sh
 tail_not_empty Truncated g tail sh = absurd sh
 tail_not_empty Memory g tail sh = absurd sh
-
 
 -- behind a front the header shows nothing
 pub behind : (kind : FaultKind) (place n : ℕ) (b : List ℕ) (f : Front) (rest : List ℕ) → IsFront f → b ≡ front_bytes f ++ rest → Shows kind place (take n b) → ShowsBehind kind place (take n b)

@@ -29,7 +29,9 @@ full_mute Memory f tail full sh = absurd sh
 pub closing_cut : (b : List ℕ) (f : Front) (rest : List ℕ) → IsFront f → b ≡ front_bytes f ++ rest → length f.records ≡ f.size → length rest < 2 → Refusal b Truncated (length b)
 closing_cut b f rest p e full short =
     cut_short b f rest (record {
-      is_front = p; joined = e; blocked = λ _. closed_blocked f rest full;
+      is_front = p;
+      joined = e;
+      blocked = λ _. closed_blocked f rest full;
       mute = λ kind tail more is lt shown. omega (arith, full_mute kind f tail full shown);
     }) (closed_blocked f rest full) (λ _. short)
 
@@ -37,7 +39,9 @@ closing_cut b f rest p e full short =
 pub closing_wrong : (b : List ℕ) (f : Front) (tail after : List ℕ) → IsFront f → b ≡ front_bytes f ++ (tail ++ after) → length f.records ≡ f.size → length tail ≡ 2 → low_first tail ≢ crc (front_bytes f) → Refusal b FileCrc (front_end f)
 closing_wrong b f tail after p e full two wrong =
     refused FileCrc b f tail after (record {
-      is_front = p; joined = e; blocked = λ _. closed_blocked f (tail ++ after) full;
+      is_front = p;
+      joined = e;
+      blocked = λ _. closed_blocked f (tail ++ after) full;
       mute = λ kind t more is lt shown. omega (arith, full_mute kind f t full shown);
     }) (full, two, wrong)
 
@@ -49,14 +53,19 @@ closing_followed b f closing byte after p e full c =
     let three : length tail ≡ 3 = omega (arith, length-append closing (byte ∷ []), c.whole) in
     let front : take 2 tail ≡ closing = ap (λ (k : ℕ). take k tail) (sym c.whole) ∙ take-append_seam closing (byte ∷ []) in
     refused TrailingBytes b f tail after (record {
-      is_front = p; joined = e ∙ ap (λ (l : List ℕ). front_bytes f ++ l) (sym parts); blocked = λ _. closed_blocked f (tail ++ after) full;
+      is_front = p;
+      joined = e ∙ ap (λ (l : List ℕ). front_bytes f ++ l) (sym parts);
+      blocked = λ _. closed_blocked f (tail ++ after) full;
       mute = λ kind t more is lt shown. closing_mute kind f closing (byte ∷ after) t more full c (sym parts ∙ is) (omega arith) shown;
     }) (full, three, subst (λ (l : List ℕ). IsClosing (front_bytes f) l) (sym front) c)
 
 -- a front with all its records and the right checksum is a file
 pub closing_right : (b : List ℕ) (f : Front) (closing : List ℕ) → IsFront f → b ≡ front_bytes f ++ closing → length f.records ≡ f.size → IsClosing (front_bytes f) closing → FileOf b (record { frame = f.frame; items = f.items })
 closing_right b f closing p e full c = record {
-  header = f.header; records = f.records; closing = closing; joined = e;
+  header = f.header;
+  records = f.records;
+  closing = closing;
+  joined = e;
   is_header = subst (λ (n : ℕ). IsHeader f.header f.frame n) (sym full) p.is_header;
   are_records = p.are_records;
   is_closing = c;

@@ -58,17 +58,30 @@ pub later : (kind : FaultKind) (place m : ℕ) (b : List ℕ) (f : Front) (rest 
 later kind place m b f rest p e s =
     let same = same_fronts f s.front rest (s.tail ++ drop m b) p s.is_front (beginning_joined b m f s.front rest s.tail e s.joined) in
     elim same.records [
-      | longer more g ↦
-        (more, record {
-          front = s.front; tail = s.tail; after = drop m b; bytes = g.bytes; is_front = s.is_front;
-          frame_is = same.frame; header_is = same.header; size_is = same.size; items_are = g.items_are; records_are = g.bytes_are;
-          rest_is = g.rest_is; goes_on = g.goes_on; shown = s.shown; there = s.there;
+      | longer more g ↦ (
+        more,
+        record {
+          front = s.front;
+          tail = s.tail;
+          after = drop m b;
+          bytes = g.bytes;
+          is_front = s.is_front;
+          frame_is = same.frame;
+          header_is = same.header;
+          size_is = same.size;
+          items_are = g.items_are;
+          records_are = g.bytes_are;
+          rest_is = g.rest_is;
+          goes_on = g.goes_on;
+          shown = s.shown;
+          there = s.there;
           count_is = omega (arith, ap length s.joined, length-append (front_bytes s.front) s.tail, length-append s.front.header s.front.records, ap length g.bytes_are, length-append f.records g.bytes, ap length same.header);
-        })
+        },
+      )
       | shorter item others g ↦
-        let first = g.goes_on.1 in
-        let joined : first.own ++ (g.goes_on.0 ++ rest) ≡ s.tail ++ drop m b = sym (append_assoc first.own g.goes_on.0 rest) ∙ ap (λ (l : List ℕ). l ++ rest) (sym first.joined) ∙ sym g.rest_is in
-        let inside : length s.front.records + length first.own ≤ s.front.size =
-        omega (arith, p.inside, same.size, ap length g.bytes_are, length-append s.front.records g.bytes, ap length first.joined, length-append first.own g.goes_on.0) in
-        absurd (item_quiet kind s.front s.tail (drop m b) item first.own (g.goes_on.0 ++ rest) (record { spelled = first.spelled; defined = first.defined; inside = inside }) joined s.shown)
+          let first = g.goes_on.1 in
+          let joined : first.own ++ (g.goes_on.0 ++ rest) ≡ s.tail ++ drop m b = sym (append_assoc first.own g.goes_on.0 rest) ∙ ap (λ (l : List ℕ). l ++ rest) (sym first.joined) ∙ sym g.rest_is in
+          let inside : length s.front.records + length first.own ≤ s.front.size =
+          omega (arith, p.inside, same.size, ap length g.bytes_are, length-append s.front.records g.bytes, ap length first.joined, length-append first.own g.goes_on.0) in
+          absurd (item_quiet kind s.front s.tail (drop m b) item first.own (g.goes_on.0 ++ rest) (record { spelled = first.spelled; defined = first.defined; inside = inside }) joined s.shown)
     ]

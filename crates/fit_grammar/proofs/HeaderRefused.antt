@@ -13,10 +13,11 @@ use Rattle.fit_grammar.proofs.Fronts.{file_front, file_is_front}
 -- bytes that begin with a front have at least its header, whose length is byte 0
 front_long : (f : Front) (z : List ℕ) → IsFront f → (12 ≤ length f.header) × (length f.header ≤ length (front_bytes f ++ z)) × (slice_index (front_bytes f ++ z) 0 ≡ length f.header)
 front_long f z p =
-    let e = append_assoc f.header f.records z in
-    (header_at_least f.header f.frame f.size p.is_header,
-     omega (arith, length-append (front_bytes f) z, length-append f.header f.records),
-     ap (λ (l : List ℕ). slice_index l 0) e ∙ header_first f.header f.frame f.size (f.records ++ z) p.is_header)
+    let e = append_assoc f.header f.records z in (
+      header_at_least f.header f.frame f.size p.is_header,
+      omega (arith, length-append (front_bytes f) z, length-append f.header f.records),
+      ap (λ (l : List ℕ). slice_index l 0) e ∙ header_first f.header f.frame f.size (f.records ++ z) p.is_header,
+    )
 
 -- fewer than 12 bytes, or fewer than 14 of which the first is 14, hold no front
 abbrev pub TooShort : List ℕ → Type 0
@@ -83,7 +84,9 @@ passed_quiet kind place n count b p lt shown =
 pub header_refused : (kind : FaultKind) (place count : ℕ) (b : List ℕ) → Passes b count → count ≤ length b → HeaderShows kind place (take count b) → Refusal b kind place
 header_refused kind place count b p le h =
     inl (record {
-      count = count; within = le; shown = inl h;
+      count = count;
+      within = le;
+      shown = inl h;
       shortest = λ n other at lt shown. passed_quiet other at n count b p lt shown;
     })
 
@@ -96,7 +99,8 @@ pub header_cut : (b : List ℕ) → Passes b (length b + 1) → Refusal b Trunca
 header_cut b p =
     let le = p.within in
     inr (record {
-      truncated = refl; at_end = refl;
+      truncated = refl;
+      at_end = refl;
       none_shown = λ n other at le shown. passed_quiet other at n (length b + 1) b p (omega arith) shown;
       no_file = short_no_file b (whole_short b p.first (omega arith));
     })
@@ -122,7 +126,8 @@ empty_quiet kind place x e shown =
 pub empty_cut : (b : List ℕ) → length b ≡ 0 → Refusal b Truncated (length b)
 empty_cut b e =
     inr (record {
-      truncated = refl; at_end = refl;
+      truncated = refl;
+      at_end = refl;
       none_shown = λ n other at le shown. empty_quiet other at (take n b) (omega (arith, length-take n b)) shown;
       no_file = short_no_file b (inl (omega arith));
     })
@@ -131,6 +136,8 @@ empty_cut b e =
 pub size_refused : (byte : ℕ) (rest : List ℕ) → byte ≢ 12 → byte ≢ 14 → Refusal (byte ∷ rest) HeaderSize 0
 size_refused byte rest a c =
     inl (record {
-      count = 1; within = omega arith; shown = inl (refl, refl, a, c);
+      count = 1;
+      within = omega arith;
+      shown = inl (refl, refl, a, c);
       shortest = λ n other at lt shown. empty_quiet other at (take n (byte ∷ rest)) (omega (arith, length-take n (byte ∷ rest))) shown;
     })

@@ -2,6 +2,7 @@ pub mod Spelling
 pub mod Steps
 pub mod InForce
 pub mod Reading
+pub mod Kept
 pub mod Alignment
 pub mod Headers
 pub mod Quiet

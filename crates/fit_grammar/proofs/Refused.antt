@@ -67,21 +67,22 @@ no_file_behind b f rest p e blocked unclosed v h =
     let same = same_fronts f g rest h.closing p q (sym e ∙ h.joined) in
     elim same.records [
       | longer [] go ↦
-        let none : go.bytes ≡ [] = go.goes_on in
-        let ends = unclosed (omega (arith, same.size, ap length go.bytes_are, length-append f.records go.bytes, ap length none)) in
-        absurd (omega (arith, ends, ap length go.rest_is, length-append go.bytes h.closing, ap length none, h.is_closing.whole))
+          let none : go.bytes ≡ [] = go.goes_on in
+          let ends = unclosed (omega (arith, same.size, ap length go.bytes_are, length-append f.records go.bytes, ap length none)) in
+          absurd (omega (arith, ends, ap length go.rest_is, length-append go.bytes h.closing, ap length none, h.is_closing.whole))
       | longer (item ∷ others) go ↦ blocked_row f g rest h.closing item others q same.size go blocked
       | shorter item others go ↦
-        let first = go.goes_on.1 in
-        let some = spelling_not_empty item first.own first.spelled in
-        absurd (omega (arith, p.inside, same.size, ap length go.bytes_are, length-append g.records go.bytes, ap length first.joined, length-append first.own go.goes_on.0))
+          let first = go.goes_on.1 in
+          let some = spelling_not_empty item first.own first.spelled in
+          absurd (omega (arith, p.inside, same.size, ap length go.bytes_are, length-append g.records go.bytes, ap length first.joined, length-append first.own go.goes_on.0))
     ]
 
 -- the bytes end too soon
 pub cut_short : (b : List ℕ) (f : Front) (rest : List ℕ) → Stands b f rest (length rest + 1) → Blocked f rest → (length f.records ≡ f.size → length rest < 2) → Refusal b Truncated (length b)
 cut_short b f rest s blocked unclosed =
     inr (record {
-      truncated = refl; at_end = refl;
+      truncated = refl;
+      at_end = refl;
       none_shown = λ n other at le shown. quiet b f rest (length rest + 1) s n other at (omega (arith, ap length s.joined, length-append (front_bytes f) rest, length-append f.header f.records)) shown;
       no_file = no_file_behind b f rest s.is_front s.joined blocked unclosed;
     })

@@ -5,6 +5,7 @@ pub mod Table
 pub mod Step
 pub mod Message
 pub mod File
+pub mod Stored
 pub mod Refusal
 pub use Rattle.fit_base.specs.Number
 pub use Rattle.fit_base.specs.Checksum

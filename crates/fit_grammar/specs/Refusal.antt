@@ -46,8 +46,8 @@ abbrev pub SplitsAtFirst : Front → List ℕ → Type 0
 SplitsAtFirst front tail =
     (byte : ℕ) × (tail ≡ byte ∷ [])
     × (((local : ℕ) × (head_of byte ≡ DefinitionHead local) × (front.size < length front.records + 6))
-       ⊎ ((local : ℕ) × (offset : Option ℕ) × (head_of byte ≡ DataHead local offset)
-          × IsSomeAnd (in_force front.items local) (λ d. front.size < length front.records + (1 + content_size d))))
+    ⊎ ((local : ℕ) × (offset : Option ℕ) × (head_of byte ≡ DataHead local offset)
+    × IsSomeAnd (in_force front.items local) (λ d. front.size < length front.records + (1 + content_size d))))
 
 -- six bytes of a definition show that the whole of it passes the end of the data
 abbrev pub SplitsAtCount : Front → List ℕ → Type 0
@@ -122,4 +122,4 @@ abbrev pub IsFaultOf : List ℕ → FileFault → Type 0
 IsFaultOf bytes fault =
     ((fault.kind ≢ Memory) × Refusal bytes fault.kind fault.place)
     ⊎ ((fault.kind ≡ Memory) × ItemBeginsAt bytes fault.place
-       × ((kind : FaultKind) (place : ℕ) → Refusal bytes kind place → fault.place ≤ place))
+    × ((kind : FaultKind) (place : ℕ) → Refusal bytes kind place → fault.place ≤ place))

@@ -3,6 +3,7 @@
 
 mod definition;
 mod fault;
+mod file;
 mod frame;
 mod head;
 mod item;
@@ -11,7 +12,8 @@ mod spelled;
 mod table;
 
 pub use definition::{Definition, FieldDefinition};
-pub use fault::{FaultKind, FileFault};
+pub use fault::{FaultKind, FileFault, PutFault};
+pub use file::File;
 pub use frame::Frame;
 pub use item::{DataMessage, Item, ItemFault, Step, least_length, next_item};
 pub use spelled::DefinitionMessage;
