@@ -220,6 +220,7 @@ fn check(rt: &impl Abort, case: &Case, arch: Arch, bytes: &[u8]) {
     assert_eq!(rt; FieldValue::new(code, arch, &[]).count(), 0, "of {code}");
     if size > 1 {
         let ragged = FieldValue::new(code, arch, &bytes[1..]);
+        assert!(rt; ragged.is_raw(), "of {code}");
         assert_eq!(rt; ragged.count(), 0, "of {code}");
         assert_eq!(rt; ragged.raw(), &bytes[1..], "of {code}");
     }
@@ -231,6 +232,7 @@ fn a_byte_field_that_is_all_ff(rt: HostRuntime) {
     assert_eq!(rt; one.count(), 1);
     assert!(rt; one.is_invalid(0));
     let unknown = FieldValue::new(0x8E, Arch::Big, &[0xFF, 0xFF]);
+    assert!(rt; unknown.is_raw());
     assert_eq!(rt; unknown.count(), 0);
     assert_eq!(rt; unknown.base(), 0x8E);
     assert_eq!(rt; unknown.arch(), Arch::Big);
