@@ -1,5 +1,7 @@
+pub mod Encoding
 pub mod Spelling
 pub mod Steps
+pub mod Stated
 pub mod InForce
 pub mod Reading
 pub mod Kept
@@ -13,3 +15,4 @@ pub mod Accepted
 pub mod Closed
 pub mod HeaderRefused
 pub mod WantOfMemory
+pub mod Lent

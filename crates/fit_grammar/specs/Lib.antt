@@ -4,6 +4,9 @@ pub mod Reading
 pub mod Table
 pub mod Step
 pub mod Message
+pub mod Encoding
+pub mod Lent
+pub mod Shown
 pub mod File
 pub mod Stored
 pub mod Refusal

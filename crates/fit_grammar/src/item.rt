@@ -6,23 +6,11 @@ ghost use Rattle.fit_grammar.specs.Item.{Item as AnyItem, head_of, DefinitionHea
 ghost use Rattle.fit_grammar.specs.Table.{definition_in};
 ghost use Rattle.fit_grammar.specs.Step.{IsStep, IsStepItem, ItemAtFront, ItemBegun, ShowsUndefined, ShowsDeveloper, least_length_of, definition_length_of};
 
+use crate::data::DataMessage;
 use crate::definition::Definition;
 use crate::head::{Head, read_head};
 use crate::spelled::DefinitionMessage;
 use crate::table::Table;
-
-/// A data message, lent from the window that it was read from and the table of definitions.
-#[derive(Drop)]
-pub struct DataMessage<'a> {
-    /// The local message number, 0 to 15, or 0 to 3 with a compressed timestamp.
-    pub local: u8,
-    /// The time offset of a compressed timestamp, 0 to 31.
-    pub offset: Option<u8>,
-    /// The definition in force of the local number.
-    pub definition: &'a Definition,
-    /// The bytes of the fields, in the order and sizes of the definition.
-    pub content: &'a [u8],
-}
 
 /// An item of a file's records. It holds a few words, and no definition.
 #[derive(Drop)]
