@@ -14,5 +14,7 @@ pub mod Refused
 pub mod Accepted
 pub mod Closed
 pub mod HeaderRefused
+pub mod HeaderRead
+pub mod Least
 pub mod WantOfMemory
 pub mod Lent

@@ -2,6 +2,7 @@
 #![tactic(auto)]
 
 mod data;
+mod decode;
 mod definition;
 mod fault;
 mod fields;
@@ -17,6 +18,7 @@ mod time;
 mod writing;
 
 pub use data::DataMessage;
+pub use decode::decode_file;
 pub use definition::{Definition, FieldDefinition};
 pub use fault::{FaultKind, FileFault, PutFault};
 pub use fields::{Field, Fields};
