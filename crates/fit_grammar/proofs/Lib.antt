@@ -16,5 +16,7 @@ pub mod Closed
 pub mod HeaderRefused
 pub mod HeaderRead
 pub mod Least
+pub mod Reached
 pub mod WantOfMemory
+pub mod Shown
 pub mod Lent

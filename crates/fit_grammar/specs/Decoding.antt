@@ -52,6 +52,11 @@ WindowShows definition_for window left _ = ⊥
 abbrev pub IsItemFault : (ℕ → Option Definition) → List ℕ → ℕ → FaultKind → Type 0
 IsItemFault definition_for window left kind = (kind ≡ Memory) ⊎ WindowShows definition_for window left kind
 
+-- a fault is at its item, or at the end of an input that ends too soon
+abbrev pub fault_of : FaultKind → ℕ → ℕ → FileFault
+fault_of Truncated at len = record { kind = Truncated; place = len }
+fault_of kind at len = record { kind = kind; place = at }
+
 -- what the bytes show behind their records, which end here
 abbrev pub EndShows : List ℕ → ℕ → FaultKind → ℕ → Type 0
 EndShows bytes end Truncated place = (place ≡ length bytes) × (length bytes < end + 2)

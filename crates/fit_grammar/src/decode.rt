@@ -5,7 +5,7 @@ ghost use Rattle.fit_base.specs.Checksum.{crc};
 ghost use Rattle.fit_grammar.specs.Records.{in_force, data_size};
 ghost use Rattle.fit_grammar.specs.File.{mark, ChecksHeader, IsClosing, FileValue, FileOf};
 ghost use Rattle.fit_grammar.specs.Refusal.{IsFaultOf};
-ghost use Rattle.fit_grammar.specs.Decoding.{BeginsWith, IsRefusedBy, TakesItem, IsItemFault, IsWholeLength, WindowShows, EndShows};
+ghost use Rattle.fit_grammar.specs.Decoding.{BeginsWith, IsRefusedBy, TakesItem, IsItemFault, IsWholeLength, WindowShows, EndShows, fault_of};
 
 use crate::fault::{FaultKind, FileFault};
 use crate::file::File;
@@ -33,6 +33,7 @@ fn fault(kind: FaultKind, place: usize) -> FileFault
 // Reads the header, its checks in the order of the bytes that they need.
 fn read_header(bytes: &[u8]) -> Result<Header, FileFault>
     ensures header { IfOk result (BeginsWith bytes.now) }
+    ensures fits { IfOk result (λ header. header.data_size < 2 ^ 32) }
     ensures refused { IfErr result (IsRefusedBy bytes.now) }
 {
     let len = bytes.len();
@@ -168,6 +169,35 @@ fn check_end(bytes: &[u8], end: usize) -> Result<(), FileFault>
     Ok(())
 }
 
+// The fault of a kind that an item shows: where the input ends too soon it is at the end, else at the item.
+fn item_fault(kind: FaultKind, at: usize, len: usize) -> FileFault
+    ensures { result ≡ fault_of kind at len }
+{
+    match kind {
+        FaultKind::Truncated => fault(kind, len),
+        _ => fault(kind, at),
+    }
+}
+
+// Reads the header, the items one after another, and what stands behind them.
+fn read_file(alloc: Global, bytes: &[u8]) -> Result<File, FileFault>
+    ensures file { IfOk result (FileOf bytes.now) }
+    ensures refused { IfErr result (IsFaultOf bytes.now) }
+{
+    let header = read_header(bytes)?;
+    let mut at = header.frame.header_size as usize;
+    let end = at + header.data_size as usize;
+    let mut file = File::new(alloc, header.frame);
+    while at < end {
+        match take_item(&mut file, &bytes[at..], end - at) {
+            Ok(used) => at += used,
+            Err(kind) => return Err(item_fault(kind, at, bytes.len())),
+        }
+    }
+    check_end(bytes, end)?;
+    Ok(file)
+}
+
 /// Reads a whole file. What its bytes show is judged in their order: a fault is what their shortest beginning
 /// that shows one shows. Memory is taken only for bytes that are there.
 pub fn decode_file(alloc: Global, bytes: &[u8]) -> Result<File, FileFault>
@@ -178,17 +208,5 @@ pub fn decode_file(alloc: Global, bytes: &[u8]) -> Result<File, FileFault>
     // What is no file is refused so.
     ensures refused { IfErr result (IsFaultOf bytes.now) }
 {
-    let header = read_header(bytes)?;
-    let mut at = header.frame.header_size as usize;
-    let end = at + header.data_size as usize;
-    let mut file = File::new(alloc, header.frame);
-    while at < end {
-        match take_item(&mut file, &bytes[at..], end - at) {
-            Ok(used) => at += used,
-            Err(FaultKind::Truncated) => return Err(fault(FaultKind::Truncated, bytes.len())),
-            Err(kind) => return Err(fault(kind, at)),
-        }
-    }
-    check_end(bytes, end)?;
-    Ok(file)
+    read_file(alloc, bytes)
 }
