@@ -29,3 +29,6 @@ pub use message::{Message, message_of};
 pub use spelled::DefinitionMessage;
 pub use table::Table;
 pub use writing::{write_data, write_definition};
+
+#[cfg(test)]
+mod item_tests;
