@@ -32,3 +32,5 @@ pub use writing::{write_data, write_definition};
 
 #[cfg(test)]
 mod item_tests;
+#[cfg(test)]
+mod decode_tests;
