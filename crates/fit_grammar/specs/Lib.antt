@@ -8,8 +8,9 @@ pub mod Encoding
 pub mod Lent
 pub mod Shown
 pub mod File
+pub mod Stored
 pub mod Refusal
-pub mod FirstGrammar
+pub mod Decoding
 pub use Rattle.fit_base.specs.Number
 pub use Rattle.fit_base.specs.Checksum
 pub use Rattle.fit_base.specs.Base

@@ -2,9 +2,11 @@
 #![tactic(auto)]
 
 mod data;
+mod decode;
 mod definition;
 mod fault;
 mod fields;
+mod file;
 mod frame;
 mod head;
 mod item;
@@ -16,9 +18,11 @@ mod time;
 mod writing;
 
 pub use data::DataMessage;
+pub use decode::decode_file;
 pub use definition::{Definition, FieldDefinition};
-pub use fault::{FaultKind, FileFault};
+pub use fault::{FaultKind, FileFault, PutFault};
 pub use fields::{Field, Fields};
+pub use file::File;
 pub use frame::Frame;
 pub use item::{Item, ItemFault, Step, least_length, next_item};
 pub use message::{Message, message_of};
@@ -28,3 +32,5 @@ pub use writing::{write_data, write_definition};
 
 #[cfg(test)]
 mod item_tests;
+#[cfg(test)]
+mod decode_tests;
