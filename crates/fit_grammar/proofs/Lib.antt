@@ -16,3 +16,6 @@ pub mod Closed
 pub mod HeaderRefused
 pub mod WantOfMemory
 pub mod Lent
+pub mod Following
+pub mod OneValue
+pub mod Encoded

@@ -8,6 +8,7 @@ pub mod Encoding
 pub mod Lent
 pub mod Shown
 pub mod File
+pub mod Possible
 pub mod Stored
 pub mod Refusal
 pub use Rattle.fit_base.specs.Number

@@ -1,8 +1,10 @@
 // A file in memory.
 
 ghost use Rattle.std.specs.Prelude.{◌≡◌, ◌<◌, ◌≤◌, ◌+◌, ◌++◌, ◌∷◌, [], ◌↔◌, ◌⊎◌, ℕ, length, Ok, Err, OnOk, OnErr, IfErr, IsErrOf, IsTrue, ◌^◌};
-ghost use Rattle.fit_grammar.specs.Records.{in_force, data_size};
+ghost use Rattle.fit_grammar.specs.Records.{in_force, IsDefined, data_size};
+ghost use Rattle.fit_grammar.specs.Encoding.{HasEncoding};
 ghost use Rattle.fit_grammar.specs.Item.{Defines, Data, item_size, content_size};
+ghost use Rattle.fit_grammar.specs.Possible.{CanBeFile};
 ghost use Rattle.fit_grammar.specs.File.{IsFrame, with_item, IsTooLong, IsUndefined, HasWrongLength, CanHold, IsOffset};
 
 use crate::definition::Definition;
@@ -77,7 +79,8 @@ impl File {
 
     /// The number of bytes of the records.
     pub fn data_size(&self) -> u32
-        ensures { result ≡ data_size self.now.items }
+        ensures size { result ≡ data_size self.now.items }
+        ensures valid { CanBeFile self.now }
     {
         self.size
     }
@@ -145,6 +148,8 @@ impl File {
         content: &[u8],
     ) -> Result<(), AllocError>
         requires small { length content.now < 2 ^ 31 }
+        requires encodable { HasEncoding (Data local offset content.now) }
+        requires defined { IsDefined self.old.items (Data local offset content.now) }
         requires fits { IsTooLong self.old (Data local offset content.now) → ⊥ }
         ensures ok { OnOk result (self.new ≡ with_item self.old (Data local offset content.now)) }
         ensures err { OnErr result (self.new ≡ self.old) }
