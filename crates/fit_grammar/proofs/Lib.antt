@@ -21,3 +21,7 @@ pub mod Reached
 pub mod WantOfMemory
 pub mod Shown
 pub mod Lent
+pub mod Following
+pub mod OneValue
+pub mod Encoded
+pub mod Left

@@ -4,10 +4,12 @@ pub mod Reading
 pub mod Table
 pub mod Step
 pub mod Message
+pub mod Lookup
 pub mod Encoding
 pub mod Lent
 pub mod Shown
 pub mod File
+pub mod Possible
 pub mod Stored
 pub mod Refusal
 pub mod Decoding

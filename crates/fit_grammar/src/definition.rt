@@ -1,6 +1,6 @@
 // Definition messages.
 
-ghost use Rattle.std.specs.Prelude.{◌≡◌, ◌≤◌};
+ghost use Rattle.std.specs.Prelude.{◌≡◌, ◌≤◌, ◌<◌};
 
 use arrayvec::ArrayVec;
 use fit_base::Arch;
@@ -12,6 +12,26 @@ pub struct FieldDefinition {
     pub number: u8,
     pub size: u8,
     pub base: u8,
+}
+
+impl FieldDefinition {
+    ghost use Rattle.fit_grammar.specs.Possible.{FieldFits};
+
+    // The same field, whose numbers fit into their bytes, as its type says.
+    fn in_bytes(self) -> FieldDefinition
+        ensures same { result ≡ self }
+        ensures fits { FieldFits result }
+    {
+        self
+    }
+}
+
+// The same number, which fits into two bytes, as its type says.
+fn in_two_bytes(number: u16) -> u16
+    ensures same { result ≡ number }
+    ensures fits { number < 65536 }
+{
+    number
 }
 
 /// A definition message: how the data messages with its local number are laid out, until the next
@@ -29,6 +49,7 @@ pub struct Definition {
 
 impl Definition {
     ghost use Rattle.fit_grammar.specs.Item.{content_size};
+    ghost use Rattle.fit_grammar.specs.Possible.{DefinitionFits};
 
     /// How many bytes of content a data message has under this definition.
     pub fn content_size(&self) -> usize
@@ -44,14 +65,18 @@ impl Definition {
 
     /// The same definition. It takes no memory, and so it cannot fail as a `clone` can.
     pub fn copied(&self) -> Definition
-        ensures { result ≡ self.now }
+        ensures same { result ≡ self.now }
+        // Each number fits into its bytes, as the types say.
+        ensures fits { DefinitionFits self.now }
     {
         let mut fields = ArrayVec::new();
-        fields.try_extend_from_slice(&self.fields).unwrap();
+        for field in self.fields.as_slice() {
+            fields.push(field.in_bytes());
+        }
         Definition {
             local: self.local,
             arch: self.arch,
-            global: self.global,
+            global: in_two_bytes(self.global),
             fields,
         }
     }

@@ -1,8 +1,11 @@
 // A file in memory.
 
 ghost use Rattle.std.specs.Prelude.{◌≡◌, ◌<◌, ◌≤◌, ◌+◌, ◌++◌, ◌∷◌, [], ◌↔◌, ◌⊎◌, ℕ, length, Ok, Err, OnOk, OnErr, IfErr, IsErrOf, IsTrue, ◌^◌};
-ghost use Rattle.fit_grammar.specs.Records.{in_force, data_size};
+ghost use Rattle.fit_grammar.specs.Records.{in_force, IsDefined, data_size};
+ghost use Rattle.fit_grammar.specs.Encoding.{HasEncoding};
 ghost use Rattle.fit_grammar.specs.Item.{Defines, Data, item_size, content_size};
+ghost use Rattle.fit_grammar.specs.Message.{messages_of};
+ghost use Rattle.fit_grammar.specs.Possible.{CanBeFile};
 ghost use Rattle.fit_grammar.specs.Step.{least_length_of};
 ghost use Rattle.fit_grammar.specs.File.{IsFrame, with_item, IsTooLong, IsUndefined, HasWrongLength, CanHold, IsOffset};
 
@@ -10,24 +13,25 @@ use crate::definition::Definition;
 use crate::fault::PutFault;
 use crate::frame::Frame;
 use crate::item::{ItemFault, least_length};
+use crate::messages::Messages;
 use crate::table::Table;
 use std::alloc::{AllocError, Global};
 use std::marker::Model;
 
 // An item of a file.
 #[derive(Drop)]
-enum Stored {
+pub(crate) enum Stored {
     Definition(Box<Definition>),
     Data(StoredData),
 }
 
 // A data message, whose content stands in the file's contents.
 #[derive(Clone, Copy)]
-struct StoredData {
-    local: u8,
-    offset: Option<u8>,
-    start: usize,
-    size: usize,
+pub(crate) struct StoredData {
+    pub(crate) local: u8,
+    pub(crate) offset: Option<u8>,
+    pub(crate) start: usize,
+    pub(crate) size: usize,
 }
 
 /// A file: its frame, and a row of items in which each data message has a definition in force whose sizes
@@ -79,7 +83,8 @@ impl File {
 
     /// The number of bytes of the records.
     pub fn data_size(&self) -> u32
-        ensures { result ≡ data_size self.now.items }
+        ensures size { result ≡ data_size self.now.items }
+        ensures valid { CanBeFile self.now }
     {
         self.size
     }
@@ -89,6 +94,14 @@ impl File {
         ensures { result ≡ least_length_of (in_force self.now.items) window.now }
     {
         least_length(window, &self.table)
+    }
+
+    /// The messages in order. A compressed timestamp counts from the last time before it, and from 0 where
+    /// there is none.
+    pub fn messages(&self) -> Messages<'_>
+        ensures { result ≡ messages_of self.now.items }
+    {
+        Messages::new(&self.items, &self.contents)
     }
 
     /// Adds a definition, which is in force for its local number from here on.
@@ -154,6 +167,8 @@ impl File {
         content: &[u8],
     ) -> Result<(), AllocError>
         requires small { length content.now < 2 ^ 32 }
+        requires encodable { HasEncoding (Data local offset content.now) }
+        requires defined { IsDefined self.old.items (Data local offset content.now) }
         requires fits { IsTooLong self.old (Data local offset content.now) → ⊥ }
         ensures ok { OnOk result (self.new ≡ with_item self.old (Data local offset content.now)) }
         ensures err { OnErr result (self.new ≡ self.old) }

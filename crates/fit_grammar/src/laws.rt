@@ -2,8 +2,10 @@
 
 ghost use Rattle.std.specs.Prelude.{◌≡◌, ℕ, List, ◌++◌, Option};
 ghost use Rattle.fit_grammar.specs.declared.definition.Definition.{Definition};
-ghost use Rattle.fit_grammar.specs.Encoding.{encoded_item, HasEncoding};
+ghost use Rattle.fit_grammar.specs.Encoding.{encoded_item, HasEncoding, encoded};
+ghost use Rattle.fit_grammar.specs.File.{FileValue, FileOf};
 ghost use Rattle.fit_grammar.specs.Item.{Item, Spells};
+ghost use Rattle.fit_grammar.specs.Possible.{CanBeFile};
 ghost use Rattle.fit_grammar.specs.Records.{IsDefinedBy};
 
 /// Under one lookup of definitions, no spelling of a defined item begins the spelling of another. So
@@ -16,4 +18,14 @@ pub fn no_spelling_begins_another()
 /// The bytes that an item is written as are a spelling of it.
 pub fn written_items_are_spelled()
     ensures { (i : Item) → HasEncoding i → Spells i (encoded_item i) }
+{}
+
+/// No bytes are a file of two values.
+pub fn no_bytes_are_two_files()
+    ensures { (bytes : List ℕ) (v w : FileValue) → FileOf bytes v → FileOf bytes w → v ≡ w }
+{}
+
+/// The encoded file is a file of its value. So whoever reads it gets that value again.
+pub fn encoded_files_are_files()
+    ensures { (v : FileValue) → CanBeFile v → FileOf (encoded v) v }
 {}

@@ -1,15 +1,15 @@
-use Rattle.std.proofs.Common.{◌≡◌, ◌+◌, ◌≤◌, ◌∷◌, [], ◌++◌, List, ℕ, length, take, drop, refl, ap, sym, subst, ◌∙◌, arith, inl, inr, ◌<◌, ◌^◌}
-use Rattle.std.specs.List.{AllByRecursion}
+use Rattle.std.proofs.Common.{◌≡◌, ◌+◌, ◌∷◌, [], ◌++◌, List, ℕ, length, take, drop, refl, ap, sym, subst, ◌∙◌, arith}
 use Rattle.std.proofs.lemmas.List.{length-append}
-use Rattle.std.proofs.lemmas.Bool.{cases_lt}
 use Rattle.fit_grammar.specs.declared.file.Stored.{Stored}
 use Rattle.fit_grammar.specs.declared.file.StoredData.{StoredData}
 use Rattle.fit_grammar.specs.declared.file.Stored.TheVariants as stored
 use Rattle.fit_grammar.specs.Item.{Item, Data}
-use Rattle.fit_grammar.specs.Records.{in_force, data_size}
+use Rattle.fit_grammar.specs.Records.{data_size}
 use Rattle.fit_grammar.specs.declared.frame.Frame.{Frame}
-use Rattle.fit_grammar.specs.File.{FileValue, with_item}
-use Rattle.fit_grammar.specs.Stored.{items_in, LiesWithin}
+use Rattle.fit_grammar.specs.File.{FileValue, with_item, IsTooLong}
+use Rattle.fit_grammar.specs.Possible.{CanFollow, CanBeFile}
+use Rattle.fit_grammar.specs.Stored.{items_in, file_view}
+use Rattle.fit_grammar.proofs.Following.{bytes_fit, follows_in, CanBeFile-push}
 use Rattle.fit_grammar.proofs.InForce.{in_force-data}
 use Rattle.fit_grammar.proofs.Kept.{items_in-push, items_in-more, data_size-push, within-push, within-more, item_in-last}
 use Rattle.fit_grammar.proofs.file.File.push_data.Goals as goal
@@ -23,11 +23,10 @@ invariant_of-self-in_err-extend_from_slice c =
     let items : c.reserve.new.self.items ≡ old.items.items = c.reserve.ensures.items in
     let contents : c.extend_from_slice.new.self.items ≡ old.contents.items = c.in_err-extend_from_slice.ensures.items in
     record {
-      is_frame = c.self.invariant.is_frame;
+      can_be = rw (items, contents) c.self.invariant.can_be;
       within = rw (items, contents) c.self.invariant.within;
       table = λ l. rw (items, contents) (c.self.invariant.table l);
       size = rw (items, contents) c.self.invariant.size;
-      bound = c.self.invariant.bound;
     }
 
 pushed : (c : goal.After-self-1) → c.push.new.self.items ≡ c.self.inside.items.items ++ stored.Data (record { local = c.args.local; offset = c.args.offset; start = length c.self.inside.contents.items; size = length c.args.content.now }) ∷ []
@@ -57,15 +56,16 @@ invariant_of-self-2 c =
     let items = items_in old.contents.items old.items.items in
     let contents : c.extend_from_slice.new.self.items ≡ old.contents.items ++ content = c.in_ok-extend_from_slice.ensures.items in
     let longer : length c.extend_from_slice.new.self.items ≡ length old.contents.items + length content = ap length contents ∙ length-append old.contents.items content in
+    let item = Data c.args.local c.args.offset content in
+    let follows : CanFollow c.args.self.now.items item =
+    record { encodable = c.requires.encodable; fits = bytes_fit content (λ i. (c.type_inv.content i).fits); defined = c.requires.defined } in
+    let can_be : CanBeFile (file_by old.frame (items_in c.extend_from_slice.new.self.items c.push.new.self.items)) =
+    subst CanBeFile (ap (λ (l : List Item). file_by old.frame l) (sym (items_are c))) (CanBeFile-push (file_view old) item c.self.invariant.can_be (follows_in (file_view old) c.args.self.now item c.self.view_is follows) (λ long. c.requires.fits (subst (λ (v : FileValue). IsTooLong v item) c.self.view_is long))) in
     record {
-      is_frame = c.self.invariant.is_frame;
+      can_be = can_be;
       within = rw (pushed c, longer) (within-push (length old.contents.items + length content) old.items.items _ (within-more (length old.contents.items) (length old.contents.items + length content) old.items.items (omega arith) c.self.invariant.within) (omega arith));
       table = λ l. rw (items_are c) (c.self.invariant.table l ∙ sym (in_force-data items c.args.local c.args.offset content l));
       size = omega (arith, c.self.invariant.size, data_size-push items (Data c.args.local c.args.offset content), ap data_size (items_are c));
-      bound = elim (cases_lt (old.size + (1 + length content)) (2 ^ 32)) [
-        | inl lt ↦ lt
-        | inr le ↦ absurd (c.requires.fits (omega (arith, c.self.invariant.size, ap (λ (v : FileValue). data_size v.items) c.self.view_is)))
-      ];
     }
 
 pub returns-clause-ok : goal.returns-clause-ok

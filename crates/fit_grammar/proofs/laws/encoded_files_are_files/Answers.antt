@@ -1,0 +1,5 @@
+use Rattle.fit_grammar.proofs.Encoded.{encoded_is_file}
+use Rattle.fit_grammar.proofs.laws.encoded_files_are_files.Goals as goal
+
+pub returns : goal.returns
+returns c = encoded_is_file
