@@ -19,3 +19,4 @@ pub mod Lent
 pub mod Following
 pub mod OneValue
 pub mod Encoded
+pub mod Under

@@ -10,6 +10,9 @@ pub mod Shown
 pub mod File
 pub mod Possible
 pub mod Stored
+pub mod Under
+pub mod Latest
+pub mod Left
 pub mod Refusal
 pub use Rattle.fit_base.specs.Number
 pub use Rattle.fit_base.specs.Checksum

@@ -4,30 +4,32 @@ ghost use Rattle.std.specs.Prelude.{◌≡◌, ◌<◌, ◌≤◌, ◌+◌, ◌+
 ghost use Rattle.fit_grammar.specs.Records.{in_force, IsDefined, data_size};
 ghost use Rattle.fit_grammar.specs.Encoding.{HasEncoding};
 ghost use Rattle.fit_grammar.specs.Item.{Defines, Data, item_size, content_size};
+ghost use Rattle.fit_grammar.specs.Message.{messages_of};
 ghost use Rattle.fit_grammar.specs.Possible.{CanBeFile};
 ghost use Rattle.fit_grammar.specs.File.{IsFrame, with_item, IsTooLong, IsUndefined, HasWrongLength, CanHold, IsOffset};
 
 use crate::definition::Definition;
 use crate::fault::PutFault;
 use crate::frame::Frame;
+use crate::messages::Messages;
 use crate::table::Table;
 use std::alloc::{AllocError, Global};
 use std::marker::Model;
 
 // An item of a file.
 #[derive(Drop)]
-enum Stored {
+pub(crate) enum Stored {
     Definition(Box<Definition>),
     Data(StoredData),
 }
 
 // A data message, whose content stands in the file's contents.
 #[derive(Clone, Copy)]
-struct StoredData {
-    local: u8,
-    offset: Option<u8>,
-    start: usize,
-    size: usize,
+pub(crate) struct StoredData {
+    pub(crate) local: u8,
+    pub(crate) offset: Option<u8>,
+    pub(crate) start: usize,
+    pub(crate) size: usize,
 }
 
 /// A file: its frame, and a row of items in which each data message has a definition in force whose sizes
@@ -83,6 +85,13 @@ impl File {
         ensures valid { CanBeFile self.now }
     {
         self.size
+    }
+
+    /// The messages of the data messages in order. The time before the first is 0.
+    pub fn messages(&self) -> Messages<'_>
+        ensures { result ≡ messages_of self.now.items }
+    {
+        Messages::new(&self.items, &self.contents)
     }
 
     /// Adds a definition, which is in force for its local number from here on.
