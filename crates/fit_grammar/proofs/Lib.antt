@@ -24,4 +24,4 @@ pub mod Lent
 pub mod Following
 pub mod OneValue
 pub mod Encoded
-pub mod Left
+pub mod Under

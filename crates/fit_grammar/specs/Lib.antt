@@ -4,13 +4,15 @@ pub mod Reading
 pub mod Table
 pub mod Step
 pub mod Message
-pub mod Lookup
 pub mod Encoding
 pub mod Lent
 pub mod Shown
 pub mod File
 pub mod Possible
 pub mod Stored
+pub mod Under
+pub mod Latest
+pub mod Left
 pub mod Refusal
 pub mod Decoding
 pub use Rattle.fit_base.specs.Number

@@ -2,7 +2,9 @@
 
 ghost use Rattle.std.specs.Prelude.{◌≡◌};
 ghost use Rattle.fit_grammar.specs.Lent.{message_lent};
+ghost use Rattle.fit_grammar.specs.declared.item.Item.TheVariants as items;
 
+use crate::data::DataMessage;
 use crate::definition::Definition;
 use crate::fields::Fields;
 use crate::item::Item;
@@ -73,16 +75,21 @@ pub fn message_of<'a>(item: &Item<'a>, before: u32) -> Option<Message<'a>>
 {
     match item {
         Item::Definition(_) => None,
-        Item::Data(data) => {
-            let time = match data.offset {
-                Some(offset) => Some(next_time(before, offset).to_le_bytes()),
-                None => None,
-            };
-            Some(Message {
-                definition: data.definition,
-                content: data.content,
-                time,
-            })
-        }
+        Item::Data(data) => Some(message_in(data, before)),
+    }
+}
+
+// The message of a data message, where the time before it is this.
+pub(crate) fn message_in<'a>(m: &DataMessage<'a>, before: u32) -> Message<'a>
+    ensures { Some result ≡ message_lent (items.Data m.now) before }
+{
+    let time = match m.offset {
+        Some(offset) => Some(next_time(before, offset).to_le_bytes()),
+        None => None,
+    };
+    Message {
+        definition: m.definition,
+        content: m.content,
+        time,
     }
 }

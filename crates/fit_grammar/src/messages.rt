@@ -1,13 +1,19 @@
 // The messages of a file, one after another.
 
+ghost use Rattle.std.specs.Prelude.{◌≡◌, ◌≢◌, ◌<◌, ℕ, [], length, option_map};
+ghost use Rattle.fit_grammar.specs.Latest.{definition_latest};
+ghost use Rattle.std.specs.List.{AllByRecursion};
+ghost use Rattle.fit_grammar.specs.Message.{messages_of};
+ghost use Rattle.fit_grammar.specs.Stored.{items_in, LiesWithin};
+ghost use Rattle.fit_grammar.specs.Possible.{AllCanFollow};
+
 use crate::data::DataMessage;
 use crate::definition::Definition;
 use crate::file::Stored;
-use crate::item::Item;
-use crate::message::{Message, message_of};
+use crate::message::{Message, message_in};
 use std::marker::Model;
 
-/// The messages of a file in order, lent from it. Contracts see those that are left.
+/// The messages of a file in order, with the time carried along. Contracts see those that are left.
 #[derive(Drop)]
 pub struct Messages<'a> {
     items: &'a [Stored],
@@ -18,37 +24,28 @@ pub struct Messages<'a> {
 
 impl<'a> Model for Messages<'a> {
     ghost use Rattle.std.specs.Prelude.{List};
-    ghost use Rattle.fit_grammar.specs.Message.{Message};
+    ghost use Rattle.fit_grammar.specs.Message.{Message as AnyMessage};
 
-    ghost Value = { List Message };
+    ghost Value = { List AnyMessage };
 
-    ghost use Rattle.std.specs.Prelude.{length};
-    ghost use Rattle.std.specs.List.{AllByRecursion};
-    ghost use Rattle.fit_grammar.specs.Stored.{items_in, LiesWithin};
-    ghost use Rattle.fit_grammar.specs.Lookup.{messages_by, lookup_of, AllDefinedBy};
+    ghost use Rattle.fit_grammar.specs.Left.{messages_left, AreLeft};
 
-    ghost view = { λ s. messages_by (lookup_of s.latest) s.time (items_in s.contents.now s.items.now) };
+    ghost view = { messages_left };
 
-    ghost invariant = { λ s. AllByRecursion (LiesWithin (length s.contents.now)) s.items.now
-        × AllDefinedBy (lookup_of s.latest) (items_in s.contents.now s.items.now) };
+    ghost invariant = { AreLeft };
 }
 
 impl<'a> Messages<'a> {
-    ghost use Rattle.std.specs.Prelude.{◌≡◌, length, None};
-    ghost use Rattle.std.specs.List.{AllByRecursion};
-    ghost use Rattle.fit_grammar.specs.Stored.{items_in, LiesWithin};
-    ghost use Rattle.fit_grammar.specs.Lookup.{messages_by, AllDefinedBy};
-
-    // The messages of these items, with no definition and no time before them.
+    // The messages of all the items of a file.
     pub(crate) fn new(items: &'a [Stored], contents: &'a [u8]) -> Self
         requires within { AllByRecursion (LiesWithin (length contents.now)) items.now }
-        requires defined { AllDefinedBy (λ _. None) (items_in contents.now items.now) }
-        ensures { result ≡ messages_by (λ _. None) 0 (items_in contents.now items.now) }
+        requires follow { AllCanFollow [] (items_in contents.now items.now) }
+        ensures { result ≡ messages_of (items_in contents.now items.now) }
     {
         Messages {
             items,
             contents,
-            latest: [None; 16],
+            latest: none_yet(),
             time: 0,
         }
     }
@@ -64,27 +61,21 @@ impl<'a> Iterator for Messages<'a> {
     ghost remaining = { item_count (λ s. s) };
 
     fn next(&mut self) -> Option<Message<'a>> {
-        while let Some((first, others)) = self.items.split_first() {
+        while let Some((item, others)) = self.items.split_first() {
             self.items = others;
-            match first {
-                Stored::Definition(definition) => {
-                    let latest = &mut self.latest[..];
-                    latest[definition.local as usize] = Some(definition);
-                }
-                Stored::Data(data) => {
-                    let latest = &self.latest[..];
-                    let definition = latest[data.local as usize]?;
-                    let (_, rest) = self.contents.split_at(data.start);
-                    let (content, _) = rest.split_at(data.size);
-                    let message = message_of(
-                        &Item::Data(DataMessage {
-                            local: data.local,
-                            offset: data.offset,
-                            definition,
-                            content,
-                        }),
-                        self.time,
-                    )?;
+            match item {
+                Stored::Definition(d) => take_latest(&mut self.latest, d),
+                Stored::Data(m) => {
+                    let Some(definition) = latest_in(&self.latest, m.local) else {
+                        unreachable!();
+                    };
+                    let data = DataMessage {
+                        local: m.local,
+                        offset: m.offset,
+                        definition,
+                        content: &self.contents[m.start..][..m.size],
+                    };
+                    let message = message_in(&data, self.time);
                     if let Some(time) = message.time() {
                         self.time = time;
                     }
@@ -93,5 +84,32 @@ impl<'a> Iterator for Messages<'a> {
             }
         }
         None
+    }
+}
+
+// No definitions.
+fn none_yet<'a>() -> [Option<&'a Definition>; 16]
+    ensures count { length result ≡ 16 }
+    ensures none { (l : ℕ) → definition_latest result l ≡ None }
+{
+    [None; 16]
+}
+
+// Makes this the latest definition of its local number.
+fn take_latest<'a>(latest: &mut [Option<&'a Definition>], definition: &'a Definition)
+    requires { definition.now.local < length latest.old }
+    ensures taken { definition_latest latest.new definition.now.local ≡ Some definition.now }
+    ensures others { (l : ℕ) → l ≢ definition.now.local → definition_latest latest.new l ≡ definition_latest latest.old l }
+{
+    latest[definition.local as usize] = Some(definition);
+}
+
+// The latest definition of a local number, if there is one.
+fn latest_in<'a>(latest: &[Option<&'a Definition>], local: u8) -> Option<&'a Definition>
+    ensures { option_map (λ d. d.now) result ≡ definition_latest latest.now local }
+{
+    match latest.get(local as usize) {
+        Some(Some(d)) => Some(d),
+        _ => None,
     }
 }
