@@ -1,5 +1,5 @@
 -- The table of base types (FIT protocol, "Base types"), without its three types of 64 bits.
-use Rattle.std.specs.Prelude.{◌≡◌, ℕ, List, [], ◌∷◌, Option, Some, None, ◌==◌, if◌then◌else◌}
+use Rattle.std.specs.Prelude.{◌≡◌, ℕ, Bool, true, false, List, [], ◌∷◌, Option, Some, None, ◌==◌, if◌then◌else◌}
 use Rattle.fit_base.specs.declared.base.BaseType.{BaseType}
 use Rattle.fit_base.specs.declared.base.BaseType.TheVariants.{Enum, Sint8, Uint8, Sint16, Uint16, Sint32, Uint32, String, Float32, Float64, Uint8z, Uint16z, Uint32z, Byte}
 
@@ -36,3 +36,10 @@ base_type_in (type ∷ types) code = if (row_of type).code == code then Some typ
 -- the type with this base type byte, if there is one
 abbrev pub base_type : ℕ → Option BaseType
 base_type code = base_type_in (Enum ∷ Sint8 ∷ Uint8 ∷ Sint16 ∷ Uint16 ∷ Sint32 ∷ Uint32 ∷ String ∷ Float32 ∷ Float64 ∷ Uint8z ∷ Uint16z ∷ Uint32z ∷ Byte ∷ []) code
+
+-- whether the values of a type have a sign
+abbrev pub has_sign : BaseType → Bool
+has_sign Sint8 = true
+has_sign Sint16 = true
+has_sign Sint32 = true
+has_sign _ = false

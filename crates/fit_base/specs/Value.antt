@@ -1,5 +1,5 @@
 -- What a field of a data message holds (FIT protocol, "Base types").
-use Rattle.std.specs.Prelude.{◌≡◌, ℕ, zero, suc, ◌*◌, ◌/◌, ◌%◌, ℤ, List, [], ◌∷◌, length, take, drop, All, Bool, true, false, Option, Some, None, ◌==◌, if◌then◌else◌}
+use Rattle.std.specs.Prelude.{◌≡◌, ◌⊎◌, ℕ, zero, suc, ◌*◌, ◌/◌, ◌%◌, ℤ, List, [], ◌∷◌, length, take, drop, All, Bool, true, false, Option, Some, None, ◌==◌, if◌then◌else◌}
 use Rattle.fit_base.specs.declared.order.Arch.{Arch}
 use Rattle.fit_base.specs.declared.base.BaseType.{BaseType}
 use Rattle.fit_base.specs.declared.base.BaseType.TheVariants.{Enum, Sint8, Uint8, Sint16, Uint16, Sint32, Uint32, String, Float32, Float64, Uint8z, Uint16z, Uint32z, Byte}
@@ -52,6 +52,10 @@ IsInvalidAt field i = IsInvalidBy (base_type field.base) field i
 abbrev pub numbers : Arch → ℕ → ℕ → List ℕ → List ℕ
 numbers arch size zero bytes = []
 numbers arch size (suc count) bytes = number arch (take size bytes) ∷ numbers arch size count (drop size bytes)
+
+-- a value of a base type has 1, 2, 4 or 8 bytes
+abbrev pub IsValueSize : ℕ → Type 0
+IsValueSize size = (size ≡ 1) ⊎ (size ≡ 2) ⊎ (size ≡ 4) ⊎ (size ≡ 8)
 
 -- what a field holds, whatever its architecture: the number of each value, or bytes that are carried raw
 pub data Values : Type 0 where

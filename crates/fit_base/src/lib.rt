@@ -2,7 +2,12 @@
 #![tactic(auto)]
 
 mod base;
+mod checksum;
+mod number;
 mod order;
+mod value;
 
 pub use base::BaseType;
+pub use checksum::Crc;
 pub use order::Arch;
+pub use value::FieldValue;

@@ -1,0 +1,100 @@
+// A field of a data message, as its bytes are read.
+
+ghost use Rattle.std.specs.Prelude.{◌≡◌, ◌<◌, ◌↔◌, IsTrue};
+
+use crate::base::BaseType;
+use crate::number::number_of;
+use crate::order::Arch;
+use std::marker::Model;
+
+/// A field's bytes under the base type byte and the architecture of its definition. It borrows the
+/// bytes, and reads values out of them where they are asked for.
+#[derive(Debug, Drop)]
+pub struct FieldValue<'a> {
+    base: u8,
+    arch: Arch,
+    bytes: &'a [u8],
+}
+
+impl<'a> Model for FieldValue<'a> {
+    ghost use Rattle.fit_base.specs.Value.{Field};
+
+    ghost Value = { Field };
+
+    ghost view = { λ v. record { base = v.base; arch = v.arch; bytes = v.bytes.now } };
+}
+
+impl<'a> FieldValue<'a> {
+    ghost use Rattle.fit_base.specs.Value.{is_raw, count_of, unsigned_at, IsInvalidAt};
+
+    /// The field with this base type byte, known or not, this architecture and these bytes.
+    pub fn new(base: u8, arch: Arch, bytes: &'a [u8]) -> Self
+        ensures { result ≡ record { base = base; arch = arch; bytes = bytes.now } }
+    {
+        FieldValue { base, arch, bytes }
+    }
+
+    /// The base type byte.
+    pub fn base(&self) -> u8
+        ensures { result ≡ self.now.base }
+    {
+        self.base
+    }
+
+    /// The order of the bytes of a value.
+    pub fn arch(&self) -> Arch
+        ensures { result ≡ self.now.arch }
+    {
+        self.arch
+    }
+
+    /// All bytes of the field, as they stand in the message.
+    pub fn raw(&self) -> &'a [u8]
+        ensures { result.now ≡ self.now.bytes }
+    {
+        self.bytes
+    }
+
+    /// How many values the field has. A field whose base type byte is unknown, or whose size is no
+    /// multiple of the base size, is carried raw and has none.
+    pub fn count(&self) -> usize
+        ensures { result ≡ count_of self.now }
+    {
+        let Some(base) = BaseType::of(self.base) else {
+            return 0;
+        };
+        let size = base.size();
+        if self.bytes.len() % size == 0 {
+            self.bytes.len() / size
+        } else {
+            0
+        }
+    }
+
+    /// The number of the value at this index, below `count`. Of a type with a sign it is the number
+    /// before the sign is read, and of a float its bits.
+    pub fn unsigned(&self, i: usize) -> u64
+        requires { i < count_of self.now }
+        ensures { result ≡ unsigned_at self.now i }
+    {
+        let Some(base) = BaseType::of(self.base) else {
+            unreachable!();
+        };
+        let size = base.size();
+        number_of(self.arch, &self.bytes[i * size..i * size + size])
+    }
+
+    /// Whether the value at this index, below `count`, is its type's invalid value, which stands for
+    /// no value. Of the type `byte` every value is invalid exactly where all bytes of the field are
+    /// FF.
+    pub fn is_invalid(&self, i: usize) -> bool
+        requires { i < count_of self.now }
+        ensures { IsTrue result ↔ IsInvalidAt self.now i }
+    {
+        match BaseType::of(self.base) {
+            Some(BaseType::Byte) => self.bytes.iter().all(|byte| *byte == 0xFF),
+            Some(base) => self.unsigned(i) == base.invalid(),
+            None => unreachable!(),
+        }
+    }
+}
