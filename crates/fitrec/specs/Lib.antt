@@ -1,0 +1,3 @@
+pub mod Output
+pub mod Profile
+pub mod Text
