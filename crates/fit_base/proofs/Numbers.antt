@@ -1,8 +1,8 @@
 -- The sums over bytes, as `byteorder` has them and as the definition of a number has them.
-use Rattle.std.proofs.Common.{◌≡◌, ℕ, zero, suc, ◌+◌, ◌*◌, ◌^◌, ◌<◌, ◌≤◌, List, [], ◌∷◌, ◌++◌, length, reverse, take, drop, refl, sym, ap, ◌∙◌, arith, pow-suc, length-append}
+use Rattle.std.proofs.Common.{◌≡◌, ℕ, zero, suc, ◌+◌, ◌*◌, ◌^◌, ◌<◌, ◌≤◌, List, [], ◌∷◌, ◌++◌, length, reverse, drop, append-nil, drop_of_length-le, le_refl, refl, sym, ap, ◌∙◌, arith, pow-suc, length-append}
 use Rattle.std.proofs.lemmas.List.{reverse-append, length-reverse}
-use Rattle.byteorder.specs.Endian.{big_from, little_from, big_number, little_number}
-use Rattle.byteorder.specs.Numbers.{big_from-cons, little_from-cons}
+use Rattle.byteorder.specs.Endian.{big_from, little_from, big_number, little_number, big_bytes, little_bytes}
+use Rattle.byteorder.specs.Numbers.{big_from-cons, little_from-cons, big_number-reads_back, little_number-reads_back, length-bytes_high_first, length-bytes_low_first}
 use Rattle.fit_base.specs.Number.{low_first}
 
 pub low_first-append : (xs ys : List ℕ) → low_first (xs ++ ys) ≡ low_first xs + 256 ^ length xs * low_first ys
@@ -29,3 +29,26 @@ low_first-big (x ∷ xs) =
     let back = ap low_first (reverse-front x xs) ∙ low_first-append (reverse xs) (x ∷ []) in
     let len = length-reverse xs in
     ap (λ (r : ℕ). x * 256 ^ length xs + r) ih ∙ sym (back ∙ rw len (omega arith))
+
+-- what is written over a whole list is its number
+pub low_first-written : (n : ℕ) (old : List ℕ) → n < 256 ^ length old → low_first (little_bytes (length old) n ++ drop (length old) old) ≡ n
+low_first-written n old fits =
+    let len = length-bytes_low_first 0 (length old) n in
+    let rest = drop_of_length-le old (le_refl (length old)) in
+    ap (λ xs. low_first (little_bytes (length old) n ++ xs)) rest
+    ∙ ap low_first (append-nil (little_bytes (length old) n))
+    ∙ sym (low_first-little (little_bytes (length old) n))
+    ∙ ap (λ (k : ℕ). little_number k (little_bytes (length old) n)) len
+    ∙ ap (little_number (length old)) (sym (append-nil (little_bytes (length old) n)))
+    ∙ little_number-reads_back (length old) n [] fits
+
+pub high_first-written : (n : ℕ) (old : List ℕ) → n < 256 ^ length old → low_first (reverse (big_bytes (length old) n ++ drop (length old) old)) ≡ n
+high_first-written n old fits =
+    let len = length-bytes_high_first (length old) n in
+    let rest = drop_of_length-le old (le_refl (length old)) in
+    ap (λ xs. low_first (reverse (big_bytes (length old) n ++ xs))) rest
+    ∙ ap (λ xs. low_first (reverse xs)) (append-nil (big_bytes (length old) n))
+    ∙ sym (low_first-big (big_bytes (length old) n))
+    ∙ ap (λ (k : ℕ). big_number k (big_bytes (length old) n)) len
+    ∙ ap (big_number (length old)) (sym (append-nil (big_bytes (length old) n)))
+    ∙ big_number-reads_back (length old) n [] fits

@@ -1,5 +1,5 @@
 -- The table of base types (FIT protocol, "Base types"), without its three types of 64 bits.
-use Rattle.std.specs.Prelude.{◌≡◌, ℕ, Bool, true, false, List, [], ◌∷◌, Option, Some, None, ◌==◌, if◌then◌else◌}
+use Rattle.std.specs.Prelude.{◌≡◌, ℕ, ◌*◌, ◌-◌, ◌^◌, ℤ, pos, neg_ℤ, Bool, true, false, List, [], ◌∷◌, Option, Some, None, ◌==◌, if◌then◌else◌}
 use Rattle.fit_base.specs.declared.base.BaseType.{BaseType}
 use Rattle.fit_base.specs.declared.base.BaseType.TheVariants.{Enum, Sint8, Uint8, Sint16, Uint16, Sint32, Uint32, String, Float32, Float64, Uint8z, Uint16z, Uint32z, Byte}
 
@@ -43,3 +43,11 @@ has_sign Sint8 = true
 has_sign Sint16 = true
 has_sign Sint32 = true
 has_sign _ = false
+
+-- the least and the greatest value of a type; of a float its bits
+abbrev pub least_of : BaseType → ℤ
+least_of type = if has_sign type then neg_ℤ (pos (2 ^ (8 * (row_of type).size - 1))) else pos 0
+
+abbrev pub greatest_of : BaseType → ℤ
+greatest_of type =
+    if has_sign type then pos (2 ^ (8 * (row_of type).size - 1) - 1) else pos (2 ^ (8 * (row_of type).size) - 1)

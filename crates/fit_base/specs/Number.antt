@@ -1,5 +1,5 @@
 -- The number whose bytes a field has (FIT protocol, "Base types").
-use Rattle.std.specs.Prelude.{ℕ, ◌+◌, ◌*◌, ◌-◌, ◌^◌, ◌-ℤ◌, ℤ, pos, List, [], ◌∷◌, reverse, nat_lt, if◌then◌else◌}
+use Rattle.std.specs.Prelude.{ℕ, ◌+◌, ◌*◌, ◌-◌, ◌^◌, ◌-ℤ◌, ℤ, pos, negsuc, suc, List, [], ◌∷◌, reverse, nat_lt, if◌then◌else◌}
 use Rattle.fit_base.specs.declared.order.Arch.{Arch}
 use Rattle.fit_base.specs.declared.order.Arch.TheVariants.{Little, Big}
 
@@ -16,3 +16,8 @@ number Big bytes = low_first (reverse bytes)
 -- a number of this many bytes, read as two's complement
 abbrev pub twos_complement : ℕ → ℕ → ℤ
 twos_complement size n = if nat_lt n (2 ^ (8 * size - 1)) then pos n else pos n -ℤ pos (2 ^ (8 * size))
+
+-- the number of this many bytes that stands for a value, which goes by two's complement below zero
+abbrev pub as_unsigned : ℕ → ℤ → ℕ
+as_unsigned size (pos n) = n
+as_unsigned size (negsuc n) = 2 ^ (8 * size) - suc n

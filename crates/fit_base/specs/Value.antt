@@ -1,16 +1,21 @@
 -- What a field of a data message holds (FIT protocol, "Base types").
 use Rattle.std.specs.Prelude.{◌≡◌, ◌⊎◌, ℕ, zero, suc, ◌*◌, ◌/◌, ◌%◌, ℤ, List, [], ◌∷◌, length, take, drop, All, Bool, true, false, Option, Some, None, ◌==◌, if◌then◌else◌}
+use Rattle.std.specs.List.{before_first}
 use Rattle.fit_base.specs.declared.order.Arch.{Arch}
 use Rattle.fit_base.specs.declared.base.BaseType.{BaseType}
 use Rattle.fit_base.specs.declared.base.BaseType.TheVariants.{Enum, Sint8, Uint8, Sint16, Uint16, Sint32, Uint32, String, Float32, Float64, Uint8z, Uint16z, Uint32z, Byte}
 use Rattle.fit_base.specs.Number.{number, twos_complement}
-use Rattle.fit_base.specs.Base.{row_of, base_type}
+use Rattle.fit_base.specs.Base.{row_of, base_type, has_sign}
 
 -- a field's bytes, under the base type byte and the architecture of its definition
 pub record Field : Type 0 where
   pub base : ℕ
   pub arch : Arch
   pub bytes : List ℕ
+
+-- the field with these bytes, of this type
+abbrev pub field_of : BaseType → Arch → List ℕ → Field
+field_of type arch bytes = record { base = (row_of type).code; arch = arch; bytes = bytes }
 
 -- the size of a value of the field's base type; 0 where there is no such type
 abbrev pub size_by : Option BaseType → ℕ
@@ -39,6 +44,14 @@ unsigned_at field i = number field.arch (take (value_size field) (drop (i * valu
 abbrev pub signed_at : Field → ℕ → ℤ
 signed_at field i = twos_complement (value_size field) (unsigned_at field i)
 
+-- whether the values of the field have a sign
+abbrev pub signed_by : Option BaseType → Bool
+signed_by None = false
+signed_by (Some type) = has_sign type
+
+abbrev pub is_signed : Field → Bool
+is_signed field = signed_by (base_type field.base)
+
 -- a value is invalid where it is its type's invalid value; one of type byte, where all bytes of its field are FF
 abbrev pub IsInvalidBy : Option BaseType → Field → ℕ → Type 0
 IsInvalidBy None field i = Unit {0}
@@ -52,6 +65,10 @@ IsInvalidAt field i = IsInvalidBy (base_type field.base) field i
 abbrev pub numbers : Arch → ℕ → ℕ → List ℕ → List ℕ
 numbers arch size zero bytes = []
 numbers arch size (suc count) bytes = number arch (take size bytes) ∷ numbers arch size count (drop size bytes)
+
+-- the text of a field: the bytes before the first zero byte
+abbrev pub text_of : Field → List ℕ
+text_of field = before_first (λ byte. byte == 0) field.bytes
 
 -- a value of a base type has 1, 2, 4 or 8 bytes
 abbrev pub IsValueSize : ℕ → Type 0

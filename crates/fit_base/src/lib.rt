@@ -5,9 +5,11 @@ mod base;
 mod checksum;
 mod number;
 mod order;
+mod putting;
 mod value;
 
 pub use base::BaseType;
 pub use checksum::Crc;
 pub use order::Arch;
+pub use putting::put;
 pub use value::FieldValue;

@@ -1,9 +1,10 @@
 // A field of a data message, as its bytes are read.
 
-ghost use Rattle.std.specs.Prelude.{◌≡◌, ◌<◌, ◌↔◌, IsTrue};
+ghost use Rattle.std.specs.Prelude.{◌≡◌, ◌^◌, ◌<◌, ◌↔◌, ◌==◌, IsTrue, IsSome, IfSome, IsUtf8, position};
+ghost use Rattle.std.specs.List.{before_first};
 
 use crate::base::BaseType;
-use crate::number::number_of;
+use crate::number::{number_of, with_sign};
 use crate::order::Arch;
 use std::marker::Model;
 
@@ -25,7 +26,7 @@ impl<'a> Model for FieldValue<'a> {
 }
 
 impl<'a> FieldValue<'a> {
-    ghost use Rattle.fit_base.specs.Value.{is_raw, count_of, unsigned_at, IsInvalidAt};
+    ghost use Rattle.fit_base.specs.Value.{count_of, value_size, unsigned_at, is_signed, signed_at, IsInvalidAt, text_of};
 
     /// The field with this base type byte, known or not, this architecture and these bytes.
     pub fn new(base: u8, arch: Arch, bytes: &'a [u8]) -> Self
@@ -75,13 +76,26 @@ impl<'a> FieldValue<'a> {
     /// before the sign is read, and of a float its bits.
     pub fn unsigned(&self, i: usize) -> u64
         requires { i < count_of self.now }
-        ensures { result ≡ unsigned_at self.now i }
+        ensures number { result ≡ unsigned_at self.now i }
+        ensures fits { result < 256 ^ value_size self.now }
     {
         let Some(base) = BaseType::of(self.base) else {
             unreachable!();
         };
         let size = base.size();
         number_of(self.arch, &self.bytes[i * size..i * size + size])
+    }
+
+    /// The value at this index, below `count`, of a type with a sign.
+    pub fn signed(&self, i: usize) -> i64
+        requires index { i < count_of self.now }
+        requires sign { IsTrue (is_signed self.now) }
+        ensures { result ≡ signed_at self.now i }
+    {
+        let Some(base) = BaseType::of(self.base) else {
+            unreachable!();
+        };
+        with_sign(base.size(), self.unsigned(i))
     }
 
     /// Whether the value at this index, below `count`, is its type's invalid value, which stands for
@@ -97,4 +111,29 @@ impl<'a> FieldValue<'a> {
             None => unreachable!(),
         }
     }
+
+    /// The text of the field: its bytes before the first zero byte, or all where there is none. None
+    /// where they are not UTF-8.
+    pub fn text(&self) -> Option<&'a str>
+        ensures text { IfSome result (λ text. text.now ≡ text_of self.now) }
+        ensures utf8 { IsSome result ↔ IsUtf8 (text_of self.now) }
+    {
+        str::from_utf8(before_zero(self.bytes)).ok()
+    }
+}
+
+// The bytes before the first zero byte, or all where there is none.
+fn before_zero(bytes: &[u8]) -> &[u8]
+    ensures { result.now ≡ before_first (λ byte. byte == 0) bytes.now }
+{
+    match zero_place(bytes) {
+        Some(end) => &bytes[..end],
+        None => bytes,
+    }
+}
+
+fn zero_place(bytes: &[u8]) -> Option<usize>
+    ensures { result ≡ position (λ byte. byte == 0) bytes.now }
+{
+    bytes.iter().position(|byte| *byte == 0)
 }
