@@ -1,6 +1,8 @@
 -- How texts that were handed to a writer one after another join, and what a loop that writes keeps.
-use Rattle.std.proofs.Common.{◌≡◌, ℕ, List, [], ◌++◌, Option, Some, None, Result, Ok, Err, refl, sym, ap, ◌∙◌, append_assoc, subst}
-use Rattle.std.proofs.lemmas.List.{append-nil}
+use Rattle.std.proofs.Common.{◌≡◌, ℕ, List, [], ◌++◌, Option, Some, None, Result, Ok, Err, refl, sym, ap, ◌∙◌, append_assoc, subst, ◌+◌, ◌<◌, ◌≤◌, length, get_or, drop}
+use Rattle.std.proofs.lemmas.List.{append-nil, at_drop_more, at_drop_all}
+use Rattle.std.specs.List.{flat_map}
+use Rattle.std.specs.Result.{IsErr}
 use Rattle.std.specs.Io.KnownBytes.{Appends, Keeps}
 use Rattle.fitrec.specs.Output.{AppendsBeginning, WritesText}
 
@@ -40,10 +42,18 @@ pub then_writes : {S T E F : Type 0} {o m n : Option (List ℕ)} {x : S} {r : Re
     WritesText {T = S} {E = F} o m (Ok x) a → WritesText m n r b → WritesText o n r (a ++ b)
 then_writes {o = o} {m = m} {n = n} {r = r} {a = a} {b = b} h k = writes-after o m n r a b h.all k
 
+writes-beginning : {T E : Type 0} (o n : Option (List ℕ)) (r : Result T E) (text : List ℕ) → IsErr r → AppendsBeginning o n text → WritesText o n r text
+writes-beginning o n (Ok x) text bad h = cc
+writes-beginning o n (Err e) text bad h = record { all = tt; beginning = h }
+
 -- one text was not written, and so none behind it
-pub stops_before : {S T E F : Type 0} {o n : Option (List ℕ)} {e : E} {f : F} {a : List ℕ} (b : List ℕ) →
-    WritesText {T = S} {E = E} o n (Err e) a → WritesText {T = T} {E = F} o n (Err f) (a ++ b)
-stops_before {o = o} {n = n} {a = a} b h = record { all = tt; beginning = begins-more o n a b h.beginning }
+pub stops_before : {S T E F : Type 0} {o n : Option (List ℕ)} {e : E} {r : Result T F} {a : List ℕ} →
+    IsErr r → WritesText {T = S} {E = E} o n (Err e) a → (b : List ℕ) → WritesText o n r (a ++ b)
+stops_before {o = o} {n = n} {r = r} {a = a} bad h b = writes-beginning o n r (a ++ b) bad (begins-more o n a b h.beginning)
+
+-- a text is another one
+pub writes_same : {T E : Type 0} {o n : Option (List ℕ)} {r : Result T E} {a b : List ℕ} → WritesText o n r a → a ≡ b → WritesText o n r b
+writes_same {o = o} {n = n} {r = r} h e = let P : List ℕ → Type 0 = λ t. WritesText o n r t in subst P e h
 
 -- nothing was written yet of no text
 pub writes_none : {T E : Type 0} (o : Option (List ℕ)) (x : T) → WritesText {E = E} o o (Ok x) []
@@ -83,9 +93,33 @@ leaves_none {o = o} {n = n} {text = text} x h =
     record { all = subst P (sym e) h.appended; beginning = tt }
 
 -- a part of what is left was not written
-pub leaves_off : {T S E F : Type 0} {o m n : Option (List ℕ)} {e : E} {f : F} {text rest part : List ℕ} (more : List ℕ) →
-    Leaves o m text rest → WritesText {T = S} {E = E} m n (Err e) part → rest ≡ part ++ more → WritesText {T = T} {E = F} o n (Err f) text
-leaves_off {o = o} {m = m} {n = n} {text = text} {part = part} more h k e =
+pub leaves_off : {T S E F : Type 0} {o m n : Option (List ℕ)} {e : E} {r : Result T F} {text rest part : List ℕ} (more : List ℕ) →
+    IsErr r → Leaves o m text rest → WritesText {T = S} {E = E} m n (Err e) part → rest ≡ part ++ more → WritesText o n r text
+leaves_off {o = o} {m = m} {n = n} {r = r} {text = text} {part = part} more bad h k e =
     let split : text ≡ h.done ++ (part ++ more) = h.split ∙ ap (λ t. h.done ++ t) e in
     let P : List ℕ → Type 0 = λ t. AppendsBeginning o n t in
-    record { all = tt; beginning = subst P (sym split) (begins-after o m n h.done (part ++ more) h.appended (begins-more m n part more k.beginning)) }
+    writes-beginning o n r text bad (subst P (sym split) (begins-after o m n h.done (part ++ more) h.appended (begins-more m n part more k.beginning)))
+
+-- ---- a loop that writes a text for each number of a list
+
+part-drop : (f : ℕ → List ℕ) (xs : List ℕ) (i : ℕ) (part : List ℕ) → i < length xs → part ≡ f (get_or xs i 0) →
+    flat_map f (drop i xs) ≡ part ++ flat_map f (drop (i + 1) xs)
+part-drop f xs i part lt e =
+    at_drop_more (flat_map f) xs i 0 lt ∙ ap (λ t. t ++ flat_map f (drop (i + 1) xs)) (sym e)
+
+pub each_next : {T E : Type 0} {o m n : Option (List ℕ)} {x : T} {text part : List ℕ} (f : ℕ → List ℕ) (xs : List ℕ) (i : ℕ) →
+    Leaves o m text (flat_map f (drop i xs)) → WritesText {E = E} m n (Ok x) part → i < length xs → part ≡ f (get_or xs i 0) →
+    Leaves o n text (flat_map f (drop (i + 1) xs))
+each_next {part = part} f xs i h k lt e = leaves_less _ h k (part-drop f xs i part lt e)
+
+pub each_off : {T S E F : Type 0} {o m n : Option (List ℕ)} {d : E} {r : Result T F} {text part : List ℕ} (f : ℕ → List ℕ) (xs : List ℕ) (i : ℕ) →
+    IsErr r → Leaves o m text (flat_map f (drop i xs)) → WritesText {T = S} {E = E} m n (Err d) part → i < length xs → part ≡ f (get_or xs i 0) →
+    WritesText o n r text
+each_off {part = part} f xs i bad h k lt e = leaves_off _ bad h k (part-drop f xs i part lt e)
+
+pub each_done : {T E : Type 0} {o n : Option (List ℕ)} {text : List ℕ} (f : ℕ → List ℕ) (xs : List ℕ) (i : ℕ) (x : T) →
+    Leaves o n text (flat_map f (drop i xs)) → length xs ≤ i → WritesText {E = E} o n (Ok x) text
+each_done {o = o} {n = n} {text = text} f xs i x h le =
+    let e : flat_map f (drop i xs) ≡ [] = at_drop_all (flat_map f) xs i le in
+    let P : List ℕ → Type 0 = λ t. Leaves o n text t in
+    leaves_none x (subst P e h)

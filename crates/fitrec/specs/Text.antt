@@ -1,6 +1,6 @@
 -- The text that shows a file: a line for its header, a line for each message, and a line that counts them. It
 -- follows from what the messages say and not from how they are spelled.
-use Rattle.std.specs.Prelude.{ℕ, ◌+◌, ◌*◌, ◌/◌, ◌%◌, List, [], ◌∷◌, ◌++◌, length, sum_by, codes, decimal, Option, Some, None, ◌==◌, ◌&&◌, not, nat_le, if◌then◌else◌}
+use Rattle.std.specs.Prelude.{ℕ, Bool, ◌+◌, ◌*◌, ◌/◌, ◌%◌, List, [], ◌∷◌, ◌++◌, length, sum_by, codes, decimal, Option, Some, None, true, ◌==◌, ◌&&◌, not, nat_le, if◌then◌else◌}
 use Rattle.std.specs.Fmt.{signed_decimal, digit_glyph}
 use Rattle.std.specs.Int.{to_be_bytes, w32, w64}
 use Rattle.std.specs.List.{flat_map, list_all, before_first, join_by, enumerate_from}
@@ -26,11 +26,13 @@ unfoldable pub hex_text : List ℕ → List ℕ
 hex_text [] = []
 hex_text (byte ∷ bytes) = codes "0x" ++ flat_map hex_byte (byte ∷ bytes)
 
--- a byte of a string: as it is where it can be printed and is no quotation mark or backslash, else `\x` and two digits
+-- a byte that can be printed and is no quotation mark or backslash
+abbrev pub is_plain : ℕ → Bool
+is_plain byte = nat_le 32 byte && nat_le byte 126 && not (byte == 34) && not (byte == 92)
+
+-- a byte of a string: as it is, or `\x` and two digits
 unfoldable pub escaped : ℕ → List ℕ
-escaped byte =
-    if nat_le 32 byte && nat_le byte 126 && not (byte == 34) && not (byte == 92) then byte ∷ []
-    else 92 ∷ 120 ∷ hex_byte byte
+escaped byte = if is_plain byte then byte ∷ [] else 92 ∷ 120 ∷ hex_byte byte
 
 -- a string between quotation marks, up to its first zero byte
 unfoldable pub string_text : List ℕ → List ℕ
@@ -40,11 +42,15 @@ string_text bytes = codes "\"" ++ flat_map escaped (before_first (λ byte. byte 
 unfoldable pub byte_text : List ℕ → List ℕ
 byte_text bytes = if list_all (λ byte. byte == 255) bytes then codes "-" else hex_text bytes
 
--- a number that is not invalid: in decimal, and of a float the digits of its bits
+-- a whole number in decimal, read as two's complement where its type has a sign
+unfoldable pub whole_text : BaseType → ℕ → List ℕ
+whole_text type n = if has_sign type then signed_decimal (twos_complement (row_of type).size n) else decimal n
+
+-- a number that is not invalid; of a float the digits of its bits
 unfoldable pub plain_text : BaseType → ℕ → List ℕ
 plain_text Float32 n = hex_text (to_be_bytes w32 n)
 plain_text Float64 n = hex_text (to_be_bytes w64 n)
-plain_text type n = if has_sign type then signed_decimal (twos_complement (row_of type).size n) else decimal n
+plain_text type n = whole_text type n
 
 -- a number, or `-` where it is its type's invalid value
 unfoldable pub number_text : BaseType → ℕ → List ℕ
@@ -53,6 +59,12 @@ number_text type n = if n == (row_of type).invalid then codes "-" else plain_tex
 -- the numbers of a field with commas between them
 unfoldable pub numbers_text : BaseType → List ℕ → List ℕ
 numbers_text type numbers = join_by (number_text type) (codes ",") numbers
+
+-- a type whose values are shown as numbers
+abbrev pub IsNumber : BaseType → Type 0
+IsNumber String = ⊥
+IsNumber Byte = ⊥
+IsNumber type = Unit {0}
 
 -- the values of a type that has a byte or more
 abbrev pub some_text : Option BaseType → List ℕ → List ℕ

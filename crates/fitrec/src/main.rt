@@ -2,12 +2,16 @@
 #![tactic(auto)]
 
 mod profile;
+mod show;
 mod writing;
 
+use fit_base::{Arch, FieldValue};
 use std::io;
 
 fn main(rt: HostRuntime) -> io::Result<()> {
     let mut out = Vec::new(rt.alloc());
+    let value = FieldValue::new(0, Arch::Little, &[1]);
+    let _ = show::put_field(&mut out, profile::fields_of(0), 5, &value);
     let _ = writing::put(&mut out, profile::message_name(0).unwrap_or("-").as_bytes());
     let _ = writing::put_number(&mut out, 5);
     Ok(())

@@ -1,7 +1,7 @@
 // The names of messages and fields: one table, which the definition of the shown text reads as well.
 
 ghost use Rattle.std.specs.Prelude.{◌≡◌, option_map};
-ghost use Rattle.fitrec.specs.Profile.{message_named, names_of_fields, field_named, name_in, message_in, fields_in};
+ghost use Rattle.fitrec.specs.Profile.{message_named, names_of_fields, field_named, name_in, message_in, fields_in, field_rows, message_rows};
 
 /// A field's number and its name.
 pub type FieldName = (u8, &'static str);
@@ -87,55 +87,64 @@ pub const MESSAGES: &[MessageName] = &[
 ];
 
 /// The name of the message with this global number, if it has one.
-#[tactic(auto, unfolding(crate::specs::Profile::message_named))]
+#[tactic(auto, unfolding(crate::specs::Profile::messages))]
 pub fn message_name(number: u16) -> Option<&'static str>
     ensures { option_map (λ name. name.now) result ≡ message_named number }
 {
-    name_of_message(MESSAGES, number)
+    message_name_in(MESSAGES, number)
 }
 
-/// The names of the fields of the message with this global number; none of a message without a name.
-#[tactic(auto, unfolding(crate::specs::Profile::names_of_fields))]
+/// The names of the fields of the message with this global number, none where it has no name itself.
+#[tactic(auto, unfolding(crate::specs::Profile::messages))]
 pub fn fields_of(number: u16) -> &'static [FieldName]
-    ensures { result.now ≡ names_of_fields number }
+    ensures { field_rows result.now ≡ names_of_fields number }
 {
-    fields_of_message(MESSAGES, number)
+    fields_in(MESSAGES, number)
 }
 
-/// The name that a field has in every message, or among those of its message.
-#[tactic(auto, unfolding(crate::specs::Profile::field_named))]
+/// The name that a field has in every message, or among these.
+#[tactic(auto, unfolding(crate::specs::Profile::common_fields))]
 pub fn field_name(fields: &[FieldName], number: u8) -> Option<&'static str>
-    ensures { option_map (λ name. name.now) result ≡ field_named fields.now number }
+    ensures { option_map (λ name. name.now) result ≡ field_named (field_rows fields.now) number }
 {
-    match name_among(COMMON_FIELDS, number) {
+    match field_name_in(COMMON_FIELDS, number) {
         Some(name) => Some(name),
-        None => name_among(fields, number),
+        None => field_name_in(fields, number),
     }
 }
 
-fn name_of_message(messages: &[MessageName], number: u16) -> Option<&'static str>
-    ensures { option_map (λ name. name.now) result ≡ message_in messages.now number }
+fn message_name_in(mut rows: &[MessageName], number: u16) -> Option<&'static str>
+    ensures { option_map (λ name. name.now) result ≡ message_in (message_rows rows.entry.now) number }
 {
-    messages
-        .iter()
-        .find(|message| message.0 == number)
-        .map(|message| message.1)
-}
-
-fn fields_of_message(messages: &[MessageName], number: u16) -> &'static [FieldName]
-    ensures { result.now ≡ fields_in messages.now number }
-{
-    match messages.iter().find(|message| message.0 == number) {
-        Some(message) => message.2,
-        None => &[],
+    while let [row, others @ ..] = rows {
+        if row.0 == number {
+            return Some(row.1);
+        }
+        rows = others;
     }
+    None
 }
 
-fn name_among(fields: &[FieldName], number: u8) -> Option<&'static str>
-    ensures { option_map (λ name. name.now) result ≡ name_in fields.now number }
+fn fields_in(mut rows: &[MessageName], number: u16) -> &'static [FieldName]
+    ensures { field_rows result.now ≡ fields_in (message_rows rows.entry.now) number }
 {
-    fields
-        .iter()
-        .find(|field| field.0 == number)
-        .map(|field| field.1)
+    while let [row, others @ ..] = rows {
+        if row.0 == number {
+            return row.2;
+        }
+        rows = others;
+    }
+    &[]
+}
+
+fn field_name_in(mut rows: &[FieldName], number: u8) -> Option<&'static str>
+    ensures { option_map (λ name. name.now) result ≡ name_in (field_rows rows.entry.now) number }
+{
+    while let [row, others @ ..] = rows {
+        if row.0 == number {
+            return Some(row.1);
+        }
+        rows = others;
+    }
+    None
 }
