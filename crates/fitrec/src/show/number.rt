@@ -40,9 +40,10 @@ fn put_next<W: Write>(
     ensures { WritesText (W.contents out.old) (W.contents out.new) result
         ((if i == 0 then [] else codes ",") ++ number_text base (unsigned_at field.now i)) }
 {
-    if i > 0 {
-        put(out, b",")?;
+    if i == 0 {
+        return put_at(out, base, field, i);
     }
+    put(out, b",")?;
     put_at(out, base, field, i)
 }
 

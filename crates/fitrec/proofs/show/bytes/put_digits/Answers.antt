@@ -7,10 +7,12 @@ pub loop-byte-init : goal.loop-byte-init
 loop-byte-init g c = leaves_all _ _
 
 pub loop-byte-preserved : goal.loop-byte-preserved
-loop-byte-preserved g c = each_next hex_byte _ _ c.loop-byte.invariant c.in_ok-put.ensures (omega arith) c.hex_byte.ensures
+loop-byte-preserved g c =
+    each_next hex_byte c.args.bytes.now c.loop-byte.byte-index c.loop-byte.invariant c.in_ok-put.ensures (omega arith) c.hex_byte.ensures
 
 pub returns-in_err-put : goal.returns-in_err-put
-returns-in_err-put g c = each_off hex_byte _ _ c.from_residual.ensures.0 c.loop-byte.invariant c.in_err-put.ensures (omega arith) c.hex_byte.ensures
+returns-in_err-put g c =
+    each_off hex_byte c.args.bytes.now c.loop-byte.byte-index c.from_residual.ensures.0 c.loop-byte.invariant c.in_err-put.ensures (omega arith) c.hex_byte.ensures
 
 pub returns : goal.returns
-returns g c = each_done hex_byte _ _ tt c.loop-byte.invariant (omega arith)
+returns g c = each_done hex_byte c.args.bytes.now c.loop-byte.byte-index tt c.loop-byte.invariant (omega arith)
