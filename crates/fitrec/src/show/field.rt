@@ -1,7 +1,8 @@
 // A field of a message: its name and what it holds.
 
 ghost use Rattle.fit_base.specs.Base.{base_type};
-ghost use Rattle.fit_base.specs.Value.{values_of};
+ghost use Rattle.std.specs.Prelude.{◌≡◌, ◌≢◌};
+ghost use Rattle.fit_base.specs.Value.{count_of, values_of};
 ghost use Rattle.fitrec.specs.Output.{WritesText};
 ghost use Rattle.fitrec.specs.Profile.{field_rows};
 ghost use Rattle.fitrec.specs.Text.{values_text, field_text, field_name};
@@ -47,14 +48,29 @@ fn put_value<W: Write>(out: &mut W, value: &FieldValue<'_>) -> Result<(), WriteF
     ensures { WritesText (W.contents out.old) (W.contents out.new) result
         (values_text (base_type value.now.base) (values_of value.now)) }
 {
-    let bytes = value.raw();
     if value.count() == 0 {
-        return put_hex(out, bytes);
+        return put_hex(out, value.raw());
     }
     match BaseType::of(value.base()) {
-        Some(BaseType::String) => put_string(out, bytes),
-        Some(BaseType::Byte) => put_byte_field(out, bytes),
-        Some(base) => put_numbers(out, base, value),
+        Some(base) => put_some(out, base, value),
         None => unreachable!(),
+    }
+}
+
+// One value or more of this type.
+fn put_some<W: Write>(
+    out: &mut W,
+    base: BaseType,
+    value: &FieldValue<'_>,
+) -> Result<(), WriteFailed>
+    requires known { base_type value.now.base ≡ Some base }
+    requires some { count_of value.now ≢ 0 }
+    ensures { WritesText (W.contents out.old) (W.contents out.new) result
+        (values_text (base_type value.now.base) (values_of value.now)) }
+{
+    match base {
+        BaseType::String => put_string(out, value.raw()),
+        BaseType::Byte => put_byte_field(out, value.raw()),
+        _ => put_numbers(out, base, value),
     }
 }

@@ -15,4 +15,4 @@ returns-in_err-put g c =
 pub returns : goal.returns
 returns g c =
     let later : (c.args.i == 0) ≡ false = search rules in
-    rw later (then_writes c.in_ok-put.ensures ?)
+    rw later (then_writes c.in_ok-put.ensures c.put_at-2.ensures)
