@@ -7,9 +7,10 @@ use Rattle.fit_base.specs.declared.base.BaseType.{BaseType}
 use Rattle.fit_base.specs.declared.base.BaseType.TheVariants.{Enum, String, Byte}
 use Rattle.fit_base.specs.Base.{row_of, base_type}
 use Rattle.fit_base.specs.Value.{Field, Values, Numbers, Raw, raw_by, size_by, value_size, count_of, values_of, numbers}
+use Rattle.fit_grammar.specs.declared.frame.Frame.{Frame}
 use Rattle.fit_grammar.specs.Message.{MessageField}
 use Rattle.fitrec.specs.Profile.{FieldNames}
-use Rattle.fitrec.specs.Text.{hex_text, string_text, byte_text, numbers_text, IsNumber, some_text, values_text, named, field_name, field_text}
+use Rattle.fitrec.specs.Text.{hex_text, string_text, byte_text, numbers_text, IsNumber, some_text, values_text, named, field_name, field_text, header_text}
 use Rattle.fitrec.proofs.TextLemmas.{hex_none, numbers_bytes, some_numbers}
 
 size_some : (type : BaseType) → 0 < (row_of type).size
@@ -109,3 +110,10 @@ known_as type byte base known e = ap base_type (sym e) ∙ sym known
 pub field_parts : (names : FieldNames) (field : MessageField) →
     codes " " ++ (field_name names field.number ++ (codes "=" ++ values_text (base_type field.base) field.values)) ≡ field_text names field
 field_parts names field = simp append_assoc
+
+-- the parts of a header's line
+pub header_parts : (frame : Frame) (size a b c d e : ℕ) → a ≡ frame.header_size → b ≡ frame.protocol / 16 → c ≡ frame.protocol % 16 →
+    d ≡ frame.profile → e ≡ size →
+    (codes "header " ++ decimal a) ++ ((codes " protocol " ++ decimal b) ++ ((codes "." ++ decimal c)
+    ++ ((codes " profile " ++ decimal d) ++ ((codes " data " ++ decimal e) ++ codes "\n")))) ≡ header_text frame size
+header_parts frame size a b c d e is_a is_b is_c is_d is_e = rw (is_a, is_b, is_c, is_d, is_e) (simp append_assoc)

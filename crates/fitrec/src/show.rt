@@ -2,6 +2,10 @@
 
 mod bytes;
 mod field;
+mod header;
+mod message;
 mod number;
 
 pub use field::put_field;
+pub use header::{put_header, put_labelled};
+pub use message::put_message_start;
