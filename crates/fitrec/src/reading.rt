@@ -40,8 +40,8 @@ pub fn read_all<T: Read>(alloc: Global, from: &mut T) -> Result<Vec<u8>, ReadFau
         if taken > MOST_BYTES - bytes.len() {
             return Err(ReadFault::TooLarge);
         }
-        if bytes.extend_from_slice(&chunk[..taken]).is_err() {
+        let Ok(()) = bytes.extend_from_slice(&chunk[..taken]) else {
             return Err(ReadFault::NoMemory);
-        }
+        };
     }
 }
