@@ -1,27 +1,48 @@
--- The table of the checksum, checked entry by entry against eight bits of the definition.
-use Rattle.std.proofs.Common.{◌≡◌, ℕ, ◌+◌, ◌/◌, ◌%◌, ◌<◌, [], ◌∷◌, get_or, map, bit_xor, bit_and, refl, sym, ap, ◌∙◌, arith, mod-lt, mod-eq_of_lt}
+-- The tables of the checksum, checked entry by entry against the bits of the definition.
+use Rattle.std.proofs.Common.{◌≡◌, ℕ, zero, suc, ◌+◌, ◌*◌, ◌<◌, List, get_or, map, length, refl, sym, ap, ◌∙◌, arith}
 use Rattle.std.specs.List.{range_with_len}
+use Rattle.std.proofs.lemmas.List.{get_or-map}
 use Rattle.std.proofs.lemmas.List.FromFn.{get_or-map-range_with_len}
-use Rattle.std.proofs.lemmas.Nat.{and_mask, xor_shr}
-use Rattle.fit_base.specs.Checksum.{crc_from}
-use Rattle.fit_base.specs.declared.checksum.TheConstants.{TABLE}
-use Rattle.fit_base.proofs.Register.{tap, shift, shifts, shifts-byte, crc_from-byte}
+use Rattle.fit_base.specs.declared.tables.TheConstants.{AFTER}
+use Rattle.fit_base.proofs.Register.{tap, shift, shifts, shifts-add}
 
--- each entry is its place after eight bits
-TABLE-map : TABLE ≡ map (shifts 8) (range_with_len 0 256)
+-- each entry of the first table is its place after eight bits
+first_table : (none : List ℕ) → get_or AFTER 0 none ≡ map (shifts 8) (range_with_len 0 256)
 unfolding shifts shift tap
-TABLE-map = refl
+first_table none = refl
 
-get_or-TABLE : (i : ℕ) → i < 256 → get_or TABLE i 0 ≡ shifts 8 i
-get_or-TABLE i below =
-    ap (λ xs. get_or xs i 0) TABLE-map ∙ get_or-map-range_with_len (shifts 8) 0 256 i i 0 below (omega arith)
+-- and each table is the one before it after eight bits more
+next_table : (none : List ℕ) (k : ℕ) → k < 7 → get_or AFTER (suc k) none ≡ map (shifts 8) (get_or AFTER k none)
+unfolding shifts shift tap
+next_table none zero below = refl
+next_table none (suc zero) below = refl
+next_table none (suc (suc zero)) below = refl
+next_table none (suc (suc (suc zero))) below = refl
+next_table none (suc (suc (suc (suc zero)))) below = refl
+next_table none (suc (suc (suc (suc (suc zero))))) below = refl
+next_table none (suc (suc (suc (suc (suc (suc zero)))))) below = refl
+next_table none (suc (suc (suc (suc (suc (suc (suc k))))))) below = absurd (omega arith)
 
--- the high byte moved down, and the entry of the low byte
-pub by_table : (register byte : ℕ) → byte < 256 → bit_xor (bit_xor register byte / 256) (get_or TABLE (bit_and (bit_xor register byte) 255) 0) ≡ crc_from register (byte ∷ [])
-by_table register byte below =
-    let mixed = bit_xor register byte in
-    let low = and_mask (bit_xor register byte) 8 in
-    ap (λ (i : ℕ). bit_xor (bit_xor register byte / 256) (get_or TABLE i 0)) low
-    ∙ ap (bit_xor (bit_xor register byte / 256)) (get_or-TABLE (bit_xor register byte % 256) (mod-lt (bit_xor register byte) (omega arith)))
-    ∙ sym (shifts-byte (bit_xor register byte))
-    ∙ sym (crc_from-byte register byte below)
+length-table : (none : List ℕ) (k : ℕ) → k < 8 → length (get_or AFTER k none) ≡ 256
+length-table none zero below = refl
+length-table none (suc zero) below = refl
+length-table none (suc (suc zero)) below = refl
+length-table none (suc (suc (suc zero))) below = refl
+length-table none (suc (suc (suc (suc zero)))) below = refl
+length-table none (suc (suc (suc (suc (suc zero))))) below = refl
+length-table none (suc (suc (suc (suc (suc (suc zero)))))) below = refl
+length-table none (suc (suc (suc (suc (suc (suc (suc zero))))))) below = refl
+length-table none (suc (suc (suc (suc (suc (suc (suc (suc k)))))))) below = absurd (omega arith)
+
+pub get_or-AFTER : (none : List ℕ) (k i : ℕ) → k < 8 → i < 256 → get_or (get_or AFTER k none) i 0 ≡ shifts (8 * suc k) i
+get_or-AFTER none zero i below in_table =
+    ap (λ xs. get_or xs i 0) (first_table none) ∙ get_or-map-range_with_len (shifts 8) 0 256 i i 0 in_table (omega arith)
+get_or-AFTER none (suc k) i below in_table =
+    let len : i < length (get_or AFTER k none) = omega (arith, length-table none k (omega arith)) in
+    let ih = get_or-AFTER none k i (omega arith) in_table in
+    let more : 8 * suc k + 8 ≡ 8 * suc (suc k) = omega arith in
+    ap (λ xs. get_or xs i 0) (next_table none k (omega arith))
+    ∙ get_or-map (shifts 8) (get_or AFTER k none) i 0 0 len
+    ∙ ap (shifts 8) ih
+    ∙ sym (shifts-add (8 * suc k) 8 i)
+    ∙ ap (λ (n : ℕ). shifts n i) more

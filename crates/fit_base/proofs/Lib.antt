@@ -1,5 +1,7 @@
 pub mod Register
+pub mod Blocks
 pub mod Entries
+pub mod Sums
 pub mod Numbers
 pub mod Powers
 pub mod Signs

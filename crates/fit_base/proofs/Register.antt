@@ -1,5 +1,5 @@
 -- The register of the checksum is linear over exclusive or, so that a whole byte can be taken by a table.
-use Rattle.std.proofs.Common.{◌≡◌, ℕ, zero, suc, ◌+◌, ◌*◌, ◌/◌, ◌%◌, ◌^◌, ◌<◌, List, [], ◌∷◌, ◌++◌, fold, flat_map, bit_xor, refl, sym, ap, ◌∙◌, arith, ◌==◌, if◌then◌else◌, append-nil, get_or, take, length, pow-suc, mul_assoc, div-add-mod'}
+use Rattle.std.proofs.Common.{◌≡◌, ℕ, zero, suc, ◌+◌, ◌*◌, ◌/◌, ◌%◌, ◌^◌, ◌<◌, List, [], ◌∷◌, ◌++◌, fold, flat_map, bit_xor, refl, sym, ap, ◌∙◌, arith, ◌==◌, if◌then◌else◌, append-nil, get_or, take, drop, take-add, take-append-drop, length, pow-suc, mul_assoc, div-add-mod'}
 use Rattle.std.proofs.Math.Nat.{mod-lt, mod-eq_of_lt, div-div-eq-div-mul}
 use Rattle.std.proofs.lemmas.Nat.{xor_shr, xor_mod, xor_block, xor_comm, pow_pos}
 use Rattle.std.proofs.lemmas.List.{take_more}
@@ -44,7 +44,7 @@ tap-xor zero (suc (suc s)) p q = absurd (omega arith)
 tap-xor (suc zero) (suc (suc s)) p q = absurd (omega arith)
 
 -- the middle two of four may be swapped
-xor_swap : (p q r s : ℕ) → bit_xor (bit_xor p q) (bit_xor r s) ≡ bit_xor (bit_xor p r) (bit_xor q s)
+pub xor_swap : (p q r s : ℕ) → bit_xor (bit_xor p q) (bit_xor r s) ≡ bit_xor (bit_xor p r) (bit_xor q s)
 xor_swap p q r s =
     xor_assoc p q (bit_xor r s)
     ∙ ap (bit_xor p) (sym (xor_assoc q r s) ∙ ap (λ (x : ℕ). bit_xor x s) (xor_comm q r) ∙ xor_assoc r q s)
@@ -164,3 +164,13 @@ pub crc_from-next : (register : ℕ) (bytes : List ℕ) (i : ℕ) → i < length
 crc_from-next register bytes i below =
     sym (crc_from-append register (take i bytes) (get_or bytes i 0 ∷ []))
     ∙ ap (crc_from register) (sym (take_more bytes i 0 below))
+
+-- some bytes more
+pub crc_from-take : (register : ℕ) (bytes : List ℕ) (i n : ℕ) → crc_from (crc_from register (take i bytes)) (take n (drop i bytes)) ≡ crc_from register (take (i + n) bytes)
+crc_from-take register bytes i n =
+    sym (crc_from-append register (take i bytes) (take n (drop i bytes)))
+    ∙ ap (crc_from register) (sym (take-add i n bytes))
+
+pub crc_from-drop : (register : ℕ) (bytes : List ℕ) (i : ℕ) → crc_from (crc_from register (take i bytes)) (drop i bytes) ≡ crc_from register bytes
+crc_from-drop register bytes i =
+    sym (crc_from-append register (take i bytes) (drop i bytes)) ∙ ap (crc_from register) (take-append-drop i bytes)

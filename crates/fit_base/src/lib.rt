@@ -6,6 +6,9 @@ mod checksum;
 mod number;
 mod order;
 mod putting;
+mod tables;
+#[cfg(test)]
+mod tests;
 mod value;
 
 pub use base::BaseType;

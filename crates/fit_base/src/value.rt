@@ -26,7 +26,7 @@ impl<'a> Model for FieldValue<'a> {
 }
 
 impl<'a> FieldValue<'a> {
-    ghost use Rattle.fit_base.specs.Value.{count_of, value_size, unsigned_at, is_signed, signed_at, IsInvalidAt, text_of};
+    ghost use Rattle.fit_base.specs.Value.{is_raw, count_of, value_size, unsigned_at, is_signed, signed_at, IsInvalidAt, text_of};
 
     /// The field with this base type byte, known or not, this architecture and these bytes.
     pub fn new(base: u8, arch: Arch, bytes: &'a [u8]) -> Self
@@ -56,8 +56,18 @@ impl<'a> FieldValue<'a> {
         self.bytes
     }
 
-    /// How many values the field has. A field whose base type byte is unknown, or whose size is no
-    /// multiple of the base size, is carried raw and has none.
+    /// Whether the field is carried raw: its base type byte is unknown, or its size is no multiple of
+    /// the base size.
+    pub fn is_raw(&self) -> bool
+        ensures { result ≡ is_raw self.now }
+    {
+        match BaseType::of(self.base) {
+            Some(base) => self.bytes.len() % base.size() != 0,
+            None => true,
+        }
+    }
+
+    /// How many values the field has. One that is carried raw has none.
     pub fn count(&self) -> usize
         ensures { result ≡ count_of self.now }
     {

@@ -1,5 +1,5 @@
 -- Items, which are definitions and data messages, and the bytes that spell them (FIT protocol, "Records").
-use Rattle.std.specs.Prelude.{◌≡◌, ℕ, ◌/◌, ◌%◌, List, [], ◌∷◌, length, flat_map, sum_by, Option, Some, None, nat_lt, ◌==◌, if◌then◌else◌}
+use Rattle.std.specs.Prelude.{◌≡◌, ℕ, ◌+◌, ◌*◌, ◌/◌, ◌%◌, List, [], ◌∷◌, length, flat_map, sum_by, Option, Some, None, nat_lt, ◌==◌, if◌then◌else◌}
 use Rattle.fit_base.specs.declared.order.Arch.{Arch}
 use Rattle.fit_base.specs.declared.order.Arch.TheVariants.{Little, Big}
 use Rattle.fit_base.specs.Number.{number}
@@ -59,3 +59,8 @@ Spells (Data local offset content) bytes = SpellsData local offset content bytes
 -- how many bytes of content a data message has under a definition
 abbrev pub content_size : Definition → ℕ
 content_size d = sum_by (λ field. field.size) d.fields.items
+
+-- how many bytes an item has
+abbrev pub item_size : Item → ℕ
+item_size (Defines d) = 6 + 3 * length d.fields.items
+item_size (Data local offset content) = 1 + length content

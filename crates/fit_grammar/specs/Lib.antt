@@ -1,9 +1,15 @@
 pub mod Item
 pub mod Records
+pub mod Reading
+pub mod Table
+pub mod Step
 pub mod Message
+pub mod Encoding
+pub mod Lent
+pub mod Shown
 pub mod File
+pub mod Stored
 pub mod Refusal
-pub mod FirstGrammar
 pub use Rattle.fit_base.specs.Number
 pub use Rattle.fit_base.specs.Checksum
 pub use Rattle.fit_base.specs.Base

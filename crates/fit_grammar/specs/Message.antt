@@ -2,7 +2,7 @@
 use Rattle.std.specs.Prelude.{ℕ, ◌+◌, ◌-◌, ◌%◌, ◌^◌, List, [], ◌∷◌, ◌++◌, take, drop, Option, Some, None, unwrap_or, option_map, option_and_then, option_to_list, ◌==◌, ◌&&◌, if◌then◌else◌}
 use Rattle.std.specs.Option.{option_or}
 use Rattle.fit_base.specs.declared.order.Arch.{Arch}
-use Rattle.fit_base.specs.Value.{Values, Numbers, Raw, values_of}
+use Rattle.fit_base.specs.Value.{Values, Numbers, values_of}
 use Rattle.fit_grammar.specs.declared.definition.FieldDefinition.{FieldDefinition}
 use Rattle.fit_grammar.specs.declared.definition.Definition.{Definition}
 use Rattle.fit_grammar.specs.Item.{Item, Defines, Data}
@@ -24,7 +24,8 @@ abbrev pub fields_of : Arch → List FieldDefinition → List ℕ → List Messa
 fields_of arch [] content = []
 fields_of arch (field ∷ fields) content =
     record {
-      number = field.number; base = field.base;
+      number = field.number;
+      base = field.base;
       values = values_of (record { base = field.base; arch = arch; bytes = take field.size content });
     } ∷ fields_of arch fields (drop field.size content)
 

@@ -1,8 +1,8 @@
 -- Rows of items under the definitions in force (FIT protocol, "Records").
-use Rattle.std.specs.Prelude.{◌≡◌, ℕ, List, [], ◌∷◌, ◌++◌, length, Option, Some, None, ◌==◌, if◌then◌else◌, IsSomeAnd}
+use Rattle.std.specs.Prelude.{◌≡◌, ℕ, List, [], ◌∷◌, ◌++◌, length, Option, Some, None, ◌==◌, if◌then◌else◌, IsSomeAnd, sum_by}
 use Rattle.std.specs.Option.{option_or}
 use Rattle.fit_grammar.specs.declared.definition.Definition.{Definition}
-use Rattle.fit_grammar.specs.Item.{Item, Defines, Data, Spells, content_size}
+use Rattle.fit_grammar.specs.Item.{Item, Defines, Data, Spells, content_size, item_size}
 
 -- the definition that an item gives to a local number
 abbrev pub definition_by : Item → ℕ → Option Definition
@@ -40,3 +40,7 @@ RecordsAfter before bytes (item ∷ items) =
 -- the bytes are spellings of the items, in order, joined, each data message with its definition
 abbrev pub Records : List ℕ → List Item → Type 0
 Records bytes items = RecordsAfter [] bytes items
+
+-- how many bytes the items have together
+abbrev pub data_size : List Item → ℕ
+data_size items = sum_by item_size items

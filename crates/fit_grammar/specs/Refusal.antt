@@ -4,7 +4,8 @@ use Rattle.fit_base.specs.Number.{low_first}
 use Rattle.fit_base.specs.Checksum.{crc}
 use Rattle.fit_grammar.specs.declared.frame.Frame.{Frame}
 use Rattle.fit_grammar.specs.declared.fault.FaultKind.{FaultKind}
-use Rattle.fit_grammar.specs.declared.fault.FaultKind.TheVariants.{Truncated, HeaderSize, Magic, Protocol, HeaderCrc, UndefinedLocal, SplitMessage, FileCrc, TrailingBytes, Memory, Developer, NotYet}
+use Rattle.fit_grammar.specs.declared.fault.FaultKind.TheVariants.{Truncated, HeaderSize, Magic, Protocol, HeaderCrc, UndefinedLocal, SplitMessage, FileCrc, TrailingBytes, Memory, Developer}
+use Rattle.fit_grammar.specs.declared.fault.FileFault.{FileFault}
 use Rattle.fit_grammar.specs.Item.{Item, head_of, DefinitionHead, DeveloperHead, DataHead, content_size}
 use Rattle.fit_grammar.specs.Records.{in_force, Records}
 use Rattle.fit_grammar.specs.File.{FileValue, FileOf, IsHeader, IsClosing, ChecksHeader, mark}
@@ -45,8 +46,8 @@ abbrev pub SplitsAtFirst : Front → List ℕ → Type 0
 SplitsAtFirst front tail =
     (byte : ℕ) × (tail ≡ byte ∷ [])
     × (((local : ℕ) × (head_of byte ≡ DefinitionHead local) × (front.size < length front.records + 6))
-       ⊎ ((local : ℕ) × (offset : Option ℕ) × (head_of byte ≡ DataHead local offset)
-          × IsSomeAnd (in_force front.items local) (λ d. front.size < length front.records + (1 + content_size d))))
+    ⊎ ((local : ℕ) × (offset : Option ℕ) × (head_of byte ≡ DataHead local offset)
+    × IsSomeAnd (in_force front.items local) (λ d. front.size < length front.records + (1 + content_size d))))
 
 -- six bytes of a definition show that the whole of it passes the end of the data
 abbrev pub SplitsAtCount : Front → List ℕ → Type 0
@@ -90,23 +91,22 @@ abbrev pub Shows : FaultKind → ℕ → List ℕ → Type 0
 Shows kind place bytes = HeaderShows kind place bytes ⊎ ShowsBehind kind place bytes
 
 -- the shortest beginning of the bytes that shows a fault shows this one
-pub record IsShortestShown (shows : FaultKind → ℕ → List ℕ → Type 0) (bytes : List ℕ) (kind : FaultKind) (place : ℕ) : Type 0 where
+pub record IsShortestShown (bytes : List ℕ) (kind : FaultKind) (place : ℕ) : Type 0 where
   pub count : ℕ
   pub within : count ≤ length bytes
-  pub shown : shows kind place (take count bytes)
-  pub shortest : (n : ℕ) (other : FaultKind) (at : ℕ) → n < count → shows other at (take n bytes) → ⊥
+  pub shown : Shows kind place (take count bytes)
+  pub shortest : (n : ℕ) (other : FaultKind) (at : ℕ) → n < count → Shows other at (take n bytes) → ⊥
 
 -- no beginning shows a fault, and the bytes are no file: the input ends too soon
-pub record IsCutShort (shows : FaultKind → ℕ → List ℕ → Type 0) (IsFile : List ℕ → Type 0) (bytes : List ℕ) (kind : FaultKind) (place : ℕ) : Type 0 where
+pub record IsCutShort (bytes : List ℕ) (kind : FaultKind) (place : ℕ) : Type 0 where
   pub truncated : kind ≡ Truncated
   pub at_end : place ≡ length bytes
-  pub none_shown : (n : ℕ) (other : FaultKind) (at : ℕ) → n ≤ length bytes → shows other at (take n bytes) → ⊥
-  pub no_file : IsFile bytes → ⊥
+  pub none_shown : (n : ℕ) (other : FaultKind) (at : ℕ) → n ≤ length bytes → Shows other at (take n bytes) → ⊥
+  pub no_file : (v : FileValue) → FileOf bytes v → ⊥
 
--- the refusal of bytes, where this shows a fault and this is a file
-abbrev pub RefusalBy : (FaultKind → ℕ → List ℕ → Type 0) → (List ℕ → Type 0) → List ℕ → FaultKind → ℕ → Type 0
-RefusalBy shows IsFile bytes kind place =
-    IsShortestShown shows bytes kind place ⊎ IsCutShort shows IsFile bytes kind place
+-- the refusal of bytes that are no file
+abbrev pub Refusal : List ℕ → FaultKind → ℕ → Type 0
+Refusal bytes kind place = IsShortestShown bytes kind place ⊎ IsCutShort bytes kind place
 
 -- an item begins at the place
 pub record ItemBeginsAt (bytes : List ℕ) (place : ℕ) : Type 0 where
@@ -116,3 +116,10 @@ pub record ItemBeginsAt (bytes : List ℕ) (place : ℕ) : Type 0 where
   pub more : length front.records < front.size
   pub joined : bytes ≡ front_bytes front ++ rest
   pub there : place ≡ front_end front
+
+-- the fault is the refusal, or want of memory at an item that begins at or before the refusal's place
+abbrev pub IsFaultOf : List ℕ → FileFault → Type 0
+IsFaultOf bytes fault =
+    ((fault.kind ≢ Memory) × Refusal bytes fault.kind fault.place)
+    ⊎ ((fault.kind ≡ Memory) × ItemBeginsAt bytes fault.place
+    × ((kind : FaultKind) (place : ℕ) → Refusal bytes kind place → fault.place ≤ place))

@@ -1,3 +1,8 @@
+ghost use Rattle.std.specs.Prelude.{◌≡◌};
+ghost use Rattle.fit_grammar.specs.declared.fault.PutFault.TheVariants as put;
+
+use std::alloc::AllocError;
+
 /// What is wrong with the bytes of a file.
 #[derive(Clone, Copy, Debug, PartialEq, Eq)]
 pub enum FaultKind {
@@ -23,8 +28,6 @@ pub enum FaultKind {
     Memory,
     /// A definition announces developer fields.
     Developer,
-    /// The file is a FIT file, of a form that is not read yet.
-    NotYet,
 }
 
 /// Why bytes are not read as a file: the first check that fails, in the order of the bytes, and its place,
@@ -33,4 +36,26 @@ pub enum FaultKind {
 pub struct FileFault {
     pub kind: FaultKind,
     pub place: usize,
+}
+
+/// Why an item is not added to a file.
+#[derive(Clone, Copy, Debug, PartialEq, Eq)]
+pub enum PutFault {
+    /// A data message of a local number that has no definition in force.
+    UndefinedLocal,
+    /// The content is not as long as the definition says, or the message cannot have that time offset: one
+    /// is below 32, and of a local number below 4.
+    Length,
+    /// The records would pass 4,294,967,295 bytes.
+    TooLong,
+    /// A growth was refused.
+    Memory,
+}
+
+impl From<AllocError> for PutFault {
+    ghost from_gives = { λ _ e. e ≡ put.Memory };
+
+    fn from(_e: AllocError) -> PutFault {
+        PutFault::Memory
+    }
 }

@@ -1,15 +1,28 @@
-use Rattle.std.proofs.Common.{refl, ap, ◌∷◌, [], get_or, ◌∙◌, ℕ}
+use Rattle.std.proofs.Common.{ℕ, ◌≡◌, ◌+◌, ◌-◌, ◌*◌, ◌/◌, ◌≤◌, take, drop, length, length-drop, take_all, refl, sym, ap, ◌∙◌, arith}
 use Rattle.fit_base.specs.Checksum.{crc_from}
-use Rattle.fit_base.proofs.Register.{crc_from-next}
+use Rattle.fit_base.proofs.Register.{crc_from-take, crc_from-drop}
 use Rattle.fit_base.proofs.checksum.after_bytes.Goals as goal
 
-pub loop-byte-init : goal.loop-byte-init
+pub loop-k-init : goal.loop-k-init
 unfolding crc_from
-loop-byte-init c = refl
+loop-k-init c = refl
 
-pub loop-byte-preserved : goal.loop-byte-preserved
-loop-byte-preserved c =
-    let byte = get_or c.args.bytes.now c.loop-byte.byte-index 0 in
-    c.after_byte-register.ensures
-    ∙ ap (λ (r : ℕ). crc_from r (get_or c.args.bytes.now c.loop-byte.byte-index 0 ∷ [])) c.loop-byte.invariant
-    ∙ crc_from-next c.args.register c.args.bytes.now c.loop-byte.byte-index c.loop-byte-test.true
+pub loop-k-preserved : goal.loop-k-preserved
+loop-k-preserved c =
+    let eight : 8 * c.loop-k.k + 8 - 8 * c.loop-k.k ≡ 8 = omega arith in
+    let next : 8 * c.loop-k.k + 8 ≡ 8 * (c.loop-k.k + 1) = omega arith in
+    c.after_block-register.ensures
+    ∙ ap (λ (n : ℕ). crc_from c.loop-k.register (take n (drop (8 * c.loop-k.k) c.args.bytes.now))) eight
+    ∙ ap (λ (r : ℕ). crc_from r (take 8 (drop (8 * c.loop-k.k) c.args.bytes.now))) c.loop-k.invariant
+    ∙ crc_from-take c.args.register c.args.bytes.now (8 * c.loop-k.k) 8
+    ∙ ap (λ (n : ℕ). crc_from c.args.register (take n c.args.bytes.now)) next
+
+pub returns : goal.returns
+returns c =
+    let blocks : c.loop-k.k ≡ length c.args.bytes.now / 8 = omega arith in
+    let rest : length (drop (8 * (length c.args.bytes.now / 8)) c.args.bytes.now) ≤ length c.args.bytes.now - 8 * (length c.args.bytes.now / 8) =
+    omega (arith, length-drop (8 * (length c.args.bytes.now / 8)) c.args.bytes.now) in
+    c.after_few.ensures
+    ∙ ap (crc_from c.loop-k.register) (take_all _ _ rest)
+    ∙ ap (λ (r : ℕ). crc_from r (drop (8 * (length c.args.bytes.now / 8)) c.args.bytes.now)) (c.loop-k.invariant ∙ ap (λ (k : ℕ). crc_from c.args.register (take (8 * k) c.args.bytes.now)) blocks)
+    ∙ crc_from-drop c.args.register c.args.bytes.now (8 * (length c.args.bytes.now / 8))

@@ -1,6 +1,6 @@
-use Rattle.std.proofs.Common.{◌≡◌, take}
+use Rattle.std.proofs.Common.{◌≡◌, ◌*◌, take}
 use Rattle.fit_base.specs.Checksum.{crc_from}
 use Rattle.fit_base.proofs.checksum.after_bytes.Given as goal
 
-abbrev pub invariant-loop-byte : goal.invariant-loop-byte
-invariant-loop-byte l = l.register ≡ crc_from l.fn.register (take l.byte-index l.bytes)
+abbrev pub invariant-loop-k : goal.invariant-loop-k
+invariant-loop-k l = l.register ≡ crc_from l.fn.register (take (8 * l.k) l.bytes)

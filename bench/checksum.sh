@@ -1,0 +1,65 @@
+#!/bin/sh
+# Speed of the proved checksum over 64 MiB, beside a plain loop in C that takes half a byte at a time.
+# It proves and builds in a temporary folder, so that the repository stays as it is.
+set -eu
+
+root=$(cd "$(dirname "$0")/.." && pwd)
+work=$(mktemp -d)
+trap 'rm -rf "$work"' EXIT
+
+mkdir -p "$work/repo/crates"
+printf 'fit_base: byteorder\nbench_checksum: fit_base\n' > "$work/repo/crates.txt"
+cp -r "$root/crates/fit_base" "$work/repo/crates/fit_base"
+cp -r "$root/bench/checksum" "$work/repo/crates/bench_checksum"
+
+cat > "$work/nibbles.c" <<'C'
+#include <stdint.h>
+#include <stdio.h>
+#include <stdlib.h>
+#include <time.h>
+
+static const uint16_t table[16] = {
+    0x0000, 0xCC01, 0xD801, 0x1400, 0xF001, 0x3C00, 0x2800, 0xE401,
+    0xA001, 0x6C00, 0x7800, 0xB401, 0x5000, 0x9C01, 0x8801, 0x4400};
+
+static uint16_t checksum(const uint8_t *bytes, size_t len) {
+    uint16_t reg = 0;
+    for (size_t i = 0; i < len; i++) {
+        reg = (reg >> 4) ^ table[(reg ^ bytes[i]) & 15];
+        reg = (reg >> 4) ^ table[(reg ^ (bytes[i] >> 4)) & 15];
+    }
+    return reg;
+}
+
+int main(void) {
+    size_t size = 67108864;
+    uint8_t *bytes = malloc(size);
+    if (!bytes) return 1;
+    for (size_t i = 0; i < size; i++) bytes[i] = (i * 31 + (i >> 8)) & 0xff;
+    long long least = -1;
+    unsigned sum = 0;
+    for (int round = 0; round < 5; round++) {
+        struct timespec a, b;
+        clock_gettime(CLOCK_MONOTONIC, &a);
+        sum = checksum(bytes, size);
+        clock_gettime(CLOCK_MONOTONIC, &b);
+        long long spent = (b.tv_sec - a.tv_sec) * 1000000000LL + (b.tv_nsec - a.tv_nsec);
+        if (least < 0 || spent < least) least = spent;
+    }
+    printf("%u %lld\n", sum, least);
+    return 0;
+}
+C
+gcc -O2 -o "$work/nibbles" "$work/nibbles.c"
+
+(cd "$work/repo/crates/bench_checksum" && rt run) > "$work/log" 2>&1 || { cat "$work/log"; exit 1; }
+proved=$(grep -E '^[0-9]+ [0-9]+$' "$work/log" | tail -n 1)
+plain=$("$work/nibbles")
+
+echo "$proved $plain" | awk '{
+    if ($1 != $3) { print "the checksums differ: " $1 " and " $3; exit 1 }
+    size = 67108864 / 1e6
+    printf "proved checksum      %8.0f MB/s\n", size / ($2 / 1e9)
+    printf "half a byte, in C    %8.0f MB/s\n", size / ($4 / 1e9)
+    printf "ratio                %8.2f\n", $4 / $2
+}'

@@ -1,0 +1,57 @@
+-- A table that agrees with the definitions in force, and goes on to agree with them.
+use Rattle.std.proofs.Common.{◌≡◌, ◌≢◌, ℕ, ◌<◌, List, [], ◌∷◌, ◌++◌, Option, Some, None, refl, sym, ap, ◌∙◌, inl, inr}
+use Rattle.std.specs.Option.{option_or}
+use Rattle.std.proofs.lemmas.Bool.{eq-eqb, ne_eqb}
+use Rattle.std.proofs.lemmas.Bool.Decides.{eqb_tells}
+use Rattle.fit_grammar.specs.declared.definition.Definition.{Definition}
+use Rattle.fit_grammar.specs.Item.{Item, Defines, Data}
+use Rattle.fit_grammar.specs.Records.{definition_by, in_force}
+use Rattle.fit_grammar.specs.Table.{definition_in}
+
+or_assoc : {A : Type 0} (a b c : Option A) → option_or (option_or a b) c ≡ option_or a (option_or b c)
+or_assoc None b c = refl
+or_assoc (Some x) b c = refl
+
+or_none : {A : Type 0} (a : Option A) → option_or a None ≡ a
+or_none None = refl
+or_none (Some x) = refl
+
+-- one item more comes before all others
+pub in_force-append : (items : List Item) (item : Item) (l : ℕ) → in_force (items ++ item ∷ []) l ≡ option_or (definition_by item l) (in_force items l)
+in_force-append [] item l = sym (or_none (definition_by item l))
+in_force-append (first ∷ items) item l =
+    ap (λ (o : Option Definition). option_or o (definition_by first l)) (in_force-append items item l)
+    ∙ or_assoc (definition_by item l) (in_force items l) (definition_by first l)
+
+-- behind a definition
+pub in_force-defines : (items : List Item) (d : Definition) → in_force (items ++ Defines d ∷ []) d.local ≡ Some d
+in_force-defines items d = in_force-append items (Defines d) d.local ∙ rw (eq-eqb d.local d.local refl) refl
+
+pub in_force-others : (items : List Item) (d : Definition) (l : ℕ) → l ≢ d.local → in_force (items ++ Defines d ∷ []) l ≡ in_force items l
+in_force-others items d l other = in_force-append items (Defines d) l ∙ rw (ne_eqb d.local l (λ e. other (sym e))) refl
+
+-- a data message changes none
+pub in_force-data : (items : List Item) (local : ℕ) (offset : Option ℕ) (content : List ℕ) (l : ℕ) → in_force (items ++ Data local offset content ∷ []) l ≡ in_force items l
+in_force-data items local offset content l = in_force-append items (Data local offset content) l
+
+-- a table that agrees with the definitions in force
+abbrev pub Agrees : List (Option Definition) → List Item → Type 0
+Agrees table items = (l : ℕ) → l < 16 → definition_in table l ≡ in_force items l
+
+pub Agrees-new : (table : List (Option Definition)) → ((l : ℕ) → definition_in table l ≡ None) → Agrees table []
+Agrees-new table none l lt = none l
+
+-- and goes on to agree with them behind a definition that it takes
+pub Agrees-take : (old new : List (Option Definition)) (items : List Item) (d : Definition) → Agrees old items
+    → definition_in new d.local ≡ Some d → ((l : ℕ) → l ≢ d.local → definition_in new l ≡ definition_in old l)
+    → Agrees new (items ++ Defines d ∷ [])
+Agrees-take old new items d agrees taken others l lt =
+    elim (eqb_tells l d.local) [
+      | inl same ↦ rw same.1 (taken ∙ sym (in_force-defines items d))
+      | inr other ↦ others l other.1 ∙ agrees l lt ∙ sym (in_force-others items d l other.1)
+    ]
+
+-- and behind a data message
+pub Agrees-data : (table : List (Option Definition)) (items : List Item) (local : ℕ) (offset : Option ℕ) (content : List ℕ) → Agrees table items
+    → Agrees table (items ++ Data local offset content ∷ [])
+Agrees-data table items local offset content agrees l lt = agrees l lt ∙ sym (in_force-data items local offset content l)

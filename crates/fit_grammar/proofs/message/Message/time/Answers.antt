@@ -1,0 +1,22 @@
+use Rattle.std.proofs.Common.{◌≡◌, ℕ, ◌+◌, ◌*◌, List, [], ◌∷◌, length, Option, Some, refl, ◌∙◌, arith}
+use Rattle.std.specs.Prelude.{slice_index, IfSome}
+use Rattle.fit_base.specs.Number.{low_first}
+use Rattle.fit_grammar.proofs.message.Message.time.Goals as goal
+
+four_bytes : (bytes : List ℕ) → length bytes ≡ 4
+    → slice_index bytes 0 + slice_index bytes 1 * 256 + slice_index bytes 2 * 65536 + slice_index bytes 3 * 16777216 ≡ low_first bytes
+four_bytes [] long = absurd (omega arith)
+four_bytes (a ∷ []) long = absurd (omega arith)
+four_bytes (a ∷ b ∷ []) long = absurd (omega arith)
+four_bytes (a ∷ b ∷ c ∷ []) long = absurd (omega arith)
+four_bytes (a ∷ b ∷ c ∷ d ∷ []) long = omega arith
+four_bytes (a ∷ b ∷ c ∷ d ∷ e ∷ bytes) long = absurd (omega arith)
+
+long_by : (time : Option (List ℕ)) (bytes : List ℕ) → time ≡ Some bytes → IfSome time (λ b. length b ≡ 4) → length bytes ≡ 4
+long_by time bytes is h = rw is at h
+
+pub returns-in-Some : goal.returns-in-Some
+returns-in-Some c =
+    let long = long_by c.self.inside.time c.in-Some.bytes c.in-Some.is c.self.invariant.1 in
+    let value : c.from_le_bytes.result ≡ low_first c.in-Some.bytes = c.from_le_bytes.ensures ∙ four_bytes c.in-Some.bytes long in
+    rw (← c.self.view_is, c.in-Some.is, value) refl

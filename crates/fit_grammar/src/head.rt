@@ -1,0 +1,30 @@
+// The first byte of an item.
+
+ghost use Rattle.std.specs.Prelude.{◌≡◌};
+ghost use Rattle.fit_grammar.specs.Item.{head_of};
+ghost use Rattle.fit_grammar.specs.Step.{head_view};
+
+// What the first byte of an item says, as the specification's `Head`.
+#[derive(Drop)]
+pub(crate) enum Head {
+    Definition(u8),
+    Developer,
+    Data(u8, Option<u8>),
+}
+
+// Reads a first byte.
+pub(crate) fn read_head(byte: u8) -> Head
+    ensures { head_view result ≡ head_of byte }
+{
+    if byte < 64 {
+        Head::Data(byte % 16, None)
+    } else if byte < 128 {
+        if byte / 32 % 2 == 0 {
+            Head::Definition(byte % 16)
+        } else {
+            Head::Developer
+        }
+    } else {
+        Head::Data(byte / 32 % 4, Some(byte % 32))
+    }
+}

@@ -1,0 +1,136 @@
+// Reading one item from the front of a window of bytes.
+
+ghost use Rattle.std.specs.Prelude.{◌≡◌, ◌≤◌, ℕ, Option, length, slice_index};
+ghost use Rattle.fit_grammar.specs.declared.definition.Definition.{Definition as AnyDefinition};
+ghost use Rattle.fit_grammar.specs.Item.{Item as AnyItem, head_of, DefinitionHead, DataHead};
+ghost use Rattle.fit_grammar.specs.Table.{definition_in};
+ghost use Rattle.fit_grammar.specs.Step.{IsStep, IsStepItem, ItemAtFront, ItemBegun, ShowsUndefined, ShowsDeveloper, least_length_of, definition_length_of};
+
+use crate::data::DataMessage;
+use crate::definition::Definition;
+use crate::head::{Head, read_head};
+use crate::spelled::DefinitionMessage;
+use crate::table::Table;
+
+/// An item of a file's records. It holds a few words, and no definition.
+#[derive(Drop)]
+pub enum Item<'a> {
+    Definition(DefinitionMessage<'a>),
+    Data(DataMessage<'a>),
+}
+
+/// Why no item can be read, whatever bytes follow.
+#[derive(Clone, Copy, Debug, PartialEq, Eq)]
+pub enum ItemFault {
+    /// A data message of a local number that has no definition in force.
+    UndefinedLocal(u8),
+    /// A definition announces developer fields.
+    Developer,
+}
+
+/// What the front of a window shows.
+#[derive(Drop)]
+pub enum Step<'a> {
+    /// An item, and how many bytes it has.
+    Item(Item<'a>, usize),
+    /// The window is a beginning of an item.
+    NeedMore,
+    Refused(ItemFault),
+}
+
+/// How many bytes the item at the front of the window has at least, as far as the window shows. Of a
+/// data message and of six bytes of a definition it is the number of all its bytes.
+pub fn least_length(window: &[u8], table: &Table) -> Result<usize, ItemFault>
+    ensures { result ≡ least_length_of (definition_in table.now) window.now }
+{
+    let [first, ..] = window else {
+        return Ok(1);
+    };
+    match read_head(*first) {
+        Head::Definition(_) => Ok(definition_length(window)),
+        Head::Developer => Err(ItemFault::Developer),
+        Head::Data(local, _) => match table.get(local) {
+            None => Err(ItemFault::UndefinedLocal(local)),
+            Some(definition) => Ok(1 + definition.content_size()),
+        },
+    }
+}
+
+// How many bytes a definition has at least: all, where six of them are there.
+fn definition_length(window: &[u8]) -> usize
+    ensures { result ≡ definition_length_of window.now }
+{
+    if window.len() < 6 {
+        6
+    } else {
+        6 + 3 * window[5] as usize
+    }
+}
+
+/// Reads the item at the front of the window under these definitions. It takes no memory.
+pub fn next_item<'a>(window: &'a [u8], table: &'a Table) -> Step<'a>
+    // What each answer says of the window.
+    ensures step { IsStep (definition_in table.now) window.now result }
+    // Where each answer comes.
+    ensures item { (i : AnyItem) (used : ℕ) → ItemAtFront (definition_in table.now) window.now i used → IsStepItem result i used }
+    ensures more { ItemBegun (definition_in table.now) window.now → result ≡ Step.NeedMore }
+    ensures undefined { (l : ℕ) → ShowsUndefined (definition_in table.now) window.now l → result ≡ Step.Refused (ItemFault.UndefinedLocal l) }
+    ensures developer { ShowsDeveloper window.now → result ≡ Step.Refused ItemFault.Developer }
+{
+    step_at(window, table)
+}
+
+// The same, by the first byte. That an answer comes wherever it is right follows, since no two are right.
+fn step_at<'a>(window: &'a [u8], table: &'a Table) -> Step<'a>
+    ensures { IsStep (definition_in table.now) window.now result }
+{
+    let [first, ..] = window else {
+        return Step::NeedMore;
+    };
+    match read_head(*first) {
+        Head::Definition(_) => next_definition(window),
+        Head::Developer => Step::Refused(ItemFault::Developer),
+        Head::Data(local, offset) => match table.get(local) {
+            None => Step::Refused(ItemFault::UndefinedLocal(local)),
+            Some(definition) => next_data(window, local, offset, definition),
+        },
+    }
+}
+
+// The definition at the front of the window, where all of it is there.
+fn next_definition<'a>(window: &'a [u8]) -> Step<'a>
+    requires begun { 1 ≤ length window.now }
+    requires head { (l : ℕ) × (head_of (slice_index window.now 0) ≡ DefinitionHead l) }
+    ensures { (f : ℕ → Option AnyDefinition) → IsStep f window.now result }
+{
+    let used = definition_length(window);
+    if window.len() < used {
+        return Step::NeedMore;
+    }
+    let message = DefinitionMessage::new(&window[..used]);
+    Step::Item(Item::Definition(message), used)
+}
+
+// The data message at the front of the window under this definition, where all of it is there.
+fn next_data<'a>(
+    window: &'a [u8],
+    local: u8,
+    offset: Option<u8>,
+    definition: &'a Definition,
+) -> Step<'a>
+    requires begun { 1 ≤ length window.now }
+    requires head { head_of (slice_index window.now 0) ≡ DataHead local offset }
+    ensures { (f : ℕ → Option AnyDefinition) → f local ≡ Some definition.now → IsStep f window.now result }
+{
+    let used = 1 + definition.content_size();
+    if window.len() < used {
+        return Step::NeedMore;
+    }
+    let message = DataMessage {
+        local,
+        offset,
+        definition,
+        content: &window[1..used],
+    };
+    Step::Item(Item::Data(message), used)
+}

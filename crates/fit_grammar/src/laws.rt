@@ -1,0 +1,19 @@
+//! Laws of the definitions in `specs/`. Each is the contract of a function that does nothing.
+
+ghost use Rattle.std.specs.Prelude.{◌≡◌, ℕ, List, ◌++◌, Option};
+ghost use Rattle.fit_grammar.specs.declared.definition.Definition.{Definition};
+ghost use Rattle.fit_grammar.specs.Encoding.{encoded_item, HasEncoding};
+ghost use Rattle.fit_grammar.specs.Item.{Item, Spells};
+ghost use Rattle.fit_grammar.specs.Records.{IsDefinedBy};
+
+/// Under one lookup of definitions, no spelling of a defined item begins the spelling of another. So
+/// bytes are read as items in one way at most.
+pub fn no_spelling_begins_another()
+    ensures { (f : ℕ → Option Definition) (i j : Item) (a x b y : List ℕ) → Spells i a → Spells j b
+        → IsDefinedBy f i → IsDefinedBy f j → a ++ x ≡ b ++ y → (a ≡ b) × (i ≡ j) }
+{}
+
+/// The bytes that an item is written as are a spelling of it.
+pub fn written_items_are_spelled()
+    ensures { (i : Item) → HasEncoding i → Spells i (encoded_item i) }
+{}

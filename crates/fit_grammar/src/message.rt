@@ -1,0 +1,88 @@
+// Messages: data messages read under their definitions and with their times.
+
+ghost use Rattle.std.specs.Prelude.{◌≡◌};
+ghost use Rattle.fit_grammar.specs.Lent.{message_lent};
+
+use crate::definition::Definition;
+use crate::fields::Fields;
+use crate::item::Item;
+use crate::time::{next_time, stated_time};
+use std::marker::Model;
+
+/// A message, lent from its data message. Contracts see what it says, whatever architecture and header it
+/// was written under, and beside it the time of a compressed timestamp.
+#[derive(Drop)]
+pub struct Message<'a> {
+    definition: &'a Definition,
+    content: &'a [u8],
+    time: Option<[u8; 4]>,
+}
+
+impl<'a> Model for Message<'a> {
+    ghost use Rattle.std.specs.Prelude.{◌≡◌, length, option_map, IfSome};
+    ghost use Rattle.fit_base.specs.Number.{low_first};
+    ghost use Rattle.fit_grammar.specs.Item.{content_size};
+    ghost use Rattle.fit_grammar.specs.Message.{message_under};
+    ghost use Rattle.fit_grammar.specs.Lent.{LentMessage};
+
+    ghost Value = { LentMessage };
+
+    ghost view = { λ m. let time = option_map low_first m.time in
+        record { compressed = time; message = message_under m.definition.now time m.content.now } };
+
+    ghost invariant = { λ m. (content_size m.definition.now ≡ length m.content.now) × IfSome m.time (λ bytes. length bytes ≡ 4) };
+}
+
+impl<'a> Message<'a> {
+    ghost use Rattle.fit_grammar.specs.Lent.{time_of};
+
+    /// The global message number of the profile.
+    pub fn global(&self) -> u16
+        ensures { result ≡ self.now.message.global }
+    {
+        self.definition.global
+    }
+
+    /// The fields in order, the time of a compressed timestamp in front as field 253.
+    pub fn fields(&self) -> Fields<'_>
+        ensures { result ≡ self.now.message.fields }
+    {
+        let time: Option<&[u8]> = match &self.time {
+            Some(bytes) => Some(bytes),
+            None => None,
+        };
+        let definition = self.definition;
+        Fields::new(time, definition.arch, &definition.fields, self.content)
+    }
+
+    /// The time that the message gives: that of its compressed timestamp, else the value of its first
+    /// field 253 of base type 86 and size 4 that is not invalid.
+    pub fn time(&self) -> Option<u32>
+        ensures { result ≡ time_of self.now }
+    {
+        if let Some(bytes) = self.time {
+            return Some(u32::from_le_bytes(bytes));
+        }
+        stated_time(self.fields())
+    }
+}
+
+/// The message of an item, where the time before it is this. A definition has none.
+pub fn message_of<'a>(item: &Item<'a>, before: u32) -> Option<Message<'a>>
+    ensures { result ≡ message_lent item.now before }
+{
+    match item {
+        Item::Definition(_) => None,
+        Item::Data(data) => {
+            let time = match data.offset {
+                Some(offset) => Some(next_time(before, offset).to_le_bytes()),
+                None => None,
+            };
+            Some(Message {
+                definition: data.definition,
+                content: data.content,
+                time,
+            })
+        }
+    }
+}
