@@ -1,6 +1,6 @@
 -- The text that shows a file: a line for its header, a line for each message, and a line that counts them. It
 -- follows from what the messages say and not from how they are spelled.
-use Rattle.std.specs.Prelude.{ℕ, Bool, ◌+◌, ◌*◌, ◌/◌, ◌%◌, List, [], ◌∷◌, ◌++◌, length, sum_by, codes, decimal, Option, Some, None, true, ◌==◌, ◌&&◌, not, nat_le, if◌then◌else◌}
+use Rattle.std.specs.Prelude.{ℕ, Bool, ◌/◌, ◌%◌, List, [], ◌∷◌, ◌++◌, length, codes, decimal, Option, Some, None, true, ◌==◌, ◌&&◌, not, nat_le, if◌then◌else◌}
 use Rattle.std.specs.Fmt.{signed_decimal, digit_glyph}
 use Rattle.std.specs.Int.{to_be_bytes, w32, w64}
 use Rattle.std.specs.List.{flat_map, list_all, before_first, join_by, enumerate_from}
@@ -10,7 +10,7 @@ use Rattle.fit_base.specs.Number.{twos_complement}
 use Rattle.fit_base.specs.Base.{row_of, base_type, has_sign}
 use Rattle.fit_base.specs.Value.{Values, Numbers, Raw}
 use Rattle.fit_grammar.specs.declared.frame.Frame.{Frame}
-use Rattle.fit_grammar.specs.Item.{Item, Defines, Data, content_size}
+use Rattle.fit_grammar.specs.Records.{data_size}
 use Rattle.fit_grammar.specs.Message.{Message, MessageField, messages_of}
 use Rattle.fit_grammar.specs.File.{FileValue}
 use Rattle.fitrec.specs.Profile.{FieldNames, message_named, names_of_fields, field_named}
@@ -104,14 +104,7 @@ message_text number message =
 
 -- ---- files
 
--- how many bytes an item has
-abbrev pub item_size : Item → ℕ
-item_size (Defines d) = 6 + 3 * length d.fields.items
-item_size (Data local offset content) = 1 + length content
-
-abbrev pub data_size : List Item → ℕ
-data_size items = sum_by item_size items
-
+-- the first line: what the header says, over this many bytes of records
 abbrev pub header_text : Frame → ℕ → List ℕ
 header_text frame size =
     codes "header " ++ decimal frame.header_size ++ codes " protocol " ++ decimal (frame.protocol / 16)

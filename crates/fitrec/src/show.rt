@@ -7,7 +7,4 @@ mod header;
 mod message;
 mod number;
 
-pub use field::put_field;
 pub use file::{ShowBytesFault, show_bytes};
-pub use header::{put_header, put_labelled};
-pub use message::put_message_start;

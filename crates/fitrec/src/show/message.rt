@@ -2,14 +2,47 @@
 
 ghost use Rattle.std.specs.Prelude.{◌++◌, decimal, codes};
 ghost use Rattle.fitrec.specs.Output.{WritesText};
-ghost use Rattle.fitrec.specs.Text.{message_name};
+ghost use Rattle.std.specs.List.{flat_map};
+ghost use Rattle.fitrec.specs.Profile.{field_rows};
+ghost use Rattle.fitrec.specs.Text.{field_text, message_name, message_text};
 
-use crate::profile;
+use crate::profile::{self, FieldName};
+use crate::show::field::put_field;
 use crate::writing::{WriteFailed, put, put_number};
+use fit_grammar::{Fields, Message};
 use std::io::Write;
 
-/// The number of a message and its name.
-pub fn put_message_start<W: Write>(out: &mut W, number: u64, global: u16) -> Result<(), WriteFailed>
+/// The line of a message: its number, its name and its fields.
+pub fn put_message<W: Write>(
+    out: &mut W,
+    number: u64,
+    message: &Message<'_>,
+) -> Result<(), WriteFailed>
+    ensures { WritesText (W.contents out.old) (W.contents out.new) result (message_text number message.now.message) }
+{
+    let global = message.global();
+    put_start(out, number, global)?;
+    put_fields(out, profile::fields_of(global), message.fields())?;
+    put(out, b"\n")
+}
+
+// The fields of a message, whose names are among these.
+fn put_fields<W: Write>(
+    out: &mut W,
+    names: &[FieldName],
+    fields: Fields<'_>,
+) -> Result<(), WriteFailed>
+    ensures { WritesText (W.contents out.old) (W.contents out.new) result
+        (flat_map (field_text (field_rows names.now)) fields.entry) }
+{
+    for field in fields {
+        put_field(out, names, field.number, &field.value)?;
+    }
+    Ok(())
+}
+
+// The number of a message and its name.
+fn put_start<W: Write>(out: &mut W, number: u64, global: u16) -> Result<(), WriteFailed>
     ensures { WritesText (W.contents out.old) (W.contents out.new) result
         (decimal number ++ codes " " ++ message_name global) }
 {
