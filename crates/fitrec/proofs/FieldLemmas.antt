@@ -2,15 +2,16 @@
 use Rattle.std.proofs.Common.{◌≡◌, ℕ, zero, suc, ◌+◌, ◌*◌, ◌/◌, ◌%◌, ◌<◌, ◌≤◌, ◌==◌, Bool, true, false, List, [], ◌∷◌, ◌++◌, length, refl, sym, ap, ◌∙◌, subst, append_assoc, eq-eqb, codes, decimal, Option, Some, None, arith, rules, cond, if◌then◌else◌}
 use Rattle.std.proofs.lemmas.Bool.{eqb-true}
 use Rattle.std.proofs.lemmas.List.{nil_from_length}
+use Rattle.std.specs.List.{flat_map}
 use Rattle.fit_base.specs.declared.order.Arch.{Arch}
 use Rattle.fit_base.specs.declared.base.BaseType.{BaseType}
 use Rattle.fit_base.specs.declared.base.BaseType.TheVariants.{Enum, String, Byte}
 use Rattle.fit_base.specs.Base.{row_of, base_type}
 use Rattle.fit_base.specs.Value.{Field, Values, Numbers, Raw, raw_by, size_by, value_size, count_of, values_of, numbers}
 use Rattle.fit_grammar.specs.declared.frame.Frame.{Frame}
-use Rattle.fit_grammar.specs.Message.{MessageField}
-use Rattle.fitrec.specs.Profile.{FieldNames}
-use Rattle.fitrec.specs.Text.{hex_text, string_text, byte_text, numbers_text, IsNumber, some_text, values_text, named, field_name, field_text, header_text}
+use Rattle.fit_grammar.specs.Message.{Message, MessageField}
+use Rattle.fitrec.specs.Profile.{FieldNames, names_of_fields}
+use Rattle.fitrec.specs.Text.{hex_text, string_text, byte_text, numbers_text, IsNumber, some_text, values_text, named, field_name, field_text, header_text, message_name, message_text}
 use Rattle.fitrec.proofs.TextLemmas.{hex_none, numbers_bytes, some_numbers}
 
 size_some : (type : BaseType) → 0 < (row_of type).size
@@ -117,3 +118,9 @@ pub header_parts : (frame : Frame) (size a b c d e : ℕ) → a ≡ frame.header
     (codes "header " ++ decimal a) ++ ((codes " protocol " ++ decimal b) ++ ((codes "." ++ decimal c)
     ++ ((codes " profile " ++ decimal d) ++ ((codes " data " ++ decimal e) ++ codes "\n")))) ≡ header_text frame size
 header_parts frame size a b c d e is_a is_b is_c is_d is_e = rw (is_a, is_b, is_c, is_d, is_e) (simp append_assoc)
+
+-- the parts of a message's line
+pub message_parts : (number : ℕ) (message : Message) (global : ℕ) (names : FieldNames) (fields : List MessageField) → global ≡ message.global →
+    names ≡ names_of_fields global → fields ≡ message.fields →
+    (decimal number ++ codes " " ++ message_name global) ++ (flat_map (field_text names) fields ++ codes "\n") ≡ message_text number message
+message_parts number message global names fields is_global are_names are_fields = rw (are_names, is_global, are_fields) (simp append_assoc)
