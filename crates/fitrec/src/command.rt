@@ -1,15 +1,16 @@
 // The program as one call: words in, text out, and the exit status.
 
 ghost use Rattle.std.specs.Prelude.{◌≤◌};
+ghost use Rattle.fitrec.specs.Showing.{TellsOf};
 
 use crate::fault::Fault;
-use crate::reading::{ReadFault, read_all};
+use crate::reading::{MOST_BYTES, ReadFault, read_all};
 use crate::show::{ShowBytesFault, show_bytes};
 use clap::error::ErrorKind;
 use clap::{Arg, ArgAction, Command};
 use std::alloc::Global;
 use std::convert::AsStr;
-use std::fs;
+use std::fs::{self, OpenFile};
 use std::io::{BufWriter, Write};
 use std::rt::Files;
 
@@ -72,28 +73,48 @@ fn read_words<'a, S: AsStr>(alloc: Global, words: &'a [S]) -> Result<Request<'a>
     Err(fitrec.error(ErrorKind::MissingSubcommand, "no command")?)
 }
 
-// Shows a file, through one buffer.
 fn show_file<'a, R: Files + AllocGlobal, O: Write>(
     rt: &R,
     name: &'a str,
     out: &mut O,
 ) -> Result<(), Fault<'a>> {
     let bytes = file_bytes(rt, name)?;
-    let Ok(mut buffered) = BufWriter::new(rt.alloc(), out) else {
+    show_buffered(rt.alloc(), bytes.as_slice(), out)
+}
+
+// Shows bytes through one buffer.
+fn show_buffered<O: Write>(
+    alloc: Global,
+    bytes: &[u8],
+    out: &mut O,
+) -> Result<(), Fault<'static>>
+    ensures { TellsOf bytes.now result }
+{
+    let Ok(mut buffered) = BufWriter::new(alloc, out) else {
         return Err(Fault::NoMemory);
     };
-    match show_bytes(rt.alloc(), bytes.as_slice(), &mut buffered) {
+    match show_bytes(alloc, bytes, &mut buffered) {
         Ok(()) => {}
-        Err(ShowBytesFault::File(fault)) => return Err(Fault::File(fault)),
         Err(ShowBytesFault::Write) => return Err(Fault::Write("-")),
+        Err(ShowBytesFault::File(fault)) => return Err(Fault::File(fault)),
     }
-    buffered.flush().map_err(|_| Fault::Write("-"))
+    let Ok(out) = buffered.into_inner() else {
+        return Err(Fault::Write("-"));
+    };
+    match out.flush() {
+        Ok(()) => Ok(()),
+        Err(_) => Err(Fault::Write("-")),
+    }
 }
 
 fn file_bytes<'a, R: Files + AllocGlobal>(rt: &R, name: &'a str) -> Result<Vec<u8>, Fault<'a>> {
     let Ok(mut file) = fs::open(rt, name) else {
         return Err(Fault::Open(name));
     };
+    let size = file.metadata().map_or(0, |metadata| metadata.len());
+    if size > MOST_BYTES as u64 {
+        return Err(Fault::TooLarge);
+    }
     match read_all(rt.alloc(), &mut file) {
         Ok(bytes) => Ok(bytes),
         Err(ReadFault::Failed) => Err(Fault::Read(name)),
@@ -101,3 +122,6 @@ fn file_bytes<'a, R: Files + AllocGlobal>(rt: &R, name: &'a str) -> Result<Vec<u
         Err(ReadFault::NoMemory) => Err(Fault::NoMemory),
     }
 }
+
+#[cfg(test)]
+mod tests;

@@ -8,3 +8,6 @@ mod message;
 mod number;
 
 pub use file::{ShowBytesFault, show_bytes};
+
+#[cfg(test)]
+mod tests;

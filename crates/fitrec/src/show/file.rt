@@ -1,5 +1,7 @@
 // A whole file.
 
+ghost use Rattle.fitrec.specs.Showing.{ShowsBytes};
+
 use fit_grammar::{FaultKind, FileFault};
 use std::alloc::Global;
 use std::io::Write;
@@ -13,7 +15,20 @@ pub enum ShowBytesFault {
     File(FileFault),
 }
 
-pub fn show_bytes<W: Write>(_alloc: Global, bytes: &[u8], out: &mut W) -> Result<(), ShowBytesFault> {
+impl ShowBytesFault {
+    /// The number of the fault.
+    pub fn code(&self) -> u8 {
+        match self {
+            ShowBytesFault::Write => 1,
+            ShowBytesFault::File(_) => 2,
+        }
+    }
+}
+
+/// Writes the text of the file that these bytes are. They are read whole before anything is written.
+pub fn show_bytes<W: Write>(_alloc: Global, bytes: &[u8], out: &mut W) -> Result<(), ShowBytesFault>
+    ensures { ShowsBytes (W.contents out.old) (W.contents out.new) bytes.now result }
+{
     if bytes.len() > 16 {
         return Err(ShowBytesFault::File(FileFault { kind: FaultKind::UndefinedLocal(5), place: bytes.len() }));
     }
