@@ -9,9 +9,11 @@ use Rattle.fit_base.specs.declared.base.BaseType.TheVariants.{Enum, String, Byte
 use Rattle.fit_base.specs.Base.{row_of, base_type}
 use Rattle.fit_base.specs.Value.{Field, Values, Numbers, Raw, raw_by, size_by, value_size, count_of, values_of, numbers}
 use Rattle.fit_grammar.specs.declared.frame.Frame.{Frame}
-use Rattle.fit_grammar.specs.Message.{Message, MessageField}
+use Rattle.fit_grammar.specs.Message.{Message, MessageField, messages_of}
+use Rattle.fit_grammar.specs.Records.{data_size}
+use Rattle.fit_grammar.specs.File.{FileValue}
 use Rattle.fitrec.specs.Profile.{FieldNames, names_of_fields}
-use Rattle.fitrec.specs.Text.{hex_text, string_text, byte_text, numbers_text, IsNumber, some_text, values_text, named, field_name, field_text, header_text, message_name, message_text}
+use Rattle.fitrec.specs.Text.{hex_text, string_text, byte_text, numbers_text, IsNumber, some_text, values_text, named, field_name, field_text, header_text, message_name, message_text, messages_text, text_of}
 use Rattle.fitrec.proofs.TextLemmas.{hex_none, numbers_bytes, some_numbers}
 
 size_some : (type : BaseType) → 0 < (row_of type).size
@@ -124,3 +126,16 @@ pub message_parts : (number : ℕ) (message : Message) (global : ℕ) (names : F
     names ≡ names_of_fields global → fields ≡ message.fields →
     (decimal number ++ codes " " ++ message_name global) ++ (flat_map (field_text names) fields ++ codes "\n") ≡ message_text number message
 message_parts number message global names fields is_global are_names are_fields = rw (are_names, is_global, are_fields) (simp append_assoc)
+
+regrouped : (a b c d e : List ℕ) → a ++ (b ++ ((c ++ d) ++ e)) ≡ a ++ b ++ c ++ d ++ e
+regrouped a b c d e = simp append_assoc
+
+-- the parts of a file's text
+pub file_parts : (v : FileValue) (frame : Frame) (size count : ℕ) → frame ≡ v.frame → size ≡ data_size v.items →
+    count ≡ length (messages_of v.items) →
+    header_text frame size ++ (messages_text (messages_of v.items) ++ ((codes "messages " ++ decimal count) ++ codes "\n")) ≡ text_of v
+unfolding text_of
+file_parts v frame size count is_frame is_size is_count =
+    rw (is_frame, is_size, is_count)
+    (regrouped (header_text v.frame (data_size v.items)) (messages_text (messages_of v.items)) (codes "messages ")
+        (decimal (length (messages_of v.items))) (codes "\n"))

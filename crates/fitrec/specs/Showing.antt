@@ -22,3 +22,8 @@ abbrev pub TellsOf : {T : Type 0} → List ℕ → Result T Fault → Type 0
 TellsOf bytes (Ok done) = (v : FileValue) × FileOf bytes v
 TellsOf bytes (Err (faults.File fault)) = IsFaultOf bytes fault
 TellsOf bytes (Err _) = Unit {0}
+
+-- the number of a fault
+abbrev pub code_of : ShowBytesFault → ℕ
+code_of Write = 1
+code_of (File fault) = 2

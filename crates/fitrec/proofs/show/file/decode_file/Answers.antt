@@ -1,0 +1,4 @@
+use Rattle.fitrec.proofs.show.file.decode_file.Goals as goal
+
+pub returns : goal.returns
+returns c = ?
