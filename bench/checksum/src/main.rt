@@ -2,12 +2,12 @@
 //! nanoseconds.
 #![tactic(auto)]
 
+use fit_base::Crc;
 use std::io;
 use std::time::Instant;
 
-use fit_base::Crc;
-
 const SIZE: usize = 67_108_864;
+
 const ROUNDS: usize = 5;
 
 fn main(rt: HostRuntime) -> io::Result<()> {

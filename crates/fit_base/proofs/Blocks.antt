@@ -1,7 +1,7 @@
 -- The register after a block of bytes, each byte taken by itself.
-use Rattle.std.proofs.Common.{◌≡◌, ℕ, zero, suc, ◌+◌, ◌-◌, ◌*◌, ◌/◌, ◌%◌, ◌^◌, ◌<◌, ◌≤◌, List, [], ◌∷◌, length, take, drop, get_or, replicate, bit_xor, refl, sym, ap, ◌∙◌, arith, drop-cons, get_or-drop, mod-lt, length-drop, drop_of_length-le, ap₂}
+use Rattle.std.proofs.Common.{◌≡◌, ℕ, zero, suc, ◌+◌, ◌-◌, ◌*◌, ◌/◌, ◌%◌, ◌<◌, ◌≤◌, List, [], ◌∷◌, length, drop, get_or, replicate, bit_xor, refl, sym, ap, ◌∙◌, arith, drop-cons, get_or-drop, mod-lt, length-drop, drop_of_length-le, ap₂}
 use Rattle.std.proofs.lemmas.Nat.{xor_comm, xor_of_8}
-use Rattle.std.specs.Int.Bits.{xor_assoc, xor_zero_l, xor_zero_r}
+use Rattle.std.specs.Int.Bits.{xor_assoc, xor_zero_r}
 use Rattle.fit_base.specs.Checksum.{crc_from, crc}
 use Rattle.fit_base.proofs.Register.{shifts, shifts-xor, shifts-add, shifts-high, shifts-byte, split_at, xor_swap, crc_from-byte, crc_from-append}
 

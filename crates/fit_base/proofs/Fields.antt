@@ -1,5 +1,5 @@
 -- A field of one value of a known type.
-use Rattle.std.proofs.Common.{◌≡◌, ℕ, ◌+◌, ◌*◌, ◌≤◌, ℤ, ◌≤ℤ◌, List, length, take, drop, take_all, le_of_eq, IsTrue, true, refl, sym, ap, ◌∙◌, arith}
+use Rattle.std.proofs.Common.{◌≡◌, ℕ, ◌*◌, ◌≤◌, ℤ, ◌≤ℤ◌, List, length, take, drop, take_all, IsTrue, true, refl, ap, ◌∙◌, arith}
 use Rattle.fit_base.specs.declared.order.Arch.{Arch}
 use Rattle.fit_base.specs.declared.base.BaseType.{BaseType}
 use Rattle.fit_base.specs.declared.base.BaseType.TheVariants.{Enum}

@@ -7,3 +7,4 @@ pub mod Powers
 pub mod Signs
 pub mod Fields
 pub mod Values
+mod Examples

@@ -1,7 +1,7 @@
 -- The sums over bytes, as `byteorder` has them and as the definition of a number has them.
-use Rattle.std.proofs.Common.{◌≡◌, ℕ, zero, suc, ◌+◌, ◌*◌, ◌^◌, ◌<◌, ◌≤◌, List, [], ◌∷◌, ◌++◌, length, reverse, drop, append-nil, drop_of_length-le, le_refl, refl, sym, ap, ◌∙◌, arith, pow-suc, length-append}
+use Rattle.std.proofs.Common.{◌≡◌, ℕ, suc, ◌+◌, ◌*◌, ◌^◌, ◌<◌, List, [], ◌∷◌, ◌++◌, length, reverse, drop, append-nil, drop_of_length-le, le_refl, refl, sym, ap, ◌∙◌, arith, pow-suc}
 use Rattle.std.proofs.lemmas.List.{reverse-append, length-reverse}
-use Rattle.byteorder.specs.Endian.{big_from, little_from, big_number, little_number, big_bytes, little_bytes}
+use Rattle.byteorder.specs.Endian.{big_number, little_number, big_bytes, little_bytes}
 use Rattle.byteorder.specs.Numbers.{big_from-cons, little_from-cons, big_number-reads_back, little_number-reads_back, length-bytes_high_first, length-bytes_low_first}
 use Rattle.fit_base.specs.Number.{low_first}
 

@@ -1,5 +1,5 @@
 -- Powers of 256 as powers of 2, and a whole range as two halves.
-use Rattle.std.proofs.Common.{◌≡◌, ℕ, zero, suc, ◌+◌, ◌-◌, ◌*◌, ◌^◌, ◌<◌, ◌≤◌, refl, sym, ap, ◌∙◌, arith, pow-suc, pow-add}
+use Rattle.std.proofs.Common.{◌≡◌, ℕ, zero, suc, ◌+◌, ◌-◌, ◌*◌, ◌^◌, ◌≤◌, refl, sym, ap, ◌∙◌, arith, pow-suc, pow-add}
 
 pub pow256 : (n : ℕ) → 256 ^ n ≡ 2 ^ (8 * n)
 pow256 zero = refl

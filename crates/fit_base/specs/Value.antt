@@ -3,7 +3,7 @@ use Rattle.std.specs.Prelude.{◌≡◌, ◌⊎◌, ℕ, zero, suc, ◌*◌, ◌
 use Rattle.std.specs.List.{before_first}
 use Rattle.fit_base.specs.declared.order.Arch.{Arch}
 use Rattle.fit_base.specs.declared.base.BaseType.{BaseType}
-use Rattle.fit_base.specs.declared.base.BaseType.TheVariants.{Enum, Sint8, Uint8, Sint16, Uint16, Sint32, Uint32, String, Float32, Float64, Uint8z, Uint16z, Uint32z, Byte}
+use Rattle.fit_base.specs.declared.base.BaseType.TheVariants.{Byte}
 use Rattle.fit_base.specs.Number.{number, twos_complement}
 use Rattle.fit_base.specs.Base.{row_of, base_type, has_sign}
 

@@ -230,7 +230,7 @@ fn check(rt: &impl Abort, case: &Case, arch: Arch, bytes: &[u8]) {
 fn a_byte_field_that_is_all_ff(rt: HostRuntime) {
     let one = FieldValue::new(0x0D, Arch::Little, &[0xFF]);
     assert_eq!(rt; one.count(), 1);
-    assert!(rt; one.is_invalid(0));
+    assert!(rt; one.is_invalid(0), "all bytes are FF");
     let unknown = FieldValue::new(0x8E, Arch::Big, &[0xFF, 0xFF]);
     assert!(rt; unknown.is_raw());
     assert_eq!(rt; unknown.count(), 0);

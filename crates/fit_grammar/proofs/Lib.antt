@@ -14,5 +14,9 @@ pub mod Refused
 pub mod Accepted
 pub mod Closed
 pub mod HeaderRefused
+pub mod HeaderRead
+pub mod Least
+pub mod Reached
 pub mod WantOfMemory
+pub mod Shown
 pub mod Lent

@@ -10,6 +10,7 @@ pub mod Shown
 pub mod File
 pub mod Stored
 pub mod Refusal
+pub mod Decoding
 pub use Rattle.fit_base.specs.Number
 pub use Rattle.fit_base.specs.Checksum
 pub use Rattle.fit_base.specs.Base

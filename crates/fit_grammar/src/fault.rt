@@ -1,4 +1,5 @@
 ghost use Rattle.std.specs.Prelude.{◌≡◌};
+ghost use Rattle.fit_grammar.specs.declared.fault.FaultKind.TheVariants as kinds;
 ghost use Rattle.fit_grammar.specs.declared.fault.PutFault.TheVariants as put;
 
 use std::alloc::AllocError;
@@ -57,5 +58,13 @@ impl From<AllocError> for PutFault {
 
     fn from(_e: AllocError) -> PutFault {
         PutFault::Memory
+    }
+}
+
+impl From<AllocError> for FaultKind {
+    ghost from_gives = { λ _ e. e ≡ kinds.Memory };
+
+    fn from(_e: AllocError) -> FaultKind {
+        FaultKind::Memory
     }
 }

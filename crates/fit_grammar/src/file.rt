@@ -3,11 +3,13 @@
 ghost use Rattle.std.specs.Prelude.{◌≡◌, ◌<◌, ◌≤◌, ◌+◌, ◌++◌, ◌∷◌, [], ◌↔◌, ◌⊎◌, ℕ, length, Ok, Err, OnOk, OnErr, IfErr, IsErrOf, IsTrue, ◌^◌};
 ghost use Rattle.fit_grammar.specs.Records.{in_force, data_size};
 ghost use Rattle.fit_grammar.specs.Item.{Defines, Data, item_size, content_size};
+ghost use Rattle.fit_grammar.specs.Step.{least_length_of};
 ghost use Rattle.fit_grammar.specs.File.{IsFrame, with_item, IsTooLong, IsUndefined, HasWrongLength, CanHold, IsOffset};
 
 use crate::definition::Definition;
 use crate::fault::PutFault;
 use crate::frame::Frame;
+use crate::item::{ItemFault, least_length};
 use crate::table::Table;
 use std::alloc::{AllocError, Global};
 use std::marker::Model;
@@ -82,6 +84,13 @@ impl File {
         self.size
     }
 
+    // How many bytes the next item has at least, as far as the window shows.
+    pub(crate) fn least_length(&self, window: &[u8]) -> Result<usize, ItemFault>
+        ensures { result ≡ least_length_of (in_force self.now.items) window.now }
+    {
+        least_length(window, &self.table)
+    }
+
     /// Adds a definition, which is in force for its local number from here on.
     pub fn define(&mut self, d: &Definition) -> Result<(), PutFault>
         requires { d.now.local < 16 }
@@ -99,7 +108,7 @@ impl File {
     }
 
     // Adds a definition of this many bytes.
-    fn push_definition(&mut self, d: &Definition, size: u32) -> Result<(), AllocError>
+    pub(crate) fn push_definition(&mut self, d: &Definition, size: u32) -> Result<(), AllocError>
         requires local { d.now.local < 16 }
         requires size { size ≡ item_size (Defines d.now) }
         requires fits { IsTooLong self.old (Defines d.now) → ⊥ }
@@ -144,7 +153,7 @@ impl File {
         offset: Option<u8>,
         content: &[u8],
     ) -> Result<(), AllocError>
-        requires small { length content.now < 2 ^ 31 }
+        requires small { length content.now < 2 ^ 32 }
         requires fits { IsTooLong self.old (Data local offset content.now) → ⊥ }
         ensures ok { OnOk result (self.new ≡ with_item self.old (Data local offset content.now)) }
         ensures err { OnErr result (self.new ≡ self.old) }

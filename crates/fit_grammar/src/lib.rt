@@ -2,6 +2,7 @@
 #![tactic(auto)]
 
 mod data;
+mod decode;
 mod definition;
 mod fault;
 mod fields;
@@ -17,6 +18,7 @@ mod time;
 mod writing;
 
 pub use data::DataMessage;
+pub use decode::decode_file;
 pub use definition::{Definition, FieldDefinition};
 pub use fault::{FaultKind, FileFault, PutFault};
 pub use fields::{Field, Fields};
@@ -27,3 +29,8 @@ pub use message::{Message, message_of};
 pub use spelled::DefinitionMessage;
 pub use table::Table;
 pub use writing::{write_data, write_definition};
+
+#[cfg(test)]
+mod item_tests;
+#[cfg(test)]
+mod decode_tests;

@@ -1,4 +1,4 @@
-use Rattle.std.proofs.Common.{◌≡◌, ◌+◌, ◌-◌, ◌*◌, ◌%◌, ◌^◌, ◌<◌, ◌≤◌, ℤ, pos, ◌-ℤ◌, ℕ, sym, ap, ◌∙◌, arith, pow_mono}
+use Rattle.std.proofs.Common.{◌-◌, ◌*◌, ◌^◌, ◌≤◌, pos, ◌-ℤ◌, ℕ, sym, ap, ◌∙◌, arith, pow_mono}
 use Rattle.std.proofs.lemmas.Nat.{one_shl}
 use Rattle.fit_base.proofs.Powers.{pow-halves}
 use Rattle.fit_base.proofs.Signs.{above_half, less_twice}

@@ -1,4 +1,4 @@
-use Rattle.std.proofs.Common.{◌≡◌, ◌<◌, ◌^◌, ◌*◌, length, sym, ap, ◌∙◌}
+use Rattle.std.proofs.Common.{◌<◌, ◌^◌, length}
 use Rattle.fit_base.proofs.Powers.{pow256}
 use Rattle.fit_base.proofs.Numbers.{low_first-written, high_first-written}
 use Rattle.fit_base.proofs.putting.put_number.Goals as goal
