@@ -1,5 +1,6 @@
 -- A file has no more messages than bytes of records, and their lines are numbered one after another.
-use Rattle.std.proofs.Common.{◌≡◌, ℕ, ◌+◌, ◌≤◌, List, [], ◌∷◌, ◌++◌, length, length-append, refl, arith}
+use Rattle.std.proofs.Common.{◌≡◌, ℕ, ◌+◌, ◌≤◌, List, [], ◌∷◌, ◌++◌, length, length-append, arith}
+use Rattle.std.proofs.lemmas.List.Sums.{sum_by-cons}
 use Rattle.std.specs.Prelude.{Option, Some, None, unwrap_or, option_to_list}
 use Rattle.fit_grammar.specs.Item.{Item, Defines, Data, item_size}
 use Rattle.fit_grammar.specs.Records.{data_size}
@@ -20,7 +21,7 @@ few_after before time (item ∷ items) =
     let rest : length later ≤ data_size items = few_after (before ++ item ∷ []) (unwrap_or (time_given before time item) time) items in
     let here : length (option_to_list (message_at before time item)) ≤ 1 = one_at_most (message_at before time item) in
     let some : 1 ≤ item_size item = item_some item in
-    let whole : data_size (item ∷ items) ≡ item_size item + data_size items = refl in
+    let whole : data_size (item ∷ items) ≡ item_size item + data_size items = sum_by-cons item_size item items in
     let joined : length (messages_after before time (item ∷ items)) ≡ length (option_to_list (message_at before time item)) + length later =
         length-append (option_to_list (message_at before time item)) later in
     omega arith

@@ -1,17 +1,14 @@
 // A whole file.
 
-ghost use Rattle.std.specs.Prelude.{◌≡◌, length, IfOk, IfErr};
-ghost use Rattle.fit_grammar.specs.File.{FileOf};
-ghost use Rattle.fit_grammar.specs.Refusal.{IsFaultOf};
+ghost use Rattle.std.specs.Prelude.{◌≡◌, length, IfOk};
 ghost use Rattle.fit_grammar.specs.Message.{messages_of};
 ghost use Rattle.fitrec.specs.Output.{WritesText};
 ghost use Rattle.fitrec.specs.Text.{messages_text, text_of};
 ghost use Rattle.fitrec.specs.Showing.{ShowsBytes};
 
 use crate::show::header::{put_header, put_labelled};
-use crate::show::message::put_message;
 use crate::writing::{WriteFailed, put};
-use fit_grammar::{File, FileFault, FaultKind};
+use fit_grammar::{File, FileFault, decode_file};
 use std::alloc::Global;
 use std::io::Write;
 
@@ -95,12 +92,4 @@ fn put_messages<W: Write>(out: &mut W, file: &File) -> Result<u64, WriteFailed>
     let _ = file.data_size();
     put(out, b"x")?;
     Ok(0)
-}
-
-fn decode_file(alloc: Global, bytes: &[u8]) -> Result<File, FileFault>
-    ensures ok { IfOk result (λ file. FileOf bytes.now file) }
-    ensures fault { IfErr result (λ fault. IsFaultOf bytes.now fault) }
-{
-    let _ = alloc;
-    Err(FileFault { kind: FaultKind::Truncated, place: bytes.len() })
 }
