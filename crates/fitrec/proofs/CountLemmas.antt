@@ -23,7 +23,7 @@ few_after before time (item ∷ items) =
     let some : 1 ≤ item_size item = item_some item in
     let whole : data_size (item ∷ items) ≡ item_size item + data_size items = sum_by-cons item_size item items in
     let joined : length (messages_after before time (item ∷ items)) ≡ length (option_to_list (message_at before time item)) + length later =
-        length-append (option_to_list (message_at before time item)) later in
+    length-append (option_to_list (message_at before time item)) later in
     omega arith
 
 pub few_messages : (items : List Item) → length (messages_of items) ≤ data_size items

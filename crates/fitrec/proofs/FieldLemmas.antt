@@ -138,4 +138,4 @@ unfolding text_of
 file_parts v frame size count is_frame is_size is_count =
     rw (is_frame, is_size, is_count)
     (regrouped (header_text v.frame (data_size v.items)) (messages_text (messages_of v.items)) (codes "messages ")
-        (decimal (length (messages_of v.items))) (codes "\n"))
+    (decimal (length (messages_of v.items))) (codes "\n"))

@@ -23,15 +23,19 @@ appends-join (Some xs) (Some ys) (Some zs) a b h k = k ∙ ap (λ t. t ++ b) h �
 
 begins-more : (o n : Option (List ℕ)) (a b : List ℕ) → AppendsBeginning o n a → AppendsBeginning o n (a ++ b)
 begins-more o n a b h = record {
-  part = h.part; rest = h.rest ++ b;
+  part = h.part;
+  rest = h.rest ++ b;
   split = ap (λ t. t ++ b) h.split ∙ append_assoc h.part h.rest b;
-  appended = h.appended }
+  appended = h.appended;
+}
 
 begins-after : (o m n : Option (List ℕ)) (a b : List ℕ) → Appends o m a → AppendsBeginning m n b → AppendsBeginning o n (a ++ b)
 begins-after o m n a b h k = record {
-  part = a ++ k.part; rest = k.rest;
+  part = a ++ k.part;
+  rest = k.rest;
   split = ap (λ t. a ++ t) k.split ∙ sym (append_assoc a k.part k.rest);
-  appended = appends-join o m n a k.part h k.appended }
+  appended = appends-join o m n a k.part h k.appended;
+}
 
 writes-after : {T E : Type 0} (o m n : Option (List ℕ)) (r : Result T E) (a b : List ℕ) → Appends o m a → WritesText m n r b → WritesText o n r (a ++ b)
 writes-after o m n (Ok x) a b h k = record { all = appends-join o m n a b h k.all; beginning = tt }
@@ -75,7 +79,8 @@ pub leaves_less : {T E : Type 0} {o m n : Option (List ℕ)} {x : T} {text rest 
 leaves_less {o = o} {m = m} {n = n} {part = part} more h k e = record {
   done = h.done ++ part;
   split = h.split ∙ ap (λ t. h.done ++ t) e ∙ sym (append_assoc h.done part more);
-  appended = appends-join o m n h.done part h.appended k.all }
+  appended = appends-join o m n h.done part h.appended k.all;
+}
 
 -- the writer took a part of what is left
 pub leaves_rest : {o m n : Option (List ℕ)} {text rest : List ℕ} (part more : List ℕ) →
@@ -83,7 +88,8 @@ pub leaves_rest : {o m n : Option (List ℕ)} {text rest : List ℕ} (part more 
 leaves_rest {o = o} {m = m} {n = n} part more h k e = record {
   done = h.done ++ part;
   split = h.split ∙ ap (λ t. h.done ++ t) e ∙ sym (append_assoc h.done part more);
-  appended = appends-join o m n h.done part h.appended k }
+  appended = appends-join o m n h.done part h.appended k;
+}
 
 -- nothing is left at last
 pub leaves_none : {T E : Type 0} {o n : Option (List ℕ)} {text : List ℕ} (x : T) → Leaves o n text [] → WritesText {E = E} o n (Ok x) text

@@ -122,7 +122,7 @@ rest_next f xs (suc i) x lt e =
     let next : (suc i + 1 == 0) ≡ false = search rules in
     rw (here, next)
     (at_drop_more (flat_map (λ y. codes "," ++ f y)) xs (suc i) 0 lt
-        ∙ ap (λ y. (codes "," ++ f y) ++ flat_map (λ y. codes "," ++ f y) (drop (suc i + 1) xs)) e)
+    ∙ ap (λ y. (codes "," ++ f y) ++ flat_map (λ y. codes "," ++ f y) (drop (suc i + 1) xs)) e)
 
 pub rest_none : (f : ℕ → List ℕ) (xs : List ℕ) (i : ℕ) → length xs ≤ i → rest_text f xs i ≡ []
 rest_none f xs zero le = at_drop_all (join_by f (codes ",")) xs 0 le

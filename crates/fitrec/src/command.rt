@@ -83,11 +83,7 @@ fn show_file<'a, R: Files + AllocGlobal, O: Write>(
 }
 
 // Shows bytes through one buffer.
-fn show_buffered<O: Write>(
-    alloc: Global,
-    bytes: &[u8],
-    out: &mut O,
-) -> Result<(), Fault<'static>>
+fn show_buffered<O: Write>(alloc: Global, bytes: &[u8], out: &mut O) -> Result<(), Fault<'static>>
     ensures { TellsOf bytes.now result }
 {
     let Ok(mut buffered) = BufWriter::new(alloc, out) else {

@@ -1,9 +1,7 @@
 use super::*;
 use fit_base::Crc;
-use std::env;
-use std::io;
-use std::process;
 use std::test::Fail;
+use std::{env, io, process};
 
 // A file of one message: file_id with a type and a time.
 const ONE_MESSAGE: [u8; 34] = [
@@ -12,7 +10,8 @@ const ONE_MESSAGE: [u8; 34] = [
     0x38, 0x1C,
 ];
 
-const ONE_MESSAGE_TEXT: &str = "header 14 protocol 1.0 profile 100 data 18\n0 file_id type=4 time_created=1000000000\nmessages 1\n";
+const ONE_MESSAGE_TEXT: &str =
+    "header 14 protocol 1.0 profile 100 data 18\n0 file_id type=4 time_created=1000000000\nmessages 1\n";
 
 // A file without messages.
 const NO_MESSAGE: [u8; 16] = [
@@ -101,7 +100,10 @@ fn shows_files(rt: HostRuntime) -> Result<(), Fail> {
     assert_eq!(rt; ran.err.len(), 0);
     let ran = run_on(&rt, "no_message", &NO_MESSAGE)?;
     assert_eq!(rt; ran.status, 0);
-    assert_eq!(rt; ran.out.as_slice(), b"header 14 protocol 1.0 profile 100 data 0\nmessages 0\n".as_slice());
+    assert_eq!(rt;
+        ran.out.as_slice(),
+        b"header 14 protocol 1.0 profile 100 data 0\nmessages 0\n".as_slice()
+    );
     Ok(())
 }
 
@@ -192,7 +194,10 @@ fn refuses_changed_files(rt: HostRuntime) -> Result<(), Fail> {
 fn refuses_each_beginning(rt: HostRuntime) -> Result<(), Fail> {
     for len in 0..ONE_MESSAGE.len() {
         let line = format!(in rt.alloc(); "Truncated at {len}")?;
-        assert!(rt; is_refused(&rt, &ONE_MESSAGE[..len], line.as_str())?, "{line}");
+        assert!(rt;
+            is_refused(&rt, &ONE_MESSAGE[..len], line.as_str())?,
+            "{line}"
+        );
     }
     Ok(())
 }
@@ -209,11 +214,15 @@ fn refuses_headers_and_items(rt: HostRuntime) -> Result<(), Fail> {
             "UndefinedLocal(5) at 12",
         ),
         (
-            &[0x0C, 0x10, 0x64, 0, 1, 0, 0, 0, 0x2E, 0x46, 0x49, 0x54, 0x40],
+            &[
+                0x0C, 0x10, 0x64, 0, 1, 0, 0, 0, 0x2E, 0x46, 0x49, 0x54, 0x40,
+            ],
             "SplitMessage at 12",
         ),
         (
-            &[0x0C, 0x10, 0x64, 0, 9, 0, 0, 0, 0x2E, 0x46, 0x49, 0x54, 0x40],
+            &[
+                0x0C, 0x10, 0x64, 0, 9, 0, 0, 0, 0x2E, 0x46, 0x49, 0x54, 0x40,
+            ],
             "Truncated at 13",
         ),
     ];
@@ -227,7 +236,10 @@ fn refuses_headers_and_items(rt: HostRuntime) -> Result<(), Fail> {
 fn refuses_what_cannot_be_read(rt: HostRuntime) -> Result<(), Fail> {
     let ran = run(&rt, &["show", "/no/such/file"]);
     assert_eq!(rt; ran.status, 1);
-    assert_eq!(rt; ran.err.as_slice(), b"fitrec: cannot open /no/such/file\n".as_slice());
+    assert_eq!(rt;
+        ran.err.as_slice(),
+        b"fitrec: cannot open /no/such/file\n".as_slice()
+    );
     let ran = run(&rt, &["show", ""]);
     assert_eq!(rt; ran.status, 1);
     assert_eq!(rt; ran.err.as_slice(), b"fitrec: cannot open \n".as_slice());
@@ -288,7 +300,11 @@ fn says_where_output_fails(rt: HostRuntime) -> Result<(), Fail> {
         assert_eq!(rt; out.held.as_slice(), &text[..written], "{calls}");
         if written < text.len() {
             assert_eq!(rt; status, 1, "{calls}");
-            assert_eq!(rt; err.as_slice(), b"fitrec: cannot write -\n".as_slice(), "{calls}");
+            assert_eq!(rt;
+                err.as_slice(),
+                b"fitrec: cannot write -\n".as_slice(),
+                "{calls}"
+            );
         } else {
             assert_eq!(rt; status, 0, "{calls}");
         }

@@ -1,12 +1,13 @@
 // A whole file.
 
-ghost use Rattle.std.specs.Prelude.{◌≡◌, length, IfOk};
+ghost use Rattle.std.specs.Prelude.{◌≡◌, ◌<◌, ◌^◌, length, IfOk};
 ghost use Rattle.fit_grammar.specs.Message.{messages_of};
 ghost use Rattle.fitrec.specs.Output.{WritesText};
 ghost use Rattle.fitrec.specs.Text.{messages_text, text_of};
 ghost use Rattle.fitrec.specs.Showing.{ShowsBytes};
 
 use crate::show::header::{put_header, put_labelled};
+use crate::show::message::put_message;
 use crate::writing::{WriteFailed, put};
 use fit_grammar::{File, FileFault, decode_file};
 use std::alloc::Global;
@@ -86,10 +87,14 @@ fn put_file<W: Write>(out: &mut W, file: &File) -> Result<(), WriteFailed>
 
 // The lines of the messages, and how many they are.
 fn put_messages<W: Write>(out: &mut W, file: &File) -> Result<u64, WriteFailed>
+    requires { length (messages_of file.now.items) < 2 ^ 32 }
     ensures text { WritesText (W.contents out.old) (W.contents out.new) result (messages_text (messages_of file.now.items)) }
     ensures count { IfOk result (λ count. count ≡ length (messages_of file.now.items)) }
 {
-    let _ = file.data_size();
-    put(out, b"x")?;
-    Ok(0)
+    let mut number = 0;
+    for message in file.messages() {
+        put_message(out, number, &message)?;
+        number += 1;
+    }
+    Ok(number)
 }

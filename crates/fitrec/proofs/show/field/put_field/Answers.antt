@@ -16,7 +16,7 @@ returns-in_err-put_field_name g c =
     let field : MessageField = record { number = c.args.number; base = c.args.value.now.base; values = values_of c.args.value.now } in
     writes_same
     (then_writes c.in_ok-put.ensures
-        (stops_before c.from_residual-in_err-put_field_name.ensures.0 c.in_err-put_field_name.ensures _))
+    (stops_before c.from_residual-in_err-put_field_name.ensures.0 c.in_err-put_field_name.ensures _))
     (field_parts (field_rows c.args.names.now) field)
 
 pub returns-in_err-put-2 : goal.returns-in_err-put-2
@@ -24,8 +24,8 @@ returns-in_err-put-2 g c =
     let field : MessageField = record { number = c.args.number; base = c.args.value.now.base; values = values_of c.args.value.now } in
     writes_same
     (then_writes c.in_ok-put.ensures
-        (then_writes c.in_ok-put_field_name.ensures
-            (stops_before c.from_residual-in_err-put-2.ensures.0 c.in_err-put-2.ensures _)))
+    (then_writes c.in_ok-put_field_name.ensures
+    (stops_before c.from_residual-in_err-put-2.ensures.0 c.in_err-put-2.ensures _)))
     (field_parts (field_rows c.args.names.now) field)
 
 pub returns : goal.returns
@@ -33,5 +33,5 @@ returns g c =
     let field : MessageField = record { number = c.args.number; base = c.args.value.now.base; values = values_of c.args.value.now } in
     writes_same
     (then_writes c.in_ok-put.ensures
-        (then_writes c.in_ok-put_field_name.ensures (then_writes c.in_ok-put-2.ensures c.put_value.ensures)))
+    (then_writes c.in_ok-put_field_name.ensures (then_writes c.in_ok-put-2.ensures c.put_value.ensures)))
     (field_parts (field_rows c.args.names.now) field)

@@ -9,7 +9,7 @@ pub returns-then-is_signed : goal.returns-then-is_signed
 returns-then-is_signed g c =
     writes_same c.put_signed.ensures
     (ap signed_decimal (to_z-of_z w64 _ (search rules) ∙ c.signed.ensures)
-        ∙ whole_signed_at c.args.base c.args.field.now c.args.i c.requires.known (sym c.if-is_signed.ensures))
+    ∙ whole_signed_at c.args.base c.args.field.now c.args.i c.requires.known (sym c.if-is_signed.ensures))
 
 pub returns-else-is_signed : goal.returns-else-is_signed
 returns-else-is_signed g c =
