@@ -1,4 +1,4 @@
-use Rattle.std.proofs.Common.{refl, arith}
+use Rattle.std.proofs.Common.{arith}
 use Rattle.fitrec.specs.Text.{hex_byte}
 use Rattle.fitrec.proofs.OutputLemmas.{leaves_all, each_next, each_off, each_done}
 use Rattle.fitrec.proofs.show.bytes.put_digits.Goals as goal

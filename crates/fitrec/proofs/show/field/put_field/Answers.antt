@@ -1,4 +1,3 @@
-use Rattle.std.proofs.Common.{List, ℕ}
 use Rattle.fit_base.specs.Value.{values_of}
 use Rattle.fit_grammar.specs.Message.{MessageField}
 use Rattle.fitrec.specs.Profile.{field_rows}

@@ -1,7 +1,5 @@
-use Rattle.std.proofs.Common.{◌≡◌, ◌==◌, true, false, rules, refl, sym, ap, ◌∙◌, ◌++◌, cond, [], codes}
-use Rattle.fitrec.specs.Text.{number_text}
-use Rattle.fit_base.specs.Value.{unsigned_at}
-use Rattle.fitrec.proofs.OutputLemmas.{then_writes, stops_before, writes_same}
+use Rattle.std.proofs.Common.{◌≡◌, ◌==◌, true, false, rules}
+use Rattle.fitrec.proofs.OutputLemmas.{then_writes, stops_before}
 use Rattle.fitrec.proofs.show.number.put_next.Goals as goal
 
 pub returns-then-i-eq0 : goal.returns-then-i-eq0
