@@ -1,0 +1,5 @@
+pub mod OutputLemmas
+pub mod TextLemmas
+pub mod FieldLemmas
+pub mod ReadingLemmas
+pub mod CountLemmas

@@ -1,0 +1,4 @@
+pub mod Output
+pub mod Profile
+pub mod Text
+pub mod Showing

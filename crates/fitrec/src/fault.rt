@@ -1,0 +1,27 @@
+// Why the program ends without having done what it was asked for.
+
+use fit_grammar::FileFault;
+use thiserror::Error;
+
+/// A fault of the program. Its text is what stands behind `fitrec: ` on standard error.
+#[derive(Debug, Drop, Error)]
+pub enum Fault<'a> {
+    /// A file of this name can't be opened.
+    #[error("cannot open {0}")]
+    Open(&'a str),
+    /// A file of this name can't be read.
+    #[error("cannot read {0}")]
+    Read(&'a str),
+    /// A file of this name can't be written, or standard output, which is `-`.
+    #[error("cannot write {0}")]
+    Write(&'a str),
+    /// A file has more bytes than are read.
+    #[error("TooLarge")]
+    TooLarge,
+    /// Memory was refused.
+    #[error("NoMemory")]
+    NoMemory,
+    /// The bytes are no FIT file that is read here.
+    #[error("{:?} at {}", .0.kind, .0.place)]
+    File(FileFault),
+}

@@ -1,0 +1,13 @@
+// What a file says, as text.
+
+mod bytes;
+mod field;
+mod file;
+mod header;
+mod message;
+mod number;
+
+pub use file::{ShowBytesFault, show_bytes};
+
+#[cfg(test)]
+mod tests;

@@ -1,0 +1,76 @@
+// A field of a message: its name and what it holds.
+
+ghost use Rattle.fit_base.specs.Base.{base_type};
+ghost use Rattle.std.specs.Prelude.{◌≡◌, ◌≢◌};
+ghost use Rattle.fit_base.specs.Value.{count_of, values_of};
+ghost use Rattle.fitrec.specs.Output.{WritesText};
+ghost use Rattle.fitrec.specs.Profile.{field_rows};
+ghost use Rattle.fitrec.specs.Text.{values_text, field_text, field_name};
+
+use crate::profile::{self, FieldName};
+use crate::show::bytes::{put_byte_field, put_hex, put_string};
+use crate::show::number::put_numbers;
+use crate::writing::{WriteFailed, put, put_number};
+use fit_base::{BaseType, FieldValue};
+use std::io::Write;
+
+/// A space, the name of the field and what it holds, as ` heart_rate=100`. Its name is one of these or
+/// one that every message has, else `field_` and its number.
+pub fn put_field<W: Write>(
+    out: &mut W,
+    names: &[FieldName],
+    number: u8,
+    value: &FieldValue<'_>,
+) -> Result<(), WriteFailed>
+    ensures { WritesText (W.contents out.old) (W.contents out.new) result
+        (field_text (field_rows names.now) (record { number = number; base = value.now.base; values = values_of value.now })) }
+{
+    put(out, b" ")?;
+    put_field_name(out, names, number)?;
+    put(out, b"=")?;
+    put_value(out, value)
+}
+
+fn put_field_name<W: Write>(out: &mut W, names: &[FieldName], number: u8) -> Result<(), WriteFailed>
+    ensures { WritesText (W.contents out.old) (W.contents out.new) result (field_name (field_rows names.now) number) }
+{
+    match profile::field_name(names, number) {
+        Some(name) => put(out, name.as_bytes()),
+        None => {
+            put(out, b"field_")?;
+            put_number(out, u64::from(number))
+        }
+    }
+}
+
+/// What a field holds.
+fn put_value<W: Write>(out: &mut W, value: &FieldValue<'_>) -> Result<(), WriteFailed>
+    ensures { WritesText (W.contents out.old) (W.contents out.new) result
+        (values_text (base_type value.now.base) (values_of value.now)) }
+{
+    if value.count() == 0 {
+        return put_hex(out, value.raw());
+    }
+    match BaseType::of(value.base()) {
+        Some(base) => put_some(out, base, value),
+        None => unreachable!(),
+    }
+}
+
+// One value or more of this type.
+fn put_some<W: Write>(
+    out: &mut W,
+    base: BaseType,
+    value: &FieldValue<'_>,
+) -> Result<(), WriteFailed>
+    requires known { base_type value.now.base ≡ Some base }
+    requires some { count_of value.now ≢ 0 }
+    ensures { WritesText (W.contents out.old) (W.contents out.new) result
+        (values_text (base_type value.now.base) (values_of value.now)) }
+{
+    match base {
+        BaseType::String => put_string(out, value.raw()),
+        BaseType::Byte => put_byte_field(out, value.raw()),
+        _ => put_numbers(out, base, value),
+    }
+}

@@ -1,0 +1,100 @@
+// A whole file.
+
+ghost use Rattle.std.specs.Prelude.{◌≡◌, ◌<◌, ◌^◌, length, IfOk};
+ghost use Rattle.fit_grammar.specs.Message.{messages_of};
+ghost use Rattle.fitrec.specs.Output.{WritesText};
+ghost use Rattle.fitrec.specs.Text.{messages_text, text_of};
+ghost use Rattle.fitrec.specs.Showing.{ShowsBytes};
+
+use crate::show::header::{put_header, put_labelled};
+use crate::show::message::put_message;
+use crate::writing::{WriteFailed, put};
+use fit_grammar::{File, FileFault, decode_file};
+use std::alloc::Global;
+use std::io::Write;
+
+/// Why a file was not shown.
+#[derive(Clone, Copy, Debug, PartialEq, Eq)]
+pub enum ShowFault {
+    /// The writer failed, or took no byte.
+    Write,
+}
+
+impl ShowFault {
+    /// The number of the fault.
+    pub fn code(&self) -> u8
+        ensures { result ≡ 1 }
+    {
+        1
+    }
+}
+
+/// Why bytes were not shown.
+#[derive(Clone, Copy, Debug, PartialEq, Eq)]
+pub enum ShowBytesFault {
+    /// The writer failed, or took no byte.
+    Write,
+    /// The bytes are no file.
+    File(FileFault),
+}
+
+impl ShowBytesFault {
+    ghost use Rattle.fitrec.specs.Showing.{code_of};
+
+    /// The number of the fault.
+    pub fn code(&self) -> u8
+        ensures { result ≡ code_of self.now }
+    {
+        match self {
+            ShowBytesFault::Write => 1,
+            ShowBytesFault::File(_) => 2,
+        }
+    }
+}
+
+/// Writes the text of a file, in one pass and with no allocation.
+pub fn show<W: Write>(file: &File, out: &mut W) -> Result<(), ShowFault>
+    ensures { WritesText (W.contents out.old) (W.contents out.new) result (text_of file.now) }
+{
+    match put_file(out, file) {
+        Ok(()) => Ok(()),
+        Err(WriteFailed) => Err(ShowFault::Write),
+    }
+}
+
+/// Writes the text of the file that these bytes are. They are read whole before anything is written.
+pub fn show_bytes<W: Write>(alloc: Global, bytes: &[u8], out: &mut W) -> Result<(), ShowBytesFault>
+    ensures { ShowsBytes (W.contents out.old) (W.contents out.new) bytes.now result }
+{
+    let file = match decode_file(alloc, bytes) {
+        Ok(file) => file,
+        Err(fault) => return Err(ShowBytesFault::File(fault)),
+    };
+    match show(&file, out) {
+        Ok(()) => Ok(()),
+        Err(ShowFault::Write) => Err(ShowBytesFault::Write),
+    }
+}
+
+fn put_file<W: Write>(out: &mut W, file: &File) -> Result<(), WriteFailed>
+    ensures { WritesText (W.contents out.old) (W.contents out.new) result (text_of file.now) }
+{
+    put_header(out, file.frame(), file.data_size())?;
+    let count = put_messages(out, file)?;
+    put_labelled(out, b"messages ", count)?;
+    put(out, b"\n")
+}
+
+// The lines of the messages, and how many they are.
+fn put_messages<W: Write>(out: &mut W, file: &File) -> Result<u64, WriteFailed>
+    requires { length (messages_of file.now.items) < 2 ^ 32 }
+    ensures text { WritesText (W.contents out.old) (W.contents out.new) result (messages_text (messages_of file.now.items)) }
+    ensures count { IfOk result (λ count. count ≡ length (messages_of file.now.items)) }
+{
+    let mut number = 0;
+    for message in file.messages() {
+        put_message(out, number, &message)?;
+        number += 1;
+    }
+    Ok(number)
+}

@@ -1,0 +1,98 @@
+use super::field::put_field;
+use crate::profile::{field_name, fields_of, message_name};
+use fit_base::{Arch, FieldValue};
+use std::test::Fail;
+
+// The text of field 99 of a message 20.
+fn text_of(rt: &HostRuntime, base: u8, arch: Arch, bytes: &[u8]) -> Result<Vec<u8>, Fail> {
+    let mut out = Vec::new(rt.alloc());
+    let value = FieldValue::new(base, arch, bytes);
+    put_field(&mut out, fields_of(20), 99, &value)?;
+    Ok(out)
+}
+
+#[test]
+fn shows_values(rt: HostRuntime) -> Result<(), Fail> {
+    let cases: [(u8, &[u8], &str); 34] = [
+        (0x00, &[4], "4"),
+        (0x00, &[0xFF], "-"),
+        (0x00, &[], ""),
+        (0x01, &[0xFF, 0x80, 0x7F], "-1,-128,-"),
+        (0x02, &[0x64, 0xFF, 0], "100,-,0"),
+        (0x83, &[0xFE, 0xFF], "-2"),
+        (0x83, &[0xFF, 0x7F], "-"),
+        (0x84, &[1, 0, 0xFF, 0xFF, 3, 0], "1,-,3"),
+        (0x84, &[1, 2, 3], "0x010203"),
+        (0x85, &[0, 0, 0, 0x80], "-2147483648"),
+        (0x85, &[0xFF, 0xFF, 0xFF, 0x7F], "-"),
+        (0x86, &[0, 0xCA, 0x9A, 0x3B], "1000000000"),
+        (0x86, &[0xFF, 0xFF, 0xFF, 0xFF], "-"),
+        (0x07, &[0x46, 0x49, 0x54, 0, 0x41], "\"FIT\""),
+        (0x07, &[0x46, 0x49], "\"FI\""),
+        (0x07, &[0], "\"\""),
+        (0x07, &[], ""),
+        (
+            0x07,
+            &[0x22, 0x5C, 0x0A, 0x20, 0x7E, 0x7F, 0xE2],
+            "\"\\x22\\x5C\\x0A ~\\x7F\\xE2\"",
+        ),
+        (0x88, &[0, 0, 0x80, 0x3F], "0x3F800000"),
+        (0x88, &[0xFF, 0xFF, 0xFF, 0xFF, 1, 0, 0, 0], "-,0x00000001"),
+        (0x89, &[0, 0, 0, 0, 0, 0, 0xF0, 0x3F], "0x3FF0000000000000"),
+        (0x89, &[0xFF; 8], "-"),
+        (0x0A, &[0, 0xFF], "-,255"),
+        (0x8B, &[0, 0, 1, 0], "-,1"),
+        (0x8C, &[7, 0, 0, 0], "7"),
+        (0x8C, &[0, 0, 0, 0], "-"),
+        (0x0D, &[0, 0xFF], "0x00FF"),
+        (0x0D, &[0xFF, 0xFF], "-"),
+        (0x0D, &[], ""),
+        (0x0F, &[1, 2, 0xAB], "0x0102AB"),
+        (0x0F, &[0xFF], "0xFF"),
+        (0x0F, &[], ""),
+        (0x8E, &[1, 0, 0, 0, 0, 0, 0, 0], "0x0100000000000000"),
+        (0x06, &[1, 0], "0x0100"),
+    ];
+    for (base, bytes, text) in cases {
+        let out = text_of(&rt, base, Arch::Little, bytes)?;
+        let whole = format!(in rt.alloc(); " field_99={text}")?;
+        assert_eq!(rt; out.as_slice(), whole.as_bytes(), "{base} {bytes:?}");
+    }
+    let out = text_of(&rt, 0x86, Arch::Big, &[0, 0, 1, 2])?;
+    assert_eq!(rt; out.as_slice(), b" field_99=258".as_slice());
+    Ok(())
+}
+
+#[test]
+fn names_messages_and_fields(rt: HostRuntime) {
+    let messages = [
+        (0, "file_id"),
+        (12, "sport"),
+        (18, "session"),
+        (19, "lap"),
+        (20, "record"),
+        (21, "event"),
+        (34, "activity"),
+    ];
+    for (number, name) in messages {
+        assert_eq!(rt; message_name(number), Some(name));
+    }
+    assert_eq!(rt; message_name(1), None);
+    let fields = [
+        (0, 3, "serial_number"),
+        (12, 1, "sub_sport"),
+        (18, 253, "timestamp"),
+        (18, 26, "num_laps"),
+        (19, 24, "lap_trigger"),
+        (20, 3, "heart_rate"),
+        (20, 73, "enhanced_speed"),
+        (20, 78, "enhanced_altitude"),
+        (21, 1, "event_type"),
+        (34, 1, "num_sessions"),
+        (1000, 254, "message_index"),
+    ];
+    for (message, field, name) in fields {
+        assert_eq!(rt; field_name(fields_of(message), field), Some(name));
+    }
+    assert_eq!(rt; field_name(fields_of(20), 99), None);
+}
