@@ -3,6 +3,7 @@
 
 mod data;
 mod definition;
+mod encode;
 mod fault;
 mod fields;
 mod file;
@@ -12,6 +13,7 @@ mod item;
 pub mod laws;
 mod message;
 mod messages;
+mod output;
 mod spelled;
 mod table;
 mod time;
@@ -19,13 +21,15 @@ mod writing;
 
 pub use data::DataMessage;
 pub use definition::{Definition, FieldDefinition};
-pub use fault::{FaultKind, FileFault, PutFault};
+pub use encode::encode_file;
+pub use fault::{EncodeFault, FaultKind, FileFault, PutFault};
 pub use fields::{Field, Fields};
 pub use file::File;
 pub use frame::Frame;
 pub use item::{Item, ItemFault, Step, least_length, next_item};
 pub use message::{Message, message_of};
 pub use messages::Messages;
+pub use output::{WriteFailed, put};
 pub use spelled::DefinitionMessage;
 pub use table::Table;
 pub use writing::{write_data, write_definition};
