@@ -1,12 +1,12 @@
 -- The encoded file is a file.
-use Rattle.std.proofs.Common.{◌≡◌, ℕ, List, [], ◌∷◌, ◌++◌, length, refl, sym, subst, arith, inl, inr}
+use Rattle.std.proofs.Common.{◌≡◌, ℕ, ◌/◌, ◌%◌, ◌<◌, List, [], ◌∷◌, ◌++◌, length, refl, sym, ap, subst, ◌∙◌, arith, inl, inr}
 use Rattle.std.specs.Prelude.{flat_map}
 use Rattle.std.proofs.lemmas.List.{length-append}
 use Rattle.std.proofs.lemmas.List.Sums.{sum_by-cons}
 use Rattle.fit_base.specs.declared.order.Arch.{Arch}
 use Rattle.fit_base.specs.declared.order.Arch.TheVariants.{Little, Big}
 use Rattle.fit_base.specs.Number.{low_first}
-use Rattle.fit_base.specs.Checksum.{crc}
+use Rattle.fit_base.specs.Checksum.{crc, crc_from}
 use Rattle.fit_grammar.specs.declared.frame.Frame.{Frame}
 use Rattle.fit_grammar.specs.Item.{Item, Defines, Data, item_size, field_bytes}
 use Rattle.fit_grammar.specs.Records.{RecordsAfter, data_size}
@@ -80,6 +80,30 @@ encoded_header_12 frame size short = rw short refl
 
 pub encoded_header_14 : (frame : Frame) (size : ℕ) → frame.header_size ≡ 14 → encoded_header frame size ≡ with_checksum (header_front frame size)
 encoded_header_14 frame size long = rw long refl
+
+-- a header and its checksum, as they are written one after the other
+pub header_joined : (frame : Frame) (size : ℕ) (front own : List ℕ) → frame.header_size ≡ 14 → front ≡ header_front frame size → own ≡ two_bytes Little (crc front)
+    → front ++ own ≡ encoded_header frame size
+header_joined frame size front own long e f =
+    ap (λ (l : List ℕ). front ++ l) f ∙ ap with_checksum e ∙ sym (encoded_header_14 frame size long)
+
+two_whole : (n : ℕ) → n < 65536 → n % 256 ∷ n / 256 % 256 ∷ [] ≡ two_bytes Little n
+two_whole n small = let e : n / 256 % 256 ≡ n / 256 = omega arith in rw e refl
+
+-- the two bytes of a register that went over some bytes are their checksum
+pub checksum_bytes : (before closing : List ℕ) (value register start : ℕ) → closing ≡ value % 256 ∷ value / 256 % 256 ∷ [] → value < 65536 → value ≡ register
+    → register ≡ crc_from start before → start ≡ 0 → closing ≡ two_bytes Little (crc before)
+checksum_bytes before closing value register start e small read over none =
+    e ∙ two_whole value small ∙ ap (λ (n : ℕ). two_bytes Little n) (read ∙ over ∙ ap (λ (n : ℕ). crc_from n before) none)
+
+-- the parts of a file, as they are written one after the other
+pub file_joined : (v : FileValue) (frame : Frame) (size : ℕ) (items : List Item) (closing : List ℕ) → frame ≡ v.frame → size ≡ data_size v.items → items ≡ v.items
+    → closing ≡ two_bytes Little (crc (encoded_header frame size ++ encoded_items items)) → (encoded_header frame size ++ encoded_items items) ++ closing ≡ encoded v
+file_joined v frame size items closing f s i e =
+    ap (λ (l : List ℕ). (encoded_header frame size ++ encoded_items items) ++ l) e
+    ∙ ap (λ (fr : Frame). with_checksum (encoded_header fr size ++ encoded_items items)) f
+    ∙ ap (λ (n : ℕ). with_checksum (encoded_header v.frame n ++ encoded_items items)) s
+    ∙ ap (λ (is : List Item). with_checksum (encoded_header v.frame (data_size v.items) ++ encoded_items is)) i
 
 pub encoded_is_header : (frame : Frame) (size : ℕ) → IsFrame frame → IsHeader (encoded_header frame size) frame size
 encoded_is_header frame size is_frame =

@@ -68,3 +68,7 @@ in_force_small before (item ∷ items) l d a e =
 pub data_has_encoding : (local : ℕ) (offset : Option ℕ) (content : List ℕ) → local < 16 → IsOffset local offset → HasEncoding (Data local offset content)
 data_has_encoding local None content small can = small
 data_has_encoding local (Some offset) content small can = can
+
+pub all_have_encoding : (before items : List Item) → AllCanFollow before items → AllByRecursion HasEncoding items
+all_have_encoding before [] a = tt
+all_have_encoding before (item ∷ items) a = (a.0.encodable, all_have_encoding (before ++ item ∷ []) items a.1)

@@ -25,3 +25,5 @@ pub mod Following
 pub mod OneValue
 pub mod Encoded
 pub mod Under
+pub mod OutputLemmas
+pub mod Checked

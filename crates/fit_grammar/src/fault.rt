@@ -53,6 +53,13 @@ pub enum PutFault {
     Memory,
 }
 
+/// Why a file is not written.
+#[derive(Clone, Copy, Debug, PartialEq, Eq)]
+pub enum EncodeFault {
+    /// The writer failed.
+    Write,
+}
+
 impl From<AllocError> for PutFault {
     ghost from_gives = { λ _ e. e ≡ put.Memory };
 

@@ -39,8 +39,8 @@ pub(crate) struct StoredData {
 #[derive(Drop)]
 pub struct File {
     frame: Frame,
-    items: Vec<Stored>,
-    contents: Vec<u8>,
+    pub(crate) items: Vec<Stored>,
+    pub(crate) contents: Vec<u8>,
     table: Table,
     size: u32,
 }
@@ -77,14 +77,15 @@ impl File {
     pub fn frame(&self) -> Frame
         ensures frame { result ≡ self.now.frame }
         ensures valid { IsFrame result }
+        // What every file is.
+        ensures possible { CanBeFile self.now }
     {
         self.frame
     }
 
     /// The number of bytes of the records.
     pub fn data_size(&self) -> u32
-        ensures size { result ≡ data_size self.now.items }
-        ensures valid { CanBeFile self.now }
+        ensures { result ≡ data_size self.now.items }
     {
         self.size
     }
