@@ -15,6 +15,7 @@ pub mod Latest
 pub mod Left
 pub mod Refusal
 pub mod Output
+pub mod Code
 pub use Rattle.fit_base.specs.Number
 pub use Rattle.fit_base.specs.Checksum
 pub use Rattle.fit_base.specs.Base

@@ -16,6 +16,8 @@ mod messages;
 mod output;
 mod spelled;
 mod table;
+#[cfg(test)]
+mod tests;
 mod time;
 mod writing;
 
