@@ -16,6 +16,7 @@ pub mod Left
 pub mod Refusal
 pub mod Decoding
 pub mod Output
+pub mod Code
 pub use Rattle.fit_base.specs.Number
 pub use Rattle.fit_base.specs.Checksum
 pub use Rattle.fit_base.specs.Base

@@ -31,12 +31,46 @@ pub enum FaultKind {
     Developer,
 }
 
+impl FaultKind {
+    ghost use Rattle.fit_grammar.specs.Code.{kind_code};
+
+    /// The number of the kind, 1 to 11.
+    pub fn code(&self) -> u8
+        ensures { result ≡ kind_code self.now }
+    {
+        match self {
+            FaultKind::Truncated => 1,
+            FaultKind::HeaderSize => 2,
+            FaultKind::Magic => 3,
+            FaultKind::Protocol => 4,
+            FaultKind::HeaderCrc => 5,
+            FaultKind::UndefinedLocal(_) => 6,
+            FaultKind::SplitMessage => 7,
+            FaultKind::FileCrc => 8,
+            FaultKind::TrailingBytes => 9,
+            FaultKind::Memory => 10,
+            FaultKind::Developer => 11,
+        }
+    }
+}
+
 /// Why bytes are not read as a file: the first check that fails, in the order of the bytes, and its place,
 /// an offset in bytes from the front of the file.
 #[derive(Clone, Copy, Debug, PartialEq, Eq)]
 pub struct FileFault {
     pub kind: FaultKind,
     pub place: usize,
+}
+
+impl FileFault {
+    ghost use Rattle.fit_grammar.specs.Code.{kind_code};
+
+    /// The number of the fault's kind.
+    pub fn code(&self) -> u8
+        ensures { result ≡ kind_code self.now.kind }
+    {
+        self.kind.code()
+    }
 }
 
 /// Why an item is not added to a file.
@@ -53,11 +87,40 @@ pub enum PutFault {
     Memory,
 }
 
+impl PutFault {
+    ghost use Rattle.fit_grammar.specs.Code.{put_code};
+
+    /// The number of the fault, 1 to 4: the first that holds is answered.
+    pub fn code(&self) -> u8
+        ensures { result ≡ put_code self.now }
+    {
+        match self {
+            PutFault::UndefinedLocal => 1,
+            PutFault::Length => 2,
+            PutFault::TooLong => 3,
+            PutFault::Memory => 4,
+        }
+    }
+}
+
 /// Why a file is not written.
 #[derive(Clone, Copy, Debug, PartialEq, Eq)]
 pub enum EncodeFault {
     /// The writer failed.
     Write,
+}
+
+impl EncodeFault {
+    ghost use Rattle.fit_grammar.specs.Code.{encode_code};
+
+    /// The number of the fault, 1.
+    pub fn code(&self) -> u8
+        ensures { result ≡ encode_code self.now }
+    {
+        match self {
+            EncodeFault::Write => 1,
+        }
+    }
 }
 
 impl From<AllocError> for PutFault {

@@ -29,6 +29,20 @@ pub enum ItemFault {
     Developer,
 }
 
+impl ItemFault {
+    ghost use Rattle.fit_grammar.specs.Code.{item_code};
+
+    /// The number of the fault, 1 or 2.
+    pub fn code(&self) -> u8
+        ensures { result ≡ item_code self.now }
+    {
+        match self {
+            ItemFault::UndefinedLocal(_) => 1,
+            ItemFault::Developer => 2,
+        }
+    }
+}
+
 /// What the front of a window shows.
 #[derive(Drop)]
 pub enum Step<'a> {

@@ -17,6 +17,8 @@ mod messages;
 mod output;
 mod spelled;
 mod table;
+#[cfg(test)]
+mod tests;
 mod time;
 mod writing;
 

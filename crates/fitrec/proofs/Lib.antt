@@ -1,4 +1,3 @@
-pub mod OutputLemmas
 pub mod TextLemmas
 pub mod FieldLemmas
 pub mod ReadingLemmas

@@ -1,4 +1,3 @@
-pub mod Output
 pub mod Profile
 pub mod Text
 pub mod Showing

@@ -7,7 +7,7 @@ use Rattle.fitrec.specs.declared.show.file.ShowBytesFault.{ShowBytesFault}
 use Rattle.fitrec.specs.declared.show.file.ShowBytesFault.TheVariants.{Write, File}
 use Rattle.fitrec.specs.declared.fault.Fault.{Fault}
 use Rattle.fitrec.specs.declared.fault.Fault.TheVariants as faults
-use Rattle.fitrec.specs.Output.{AppendsBeginning}
+use Rattle.fit_grammar.specs.Output.{AppendsBeginning}
 use Rattle.fitrec.specs.Text.{text_of}
 
 -- the bytes are a file, and all of its text was written, or a beginning of it where the writer failed; or they

@@ -3,10 +3,10 @@
 ghost use Rattle.std.specs.Prelude.{◌≡◌, ◌<◌, ◌==◌, true, position};
 ghost use Rattle.std.specs.Fmt.{digit_glyph};
 ghost use Rattle.std.specs.List.{before_first, flat_map, list_all};
-ghost use Rattle.fitrec.specs.Output.{WritesText};
+ghost use Rattle.fit_grammar.specs.Output.{WritesText};
 ghost use Rattle.fitrec.specs.Text.{hex_byte, hex_text, is_plain, escaped, string_text, byte_text};
 
-use crate::writing::{WriteFailed, put};
+use fit_grammar::{WriteFailed, put};
 use std::io::Write;
 
 /// `0x` and two digits a byte; of no byte nothing.

@@ -3,15 +3,16 @@
 ghost use Rattle.fit_base.specs.Base.{base_type};
 ghost use Rattle.std.specs.Prelude.{◌≡◌, ◌≢◌};
 ghost use Rattle.fit_base.specs.Value.{count_of, values_of};
-ghost use Rattle.fitrec.specs.Output.{WritesText};
+ghost use Rattle.fit_grammar.specs.Output.{WritesText};
 ghost use Rattle.fitrec.specs.Profile.{field_rows};
 ghost use Rattle.fitrec.specs.Text.{values_text, field_text, field_name};
 
 use crate::profile::{self, FieldName};
 use crate::show::bytes::{put_byte_field, put_hex, put_string};
 use crate::show::number::put_numbers;
-use crate::writing::{WriteFailed, put, put_number};
+use crate::writing::put_number;
 use fit_base::{BaseType, FieldValue};
+use fit_grammar::{WriteFailed, put};
 use std::io::Write;
 
 /// A space, the name of the field and what it holds, as ` heart_rate=100`. Its name is one of these or

@@ -2,14 +2,13 @@
 
 ghost use Rattle.std.specs.Prelude.{◌≡◌, ◌<◌, ◌^◌, length, IfOk};
 ghost use Rattle.fit_grammar.specs.Message.{messages_of};
-ghost use Rattle.fitrec.specs.Output.{WritesText};
+ghost use Rattle.fit_grammar.specs.Output.{WritesText};
 ghost use Rattle.fitrec.specs.Text.{messages_text, text_of};
 ghost use Rattle.fitrec.specs.Showing.{ShowsBytes};
 
 use crate::show::header::{put_header, put_labelled};
 use crate::show::message::put_message;
-use crate::writing::{WriteFailed, put};
-use fit_grammar::{File, FileFault, decode_file};
+use fit_grammar::{File, FileFault, WriteFailed, decode_file, put};
 use std::alloc::Global;
 use std::io::Write;
 

@@ -1,11 +1,11 @@
 // The first line: what the header of a file says.
 
 ghost use Rattle.std.specs.Prelude.{◌++◌, decimal};
-ghost use Rattle.fitrec.specs.Output.{WritesText};
+ghost use Rattle.fit_grammar.specs.Output.{WritesText};
 ghost use Rattle.fitrec.specs.Text.{header_text};
 
-use crate::writing::{WriteFailed, put, put_number};
-use fit_grammar::Frame;
+use crate::writing::put_number;
+use fit_grammar::{Frame, WriteFailed, put};
 use std::io::Write;
 
 /// The line of a header over this many bytes of records.

@@ -1,15 +1,15 @@
 // The line of a message.
 
 ghost use Rattle.std.specs.Prelude.{◌++◌, decimal, codes};
-ghost use Rattle.fitrec.specs.Output.{WritesText};
+ghost use Rattle.fit_grammar.specs.Output.{WritesText};
 ghost use Rattle.std.specs.List.{flat_map};
 ghost use Rattle.fitrec.specs.Profile.{field_rows};
 ghost use Rattle.fitrec.specs.Text.{field_text, message_name, message_text};
 
 use crate::profile::{self, FieldName};
 use crate::show::field::put_field;
-use crate::writing::{WriteFailed, put, put_number};
-use fit_grammar::{Fields, Message};
+use crate::writing::put_number;
+use fit_grammar::{Fields, Message, WriteFailed, put};
 use std::io::Write;
 
 /// The line of a message: its number, its name and its fields.

@@ -3,12 +3,13 @@
 ghost use Rattle.std.specs.Prelude.{◌≡◌, ◌<◌, ◌==◌, ◌++◌, if◌then◌else◌, [], codes};
 ghost use Rattle.fit_base.specs.Base.{base_type};
 ghost use Rattle.fit_base.specs.Value.{count_of, value_size, unsigned_at, numbers};
-ghost use Rattle.fitrec.specs.Output.{WritesText};
+ghost use Rattle.fit_grammar.specs.Output.{WritesText};
 ghost use Rattle.fitrec.specs.Text.{IsNumber, whole_text, plain_text, number_text, numbers_text};
 
 use crate::show::bytes::put_hex;
-use crate::writing::{WriteFailed, put, put_number, put_signed};
+use crate::writing::{put_number, put_signed};
 use fit_base::{BaseType, FieldValue};
+use fit_grammar::{WriteFailed, put};
 use std::io::Write;
 
 /// The numbers of a field of this type, with commas between them.

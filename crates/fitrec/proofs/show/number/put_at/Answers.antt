@@ -1,4 +1,4 @@
-use Rattle.fitrec.proofs.OutputLemmas.{writes_same}
+use Rattle.fit_grammar.proofs.OutputLemmas.{writes_same}
 use Rattle.fitrec.proofs.TextLemmas.{number_invalid, number_valid}
 use Rattle.fitrec.proofs.show.number.put_at.Goals as goal
 

@@ -1,6 +1,6 @@
 use Rattle.fitrec.specs.Text.{plain_text}
 use Rattle.std.proofs.Common.{ap, ◌∙◌}
-use Rattle.fitrec.proofs.OutputLemmas.{writes_same}
+use Rattle.fit_grammar.proofs.OutputLemmas.{writes_same}
 use Rattle.fitrec.proofs.TextLemmas.{plain_float32, plain_float64, plain_whole}
 use Rattle.fitrec.proofs.show.number.put_plain.Goals as goal
 

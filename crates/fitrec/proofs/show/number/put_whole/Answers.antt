@@ -1,7 +1,7 @@
 use Rattle.std.proofs.Common.{sym, ap, ◌∙◌, decimal, w64, rules}
 use Rattle.std.specs.Fmt.{signed_decimal}
 use Rattle.std.proofs.lemmas.Int.{to_z-of_z}
-use Rattle.fitrec.proofs.OutputLemmas.{writes_same}
+use Rattle.fit_grammar.proofs.OutputLemmas.{writes_same}
 use Rattle.fitrec.proofs.TextLemmas.{whole_signed_at, whole_unsigned}
 use Rattle.fitrec.proofs.show.number.put_whole.Goals as goal
 

@@ -1,0 +1,3 @@
+// Values from outside, and failures of memory and of writers.
+
+mod files;

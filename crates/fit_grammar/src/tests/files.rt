@@ -1,0 +1,203 @@
+// Files that are built in memory and written.
+
+ghost use Rattle.std.specs.Prelude.{◌≡◌, ◌≤◌};
+
+use crate::{
+    Definition, EncodeFault, FaultKind, FieldDefinition, File, Frame, PutFault, encode_file,
+};
+use arrayvec::ArrayVec;
+use fit_base::Arch;
+use std::alloc::Global;
+use std::io::{self, Write};
+use std::process::Abort;
+use std::test::Fail;
+
+// One file_id message of type activity, created at 1,000,000,000.
+const SMALL: [u8; 34] = [
+    0x0E, 0x10, 0x64, 0x00, 0x12, 0x00, 0x00, 0x00, 0x2E, 0x46, 0x49, 0x54, 0xA1, 0x3B, 0x40, 0x00,
+    0x00, 0x00, 0x00, 0x02, 0x00, 0x01, 0x00, 0x04, 0x04, 0x86, 0x00, 0x04, 0x00, 0xCA, 0x9A, 0x3B,
+    0x38, 0x1C,
+];
+
+const CONTENT: [u8; 5] = [0x04, 0x00, 0xCA, 0x9A, 0x3B];
+
+// A writer over memory that takes at most so many bytes a call, and fails behind so many calls.
+#[derive(Drop)]
+struct Page {
+    bytes: [u8; 128],
+    len: usize,
+    step: usize,
+    calls: usize,
+    ghost within: { len ≤ 128 },
+}
+
+impl Page {
+    fn new(step: usize, calls: usize) -> Page {
+        Page {
+            bytes: [0; 128],
+            len: 0,
+            step,
+            calls,
+        }
+    }
+
+    fn written(&self) -> &[u8] {
+        &self.bytes[..self.len]
+    }
+}
+
+impl Write for Page {
+    fn write(&mut self, buf: &[u8]) -> io::Result<usize> {
+        if self.calls == 0 {
+            return Err(io::Error::from(io::ErrorKind::BrokenPipe));
+        }
+        self.calls -= 1;
+        let taken = buf.len().min(self.step).min(128 - self.len);
+        self.bytes[self.len..self.len + taken].copy_from_slice(&buf[..taken]);
+        self.len += taken;
+        Ok(taken)
+    }
+
+    fn flush(&mut self) -> io::Result<()> {
+        Ok(())
+    }
+}
+
+// A definition of file_id with its fields type and time_created.
+fn file_id(local: u8) -> Definition
+    ensures { result.local ≡ local }
+{
+    let mut fields = ArrayVec::new();
+    fields.push(FieldDefinition {
+        number: 0,
+        size: 1,
+        base: 0x00,
+    });
+    fields.push(FieldDefinition {
+        number: 4,
+        size: 4,
+        base: 0x86,
+    });
+    Definition {
+        local,
+        arch: Arch::Little,
+        global: 0,
+        fields,
+    }
+}
+
+fn empty_file(alloc: Global) -> File {
+    let frame = Frame {
+        header_size: 14,
+        protocol: 0x10,
+        profile: 100,
+    };
+    File::new(alloc, frame)
+}
+
+fn small_file(alloc: Global) -> Result<File, PutFault> {
+    let mut file = empty_file(alloc);
+    file.define(&file_id(0))?;
+    file.data(0, None, &CONTENT)?;
+    Ok(file)
+}
+
+// Whether the file is written as these bytes.
+fn is_written(file: &File, bytes: &[u8]) -> bool {
+    let mut page = Page::new(128, 128);
+    encode_file(file, &mut page).is_ok() && page.written() == bytes
+}
+
+#[test]
+fn writes_a_file(rt: HostRuntime) -> Result<(), Fail> {
+    let mut file = small_file(rt.alloc())?;
+    assert!(rt; is_written(&file, &SMALL));
+    assert_eq!(rt; file.data(5, None, &[0]), Err(PutFault::UndefinedLocal));
+    assert!(rt; is_written(&file, &SMALL));
+    assert_eq!(rt; file.data(0, None, &[4]), Err(PutFault::Length));
+    assert!(rt; is_written(&file, &SMALL));
+    assert_eq!(rt; file.data(0, Some(32), &CONTENT), Err(PutFault::Length));
+    assert!(rt; is_written(&file, &SMALL));
+    Ok(())
+}
+
+#[test]
+fn offsets_need_a_low_local_number(rt: HostRuntime) -> Result<(), Fail> {
+    let mut file = small_file(rt.alloc())?;
+    file.define(&file_id(4))?;
+    let mut before = Page::new(128, 128);
+    encode_file(&file, &mut before)?;
+    assert_eq!(rt; file.data(4, Some(0), &CONTENT), Err(PutFault::Length));
+    assert!(rt; is_written(&file, before.written()));
+    Ok(())
+}
+
+#[test]
+fn lends_messages_with_their_times(rt: HostRuntime) -> Result<(), Fail> {
+    let mut file = small_file(rt.alloc())?;
+    file.data(0, Some(3), &CONTENT)?;
+    let mut times = [None; 2];
+    let mut count = 0;
+    for message in file.messages() {
+        assert!(rt; count < 2);
+        times[count] = message.time();
+        count += 1;
+    }
+    assert_eq!(rt; count, 2);
+    // file_id has no field 253, and the offset counts from 0
+    assert_eq!(rt; times, [None, Some(3)]);
+    Ok(())
+}
+
+#[test]
+fn a_failing_writer_has_a_beginning(rt: HostRuntime) -> Result<(), Fail> {
+    let file = small_file(rt.alloc())?;
+    for calls in 0..16 {
+        let mut page = Page::new(5, calls);
+        let answer = encode_file(&file, &mut page);
+        assert!(rt; SMALL.starts_with(page.written()));
+        if page.len == 34 {
+            assert_eq!(rt; answer, Ok(()));
+        } else {
+            assert_eq!(rt; answer, Err(EncodeFault::Write));
+        }
+    }
+    let mut full = Page::new(0, 9);
+    assert_eq!(rt; encode_file(&file, &mut full), Err(EncodeFault::Write));
+    Ok(())
+}
+
+// Run with each allocation failing in turn: the answer is Memory, and the file is as it was.
+#[test]
+fn keeps_the_file_without_memory(rt: HostRuntime) {
+    let mut file = empty_file(rt.alloc());
+    for _ in 0..20 {
+        let before = file.data_size();
+        let defined = file.define(&file_id(0));
+        check_kept(&rt, &file, before, 12, defined);
+        let before = file.data_size();
+        match file.data(0, None, &CONTENT) {
+            Err(PutFault::UndefinedLocal) => assert_eq!(rt; before, 0),
+            added => check_kept(&rt, &file, before, 6, added),
+        }
+    }
+}
+
+fn check_kept(rt: &impl Abort, file: &File, before: u32, size: u32, answer: Result<(), PutFault>) {
+    match answer {
+        Ok(()) => assert_eq!(rt; file.data_size().wrapping_sub(before), size),
+        Err(fault) => {
+            assert_eq!(rt; fault, PutFault::Memory);
+            assert_eq!(rt; file.data_size(), before);
+        }
+    }
+}
+
+#[test]
+fn numbers_of_faults(rt: HostRuntime) {
+    assert_eq!(rt; FaultKind::Truncated.code(), 1);
+    assert_eq!(rt; FaultKind::UndefinedLocal(3).code(), 6);
+    assert_eq!(rt; FaultKind::Developer.code(), 11);
+    assert_eq!(rt; PutFault::Memory.code(), 4);
+    assert_eq!(rt; EncodeFault::Write.code(), 1);
+}
