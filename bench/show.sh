@@ -31,22 +31,42 @@ file=$work/activity.fit
 messages=$("$writer" "$file")
 size=$(stat -c %s "$file")
 
-# Runs a command three times with its output thrown away: the least time in seconds, and the greatest peak
-# of memory in bytes.
+# Runs a command so many times, which must each end with this status, with its output thrown away: the least
+# time on the clock and of the processor, in seconds, and the greatest peak of memory, in bytes.
 measure() {
     python3 - "$@" <<'PY'
-import os, resource, subprocess, sys, time
+import resource, subprocess, sys, time
 
-least = None
-for _ in range(3):
-    start = time.monotonic()
-    status = subprocess.run(sys.argv[1:], stdin=subprocess.DEVNULL, stdout=subprocess.DEVNULL).returncode
-    spent = time.monotonic() - start
-    if status != 0:
-        sys.exit(f"{sys.argv[1]}: exit status {status}")
-    least = spent if least is None else min(least, spent)
-print(least, resource.getrusage(resource.RUSAGE_CHILDREN).ru_maxrss * 1024)
+def processor():
+    used = resource.getrusage(resource.RUSAGE_CHILDREN)
+    return used.ru_utime + used.ru_stime
+
+rounds, wanted, command = int(sys.argv[1]), int(sys.argv[2]), sys.argv[3:]
+clock, busy = [], []
+for _ in range(rounds):
+    before, start = processor(), time.monotonic()
+    done = subprocess.run(command, stdin=subprocess.DEVNULL, stdout=subprocess.DEVNULL)
+    clock.append(time.monotonic() - start)
+    busy.append(processor() - before)
+    if done.returncode != wanted:
+        sys.exit(f"{command[0]}: exit status {done.returncode}")
+print(min(clock), min(busy), resource.getrusage(resource.RUSAGE_CHILDREN).ru_maxrss * 1024)
 PY
+}
+
+# A name, the size of the file, and what measure answered.
+report() {
+    echo "$2 $3 $4 $5" | awk -v name="$1" '{
+        printf "%-24s %7.1f MB/s %7.2f s, %6.2f s busy %7.1f MB, %5.2f of the file\n",
+            name, $1 / 1e6 / $2, $2, $3, $4 / 1e6, $4 / $1
+    }'
+}
+
+# A name, what measure answered of fitrec and of gpsbabel.
+compare() {
+    echo "$2 $3 $4 $5 $6 $7" | awk -v name="$1" '{
+        printf "%-24s %7.2f times as fast, %.2f by time busy, %.2f of the memory\n", name, $4 / $1, $5 / $2, $3 / $6
+    }'
 }
 
 "$program" show "$file" > "$work/text"
@@ -55,23 +75,33 @@ last=$(tail -n 1 "$work/text")
 text=$(stat -c %s "$work/text")
 rm "$work/text"
 
-set -- $(measure "$program" show "$file")
-show_time=$1 show_memory=$2
-
-echo "$size $text $messages $show_time $show_memory" | awk '{
-    printf "the file             %8.1f MB, %d messages\n", $1 / 1e6, $3
-    printf "the text             %8.1f MB\n", $2 / 1e6
-    printf "fitrec show          %8.1f MB/s   %6.2f s\n", $1 / 1e6 / $4, $4
-    printf "its peak memory      %8.1f MB     %6.2f of the file\n", $5 / 1e6, $5 / $1
+echo "$size $text $messages" | awk '{
+    printf "a file of %.1f MB with %d messages, whose text has %.1f MB\n", $1 / 1e6, $3, $2 / 1e6
 }'
+
+shown=$(measure 3 0 "$program" show "$file")
+report 'fitrec show' "$size" $shown
+
+# A file whose closing checksum is wrong is read and judged whole, and then refused: reading without showing.
+wrong=$work/wrong.fit
+head -c -1 "$file" > "$wrong"
+last=$(tail -c 1 "$file" | od -An -tu1)
+printf "\\$(printf %03o $((255 - last)))" >> "$wrong"
+judged=$(measure 3 1 "$program" show "$wrong" 2> "$work/refusals") || { cat "$work/refusals"; exit 1; }
+if grep -v '^fitrec: FileCrc at ' "$work/refusals"; then exit 1; fi
+report 'fitrec, reading' "$size" $judged
 
 if ! command -v gpsbabel > /dev/null; then
     echo "gpsbabel is not there to compare with; on Debian: apt-get update && apt-get install -y gpsbabel"
     exit 0
 fi
-set -- $(measure gpsbabel -i garmin_fit -f "$file" -o unicsv -F /dev/null)
-echo "$size $show_time $show_memory $1 $2" | awk '{
-    printf "gpsbabel             %8.1f MB/s   %6.2f s\n", $1 / 1e6 / $4, $4
-    printf "its peak memory      %8.1f MB     %6.2f of the file\n", $5 / 1e6, $5 / $1
-    printf "fitrec is            %8.2f times as fast, with %.2f of the memory\n", $4 / $2, $3 / $5
-}'
+# Without -t it reads the records and writes none of them: unicsv then asks for waypoints alone.
+read=$(measure 3 0 gpsbabel -i garmin_fit -f "$file" -o unicsv -F /dev/null)
+report 'gpsbabel, reading' "$size" $read
+# This takes about a minute, so once.
+rows=$(measure 1 0 gpsbabel -t -i garmin_fit -f "$file" -o unicsv -F /dev/null)
+report 'gpsbabel, with rows' "$size" $rows
+
+compare 'show to reading' $shown $read
+compare 'reading to reading' $judged $read
+compare 'show to rows' $shown $rows
