@@ -26,13 +26,8 @@ use Rattle.fit_grammar.proofs.Accepted.{AcceptsHead, stands_one, count_refused, 
 use Rattle.fit_grammar.proofs.Closed.{closing_cut, closing_wrong, closing_followed, closing_right}
 use Rattle.fit_grammar.proofs.Steps.{item_not_begun}
 use Rattle.fit_grammar.proofs.WantOfMemory.{front_before_refusal, item_begins}
+use Rattle.fit_grammar.proofs.Least.{ok_is}
 use Rattle.fit_grammar.proofs.Reached.{Reached, rest_there}
-
-abbrev ok : ℕ → Result ℕ ItemFault
-ok n = Ok n
-
-ok_is : (m n : ℕ) → ok m ≡ ok n → m ≡ n
-ok_is m n e = cc
 
 -- ---- by the first byte
 

@@ -8,7 +8,6 @@ use Rattle.fit_grammar.specs.Item.{Item, Defines}
 use Rattle.fit_grammar.specs.Records.{RecordsAfter}
 use Rattle.fit_grammar.specs.Refusal.{Front, front_bytes, front_end, IsFront, place_behind, Shows, Refusal, ItemBeginsAt}
 use Rattle.fit_grammar.proofs.Alignment.{GoesOn, longer, shorter}
-use Rattle.fit_grammar.proofs.Quiet.{item_head, first_byte}
 use Rattle.fit_grammar.proofs.Fronts.{SameFronts, same_fronts, beginning_joined, later}
 use Rattle.fit_grammar.proofs.Blocked.{behind}
 

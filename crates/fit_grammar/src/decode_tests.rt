@@ -1,7 +1,7 @@
 // Files and bytes that are no files, with faults and places from outside. Checksums were computed by another
 // program, bit by bit.
 
-use crate::{FaultKind, decode_file};
+use crate::{FaultKind, decode_file, encode_file};
 use std::alloc::{AllocError, Global};
 use std::test::*;
 
@@ -74,6 +74,23 @@ fn files_are_read(rt: HostRuntime) -> Result<(), Fail> {
     ] {
         let file = decode_file(rt.alloc(), bytes).ok().ok_or("a file")?;
         assert_eq!(rt; file.data_size(), size);
+    }
+    Ok(())
+}
+
+#[test]
+fn what_is_read_is_written_again(rt: HostRuntime) -> Result<(), Fail> {
+    for bytes in [
+        EMPTY.as_slice(),
+        SHORT_HEADER.as_slice(),
+        FILE_ID.as_slice(),
+        REDEFINED.as_slice(),
+        COMPRESSED.as_slice(),
+    ] {
+        let file = decode_file(rt.alloc(), bytes).ok().ok_or("a file")?;
+        let mut written = Vec::new(rt.alloc());
+        encode_file(&file, &mut written).ok().ok_or("written")?;
+        assert_eq!(rt; written.as_slice(), bytes);
     }
     Ok(())
 }
