@@ -1,12 +1,12 @@
 -- Where an item begins and ends within the data, its bytes show no fault.
-use Rattle.std.proofs.Common.{◌≡◌, ℕ, ◌+◌, ◌*◌, ◌<◌, ◌≤◌, List, [], ◌∷◌, ◌++◌, length, Option, Some, None, sym, ap, subst, ◌∙◌, append_assoc, arith, ◌⊎◌, inl, inr}
+use Rattle.std.proofs.Common.{◌≡◌, ℕ, ◌+◌, ◌<◌, ◌≤◌, List, ◌++◌, length, Option, Some, None, sym, ap, ◌∙◌, arith, inl, inr}
 use Rattle.std.specs.Prelude.{slice_index, IsSomeAnd}
-use Rattle.std.proofs.lemmas.List.{get_or_append_left, length-append}
+use Rattle.std.proofs.lemmas.List.{get_or_append_left}
 use Rattle.fit_grammar.specs.declared.definition.Definition.{Definition}
 use Rattle.fit_grammar.specs.declared.fault.FaultKind.{FaultKind}
 use Rattle.fit_grammar.specs.declared.fault.FaultKind.TheVariants.{Truncated, HeaderSize, Magic, Protocol, HeaderCrc, UndefinedLocal, SplitMessage, FileCrc, TrailingBytes, Memory, Developer}
-use Rattle.fit_grammar.specs.Item.{Item, Defines, Data, Spells, Head, head_of, DefinitionHead, DeveloperHead, DataHead, content_size}
-use Rattle.fit_grammar.specs.Records.{Begins, IsDefined, in_force}
+use Rattle.fit_grammar.specs.Item.{Item, Defines, Data, Spells, head_of, DefinitionHead, DeveloperHead, DataHead, content_size}
+use Rattle.fit_grammar.specs.Records.{IsDefined, in_force}
 use Rattle.fit_grammar.specs.Refusal.{Front, TailShows, SplitsAtFirst, SplitsAtCount}
 use Rattle.fit_grammar.proofs.Spelling.{definition_length, definition_count, data_first, data_length, spelling_not_empty}
 use Rattle.fit_grammar.proofs.Steps.{item_head, spelling_head}

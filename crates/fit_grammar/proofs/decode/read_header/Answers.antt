@@ -1,9 +1,8 @@
-use Rattle.std.proofs.Common.{◌≡◌, ℕ, ◌+◌, ◌/◌, ◌<◌, ◌≤◌, List, length, take, refl, sym, ap, ◌∙◌, arith, ◌⊎◌, inl, inr, length-take-le}
-use Rattle.std.specs.Prelude.{slice_index, slice_range}
+use Rattle.std.proofs.Common.{◌≡◌, ℕ, ◌+◌, ◌/◌, ◌≤◌, List, length, take, refl, sym, ap, ◌∙◌, arith, ◌⊎◌, inl, inr, length-take-le}
+use Rattle.std.specs.Prelude.{slice_index}
 use Rattle.std.proofs.lemmas.Bool.{false≢true}
-use Rattle.fit_grammar.specs.declared.fault.FaultKind.TheVariants.{HeaderSize, Magic, Protocol, HeaderCrc, Memory}
+use Rattle.fit_grammar.specs.declared.fault.FaultKind.TheVariants.{Magic, Protocol, HeaderCrc}
 use Rattle.fit_base.specs.Number.{low_first}
-use Rattle.fit_grammar.specs.File.{mark, ChecksHeader}
 use Rattle.fit_grammar.proofs.HeaderRefused.{Passes}
 use Rattle.fit_grammar.proofs.HeaderRead.{empty_refused, first_refused, cut_refused, check_refused, header_byte, header_range, two_read, four_read}
 use Rattle.fit_grammar.proofs.decode.read_header.Goals as goal
