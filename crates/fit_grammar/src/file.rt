@@ -112,7 +112,7 @@ impl File {
     }
 
     // Adds a definition of this many bytes.
-    fn push_definition(&mut self, d: &Definition, size: u32) -> Result<(), AllocError>
+    pub(crate) fn push_definition(&mut self, d: &Definition, size: u32) -> Result<(), AllocError>
         requires local { d.now.local < 16 }
         requires size { size ≡ item_size (Defines d.now) }
         requires fits { IsTooLong self.old (Defines d.now) → ⊥ }
