@@ -27,3 +27,4 @@ pub mod Encoded
 pub mod Under
 pub mod OutputLemmas
 pub mod Checked
+pub mod Encodable
