@@ -27,4 +27,3 @@ pub mod Encoded
 pub mod Under
 pub mod OutputLemmas
 pub mod Checked
-pub mod Encodable
