@@ -10,7 +10,8 @@ trap 'rm -rf "$work"' EXIT
 mkdir -p "$work/repo/crates"
 printf 'fit_base: byteorder\nbench_checksum: fit_base\n' > "$work/repo/crates.txt"
 cp -r "$root/crates/fit_base" "$work/repo/crates/fit_base"
-cp -r "$root/bench/checksum" "$work/repo/crates/bench_checksum"
+mkdir -p "$work/repo/crates/bench_checksum/src"
+cp "$root/bench/checksum/main.rt.in" "$work/repo/crates/bench_checksum/src/main.rt"
 
 cat > "$work/nibbles.c" <<'C'
 #include <stdint.h>

@@ -22,7 +22,8 @@ mkdir -p "$work/repo/crates"
     echo 'bench_show: fit_base fit_grammar arrayvec'
 } > "$work/repo/crates.txt"
 cp -r "$root/crates/fit_base" "$root/crates/fit_grammar" "$work/repo/crates"
-cp -r "$root/bench/show" "$work/repo/crates/bench_show"
+mkdir -p "$work/repo/crates/bench_show/src"
+cp "$root/bench/show/main.rt.in" "$work/repo/crates/bench_show/src/main.rt"
 # The build ends with a run of the program, here without words.
 (cd "$work/repo/crates/bench_show" && rt run) > "$work/log" 2>&1 || true
 writer=$work/repo/crates/bench_show/out/bench_show

@@ -1,16 +1,16 @@
 -- An item whose first byte shows no fault: what its bytes may still show, and where the input ends within it.
-use Rattle.std.proofs.Common.{◌≡◌, ℕ, ◌+◌, ◌*◌, ◌<◌, ◌≤◌, List, [], ◌∷◌, ◌++◌, length, take, drop, Option, Some, None, sym, ap, subst, ◌∙◌, arith, inl, inr}
+use Rattle.std.proofs.Common.{◌≡◌, ℕ, ◌+◌, ◌*◌, ◌<◌, ◌≤◌, List, [], ◌∷◌, ◌++◌, length, take, drop, Option, Some, None, sym, ap, ◌∙◌, arith, inl, inr}
 use Rattle.std.specs.Prelude.{slice_index, IsSomeAnd}
 use Rattle.std.proofs.lemmas.List.{length-append, get_or-take, take-append-drop, length-take-le}
 use Rattle.fit_grammar.specs.declared.definition.Definition.{Definition}
 use Rattle.fit_grammar.specs.declared.fault.FaultKind.{FaultKind}
 use Rattle.fit_grammar.specs.declared.fault.FaultKind.TheVariants.{Truncated, HeaderSize, Magic, Protocol, HeaderCrc, UndefinedLocal, SplitMessage, FileCrc, TrailingBytes, Memory, Developer}
-use Rattle.fit_grammar.specs.Item.{Item, Head, head_of, DefinitionHead, DeveloperHead, DataHead, content_size}
+use Rattle.fit_grammar.specs.Item.{Head, head_of, DefinitionHead, DeveloperHead, DataHead, content_size}
 use Rattle.fit_grammar.specs.Records.{in_force}
 use Rattle.fit_grammar.specs.Refusal.{Front, front_bytes, front_end, IsFront, TailShows, SplitsAtFirst, SplitsAtCount, Refusal}
 use Rattle.fit_grammar.proofs.Spelling.{spelling_not_empty}
-use Rattle.fit_grammar.proofs.Quiet.{ItemInside, item_quiet}
-use Rattle.fit_grammar.proofs.Blocked.{Blocked, Mute, tail_not_empty}
+use Rattle.fit_grammar.proofs.Quiet.{item_quiet}
+use Rattle.fit_grammar.proofs.Blocked.{Blocked, tail_not_empty}
 use Rattle.fit_grammar.proofs.Refused.{Stands, refused, cut_short}
 
 -- the first byte behind a front shows no fault: it begins an item whose least length is within the data

@@ -2,7 +2,7 @@
 use Rattle.std.proofs.Common.{◌≡◌, ℕ, List, [], ◌∷◌, ◌++◌, refl, sym, ap, subst, ◌∙◌, append_assoc}
 use Rattle.std.proofs.lemmas.List.{append-nil}
 use Rattle.fit_grammar.specs.Item.{Item}
-use Rattle.fit_grammar.specs.Records.{Begins, RecordsAfter, in_force}
+use Rattle.fit_grammar.specs.Records.{RecordsAfter, in_force}
 use Rattle.fit_grammar.proofs.Spelling.{spelling_one}
 
 -- the row of js begins with that of is, and goes on with more

@@ -1,5 +1,5 @@
 -- Behind a front at which no item begins, a beginning shows only what the bytes there show.
-use Rattle.std.proofs.Common.{◌≡◌, ℕ, ◌+◌, ◌<◌, ◌≤◌, List, [], ◌∷◌, ◌++◌, length, take, drop, sym, ap, subst, ◌∙◌, append_assoc, arith, inl, inr}
+use Rattle.std.proofs.Common.{◌≡◌, ℕ, ◌+◌, ◌<◌, ◌≤◌, List, [], ◌∷◌, ◌++◌, length, take, sym, ap, subst, ◌∙◌, append_assoc, arith, inl, inr}
 use Rattle.std.proofs.lemmas.List.{length-append, length-take, append-nil}
 use Rattle.fit_grammar.specs.declared.frame.Frame.{Frame}
 use Rattle.fit_grammar.specs.declared.fault.FaultKind.{FaultKind}

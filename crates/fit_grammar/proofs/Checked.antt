@@ -1,12 +1,12 @@
 -- How texts join that were handed to a writer with a checksum running along.
-use Rattle.std.proofs.Common.{◌≡◌, ℕ, List, [], ◌∷◌, ◌++◌, Option, Result, Ok, Err, refl, sym, ap, ◌∙◌, subst}
+use Rattle.std.proofs.Common.{◌≡◌, ℕ, List, [], ◌++◌, Option, Result, Ok, Err, refl, sym, ap, ◌∙◌, subst}
 use Rattle.std.specs.Prelude.{OnOk}
 use Rattle.std.specs.Result.{IsErr}
 use Rattle.fit_base.specs.Checksum.{crc_from}
 use Rattle.fit_base.proofs.Blocks.{crc_from-nil}
 use Rattle.fit_base.proofs.Register.{crc_from-append}
-use Rattle.fit_grammar.specs.Output.{WritesText, WritesChecked}
-use Rattle.fit_grammar.proofs.OutputLemmas.{then_writes, stops_before, writes_same, Leaves, leaves_all, leaves_less, leaves_off, leaves_none}
+use Rattle.fit_grammar.specs.Output.{WritesChecked}
+use Rattle.fit_grammar.proofs.OutputLemmas.{then_writes, stops_before, Leaves, leaves_all, leaves_less, leaves_off, leaves_none}
 
 checked_after : {S T E F : Type 0} (o m n : Option (List ℕ)) (before middle after : ℕ) (x : S) (r : Result T E) (a b : List ℕ) →
     WritesChecked {T = S} {E = F} o m before middle (Ok x) a → WritesChecked m n middle after r b → WritesChecked o n before after r (a ++ b)

@@ -1,15 +1,14 @@
 -- Behind all the records: the closing checksum, what follows it, and the end of the input.
-use Rattle.std.proofs.Common.{◌≡◌, ◌≢◌, ℕ, ◌+◌, ◌<◌, ◌≤◌, List, [], ◌∷◌, ◌++◌, length, take, drop, sym, ap, subst, ◌∙◌, append_assoc, arith, inl, inr}
+use Rattle.std.proofs.Common.{◌≡◌, ◌≢◌, ℕ, ◌+◌, ◌<◌, ◌≤◌, List, [], ◌∷◌, ◌++◌, length, take, sym, ap, subst, ◌∙◌, append_assoc, arith}
 use Rattle.std.proofs.Math.Seq.{take-append_seam}
 use Rattle.std.proofs.lemmas.List.{length-append}
 use Rattle.fit_base.specs.Number.{low_first}
 use Rattle.fit_base.specs.Checksum.{crc}
 use Rattle.fit_grammar.specs.declared.fault.FaultKind.{FaultKind}
 use Rattle.fit_grammar.specs.declared.fault.FaultKind.TheVariants.{Truncated, HeaderSize, Magic, Protocol, HeaderCrc, UndefinedLocal, SplitMessage, FileCrc, TrailingBytes, Memory, Developer}
-use Rattle.fit_grammar.specs.Item.{Item}
-use Rattle.fit_grammar.specs.File.{FileValue, FileOf, IsHeader, IsClosing}
+use Rattle.fit_grammar.specs.File.{FileOf, IsHeader, IsClosing}
 use Rattle.fit_grammar.specs.Refusal.{Front, front_bytes, front_end, IsFront, TailShows, Refusal}
-use Rattle.fit_grammar.proofs.Refused.{Stands, refused, cut_short, closed_blocked, closing_mute}
+use Rattle.fit_grammar.proofs.Refused.{refused, cut_short, closed_blocked, closing_mute}
 
 -- behind all the records one byte shows nothing
 full_mute : (kind : FaultKind) (f : Front) (tail : List ℕ) → length f.records ≡ f.size → TailShows kind f tail → 2 ≤ length tail

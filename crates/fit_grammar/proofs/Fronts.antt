@@ -1,15 +1,14 @@
 -- What a beginning of a file shows, once a front of the file is known: only what stands behind that front.
-use Rattle.std.proofs.Common.{◌≡◌, ℕ, ◌+◌, ◌<◌, ◌≤◌, List, [], ◌∷◌, ◌++◌, length, take, drop, sym, ap, subst, ◌∙◌, append_assoc, arith, refl}
-use Rattle.std.proofs.lemmas.List.{take-append-drop, length-append, length-take}
+use Rattle.std.proofs.Common.{◌≡◌, ℕ, ◌+◌, ◌≤◌, List, [], ◌++◌, length, take, drop, sym, ap, ◌∙◌, append_assoc, arith}
+use Rattle.std.proofs.lemmas.List.{take-append-drop, length-append}
 use Rattle.fit_grammar.specs.declared.fault.FaultKind.{FaultKind}
 use Rattle.fit_grammar.specs.Item.{Item}
 use Rattle.fit_grammar.specs.Records.{RecordsAfter}
-use Rattle.fit_grammar.specs.File.{FileValue, FileOf, IsHeader}
+use Rattle.fit_grammar.specs.File.{FileValue, FileOf}
 use Rattle.fit_grammar.specs.Refusal.{Front, front_bytes, front_end, IsFront, TailShows, place_behind, ShowsBehind}
-use Rattle.fit_grammar.proofs.Alignment.{GoesOn, Aligned, longer, shorter, aligned}
-use Rattle.fit_grammar.specs.declared.frame.Frame.{Frame}
+use Rattle.fit_grammar.proofs.Alignment.{Aligned, longer, shorter, aligned}
 use Rattle.fit_grammar.proofs.Headers.{same_header}
-use Rattle.fit_grammar.proofs.Quiet.{ItemInside, item_quiet}
+use Rattle.fit_grammar.proofs.Quiet.{item_quiet}
 
 -- a file is a front with all its records
 abbrev pub file_front : (b : List ℕ) (v : FileValue) → FileOf b v → Front

@@ -1,14 +1,13 @@
 -- The exits of a header's reading.
 use Rattle.std.proofs.Common.{◌≡◌, ◌≢◌, ℕ, ◌+◌, ◌-◌, ◌<◌, ◌≤◌, List, [], ◌∷◌, length, take, drop, sym, ap, ◌∙◌, arith, ◌⊎◌, inl, inr}
-use Rattle.std.specs.Prelude.{slice_index, slice_range}
+use Rattle.std.specs.Prelude.{slice_index}
 use Rattle.std.proofs.lemmas.List.{length-take-le, length-drop, get_or-take, drop-take, take-take}
 use Rattle.byteorder.specs.Endian.{little_number}
 use Rattle.fit_base.specs.Number.{low_first}
 use Rattle.fit_base.proofs.Numbers.{low_first-little}
 use Rattle.fit_grammar.specs.declared.fault.FaultKind.{FaultKind}
-use Rattle.fit_grammar.specs.declared.fault.FaultKind.TheVariants.{Truncated, HeaderSize, Magic, Protocol, HeaderCrc, UndefinedLocal, SplitMessage, FileCrc, TrailingBytes, Memory, Developer}
+use Rattle.fit_grammar.specs.declared.fault.FaultKind.TheVariants.{Truncated, HeaderSize, Memory}
 use Rattle.fit_grammar.specs.declared.fault.FileFault.{FileFault}
-use Rattle.fit_grammar.specs.File.{mark, ChecksHeader}
 use Rattle.fit_grammar.specs.Refusal.{HeaderShows, Refusal}
 use Rattle.fit_grammar.specs.Decoding.{IsRefusedBy}
 use Rattle.fit_grammar.proofs.HeaderRefused.{Passes, header_refused, header_cut, empty_cut, size_refused}

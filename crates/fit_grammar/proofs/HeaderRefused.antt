@@ -1,12 +1,12 @@
 -- Where the header is refused, or the input ends within it.
-use Rattle.std.proofs.Common.{◌≡◌, ◌≢◌, ℕ, ◌+◌, ◌/◌, ◌<◌, ◌≤◌, List, [], ◌∷◌, ◌++◌, length, take, drop, sym, ap, subst, ◌∙◌, append_assoc, arith, ◌⊎◌, inl, inr, refl}
+use Rattle.std.proofs.Common.{◌≡◌, ◌≢◌, ℕ, ◌+◌, ◌/◌, ◌<◌, ◌≤◌, List, ◌∷◌, ◌++◌, length, take, drop, ap, ◌∙◌, append_assoc, arith, ◌⊎◌, inl, inr, refl}
 use Rattle.std.specs.Prelude.{slice_index, slice_range}
 use Rattle.std.proofs.lemmas.Bool.{cases_lt}
-use Rattle.std.proofs.lemmas.List.{length-append, length-take, length-take-le, get_or-take, take-append-drop, drop-take, take-take, nil_from_length, append-nil}
+use Rattle.std.proofs.lemmas.List.{length-append, length-take, drop-take, take-take}
 use Rattle.fit_grammar.specs.declared.fault.FaultKind.{FaultKind}
 use Rattle.fit_grammar.specs.declared.fault.FaultKind.TheVariants.{Truncated, HeaderSize, Magic, Protocol, HeaderCrc, UndefinedLocal, SplitMessage, FileCrc, TrailingBytes, Memory, Developer}
-use Rattle.fit_grammar.specs.File.{FileValue, FileOf, mark, ChecksHeader}
-use Rattle.fit_grammar.specs.Refusal.{Front, front_bytes, IsFront, HeaderShows, ShowsBehind, Shows, Refusal}
+use Rattle.fit_grammar.specs.File.{FileValue, FileOf, mark}
+use Rattle.fit_grammar.specs.Refusal.{Front, front_bytes, IsFront, HeaderShows, Shows, Refusal}
 use Rattle.fit_grammar.proofs.Headers.{header_at_least, header_first, take_read, take_own}
 use Rattle.fit_grammar.proofs.Fronts.{file_front, file_is_front}
 

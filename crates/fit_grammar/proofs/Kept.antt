@@ -1,10 +1,10 @@
 -- A file goes on to be kept as it is when an item is added to it.
-use Rattle.std.proofs.Common.{◌≡◌, ◌≢◌, ℕ, ◌+◌, ◌≤◌, List, [], ◌∷◌, ◌++◌, length, take, drop, map, Option, Some, None, refl, sym, ap, ◌∙◌, arith, inl, inr}
+use Rattle.std.proofs.Common.{◌≡◌, ◌≢◌, ℕ, ◌+◌, ◌≤◌, List, [], ◌∷◌, ◌++◌, length, take, drop, Option, Some, refl, sym, ap, ◌∙◌, arith, inl, inr}
 use Rattle.std.specs.List.{AllByRecursion}
 use Rattle.std.proofs.lemmas.Bool.Decides.{eqb_tells}
 use Rattle.std.proofs.Math.Seq.{drop-append_seam, take-length}
 use Rattle.std.proofs.lemmas.List.Sums.{sum_by-append}
-use Rattle.std.proofs.lemmas.List.{map_push, length-append, drop-append-le, take-append-le, length-drop}
+use Rattle.std.proofs.lemmas.List.{map_push, drop-append-le, take-append-le, length-drop}
 use Rattle.fit_grammar.specs.declared.definition.Definition.{Definition}
 use Rattle.fit_grammar.specs.declared.file.Stored.{Stored}
 use Rattle.fit_grammar.specs.declared.file.Stored.TheVariants as stored
@@ -12,7 +12,7 @@ use Rattle.fit_grammar.specs.Item.{Item, Defines, Data, item_size}
 use Rattle.fit_grammar.specs.Records.{in_force, data_size}
 use Rattle.fit_grammar.specs.Table.{definition_in}
 use Rattle.fit_grammar.specs.Stored.{item_in, items_in, LiesWithin}
-use Rattle.fit_grammar.proofs.InForce.{in_force-defines, in_force-others, in_force-data}
+use Rattle.fit_grammar.proofs.InForce.{in_force-defines, in_force-others}
 
 pub items_in-push : (contents : List ℕ) (items : List Stored) (s : Stored) → items_in contents (items ++ s ∷ []) ≡ items_in contents items ++ item_in contents s ∷ []
 items_in-push contents items s = map_push (item_in contents) items s

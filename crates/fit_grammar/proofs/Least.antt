@@ -1,8 +1,8 @@
 -- The least length of the item at the front of a window, by what the window holds.
-use Rattle.std.proofs.Common.{◌≡◌, ℕ, ◌+◌, ◌*◌, ◌<◌, ◌≤◌, Bool, List, [], ◌∷◌, length, take, Option, Some, None, Result, Ok, Err, refl, sym, ap, subst, ◌∙◌, arith, cond, true, false}
+use Rattle.std.proofs.Common.{◌≡◌, ℕ, ◌+◌, ◌*◌, ◌<◌, ◌≤◌, Bool, List, [], ◌∷◌, length, take, drop, Option, Some, None, Result, Ok, Err, refl, sym, ap, ◌∙◌, arith, cond}
 use Rattle.std.specs.Prelude.{slice_index, IsSomeAnd}
 use Rattle.std.proofs.lemmas.Bool.{le-ltb}
-use Rattle.std.proofs.lemmas.List.{length-take-le, get_or-take}
+use Rattle.std.proofs.lemmas.List.{length-take-le, get_or-take, take-append-drop}
 use Rattle.fit_grammar.specs.declared.definition.Definition.{Definition}
 use Rattle.fit_grammar.specs.declared.item.ItemFault.{ItemFault}
 use Rattle.fit_grammar.specs.declared.item.ItemFault.TheVariants.{UndefinedLocal, Developer}
@@ -11,12 +11,12 @@ use Rattle.fit_grammar.specs.Step.{definition_length_of, data_length_of, length_
 use Rattle.fit_grammar.proofs.Spelling.{definition_length, definition_count, data_length, spelling_not_empty}
 use Rattle.fit_grammar.proofs.Reading.{begun_empty, begun_definition, begun_data, front_is, definition_spelled}
 use Rattle.fit_grammar.specs.Reading.{definition_at}
-use Rattle.fit_grammar.proofs.Quiet.{item_head, spelling_first}
+use Rattle.fit_grammar.proofs.Steps.{spelling_head}
 
-abbrev ok : ℕ → Result ℕ ItemFault
+abbrev pub ok : ℕ → Result ℕ ItemFault
 ok n = Ok n
 
-ok_is : (m n : ℕ) → ok m ≡ ok n → m ≡ n
+pub ok_is : (m n : ℕ) → ok m ≡ ok n → m ≡ n
 ok_is m n e = cc
 
 least_by_head : (f : ℕ → Option Definition) (first : ℕ) (rest : List ℕ) (h : Head) → head_of first ≡ h → least_length_of f (first ∷ rest) ≡ length_by f h (first ∷ rest)
@@ -38,7 +38,7 @@ least_of_item f (first ∷ rest) (Defines d) used p =
     let window = first ∷ rest in
     let long : length (take used window) ≡ used = length-take-le used window p.within in
     let n = definition_length d (take used window) p.spelled in
-    let head : head_of first ≡ DefinitionHead d.local = ap head_of (sym (get_or-take used window 0 0 (omega arith))) ∙ spelling_first (Defines d) (take used window) p.spelled in
+    let head : head_of first ≡ DefinitionHead d.local = spelling_head (Defines d) (take used window) (drop used window) rest first p.spelled (take-append-drop used window) in
     let count : slice_index window 5 ≡ length d.fields.items = sym (get_or-take used window 5 0 (omega arith)) ∙ definition_count d (take used window) p.spelled in
     let within = p.within in
     least_by_head f first rest (DefinitionHead d.local) head
@@ -48,7 +48,7 @@ least_of_item f (first ∷ rest) (Data local offset content) used p =
     let window = first ∷ rest in
     let long : length (take used window) ≡ used = length-take-le used window p.within in
     let n = data_length local offset content (take used window) p.spelled in
-    let head : head_of first ≡ DataHead local offset = ap head_of (sym (get_or-take used window 0 0 (omega arith))) ∙ spelling_first (Data local offset content) (take used window) p.spelled in
+    let head : head_of first ≡ DataHead local offset = spelling_head (Data local offset content) (take used window) (drop used window) rest first p.spelled (take-append-drop used window) in
     least_by_head f first rest (DataHead local offset) head ∙ some_length (f local) local (length content) p.defined ∙ ap (λ (k : ℕ). Ok k) (omega arith)
 
 -- data with no definition, and developer fields

@@ -1,30 +1,15 @@
 -- Where an item begins and ends within the data, its bytes show no fault.
-use Rattle.std.proofs.Common.{◌≡◌, ℕ, ◌+◌, ◌*◌, ◌<◌, ◌≤◌, List, [], ◌∷◌, ◌++◌, length, Option, Some, None, sym, ap, subst, ◌∙◌, append_assoc, arith, ◌⊎◌, inl, inr}
+use Rattle.std.proofs.Common.{◌≡◌, ℕ, ◌+◌, ◌<◌, ◌≤◌, List, ◌++◌, length, Option, Some, None, sym, ap, ◌∙◌, arith, inl, inr}
 use Rattle.std.specs.Prelude.{slice_index, IsSomeAnd}
-use Rattle.std.proofs.lemmas.List.{get_or_append_left, length-append}
+use Rattle.std.proofs.lemmas.List.{get_or_append_left}
 use Rattle.fit_grammar.specs.declared.definition.Definition.{Definition}
 use Rattle.fit_grammar.specs.declared.fault.FaultKind.{FaultKind}
 use Rattle.fit_grammar.specs.declared.fault.FaultKind.TheVariants.{Truncated, HeaderSize, Magic, Protocol, HeaderCrc, UndefinedLocal, SplitMessage, FileCrc, TrailingBytes, Memory, Developer}
-use Rattle.fit_grammar.specs.Item.{Item, Defines, Data, Spells, Head, head_of, DefinitionHead, DeveloperHead, DataHead, content_size}
-use Rattle.fit_grammar.specs.Records.{Begins, IsDefined, in_force}
+use Rattle.fit_grammar.specs.Item.{Item, Defines, Data, Spells, head_of, DefinitionHead, DeveloperHead, DataHead, content_size}
+use Rattle.fit_grammar.specs.Records.{IsDefined, in_force}
 use Rattle.fit_grammar.specs.Refusal.{Front, TailShows, SplitsAtFirst, SplitsAtCount}
-use Rattle.fit_grammar.proofs.Spelling.{definition_first, definition_length, definition_count, data_first, data_length, spelling_not_empty}
-
--- the head of an item
-abbrev pub item_head : Item → Head
-item_head (Defines d) = DefinitionHead d.local
-item_head (Data local offset content) = DataHead local offset
-
-pub spelling_first : (item : Item) (own : List ℕ) → Spells item own → head_of (slice_index own 0) ≡ item_head item
-spelling_first (Defines d) own p = definition_first d own p
-spelling_first (Data local offset content) own p = data_first local offset content own p
-
--- what a byte in the place of the item's first byte says
-pub first_byte : (item : Item) (own u v : List ℕ) (byte : ℕ) → Spells item own → own ++ u ≡ byte ∷ v → head_of byte ≡ item_head item
-first_byte item own u v byte p e =
-    let ne = spelling_not_empty item own p in
-    let same : slice_index own 0 ≡ byte = sym (get_or_append_left own u 0 0 (omega arith)) ∙ ap (λ (l : List ℕ). slice_index l 0) e in
-    ap head_of (sym same) ∙ spelling_first item own p
+use Rattle.fit_grammar.proofs.Spelling.{definition_length, definition_count, data_first, data_length, spelling_not_empty}
+use Rattle.fit_grammar.proofs.Steps.{item_head, spelling_head}
 
 not_defined : (o : Option Definition) (P : Definition → Type 0) → IsSomeAnd o P → o ≡ None → ⊥
 not_defined None P h e = h
@@ -43,15 +28,15 @@ first_quiet : (g : Front) (tail after : List ℕ) (item : Item) (own u : List �
 first_quiet g tail after (Defines d) own u p q e le (byte, is, inl h) =
     omega (arith, definition_length d own p, h.2)
 first_quiet g tail after (Defines d) own u p q e le (byte, is, inr h) =
-    let f = first_byte (Defines d) own u after byte p (e ∙ ap (λ (l : List ℕ). l ++ after) is) in
+    let f = spelling_head (Defines d) own u after byte p (e ∙ ap (λ (l : List ℕ). l ++ after) is) in
     let bad : DataHead h.0 h.1 ≡ DefinitionHead d.local = sym h.2 ∙ f in
     cc
 first_quiet g tail after (Data local offset content) own u p q e le (byte, is, inl h) =
-    let f = first_byte (Data local offset content) own u after byte p (e ∙ ap (λ (l : List ℕ). l ++ after) is) in
+    let f = spelling_head (Data local offset content) own u after byte p (e ∙ ap (λ (l : List ℕ). l ++ after) is) in
     let bad : DefinitionHead h.0 ≡ DataHead local offset = sym h.1 ∙ f in
     cc
 first_quiet g tail after (Data local offset content) own u p q e le (byte, is, inr h) =
-    let f = first_byte (Data local offset content) own u after byte p (e ∙ ap (λ (l : List ℕ). l ++ after) is) in
+    let f = spelling_head (Data local offset content) own u after byte p (e ∙ ap (λ (l : List ℕ). l ++ after) is) in
     let same = same_local local h.0 offset h.1 (sym f ∙ h.2) in
     let size = some_size (in_force g.items local) (length content) (length g.records) g.size q (rw same h.3) in
     omega (arith, data_length local offset content own p, size)
@@ -91,9 +76,9 @@ pub record ItemInside (g : Front) (item : Item) (own u : List ℕ) : Type 0 wher
 -- its bytes show no fault
 pub item_quiet : (kind : FaultKind) (g : Front) (tail after : List ℕ) (item : Item) (own u : List ℕ) → ItemInside g item own u → own ++ u ≡ tail ++ after → TailShows kind g tail → ⊥
 item_quiet (UndefinedLocal local) g tail after item own u p e sh =
-    undefined_quiet g item sh.1 local sh.2 p.defined (first_byte item own u after sh.1 p.spelled (e ∙ ap (λ (l : List ℕ). l ++ after) sh.3)) sh.4 sh.5
+    undefined_quiet g item sh.1 local sh.2 p.defined (spelling_head item own u after sh.1 p.spelled (e ∙ ap (λ (l : List ℕ). l ++ after) sh.3)) sh.4 sh.5
 item_quiet Developer g tail after item own u p e sh =
-    developer_quiet item (sym sh.3 ∙ first_byte item own u after sh.1 p.spelled (e ∙ ap (λ (l : List ℕ). l ++ after) sh.2))
+    developer_quiet item (sym sh.3 ∙ spelling_head item own u after sh.1 p.spelled (e ∙ ap (λ (l : List ℕ). l ++ after) sh.2))
 item_quiet SplitMessage g tail after item own u p e (lt, inl h) = first_quiet g tail after item own u p.spelled p.defined e p.inside h
 item_quiet SplitMessage g tail after item own u p e (lt, inr h) = count_quiet g tail after item own u p.spelled e p.inside h
 item_quiet FileCrc g tail after item own u p e sh =

@@ -1,17 +1,12 @@
 -- How far a decoder has come: a front of the bytes, whose items it has.
-use Rattle.std.proofs.Common.{◌≡◌, ◌≢◌, ℕ, ◌+◌, ◌-◌, ◌*◌, ◌<◌, ◌≤◌, ◌^◌, List, [], ◌∷◌, ◌++◌, length, take, drop, Option, Some, None, Result, Ok, Err, refl, sym, ap, subst, ◌∙◌, append_assoc, arith, ◌⊎◌, inl, inr}
-use Rattle.std.specs.Prelude.{slice_index, IsSomeAnd}
-use Rattle.std.proofs.Math.Seq.{drop-append_seam, drop-append-add, take-append_seam}
+use Rattle.std.proofs.Common.{◌≡◌, ℕ, ◌+◌, ◌-◌, ◌<◌, ◌≤◌, ◌^◌, List, [], ◌∷◌, ◌++◌, length, take, drop, refl, sym, ap, subst, ◌∙◌, append_assoc, arith}
+use Rattle.std.proofs.Math.Seq.{drop-append_seam}
 use Rattle.std.proofs.lemmas.List.Sums.{sum_by-cons}
-use Rattle.std.proofs.lemmas.List.{length-append, length-drop, length-take-le, take-append-drop, append-nil, drop-drop}
+use Rattle.std.proofs.lemmas.List.{length-append, length-take-le, take-append-drop, append-nil}
 use Rattle.fit_grammar.specs.declared.decode.Header.{Header}
-use Rattle.fit_grammar.specs.declared.fault.FaultKind.{FaultKind}
-use Rattle.fit_grammar.specs.declared.fault.FaultKind.TheVariants.{Truncated, HeaderSize, Magic, Protocol, HeaderCrc, UndefinedLocal, SplitMessage, FileCrc, TrailingBytes, Memory, Developer}
-use Rattle.fit_grammar.specs.declared.frame.Frame.{Frame}
 use Rattle.fit_grammar.specs.Item.{Item, Defines, Data, Spells, item_size}
-use Rattle.fit_grammar.specs.Records.{IsDefined, Begins, RecordsAfter, in_force, data_size}
-use Rattle.fit_grammar.specs.Step.{ItemAtFront}
-use Rattle.fit_grammar.specs.File.{FileValue, with_item}
+use Rattle.fit_grammar.specs.Records.{IsDefined, RecordsAfter, data_size}
+use Rattle.fit_grammar.specs.File.{FileValue}
 use Rattle.fit_grammar.specs.Refusal.{Front, front_bytes, front_end, IsFront}
 use Rattle.fit_grammar.specs.Decoding.{BeginsWith, TakesItem}
 use Rattle.fit_grammar.proofs.Spelling.{definition_length, data_length}

@@ -1,16 +1,15 @@
 -- From what stands behind a front to the refusal of the bytes.
-use Rattle.std.proofs.Common.{◌≡◌, ℕ, ◌+◌, ◌<◌, ◌≤◌, List, [], ◌∷◌, ◌++◌, length, take, drop, refl, sym, ap, ◌∙◌, append_assoc, arith, inl, inr}
+use Rattle.std.proofs.Common.{◌≡◌, ℕ, ◌+◌, ◌<◌, List, [], ◌∷◌, ◌++◌, length, take, refl, sym, ap, ◌∙◌, append_assoc, arith, inl, inr}
 use Rattle.std.proofs.Math.Seq.{take-append_seam}
-use Rattle.std.proofs.lemmas.List.{length-append, append-nil, nil_from_length}
+use Rattle.std.proofs.lemmas.List.{length-append, append-nil}
 use Rattle.fit_base.specs.Number.{low_first}
 use Rattle.fit_grammar.specs.declared.fault.FaultKind.{FaultKind}
 use Rattle.fit_grammar.specs.declared.fault.FaultKind.TheVariants.{Truncated, HeaderSize, Magic, Protocol, HeaderCrc, UndefinedLocal, SplitMessage, FileCrc, TrailingBytes, Memory, Developer}
-use Rattle.fit_grammar.specs.Item.{Item}
 use Rattle.fit_grammar.specs.File.{FileValue, FileOf, IsClosing}
-use Rattle.fit_grammar.specs.Refusal.{Front, front_bytes, front_end, IsFront, TailShows, place_behind, ShowsBehind, Shows, IsShortestShown, IsCutShort, Refusal}
-use Rattle.fit_grammar.proofs.Alignment.{GoesOn, longer, shorter}
+use Rattle.fit_grammar.specs.Refusal.{Front, front_bytes, front_end, IsFront, TailShows, place_behind, Shows, Refusal}
+use Rattle.fit_grammar.proofs.Alignment.{longer, shorter}
 use Rattle.fit_grammar.proofs.Spelling.{spelling_not_empty, bytes_one}
-use Rattle.fit_grammar.proofs.Fronts.{SameFronts, same_fronts, file_front, file_is_front}
+use Rattle.fit_grammar.proofs.Fronts.{same_fronts, file_front, file_is_front}
 use Rattle.fit_grammar.proofs.Blocked.{Blocked, Mute, quiet_behind, blocked_row}
 
 -- behind all the records no item begins within the data

@@ -1,8 +1,8 @@
 -- From what a decoder meets, behind the front that it has reached, to the fault of the bytes.
-use Rattle.std.proofs.Common.{◌≡◌, ◌≢◌, ℕ, ◌+◌, ◌-◌, ◌*◌, ◌<◌, ◌≤◌, List, [], ◌∷◌, ◌++◌, length, take, drop, Option, Some, None, Result, Ok, Err, cond, ltb, Bool, true, false, refl, sym, ap, subst, ◌∙◌, append_assoc, arith, ◌⊎◌, inl, inr}
+use Rattle.std.proofs.Common.{◌≡◌, ◌≢◌, ℕ, ◌+◌, ◌-◌, ◌*◌, ◌<◌, ◌≤◌, List, [], ◌∷◌, ◌++◌, length, take, drop, Option, Some, None, Ok, Err, cond, Bool, refl, sym, ap, subst, ◌∙◌, arith, inl, inr}
 use Rattle.std.specs.Prelude.{slice_index, IsSomeAnd}
 use Rattle.std.proofs.lemmas.Bool.{cases_lt, lt-ltb, le-ltb}
-use Rattle.std.proofs.lemmas.List.{length-append, length-drop, length-take-le, take-append-drop, append-nil, get_or_append_left}
+use Rattle.std.proofs.lemmas.List.{length-append, length-drop, length-take-le, take-append-drop, get_or_append_left}
 use Rattle.std.proofs.Math.Seq.{take-append_seam}
 use Rattle.fit_base.specs.Number.{low_first}
 use Rattle.fit_base.specs.Checksum.{crc}
@@ -10,29 +10,22 @@ use Rattle.fit_grammar.specs.declared.definition.Definition.{Definition}
 use Rattle.fit_grammar.specs.declared.fault.FaultKind.{FaultKind}
 use Rattle.fit_grammar.specs.declared.fault.FaultKind.TheVariants.{Truncated, HeaderSize, Magic, Protocol, HeaderCrc, UndefinedLocal, SplitMessage, FileCrc, TrailingBytes, Memory, Developer}
 use Rattle.fit_grammar.specs.declared.fault.FileFault.{FileFault}
-use Rattle.fit_grammar.specs.declared.item.ItemFault.{ItemFault}
 use Rattle.fit_grammar.specs.declared.item.ItemFault.TheVariants as items
 use Rattle.fit_grammar.specs.declared.frame.Frame.{Frame}
 use Rattle.fit_grammar.specs.Item.{Item, Spells, Head, DefinitionHead, DeveloperHead, DataHead, head_of, content_size}
 use Rattle.fit_grammar.specs.Records.{in_force}
-use Rattle.fit_grammar.specs.Step.{definition_length_of, data_length_of, length_by, least_length_of, ItemAtFront, ItemBegun}
+use Rattle.fit_grammar.specs.Step.{definition_length_of, data_length_of, length_by, ItemBegun}
 use Rattle.fit_grammar.specs.File.{FileValue, FileOf, IsClosing}
 use Rattle.fit_grammar.specs.Refusal.{Front, front_bytes, front_end, IsFront, SplitsAtFirst, SplitsAtCount, Refusal, IsFaultOf}
 use Rattle.fit_grammar.specs.Decoding.{WindowShows, IsItemFault, EndShows, fault_of}
-use Rattle.fit_grammar.proofs.Quiet.{ItemInside}
 use Rattle.fit_grammar.proofs.Blocked.{Blocked}
 use Rattle.fit_grammar.proofs.Refused.{refused}
 use Rattle.fit_grammar.proofs.Accepted.{AcceptsHead, stands_one, count_refused, ends_within, ends_before}
 use Rattle.fit_grammar.proofs.Closed.{closing_cut, closing_wrong, closing_followed, closing_right}
 use Rattle.fit_grammar.proofs.Steps.{item_not_begun}
 use Rattle.fit_grammar.proofs.WantOfMemory.{front_before_refusal, item_begins}
+use Rattle.fit_grammar.proofs.Least.{ok_is}
 use Rattle.fit_grammar.proofs.Reached.{Reached, rest_there}
-
-abbrev ok : ℕ → Result ℕ ItemFault
-ok n = Ok n
-
-ok_is : (m n : ℕ) → ok m ≡ ok n → m ≡ n
-ok_is m n e = cc
 
 -- ---- by the first byte
 

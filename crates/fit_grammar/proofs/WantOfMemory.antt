@@ -1,15 +1,10 @@
 -- Want of memory comes at an item that begins at or before the place of the refusal.
-use Rattle.std.proofs.Common.{◌≡◌, ℕ, ◌+◌, ◌<◌, ◌≤◌, List, [], ◌∷◌, ◌++◌, length, take, drop, sym, ap, subst, ◌∙◌, append_assoc, arith, inl, inr, refl}
-use Rattle.std.proofs.lemmas.List.{length-append, append-nil, take-append-drop}
-use Rattle.fit_grammar.specs.declared.definition.Definition.{Definition}
+use Rattle.std.proofs.Common.{◌≡◌, ℕ, ◌<◌, ◌≤◌, List, ◌++◌, length, take, ap, arith, inl, inr, refl}
+use Rattle.std.proofs.lemmas.List.{length-append}
 use Rattle.fit_grammar.specs.declared.fault.FaultKind.{FaultKind}
 use Rattle.fit_grammar.specs.declared.fault.FaultKind.TheVariants.{Truncated, HeaderSize, Magic, Protocol, HeaderCrc, UndefinedLocal, SplitMessage, FileCrc, TrailingBytes, Memory, Developer}
-use Rattle.fit_grammar.specs.Item.{Item, Defines}
-use Rattle.fit_grammar.specs.Records.{RecordsAfter}
 use Rattle.fit_grammar.specs.Refusal.{Front, front_bytes, front_end, IsFront, place_behind, Shows, Refusal, ItemBeginsAt}
-use Rattle.fit_grammar.proofs.Alignment.{GoesOn, longer, shorter}
-use Rattle.fit_grammar.proofs.Quiet.{item_head, first_byte}
-use Rattle.fit_grammar.proofs.Fronts.{SameFronts, same_fronts, beginning_joined, later}
+use Rattle.fit_grammar.proofs.Fronts.{later}
 use Rattle.fit_grammar.proofs.Blocked.{behind}
 
 front_le_place : (kind : FaultKind) (f : Front) → front_end f ≤ place_behind kind f

@@ -1,5 +1,5 @@
 -- What the decoder of files knows on its way through the bytes.
-use Rattle.std.specs.Prelude.{◌≡◌, ◌≢◌, ℕ, ◌+◌, ◌≤◌, ◌<◌, ◌^◌, List, ◌++◌, length, take, drop, Result, Ok, Err, Option, ◌⊎◌}
+use Rattle.std.specs.Prelude.{◌≡◌, ◌≢◌, ℕ, ◌+◌, ◌≤◌, ◌<◌, List, length, take, drop, Ok, Err, Option, ◌⊎◌}
 use Rattle.fit_base.specs.Number.{low_first}
 use Rattle.fit_base.specs.Checksum.{crc}
 use Rattle.fit_grammar.specs.declared.definition.Definition.{Definition}
@@ -7,7 +7,6 @@ use Rattle.fit_grammar.specs.declared.decode.Header.{Header}
 use Rattle.fit_grammar.specs.declared.fault.FaultKind.{FaultKind}
 use Rattle.fit_grammar.specs.declared.fault.FaultKind.TheVariants.{Truncated, UndefinedLocal, SplitMessage, FileCrc, TrailingBytes, Memory, Developer}
 use Rattle.fit_grammar.specs.declared.fault.FileFault.{FileFault}
-use Rattle.fit_grammar.specs.declared.item.ItemFault.{ItemFault}
 use Rattle.fit_grammar.specs.declared.item.ItemFault.TheVariants as items
 use Rattle.fit_grammar.specs.Item.{Item}
 use Rattle.fit_grammar.specs.Records.{in_force}

@@ -1,5 +1,5 @@
 -- The refusal of bytes that are no file: what their shortest beginning that shows a fault shows.
-use Rattle.std.specs.Prelude.{◌≡◌, ◌≢◌, ℕ, ◌+◌, ◌*◌, ◌/◌, ◌<◌, ◌≤◌, List, [], ◌∷◌, ◌++◌, length, take, slice_index, slice_range, Option, None, Some, IsSomeAnd, ◌⊎◌}
+use Rattle.std.specs.Prelude.{◌≡◌, ◌≢◌, ℕ, ◌+◌, ◌*◌, ◌/◌, ◌<◌, ◌≤◌, List, [], ◌∷◌, ◌++◌, length, take, slice_index, slice_range, Option, None, IsSomeAnd, ◌⊎◌}
 use Rattle.fit_base.specs.Number.{low_first}
 use Rattle.fit_base.specs.Checksum.{crc}
 use Rattle.fit_grammar.specs.declared.frame.Frame.{Frame}

@@ -1,7 +1,7 @@
 // Files and bytes that are no files, with faults and places from outside. Checksums were computed by another
 // program, bit by bit.
 
-use crate::{FaultKind, decode_file};
+use crate::{FaultKind, decode_file, encode_file};
 use std::alloc::{AllocError, Global};
 use std::test::*;
 
@@ -79,6 +79,23 @@ fn files_are_read(rt: HostRuntime) -> Result<(), Fail> {
 }
 
 #[test]
+fn what_is_read_is_written_again(rt: HostRuntime) -> Result<(), Fail> {
+    for bytes in [
+        EMPTY.as_slice(),
+        SHORT_HEADER.as_slice(),
+        FILE_ID.as_slice(),
+        REDEFINED.as_slice(),
+        COMPRESSED.as_slice(),
+    ] {
+        let file = decode_file(rt.alloc(), bytes).ok().ok_or("a file")?;
+        let mut written = Vec::new(rt.alloc());
+        encode_file(&file, &mut written).ok().ok_or("written")?;
+        assert_eq!(rt; written.as_slice(), bytes);
+    }
+    Ok(())
+}
+
+#[test]
 fn a_beginning_is_cut_short(rt: HostRuntime) {
     for len in 0..FILE_ID.len() {
         let fault = outcome(rt.alloc(), &FILE_ID[..len]);
@@ -97,7 +114,10 @@ fn one_byte_is_wrong(rt: HostRuntime) -> Result<(), Fail> {
     assert_eq!(rt; outcome(alloc, &magic), Some((FaultKind::Magic, 8)));
     let mut longer = edited(alloc, &[])?;
     longer.push(0)?;
-    assert_eq!(rt; outcome(alloc, &longer), Some((FaultKind::TrailingBytes, 34)));
+    assert_eq!(rt;
+        outcome(alloc, &longer),
+        Some((FaultKind::TrailingBytes, 34))
+    );
     Ok(())
 }
 
@@ -116,14 +136,32 @@ fn refused_at_the_first_byte_that_shows_it(rt: HostRuntime) -> Result<(), Fail> 
     let alloc = rt.alloc();
     assert_eq!(rt; outcome(alloc, &[]), Some((FaultKind::Truncated, 0)));
     assert_eq!(rt; outcome(alloc, &[0x0D]), Some((FaultKind::HeaderSize, 0)));
-    assert_eq!(rt; outcome(alloc, &[0x0E, 0x30]), Some((FaultKind::Protocol, 1)));
+    assert_eq!(rt;
+        outcome(alloc, &[0x0E, 0x30]),
+        Some((FaultKind::Protocol, 1))
+    );
     for (size, records, kind, place) in [
-        (1, [0x05, 0x00, 0x00].as_slice(), FaultKind::UndefinedLocal(5), 12),
+        (
+            1,
+            [0x05, 0x00, 0x00].as_slice(),
+            FaultKind::UndefinedLocal(5),
+            12,
+        ),
         (1, [0x40].as_slice(), FaultKind::SplitMessage, 12),
         (9, [0x40].as_slice(), FaultKind::Truncated, 13),
         (7, [0x60].as_slice(), FaultKind::Developer, 12),
-        (8, [0x40, 0, 0, 0, 0, 1].as_slice(), FaultKind::SplitMessage, 12),
-        (9, [0x40, 0, 0, 0, 0, 1].as_slice(), FaultKind::Truncated, 18),
+        (
+            8,
+            [0x40, 0, 0, 0, 0, 1].as_slice(),
+            FaultKind::SplitMessage,
+            12,
+        ),
+        (
+            9,
+            [0x40, 0, 0, 0, 0, 1].as_slice(),
+            FaultKind::Truncated,
+            18,
+        ),
     ] {
         let bytes = behind_header(alloc, size, records)?;
         assert_eq!(rt; outcome(alloc, &bytes), Some((kind, place)));

@@ -39,6 +39,6 @@ pub use table::Table;
 pub use writing::{write_data, write_definition};
 
 #[cfg(test)]
-mod item_tests;
-#[cfg(test)]
 mod decode_tests;
+#[cfg(test)]
+mod item_tests;

@@ -1,17 +1,17 @@
 -- The shown text of values, by the cases that the code goes through.
-use Rattle.std.proofs.Common.{◌≡◌, ◌≢◌, ℕ, zero, suc, ◌+◌, ◌*◌, ◌/◌, ◌%◌, ◌<◌, ◌≤◌, ◌==◌, ◌↔◌, Bool, true, false, IsTrue, List, [], ◌∷◌, ◌++◌, length, get_or, take, drop, append_assoc, add-zero, refl, sym, ap, ◌∙◌, subst, eq-eqb, codes, decimal, Option, Some, None, arith, rules, if◌then◌else◌}
+use Rattle.std.proofs.Common.{◌≡◌, ◌≢◌, ℕ, zero, suc, ◌+◌, ◌<◌, ◌≤◌, ◌==◌, ◌↔◌, Bool, true, false, IsTrue, List, [], ◌∷◌, ◌++◌, length, get_or, take, drop, append_assoc, add-zero, refl, sym, ap, ◌∙◌, subst, eq-eqb, codes, decimal, Option, Some, arith, rules, if◌then◌else◌}
 use Rattle.std.proofs.lemmas.List.{at_drop_more, at_drop_all}
 use Rattle.std.specs.Fmt.{signed_decimal}
-use Rattle.std.specs.Int.{to_be_bytes, w32, w64}
+use Rattle.std.specs.Int.{to_be_bytes, w64}
 use Rattle.std.specs.List.{flat_map, list_all, before_first, join_by}
 use Rattle.fit_base.specs.declared.order.Arch.{Arch}
 use Rattle.fit_base.specs.declared.order.Arch.TheVariants.{Little, Big}
 use Rattle.fit_base.specs.declared.base.BaseType.{BaseType}
 use Rattle.fit_base.specs.declared.base.BaseType.TheVariants.{Float32, Float64, String, Byte}
-use Rattle.fit_base.specs.Number.{number, twos_complement}
+use Rattle.fit_base.specs.Number.{twos_complement}
 use Rattle.fit_base.specs.Base.{row_of, base_type, has_sign}
-use Rattle.fit_base.specs.Value.{Field, Values, Numbers, Raw, is_raw, raw_by, size_by, value_size, count_of, unsigned_at, signed_at, values_of, numbers, IsInvalidAt, IsInvalidBy}
-use Rattle.fitrec.specs.Text.{hex_byte, hex_text, is_plain, escaped, string_text, byte_text, whole_text, plain_text, number_text, numbers_text, IsNumber, some_text, values_text}
+use Rattle.fit_base.specs.Value.{Field, size_by, unsigned_at, signed_at, numbers, IsInvalidAt, IsInvalidBy}
+use Rattle.fitrec.specs.Text.{hex_byte, hex_text, is_plain, escaped, string_text, byte_text, whole_text, plain_text, number_text, numbers_text, IsNumber, some_text}
 
 -- ---- bytes
 

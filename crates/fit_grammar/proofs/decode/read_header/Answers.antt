@@ -1,11 +1,10 @@
-use Rattle.std.proofs.Common.{◌≡◌, ℕ, ◌+◌, ◌/◌, ◌<◌, ◌≤◌, List, length, take, refl, sym, ap, ◌∙◌, arith, ◌⊎◌, inl, inr, length-take-le}
-use Rattle.std.specs.Prelude.{slice_index, slice_range}
+use Rattle.std.proofs.Common.{◌≡◌, ℕ, ◌+◌, ◌/◌, ◌≤◌, List, length, take, refl, sym, ap, ◌∙◌, arith, ◌⊎◌, inl, inr, length-take-le}
+use Rattle.std.specs.Prelude.{slice_index}
 use Rattle.std.proofs.lemmas.Bool.{false≢true}
-use Rattle.fit_grammar.specs.declared.fault.FaultKind.TheVariants.{HeaderSize, Magic, Protocol, HeaderCrc, Memory}
+use Rattle.fit_grammar.specs.declared.fault.FaultKind.TheVariants.{Magic, Protocol, HeaderCrc}
 use Rattle.fit_base.specs.Number.{low_first}
-use Rattle.fit_grammar.specs.File.{mark, ChecksHeader}
 use Rattle.fit_grammar.proofs.HeaderRefused.{Passes}
-use Rattle.fit_grammar.proofs.HeaderRead.{first_refused, cut_refused, check_refused, header_byte, header_range, two_read, four_read}
+use Rattle.fit_grammar.proofs.HeaderRead.{empty_refused, first_refused, cut_refused, check_refused, header_byte, header_range, two_read, four_read}
 use Rattle.fit_grammar.proofs.decode.read_header.Goals as goal
 use Rattle.fit_grammar.proofs.decode.read_header.Goals.{else-header_size-eq14-via-then-header_size-eq14+else-not-checks_header, else-header_size-eq14-via-else-header_size-eq14}
 
@@ -25,6 +24,9 @@ passes_major b count first major le = record {
   marked = λ more. absurd (omega arith);
   within = elim first [ inl e ↦ omega arith | inr e ↦ omega arith ];
 }
+
+pub returns-then-len-eq0-clause-refused : goal.returns-then-len-eq0-clause-refused
+returns-then-len-eq0-clause-refused c = empty_refused c.args.bytes.now _ c.fault.ensures c.if-len-eq0.true
 
 pub returns-then-not-is_header_size-clause-refused : goal.returns-then-not-is_header_size-clause-refused
 returns-then-not-is_header_size-clause-refused c =

@@ -1,15 +1,13 @@
-use Rattle.std.proofs.Common.{◌≡◌, [], ◌++◌, List, ℕ, length, Option, refl, ap, sym, subst, ◌∙◌, append_assoc}
-use Rattle.std.specs.List.{AllByRecursion}
+use Rattle.std.proofs.Common.{◌≡◌, [], ◌++◌, List, ℕ, refl, ap, sym, ◌∙◌, append_assoc}
 use Rattle.fit_base.specs.declared.order.Arch.TheVariants.{Little}
 use Rattle.fit_base.specs.Checksum.{crc}
-use Rattle.fit_grammar.specs.Item.{Item}
 use Rattle.fit_grammar.specs.declared.file.Stored.{Stored}
-use Rattle.fit_grammar.specs.Encoding.{HasEncoding, two_bytes, encoded_header, encoded_items}
+use Rattle.fit_grammar.specs.Encoding.{two_bytes, encoded_header, encoded_items}
 use Rattle.fit_grammar.specs.File.{FileValue}
-use Rattle.fit_grammar.specs.Stored.{items_in, LiesWithin}
+use Rattle.fit_grammar.specs.Stored.{items_in}
 use Rattle.fit_grammar.proofs.Following.{all_have_encoding}
 use Rattle.fit_grammar.proofs.OutputLemmas.{then_writes, stops_before, writes_same}
-use Rattle.fit_grammar.proofs.Checked.{then_checked, stops_checked}
+use Rattle.fit_grammar.proofs.Checked.{then_checked}
 use Rattle.fit_grammar.proofs.Encoded.{checksum_bytes, file_joined}
 use Rattle.fit_grammar.proofs.encode.put_file.Goals as goal
 
