@@ -72,7 +72,7 @@ fn files_are_read(rt: HostRuntime) -> Result<(), Fail> {
         (REDEFINED.as_slice(), 23),
         (COMPRESSED.as_slice(), 37),
     ] {
-        let file = decode_file(rt.alloc(), bytes).ok().ok_or("a file")?;
+        let file = decode_file(rt.alloc(), bytes)?;
         assert_eq!(rt; file.data_size(), size);
     }
     Ok(())
@@ -87,9 +87,9 @@ fn what_is_read_is_written_again(rt: HostRuntime) -> Result<(), Fail> {
         REDEFINED.as_slice(),
         COMPRESSED.as_slice(),
     ] {
-        let file = decode_file(rt.alloc(), bytes).ok().ok_or("a file")?;
+        let file = decode_file(rt.alloc(), bytes)?;
         let mut written = Vec::new(rt.alloc());
-        encode_file(&file, &mut written).ok().ok_or("written")?;
+        encode_file(&file, &mut written)?;
         assert_eq!(rt; written.as_slice(), bytes);
     }
     Ok(())
@@ -167,4 +167,26 @@ fn refused_at_the_first_byte_that_shows_it(rt: HostRuntime) -> Result<(), Fail> 
         assert_eq!(rt; outcome(alloc, &bytes), Some((kind, place)));
     }
     Ok(())
+}
+
+// Run with each allocation refused in turn: the item that wanted it is told, and a header that promises much
+// takes none.
+#[test]
+fn tells_which_item_wants_memory(rt: HostRuntime) {
+    for _ in 0..8 {
+        match outcome(rt.alloc(), &FILE_ID) {
+            None => {}
+            Some((kind, place)) => {
+                assert_eq!(rt; kind, FaultKind::Memory);
+                assert!(rt; place == 14 || place == 26, "{place}");
+            }
+        }
+        let promised = [
+            0x0C, 0x10, 0x64, 0x00, 0xFF, 0xFF, 0xFF, 0xFF, 0x2E, 0x46, 0x49, 0x54,
+        ];
+        assert_eq!(rt;
+            outcome(rt.alloc(), &promised),
+            Some((FaultKind::Truncated, 12))
+        );
+    }
 }

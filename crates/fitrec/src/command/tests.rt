@@ -312,3 +312,31 @@ fn says_where_output_fails(rt: HostRuntime) -> Result<(), Fail> {
     fs::remove_file(&rt, path.as_str())?;
     Ok(())
 }
+
+// Run with each allocation refused in turn: nothing is shown, and one line says why.
+#[test]
+fn says_that_memory_is_refused(rt: HostRuntime) -> Result<(), Fail> {
+    let path = path_of(&rt, "memory")?;
+    fs::write(&rt, path.as_str(), &ONE_MESSAGE)?;
+    let mut out = Vec::with_capacity(rt.alloc(), 128)?;
+    let mut err = Vec::with_capacity(rt.alloc(), 128)?;
+    let status = command(&rt, &["show", path.as_str()], &mut out, &mut err);
+    fs::remove_file(&rt, path.as_str())?;
+    if status == 0 {
+        assert_eq!(rt; out.as_slice(), ONE_MESSAGE_TEXT.as_bytes());
+        assert_eq!(rt; err.len(), 0);
+    } else {
+        assert_eq!(rt; status, 1);
+        assert_eq!(rt; out.len(), 0);
+        let lines = ["NoMemory", "Memory at 14", "Memory at 26"];
+        assert!(rt; lines.iter().any(|line| is_line(err.as_slice(), line)));
+    }
+    Ok(())
+}
+
+fn is_line(written: &[u8], text: &str) -> bool {
+    written
+        .strip_prefix(b"fitrec: ")
+        .and_then(|rest| rest.strip_suffix(b"\n"))
+        == Some(text.as_bytes())
+}
