@@ -81,12 +81,6 @@ behind kind place n b f rest p e (inl s) =
     let joined : b ≡ f.header ++ (f.records ++ rest) = e ∙ append_assoc f.header f.records rest in
     absurd (header_quiet kind place n f.header f.frame f.size (f.records ++ rest) p.is_header (rw joined at s))
 
--- no beginning up to a front shows a fault
-pub quiet_within : (b : List ℕ) (f : Front) (rest : List ℕ) → IsFront f → b ≡ front_bytes f ++ rest → (n : ℕ) (kind : FaultKind) (place : ℕ) → n ≤ front_end f → Shows kind place (take n b) → ⊥
-quiet_within b f rest p e n kind place le s =
-    let l = later kind place n b f rest p e (behind kind place n b f rest p e s) in
-    omega (arith, tail_not_empty kind l.1.front l.1.tail l.1.shown, l.1.count_is, length-take n b)
-
 mute_here : (more : List Item) (b : List ℕ) (f : Front) (rest : List ℕ) (limit n : ℕ) (kind : FaultKind) (place : ℕ) → ShowsLater f rest (length (take n b)) kind place more → (2 < limit → Blocked f rest) → Mute f rest limit → n < front_end f + limit → ⊥
 mute_here [] b f rest limit n kind place s blocked mute lt =
     let h = shows_right_here f rest (length (take n b)) kind place s in

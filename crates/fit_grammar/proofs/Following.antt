@@ -1,8 +1,9 @@
 -- A row of items whose numbers fit and whose data messages are defined goes on to be one, and the definitions in force fit.
-use Rattle.std.proofs.Common.{◌≡◌, ℕ, ◌+◌, ◌^◌, ◌<◌, List, [], ◌∷◌, ◌++◌, get_or, suc, Option, Some, None, refl, sym, subst, append_assoc, arith, inl, inr}
+use Rattle.std.proofs.Common.{◌≡◌, ℕ, ◌+◌, ◌^◌, ◌<◌, List, [], ◌∷◌, ◌++◌, get_or, suc, Option, Some, None, refl, sym, ap, subst, ◌∙◌, append_assoc, arith, inl, inr}
 use Rattle.std.specs.List.{AllByRecursion}
 use Rattle.std.specs.Option.{option_or}
 use Rattle.std.proofs.lemmas.List.{append-nil}
+use Rattle.std.proofs.lemmas.List.Sums.{sum_by-append}
 use Rattle.std.proofs.lemmas.Bool.{cases_lt}
 use Rattle.std.proofs.lemmas.Bool.Decides.{eqb_tells}
 use Rattle.std.proofs.lemmas.Option.{none-some}
@@ -12,12 +13,14 @@ use Rattle.fit_grammar.specs.Records.{definition_by, in_force, data_size}
 use Rattle.fit_grammar.specs.Encoding.{HasEncoding}
 use Rattle.fit_grammar.specs.File.{FileValue, with_item, IsTooLong, IsOffset}
 use Rattle.fit_grammar.specs.Possible.{CanFollow, AllCanFollow, CanBeFile}
-use Rattle.fit_grammar.proofs.Kept.{data_size-push}
 
 pub AllCanFollow-push : (before items : List Item) (item : Item) → AllCanFollow before items → CanFollow (before ++ items) item → AllCanFollow before (items ++ item ∷ [])
 AllCanFollow-push before [] item a h = (subst (λ (l : List Item). CanFollow l item) (append-nil before) h, tt)
 AllCanFollow-push before (first ∷ items) item a h =
     (a.0, AllCanFollow-push (before ++ first ∷ []) items item a.1 (subst (λ (l : List Item). CanFollow l item) (sym (append_assoc before (first ∷ []) items)) h))
+
+pub data_size-push : (items : List Item) (item : Item) → data_size (items ++ item ∷ []) ≡ data_size items + item_size item
+data_size-push items item = sum_by-append item_size items (item ∷ []) ∙ ap (λ (n : ℕ). data_size items + n) (omega arith)
 
 -- a file goes on to be one behind an item that can follow and is not too long
 pub CanBeFile-push : (v : FileValue) (item : Item) → CanBeFile v → CanFollow v.items item → (IsTooLong v item → ⊥) → CanBeFile (with_item v item)
@@ -41,11 +44,6 @@ pub bytes_fit : (bytes : List ℕ) → ((i : ℕ) → get_or bytes i 0 < 256) �
 bytes_fit [] h = tt
 bytes_fit (byte ∷ bytes) h = (h 0, bytes_fit bytes (λ i. h (suc i)))
 
--- one element more
-pub fit-push : {A : Type 0} (P : A → Type 0) (xs : List A) (x : A) → AllByRecursion P xs → P x → AllByRecursion P (xs ++ x ∷ [])
-fit-push P [] x a h = (h, tt)
-fit-push P (y ∷ xs) x a h = (a.0, fit-push P xs x a.1 h)
-
 -- a local number that has a definition is below 16
 given_small : (item : Item) (l : ℕ) (d : Definition) → HasEncoding item → definition_by item l ≡ Some d → l < 16
 given_small (Defines c) l d fits e =
@@ -68,7 +66,3 @@ in_force_small before (item ∷ items) l d a e =
 pub data_has_encoding : (local : ℕ) (offset : Option ℕ) (content : List ℕ) → local < 16 → IsOffset local offset → HasEncoding (Data local offset content)
 data_has_encoding local None content small can = small
 data_has_encoding local (Some offset) content small can = can
-
-pub all_have_encoding : (before items : List Item) → AllCanFollow before items → AllByRecursion HasEncoding items
-all_have_encoding before [] a = tt
-all_have_encoding before (item ∷ items) a = (a.0.encodable, all_have_encoding (before ++ item ∷ []) items a.1)

@@ -1,12 +1,10 @@
 -- A table that agrees with the definitions in force, and goes on to agree with them.
-use Rattle.std.proofs.Common.{◌≡◌, ◌≢◌, ℕ, ◌<◌, List, [], ◌∷◌, ◌++◌, Option, Some, None, refl, sym, ap, ◌∙◌, inl, inr}
+use Rattle.std.proofs.Common.{◌≡◌, ◌≢◌, ℕ, List, [], ◌∷◌, ◌++◌, Option, Some, None, refl, sym, ap, ◌∙◌}
 use Rattle.std.specs.Option.{option_or}
 use Rattle.std.proofs.lemmas.Bool.{eq-eqb, ne_eqb}
-use Rattle.std.proofs.lemmas.Bool.Decides.{eqb_tells}
 use Rattle.fit_grammar.specs.declared.definition.Definition.{Definition}
 use Rattle.fit_grammar.specs.Item.{Item, Defines, Data}
 use Rattle.fit_grammar.specs.Records.{definition_by, in_force}
-use Rattle.fit_grammar.specs.Table.{definition_in}
 
 or_assoc : {A : Type 0} (a b c : Option A) → option_or (option_or a b) c ≡ option_or a (option_or b c)
 or_assoc None b c = refl
@@ -33,25 +31,3 @@ in_force-others items d l other = in_force-append items (Defines d) l ∙ rw (ne
 -- a data message changes none
 pub in_force-data : (items : List Item) (local : ℕ) (offset : Option ℕ) (content : List ℕ) (l : ℕ) → in_force (items ++ Data local offset content ∷ []) l ≡ in_force items l
 in_force-data items local offset content l = in_force-append items (Data local offset content) l
-
--- a table that agrees with the definitions in force
-abbrev pub Agrees : List (Option Definition) → List Item → Type 0
-Agrees table items = (l : ℕ) → l < 16 → definition_in table l ≡ in_force items l
-
-pub Agrees-new : (table : List (Option Definition)) → ((l : ℕ) → definition_in table l ≡ None) → Agrees table []
-Agrees-new table none l lt = none l
-
--- and goes on to agree with them behind a definition that it takes
-pub Agrees-take : (old new : List (Option Definition)) (items : List Item) (d : Definition) → Agrees old items
-    → definition_in new d.local ≡ Some d → ((l : ℕ) → l ≢ d.local → definition_in new l ≡ definition_in old l)
-    → Agrees new (items ++ Defines d ∷ [])
-Agrees-take old new items d agrees taken others l lt =
-    elim (eqb_tells l d.local) [
-      | inl same ↦ rw same.1 (taken ∙ sym (in_force-defines items d))
-      | inr other ↦ others l other.1 ∙ agrees l lt ∙ sym (in_force-others items d l other.1)
-    ]
-
--- and behind a data message
-pub Agrees-data : (table : List (Option Definition)) (items : List Item) (local : ℕ) (offset : Option ℕ) (content : List ℕ) → Agrees table items
-    → Agrees table (items ++ Data local offset content ∷ [])
-Agrees-data table items local offset content agrees l lt = agrees l lt ∙ sym (in_force-data items local offset content l)

@@ -1,51 +1,20 @@
 -- A file goes on to be kept as it is when an item is added to it.
-use Rattle.std.proofs.Common.{◌≡◌, ◌≢◌, ℕ, ◌+◌, ◌≤◌, List, [], ◌∷◌, ◌++◌, length, take, drop, Option, Some, refl, sym, ap, ◌∙◌, arith, inl, inr}
-use Rattle.std.specs.List.{AllByRecursion}
+use Rattle.std.proofs.Common.{◌≡◌, ◌≢◌, ℕ, List, [], ◌∷◌, ◌++◌, Option, Some, sym, ap, subst, ◌∙◌, inl, inr}
 use Rattle.std.proofs.lemmas.Bool.Decides.{eqb_tells}
-use Rattle.std.proofs.Math.Seq.{drop-append_seam, take-length}
-use Rattle.std.proofs.lemmas.List.Sums.{sum_by-append}
-use Rattle.std.proofs.lemmas.List.{map_push, drop-append-le, take-append-le, length-drop}
 use Rattle.fit_grammar.specs.declared.definition.Definition.{Definition}
-use Rattle.fit_grammar.specs.declared.file.Stored.{Stored}
-use Rattle.fit_grammar.specs.declared.file.Stored.TheVariants as stored
-use Rattle.fit_grammar.specs.Item.{Item, Defines, Data, item_size}
-use Rattle.fit_grammar.specs.Records.{in_force, data_size}
+use Rattle.fit_grammar.specs.declared.file.File.TheInside.{Inside}
+use Rattle.fit_grammar.specs.declared.frame.Frame.{Frame}
+use Rattle.fit_grammar.specs.Item.{Item, Defines}
+use Rattle.fit_grammar.specs.Records.{in_force}
+use Rattle.fit_grammar.specs.Encoding.{encoded_item, encoded_items}
+use Rattle.fit_grammar.specs.File.{FileValue, with_item, IsTooLong}
+use Rattle.fit_grammar.specs.Possible.{CanFollow, CanBeFile}
+use Rattle.fit_grammar.specs.Rows.{items_in}
+use Rattle.fit_grammar.specs.Stored.{file_view, IsKept}
 use Rattle.fit_grammar.specs.Table.{definition_in}
-use Rattle.fit_grammar.specs.Stored.{item_in, items_in, LiesWithin}
+use Rattle.fit_grammar.proofs.Following.{CanBeFile-push}
 use Rattle.fit_grammar.proofs.InForce.{in_force-defines, in_force-others}
-
-pub items_in-push : (contents : List ℕ) (items : List Stored) (s : Stored) → items_in contents (items ++ s ∷ []) ≡ items_in contents items ++ item_in contents s ∷ []
-items_in-push contents items s = map_push (item_in contents) items s
-
-pub data_size-push : (items : List Item) (item : Item) → data_size (items ++ item ∷ []) ≡ data_size items + item_size item
-data_size-push items item = sum_by-append item_size items (item ∷ []) ∙ ap (λ (n : ℕ). data_size items + n) (omega arith)
-
-pub within-push : (len : ℕ) (items : List Stored) (s : Stored) → AllByRecursion (LiesWithin len) items → LiesWithin len s → AllByRecursion (LiesWithin len) (items ++ s ∷ [])
-within-push len [] s a h = (h, tt)
-within-push len (i ∷ items) s a h = (a.0, within-push len items s a.1 h)
-
--- more contents leave the items as they are
-one_within : (len more : ℕ) (s : Stored) → len ≤ more → LiesWithin len s → LiesWithin more s
-one_within len more (stored.Definition d) le h = tt
-one_within len more (stored.Data m) le h = omega arith
-
-pub within-more : (len more : ℕ) (items : List Stored) → len ≤ more → AllByRecursion (LiesWithin len) items → AllByRecursion (LiesWithin more) items
-within-more len more [] le a = tt
-within-more len more (i ∷ items) le a = (one_within len more i le a.0, within-more len more items le a.1)
-
-part_of : (contents more : List ℕ) (start size : ℕ) → start + size ≤ length contents → take size (drop start (contents ++ more)) ≡ take size (drop start contents)
-part_of contents more start size le =
-    ap (λ (l : List ℕ). take size l) (drop-append-le start contents more (omega arith))
-    ∙ take-append-le size (drop start contents) more (omega (arith, length-drop start contents))
-
-item_in-more : (contents more : List ℕ) (s : Stored) → LiesWithin (length contents) s → item_in (contents ++ more) s ≡ item_in contents s
-item_in-more contents more (stored.Definition d) h = refl
-item_in-more contents more (stored.Data m) h = ap (λ (l : List ℕ). Data m.local m.offset l) (part_of contents more m.start m.size h)
-
-pub items_in-more : (contents more : List ℕ) (items : List Stored) → AllByRecursion (LiesWithin (length contents)) items → items_in (contents ++ more) items ≡ items_in contents items
-items_in-more contents more [] a = refl
-items_in-more contents more (i ∷ items) a =
-    ap (λ (k : Item). k ∷ items_in (contents ++ more) items) (item_in-more contents more i a.0) ∙ ap (λ (l : List Item). item_in contents i ∷ l) (items_in-more contents more items a.1)
+use Rattle.fit_grammar.proofs.ReadAgain.{items_in-push, encoded_items-push}
 
 -- the table that takes a definition has the definitions in force behind it
 pub table-take : (old new : List (Option Definition)) (items : List Item) (d : Definition) → ((l : ℕ) → definition_in old l ≡ in_force items l)
@@ -56,9 +25,24 @@ table-take old new items d agrees taken others l =
       | inr other ↦ others l other.1 ∙ agrees l ∙ sym (in_force-others items d l other.1)
     ]
 
--- a data message at the end of the contents is the item of its content
-pub item_in-last : (contents content : List ℕ) (local : ℕ) (offset : Option ℕ) (size : ℕ) → size ≡ length content
-    → Data local offset (take size (drop (length contents) (contents ++ content))) ≡ Data local offset content
-item_in-last contents content local offset size e =
-    ap (λ (l : List ℕ). Data local offset l)
-    (ap (λ (l : List ℕ). take size l) (drop-append_seam contents content) ∙ ap (λ (n : ℕ). take n content) e ∙ take-length content)
+abbrev file_by : Frame → List Item → FileValue
+file_by frame items = record { frame = frame; items = items }
+
+-- a file with the bytes of one item more is kept, and is the file with that item
+pub kept : (old new : Inside) (item : Item) → IsKept old → new.frame ≡ old.frame → new.records.items ≡ old.records.items ++ encoded_item item
+    → CanFollow (file_view old).items item → (IsTooLong (file_view old) item → ⊥)
+    → ((l : ℕ) → definition_in new.table l ≡ in_force (items_in old.records.items ++ item ∷ []) l)
+    → IsKept new × (file_view new ≡ with_item (file_view old) item)
+kept old new item k frame records follows short table =
+    let items = items_in old.records.items in
+    let can_be = CanBeFile-push (file_view old) item k.can_be follows short in
+    let items_are : items_in new.records.items ≡ items ++ item ∷ [] = ap items_in records ∙ items_in-push old.records.items item k.written can_be.items_follow in
+    let view : file_view new ≡ with_item (file_view old) item =
+    ap (λ (f : Frame). file_by f (items_in new.records.items)) frame ∙ ap (λ (l : List Item). file_by old.frame l) items_are in (
+      record {
+        can_be = subst CanBeFile (sym view) can_be;
+        written = ap encoded_items items_are ∙ encoded_items-push items item ∙ ap (λ (bytes : List ℕ). bytes ++ encoded_item item) k.written ∙ sym records;
+        table = λ l. table l ∙ ap (λ (is : List Item). in_force is l) (sym items_are);
+      },
+      view,
+    )

@@ -1,13 +1,12 @@
 -- The least length of the item at the front of a window, by what the window holds.
-use Rattle.std.proofs.Common.{◌≡◌, ℕ, ◌+◌, ◌*◌, ◌<◌, ◌≤◌, Bool, List, [], ◌∷◌, length, take, drop, Option, Some, None, Result, Ok, Err, refl, sym, ap, ◌∙◌, arith, cond}
+use Rattle.std.proofs.Common.{◌≡◌, ℕ, ◌+◌, ◌*◌, ◌<◌, ◌≤◌, Bool, List, [], ◌∷◌, length, take, drop, Option, Some, None, Result, Ok, refl, sym, ap, ◌∙◌, arith, cond}
 use Rattle.std.specs.Prelude.{slice_index, IsSomeAnd}
 use Rattle.std.proofs.lemmas.Bool.{le-ltb}
 use Rattle.std.proofs.lemmas.List.{length-take-le, get_or-take, take-append-drop}
 use Rattle.fit_grammar.specs.declared.definition.Definition.{Definition}
 use Rattle.fit_grammar.specs.declared.item.ItemFault.{ItemFault}
-use Rattle.fit_grammar.specs.declared.item.ItemFault.TheVariants.{UndefinedLocal, Developer}
 use Rattle.fit_grammar.specs.Item.{Item, Defines, Data, Head, DefinitionHead, DeveloperHead, DataHead, head_of, SpellsDefinition, content_size}
-use Rattle.fit_grammar.specs.Step.{definition_length_of, data_length_of, length_by, least_length_of, ItemAtFront, ItemBegun, ShowsUndefined, ShowsDeveloper}
+use Rattle.fit_grammar.specs.Step.{definition_length_of, data_length_of, length_by, least_length_of, ItemAtFront, ItemBegun}
 use Rattle.fit_grammar.proofs.Spelling.{definition_length, definition_count, data_length, spelling_not_empty}
 use Rattle.fit_grammar.proofs.Reading.{begun_empty, begun_definition, begun_data, front_is, definition_spelled}
 use Rattle.fit_grammar.specs.Reading.{definition_at}
@@ -50,14 +49,6 @@ least_of_item f (first ∷ rest) (Data local offset content) used p =
     let n = data_length local offset content (take used window) p.spelled in
     let head : head_of first ≡ DataHead local offset = spelling_head (Data local offset content) (take used window) (drop used window) rest first p.spelled (take-append-drop used window) in
     least_by_head f first rest (DataHead local offset) head ∙ some_length (f local) local (length content) p.defined ∙ ap (λ (k : ℕ). Ok k) (omega arith)
-
--- data with no definition, and developer fields
-pub least_of_undefined : (f : ℕ → Option Definition) (window : List ℕ) (local : ℕ) → ShowsUndefined f window local → least_length_of f window ≡ Err (UndefinedLocal local)
-least_of_undefined f window local p =
-    ap (least_length_of f) p.joined ∙ least_by_head f p.first p.rest (DataHead local p.offset) p.head ∙ ap (data_length_of local) p.undefined
-
-pub least_of_developer : (f : ℕ → Option Definition) (window : List ℕ) → ShowsDeveloper window → least_length_of f window ≡ Err Developer
-least_of_developer f window p = ap (least_length_of f) p.joined ∙ least_by_head f p.first p.rest DeveloperHead p.head
 
 -- a window that is shorter than its least length is a beginning of an item
 begun_by : (f : ℕ → Option Definition) (first : ℕ) (rest : List ℕ) (least : ℕ) (h : Head) → head_of first ≡ h → length_by f h (first ∷ rest) ≡ Ok least → length (first ∷ rest) < least → ItemBegun f (first ∷ rest)

@@ -5,7 +5,6 @@ pub mod Stated
 pub mod InForce
 pub mod Lengths
 pub mod Reading
-pub mod Kept
 pub mod Alignment
 pub mod Headers
 pub mod Quiet
@@ -20,10 +19,12 @@ pub mod Least
 pub mod Reached
 pub mod WantOfMemory
 pub mod Shown
-pub mod Lent
 pub mod Following
 pub mod OneValue
 pub mod Encoded
 pub mod Under
 pub mod OutputLemmas
 pub mod Checked
+pub mod ReadAgain
+pub mod Left
+pub mod Kept

@@ -3,17 +3,12 @@ use Rattle.std.proofs.Common.{◌≡◌, ℕ, List, [], ◌++◌, Option, Some, 
 use Rattle.std.proofs.lemmas.List.{append-nil, at_drop_more, at_drop_all}
 use Rattle.std.specs.List.{flat_map}
 use Rattle.std.specs.Result.{IsErr}
-use Rattle.std.specs.Io.KnownBytes.{Appends, Keeps}
+use Rattle.std.specs.Io.KnownBytes.{Appends}
 use Rattle.fit_grammar.specs.Output.{AppendsBeginning, WritesText}
 
 appends-none : (o : Option (List ℕ)) → Appends o o []
 appends-none None = tt
 appends-none (Some xs) = sym (append-nil xs)
-
-appends-kept : (o n : Option (List ℕ)) → Keeps o n → Appends o n []
-appends-kept None n k = tt
-appends-kept (Some xs) None k = absurd k
-appends-kept (Some xs) (Some ys) k = k ∙ sym (append-nil xs)
 
 appends-join : (o m n : Option (List ℕ)) (a b : List ℕ) → Appends o m a → Appends m n b → Appends o n (a ++ b)
 appends-join None m n a b h k = tt
@@ -73,15 +68,6 @@ pub record Leaves (old now : Option (List ℕ)) (text rest : List ℕ) : Type 0 
 pub leaves_all : (o : Option (List ℕ)) (text : List ℕ) → Leaves o o text text
 leaves_all o text = record { done = []; split = refl; appended = appends-none o }
 
--- a part of what is left was written
-pub leaves_less : {T E : Type 0} {o m n : Option (List ℕ)} {x : T} {text rest part : List ℕ} (more : List ℕ) →
-    Leaves o m text rest → WritesText {E = E} m n (Ok x) part → rest ≡ part ++ more → Leaves o n text more
-leaves_less {o = o} {m = m} {n = n} {part = part} more h k e = record {
-  done = h.done ++ part;
-  split = h.split ∙ ap (λ t. h.done ++ t) e ∙ sym (append_assoc h.done part more);
-  appended = appends-join o m n h.done part h.appended k.all;
-}
-
 -- the writer took a part of what is left
 pub leaves_rest : {o m n : Option (List ℕ)} {text rest : List ℕ} (part more : List ℕ) →
     Leaves o m text rest → Appends m n part → rest ≡ part ++ more → Leaves o n text more
@@ -90,6 +76,11 @@ leaves_rest {o = o} {m = m} {n = n} part more h k e = record {
   split = h.split ∙ ap (λ t. h.done ++ t) e ∙ sym (append_assoc h.done part more);
   appended = appends-join o m n h.done part h.appended k;
 }
+
+-- a part of what is left was written
+pub leaves_less : {T E : Type 0} {o m n : Option (List ℕ)} {x : T} {text rest part : List ℕ} (more : List ℕ) →
+    Leaves o m text rest → WritesText {E = E} m n (Ok x) part → rest ≡ part ++ more → Leaves o n text more
+leaves_less {part = part} more h k e = leaves_rest part more h k.all e
 
 -- nothing is left at last
 pub leaves_none : {T E : Type 0} {o n : Option (List ℕ)} {text : List ℕ} (x : T) → Leaves o n text [] → WritesText {E = E} o n (Ok x) text

@@ -1,5 +1,5 @@
 -- How far a decoder has come: a front of the bytes, whose items it has.
-use Rattle.std.proofs.Common.{◌≡◌, ℕ, ◌+◌, ◌-◌, ◌<◌, ◌≤◌, ◌^◌, List, [], ◌∷◌, ◌++◌, length, take, drop, refl, sym, ap, subst, ◌∙◌, append_assoc, arith}
+use Rattle.std.proofs.Common.{◌≡◌, ℕ, ◌+◌, ◌-◌, ◌<◌, ◌^◌, List, [], ◌∷◌, ◌++◌, length, take, drop, refl, sym, ap, subst, ◌∙◌, append_assoc, arith}
 use Rattle.std.proofs.Math.Seq.{drop-append_seam}
 use Rattle.std.proofs.lemmas.List.Sums.{sum_by-cons}
 use Rattle.std.proofs.lemmas.List.{length-append, length-take-le, take-append-drop, append-nil}
@@ -111,7 +111,3 @@ pub reached_fits : (b : List ℕ) (v : FileValue) (at end : ℕ) → Reached b v
 reached_fits b v at end r =
     let size = records_size [] r.front.records r.front.items r.is_front.are_records in
     omega (arith, size, ap data_size r.items_are, r.at_is, r.end_is, r.fits, r.is_front.inside)
-
-pub reached_within : (b : List ℕ) (v : FileValue) (at end : ℕ) → Reached b v at end → (at ≤ length b) × (at ≤ end)
-reached_within b v at end r =
-    (omega (arith, r.at_is, ap length r.joined, length-append (front_bytes r.front) r.rest, length-append r.front.header r.front.records), omega (arith, r.at_is, r.end_is, r.is_front.inside))

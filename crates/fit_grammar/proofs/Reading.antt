@@ -1,19 +1,15 @@
 -- What is read of a definition is spelled so, and a beginning of an item goes on as one.
-use Rattle.std.proofs.Common.{◌≡◌, ℕ, zero, suc, ◌+◌, ◌*◌, ◌-◌, ◌/◌, ◌%◌, ◌<◌, ◌≤◌, Bool, true, false, cond, List, [], ◌∷◌, ◌++◌, length, take, drop, replicate, Option, Some, None, refl, sym, ap, ◌∙◌, inl, inr, arith, length-append, append-nil, length-drop}
-use Rattle.std.specs.Prelude.{slice_index, slice_range, nat_lt, nat_eq}
+use Rattle.std.proofs.Common.{◌≡◌, ℕ, zero, suc, ◌+◌, ◌*◌, ◌-◌, ◌/◌, ◌%◌, ◌<◌, ◌≤◌, Bool, true, false, cond, List, [], ◌∷◌, ◌++◌, length, take, drop, replicate, Option, Some, None, refl, ap, ◌∙◌, inl, inr, arith, length-append, length-drop}
+use Rattle.std.specs.Prelude.{slice_index, nat_lt, nat_eq}
 use Rattle.std.specs.List.{flat_map}
 use Rattle.std.proofs.lemmas.Bool.{cases_lt, lt-ltb, le-ltb}
 use Rattle.std.proofs.lemmas.List.{length-take, length-replicate, get_or-take, take_all}
-use Rattle.fit_base.specs.declared.order.Arch.{Arch}
-use Rattle.fit_base.specs.Number.{number}
-use Rattle.fit_grammar.specs.declared.definition.FieldDefinition.{FieldDefinition}
 use Rattle.fit_grammar.specs.declared.definition.Definition.{Definition}
-use Rattle.fit_grammar.specs.Item.{Defines, Data, DefinitionHead, DeveloperHead, DataHead, head_of, arch_of, field_bytes, SpellsDefinition, content_size}
+use Rattle.fit_grammar.specs.Item.{Defines, Data, DefinitionHead, DeveloperHead, DataHead, head_of, field_bytes, SpellsDefinition, content_size}
 use Rattle.fit_grammar.specs.declared.item.Item.TheVariants as items
 use Rattle.fit_grammar.specs.declared.item.Step.TheVariants as steps
 use Rattle.fit_grammar.specs.Step.{ItemBegun, IsStep, definition_length_of}
-use Rattle.fit_grammar.specs.Reading.{fields_at, definition_at, AreDefinition}
-use Rattle.fit_grammar.proofs.Spelling.{fields_length, fields_one, definition_same}
+use Rattle.fit_grammar.specs.Reading.{fields_in, definition_at, AreDefinition}
 
 head_by : (a b c : Bool) (k m l : ℕ) (o : Option ℕ)
     → cond a (DataHead k None) (cond b (cond c (DefinitionHead k) DeveloperHead) (DataHead m o)) ≡ DefinitionHead l → l ≡ k
@@ -34,57 +30,36 @@ pub local_below : (d : Definition) (a : List ℕ) → SpellsDefinition d a → d
 local_below d a p = head_below p.first d.local p.head
 
 -- the fields that bytes spell have those bytes
-fields_at-length : (n : ℕ) (bytes : List ℕ) → length (fields_at n bytes) ≡ n
-fields_at-length zero bytes = refl
-fields_at-length (suc n) bytes = ap suc (fields_at-length n (drop 3 bytes))
+pub fields_in-length : (n : ℕ) (bytes : List ℕ) → length bytes ≡ 3 * n → length (fields_in bytes) ≡ n
+fields_in-length zero [] e = refl
+fields_in-length zero (a ∷ bytes) e = absurd (omega arith)
+fields_in-length (suc n) [] e = absurd (omega arith)
+fields_in-length (suc n) (a ∷ []) e = absurd (omega arith)
+fields_in-length (suc n) (a ∷ b ∷ []) e = absurd (omega arith)
+fields_in-length (suc n) (a ∷ b ∷ c ∷ bytes) e = ap suc (fields_in-length n bytes (omega arith))
 
-fields_at-bytes : (n : ℕ) (bytes : List ℕ) → length bytes ≡ 3 * n → flat_map field_bytes (fields_at n bytes) ≡ bytes
-fields_at-bytes zero [] e = refl
-fields_at-bytes zero (a ∷ bytes) e = absurd (omega arith)
-fields_at-bytes (suc n) [] e = absurd (omega arith)
-fields_at-bytes (suc n) (a ∷ []) e = absurd (omega arith)
-fields_at-bytes (suc n) (a ∷ b ∷ []) e = absurd (omega arith)
-fields_at-bytes (suc n) (a ∷ b ∷ c ∷ bytes) e = rw (fields_at-bytes n bytes (omega arith)) refl
+fields_in-bytes : (n : ℕ) (bytes : List ℕ) → length bytes ≡ 3 * n → flat_map field_bytes (fields_in bytes) ≡ bytes
+fields_in-bytes zero [] e = refl
+fields_in-bytes zero (a ∷ bytes) e = absurd (omega arith)
+fields_in-bytes (suc n) [] e = absurd (omega arith)
+fields_in-bytes (suc n) (a ∷ []) e = absurd (omega arith)
+fields_in-bytes (suc n) (a ∷ b ∷ []) e = absurd (omega arith)
+fields_in-bytes (suc n) (a ∷ b ∷ c ∷ bytes) e = rw (fields_in-bytes n bytes (omega arith)) refl
 
--- and no other fields have
-fields_found : (fields : List FieldDefinition) (n : ℕ) (bytes : List ℕ) → length bytes ≡ 3 * n → flat_map field_bytes fields ≡ bytes → fields ≡ fields_at n bytes
-fields_found fields n bytes whole spelled =
-    let lengths : length (flat_map field_bytes fields) ≡ length bytes = ap length spelled in
-    let count : length fields ≡ length (fields_at n bytes) = omega (arith, fields_length fields, fields_at-length n bytes) in
-    (fields_one fields (fields_at n bytes) [] [] count
-    (append-nil (flat_map field_bytes fields) ∙ spelled ∙ sym (fields_at-bytes n bytes whole) ∙ sym (append-nil (flat_map field_bytes (fields_at n bytes))))).0
-
-behind : (n : ℕ) (bytes : List ℕ) → take (length bytes - n) (drop n bytes) ≡ drop n bytes
+pub behind : (n : ℕ) (bytes : List ℕ) → take (length bytes - n) (drop n bytes) ≡ drop n bytes
 behind n bytes = take_all (length bytes - n) (drop n bytes) (omega (arith, length-drop n bytes))
 
 -- the fields of a definition have three bytes each
-pub fields_fit : (bytes : List ℕ) → AreDefinition bytes → length (take (length bytes - 6) (drop 6 bytes)) ≡ 3 * slice_index bytes 5
-fields_fit bytes are =
-    let known = are.known in
-    rw (behind 6 bytes) (omega (arith, length-drop 6 bytes))
-
--- what is read of a definition
-pub definition_read : (bytes : List ℕ) (value : Definition) (local : ℕ) (arch : Arch) (global : ℕ) (fields : List FieldDefinition) → AreDefinition bytes
-    → definition_at bytes ≡ value → local ≡ value.local → arch ≡ arch_of (slice_index bytes 2) → global ≡ number arch (slice_range bytes 3 5)
-    → flat_map field_bytes fields ≡ take (length bytes - 6) (drop 6 bytes)
-    → let made : Definition = record { local = local; arch = arch; global = global; fields = record { items = fields } } in made ≡ value
-definition_read bytes value local arch global fields are value_is local_is arch_is global_is spelled =
-    let known = are.known in
-    let items : fields ≡ fields_at (slice_index bytes 5) (drop 6 bytes) =
-    fields_found fields (slice_index bytes 5) (drop 6 bytes) (omega (arith, length-drop 6 bytes)) (spelled ∙ behind 6 bytes) in
-    let made : Definition = record { local = local; arch = arch; global = global; fields = record { items = fields } } in
-    let number_is : global ≡ (definition_at bytes).global = global_is ∙ rw arch_is refl in
-    let same : made ≡ definition_at bytes =
-    definition_same made (definition_at bytes) (local_is ∙ ap (λ (d : Definition). d.local) (sym value_is)) arch_is number_is items in
-    same ∙ value_is
+pub fields_fit : (bytes : List ℕ) → AreDefinition bytes → length (drop 6 bytes) ≡ 3 * slice_index bytes 5
+fields_fit bytes are = let known = are.known in omega (arith, length-drop 6 bytes)
 
 -- six bytes and three for each field are spelled as the definition that they are read as
 spelled_by : (a b c d e n : ℕ) (rest : List ℕ) → head_of a ≡ DefinitionHead (a % 16) → length rest ≡ 3 * n
     → SpellsDefinition (definition_at (a ∷ b ∷ c ∷ d ∷ e ∷ n ∷ rest)) (a ∷ b ∷ c ∷ d ∷ e ∷ n ∷ rest)
 spelled_by a b c d e n rest head whole =
-    let fields = fields_at n rest in
+    let fields = fields_in rest in
     let laid : a ∷ b ∷ c ∷ d ∷ e ∷ n ∷ rest ≡ a ∷ b ∷ c ∷ d ∷ e ∷ length fields ∷ flat_map field_bytes fields =
-    rw (fields_at-length n rest, fields_at-bytes n rest whole) refl in
+    rw (fields_in-length n rest whole, fields_in-bytes n rest whole) refl in
     record { first = a; reserved = b; architecture = c; global_1 = d; global_2 = e; laid_out = laid; head = head; arch = refl; global = refl }
 
 -- the bytes of one definition spell it

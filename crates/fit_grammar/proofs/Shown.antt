@@ -11,17 +11,16 @@ use Rattle.fit_grammar.specs.declared.fault.FaultKind.{FaultKind}
 use Rattle.fit_grammar.specs.declared.fault.FaultKind.TheVariants.{Truncated, HeaderSize, Magic, Protocol, HeaderCrc, UndefinedLocal, SplitMessage, FileCrc, TrailingBytes, Memory, Developer}
 use Rattle.fit_grammar.specs.declared.fault.FileFault.{FileFault}
 use Rattle.fit_grammar.specs.declared.item.ItemFault.TheVariants as items
-use Rattle.fit_grammar.specs.declared.frame.Frame.{Frame}
-use Rattle.fit_grammar.specs.Item.{Item, Spells, Head, DefinitionHead, DeveloperHead, DataHead, head_of, content_size}
+use Rattle.fit_grammar.specs.Item.{Spells, Head, DefinitionHead, DeveloperHead, DataHead, head_of, content_size}
 use Rattle.fit_grammar.specs.Records.{in_force}
 use Rattle.fit_grammar.specs.Step.{definition_length_of, data_length_of, length_by, ItemBegun}
-use Rattle.fit_grammar.specs.File.{FileValue, FileOf, IsClosing}
+use Rattle.fit_grammar.specs.File.{FileValue, IsClosing}
 use Rattle.fit_grammar.specs.Refusal.{Front, front_bytes, front_end, IsFront, SplitsAtFirst, SplitsAtCount, Refusal, IsFaultOf}
 use Rattle.fit_grammar.specs.Decoding.{WindowShows, IsItemFault, EndShows, fault_of}
 use Rattle.fit_grammar.proofs.Blocked.{Blocked}
 use Rattle.fit_grammar.proofs.Refused.{refused}
 use Rattle.fit_grammar.proofs.Accepted.{AcceptsHead, stands_one, count_refused, ends_within, ends_before}
-use Rattle.fit_grammar.proofs.Closed.{closing_cut, closing_wrong, closing_followed, closing_right}
+use Rattle.fit_grammar.proofs.Closed.{closing_cut, closing_wrong, closing_followed}
 use Rattle.fit_grammar.proofs.Steps.{item_not_begun}
 use Rattle.fit_grammar.proofs.WantOfMemory.{front_before_refusal, item_begins}
 use Rattle.fit_grammar.proofs.Least.{ok_is}
@@ -208,14 +207,3 @@ reached_end_refused b v at end fault r le sh =
     let f = r.front in
     let there : end ≡ front_end f = omega (arith, r.at_is, r.end_is, r.is_front.inside) in
     inl (end_refused fault.kind fault.place b f r.rest r.is_front r.joined (omega (arith, r.at_is, r.end_is, r.is_front.inside)) (rw there at sh))
-
--- nothing is wrong behind the records
-pub reached_end_right : (b : List ℕ) (v : FileValue) (at end : ℕ) → Reached b v at end → end ≤ at → IsClosing (take end b) (drop end b) → FileOf b v
-reached_end_right b v at end r le closing =
-    let f = r.front in
-    let there : end ≡ front_end f = omega (arith, r.at_is, r.end_is, r.is_front.inside) in
-    let right : IsClosing (front_bytes f) r.rest =
-    subst (λ (l : List ℕ). IsClosing l r.rest) (front_taken b f r.rest r.joined)
-    (subst (λ (l : List ℕ). IsClosing (take (front_end f) b) l) (rest_there b f r.rest r.joined) (rw there at closing)) in
-    let made = closing_right b f r.rest r.is_front r.joined (omega (arith, r.at_is, r.end_is, r.is_front.inside)) right in
-    subst (λ (x : Frame). FileOf b (record { frame = x; items = v.items })) r.frame_is (subst (λ (is : List Item). FileOf b (record { frame = f.frame; items = is })) r.items_are made)

@@ -1,8 +1,7 @@
 -- The time in the values of a field of base type 86.
-use Rattle.std.proofs.Common.{◌≡◌, ◌≢◌, ℕ, zero, suc, ◌/◌, ◌%◌, List, [], ◌∷◌, length, None, refl, ap, ◌∙◌, inl, inr, arith}
+use Rattle.std.proofs.Common.{◌≡◌, ◌≢◌, ℕ, zero, suc, ◌/◌, ◌%◌, List, length, None, refl, ap, ◌∙◌, inl, inr, arith}
 use Rattle.std.proofs.lemmas.Bool.Decides.{eqb_tells}
 use Rattle.fit_base.specs.declared.order.Arch.{Arch}
-use Rattle.fit_base.specs.Number.{number}
 use Rattle.fit_base.specs.Value.{Field, Numbers, numbers, values_of}
 use Rattle.fit_grammar.specs.Message.{time_in}
 
@@ -28,17 +27,3 @@ no_time v base other =
     let as_field : (b : ℕ) → Field = λ b. record { base = b; arch = v.arch; bytes = v.bytes } in
     let e : values_of (as_field v.base) ≡ values_of (as_field 0x86) = ap (λ (b : ℕ). values_of (as_field b)) base in
     ap time_in e ∙ no_time_by v.arch v.bytes other
-
-four : (arch : Arch) (bytes : List ℕ) → length bytes ≡ 4 → values_of (field arch bytes) ≡ Numbers (number arch bytes ∷ [])
-four arch [] long = absurd (omega arith)
-four arch (a ∷ []) long = absurd (omega arith)
-four arch (a ∷ b ∷ []) long = absurd (omega arith)
-four arch (a ∷ b ∷ c ∷ []) long = absurd (omega arith)
-four arch (a ∷ b ∷ c ∷ d ∷ []) long = refl
-four arch (a ∷ b ∷ c ∷ d ∷ e ∷ bytes) long = absurd (omega arith)
-
-pub one_time : (v : Field) → v.base ≡ 0x86 → length v.bytes ≡ 4 → values_of v ≡ Numbers (number v.arch v.bytes ∷ [])
-one_time v base long =
-    let as_field : (b : ℕ) → Field = λ b. record { base = b; arch = v.arch; bytes = v.bytes } in
-    let e : values_of (as_field v.base) ≡ values_of (as_field 0x86) = ap (λ (b : ℕ). values_of (as_field b)) base in
-    e ∙ four v.arch v.bytes long

@@ -15,7 +15,7 @@ abbrev pub message_lent : ReadItem → ℕ → Option LentMessage
 message_lent (items.Definition d) before = None
 message_lent (items.Data m) before =
     let time = compressed_time before m.offset in
-    Some (record { compressed = time; message = message_under m.definition.now time m.content.now })
+    Some (record { compressed = time; message = message_under m.definition time m.content.now })
 
 -- the time that a message gives: that of its compressed timestamp, else the one that its fields state
 abbrev pub time_of : LentMessage → Option ℕ

@@ -9,8 +9,10 @@ pub mod Lent
 pub mod Shown
 pub mod File
 pub mod Possible
-pub mod Stored
+pub mod Written
 pub mod Under
+pub mod Rows
+pub mod Stored
 pub mod Latest
 pub mod Left
 pub mod Refusal

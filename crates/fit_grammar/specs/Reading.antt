@@ -1,15 +1,14 @@
 -- The definition that bytes spell, read from left to right.
-use Rattle.std.specs.Prelude.{◌≡◌, ℕ, zero, suc, ◌+◌, ◌*◌, ◌%◌, List, [], ◌∷◌, length, drop, slice_index, slice_range}
+use Rattle.std.specs.Prelude.{◌≡◌, ℕ, ◌+◌, ◌*◌, ◌%◌, List, [], ◌∷◌, length, drop, slice_index, slice_range}
 use Rattle.fit_base.specs.Number.{number}
 use Rattle.fit_grammar.specs.declared.definition.FieldDefinition.{FieldDefinition}
 use Rattle.fit_grammar.specs.declared.definition.Definition.{Definition}
 use Rattle.fit_grammar.specs.Item.{DefinitionHead, head_of, arch_of}
 
--- this many fields, three bytes each
-abbrev pub fields_at : ℕ → List ℕ → List FieldDefinition
-fields_at zero bytes = []
-fields_at (suc n) bytes =
-    record { number = slice_index bytes 0; size = slice_index bytes 1; base = slice_index bytes 2 } ∷ fields_at n (drop 3 bytes)
+-- the fields that bytes spell, three bytes each
+abbrev pub fields_in : List ℕ → List FieldDefinition
+fields_in (number ∷ size ∷ base ∷ bytes) = record { number = number; size = size; base = base } ∷ fields_in bytes
+fields_in _ = []
 
 -- six bytes, and the fields
 abbrev pub definition_at : List ℕ → Definition
@@ -18,7 +17,7 @@ definition_at bytes =
       local = slice_index bytes 0 % 16;
       arch = arch_of (slice_index bytes 2);
       global = number (arch_of (slice_index bytes 2)) (slice_range bytes 3 5);
-      fields = record { items = fields_at (slice_index bytes 5) (drop 6 bytes) };
+      fields = record { items = fields_in (drop 6 bytes) };
     }
 
 -- the bytes of one definition, no more and no less

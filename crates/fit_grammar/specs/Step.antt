@@ -18,6 +18,12 @@ head_view (heads.Definition local) = DefinitionHead local
 head_view heads.Developer = DeveloperHead
 head_view (heads.Data local offset) = DataHead local offset
 
+-- the local number that a first byte names; developer fields have none that is read
+abbrev pub local_of : Head → ℕ
+local_of (DefinitionHead local) = local
+local_of DeveloperHead = 0
+local_of (DataHead local offset) = local
+
 -- an item as it was read
 abbrev pub item_of : ReadItem → Item
 item_of (items.Definition d) = Defines d
@@ -91,7 +97,7 @@ IsStepItem _ item used = ⊥
 
 -- a data message that was found has the definition of its local number
 abbrev pub LendsFrom : (ℕ → Option Definition) → Step → Type 0
-LendsFrom definition_for (steps.Item (items.Data m) used) = definition_for m.local ≡ Some m.definition.now
+LendsFrom definition_for (steps.Item (items.Data m) used) = definition_for m.local ≡ Some m.definition
 LendsFrom definition_for _ = Unit {0}
 
 -- the local number of a definition that was found is below this

@@ -1,34 +1,18 @@
--- How a file keeps its items: definitions one by one, and the contents of its data messages in one row.
-use Rattle.std.specs.Prelude.{◌≡◌, ℕ, ◌+◌, ◌≤◌, List, map, take, drop, length}
-use Rattle.std.specs.List.{AllByRecursion}
-use Rattle.fit_grammar.specs.declared.file.Stored.{Stored}
-use Rattle.fit_grammar.specs.declared.file.Stored.TheVariants as stored
+-- How a file keeps its items: in the bytes that they are written as.
+use Rattle.std.specs.Prelude.{◌≡◌, ℕ}
 use Rattle.fit_grammar.specs.declared.file.File.TheInside.{Inside}
-use Rattle.fit_grammar.specs.Item.{Item, Defines, Data}
-use Rattle.fit_grammar.specs.Records.{in_force, data_size}
+use Rattle.fit_grammar.specs.Records.{in_force}
+use Rattle.fit_grammar.specs.Encoding.{encoded_items}
 use Rattle.fit_grammar.specs.Table.{definition_in}
 use Rattle.fit_grammar.specs.File.{FileValue}
 use Rattle.fit_grammar.specs.Possible.{CanBeFile}
-
--- the item that stands in a file's contents
-abbrev pub item_in : List ℕ → Stored → Item
-item_in contents (stored.Definition d) = Defines d.value
-item_in contents (stored.Data m) = Data m.local m.offset (take m.size (drop m.start contents))
-
-abbrev pub items_in : List ℕ → List Stored → List Item
-items_in contents items = map (item_in contents) items
-
--- the content of a data message lies within the contents
-abbrev pub LiesWithin : ℕ → Stored → Type 0
-LiesWithin len (stored.Definition d) = Unit {0}
-LiesWithin len (stored.Data m) = m.start + m.size ≤ len
+use Rattle.fit_grammar.specs.Rows.{items_in}
 
 abbrev pub file_view : Inside → FileValue
-file_view f = record { frame = f.frame; items = items_in f.contents.items f.items.items }
+file_view f = record { frame = f.frame; items = items_in f.records.items }
 
--- a file can be this; the table has the definitions in force, and the size is that of the records
+-- a file can be this; the bytes are those that its items are written as, and the table has the definitions in force
 pub record IsKept (f : Inside) : Type 0 where
   pub can_be : CanBeFile (file_view f)
-  pub within : AllByRecursion (LiesWithin (length f.contents.items)) f.items.items
-  pub table : (l : ℕ) → definition_in f.table l ≡ in_force (items_in f.contents.items f.items.items) l
-  pub size : f.size ≡ data_size (items_in f.contents.items f.items.items)
+  pub written : encoded_items (items_in f.records.items) ≡ f.records.items
+  pub table : (l : ℕ) → definition_in f.table l ≡ in_force (items_in f.records.items) l

@@ -3,7 +3,7 @@
 ghost use Rattle.std.specs.Prelude.{◌≡◌, length};
 ghost use Rattle.fit_grammar.specs.Item.{content_size};
 
-use crate::definition::Definition;
+use crate::spelled::DefinitionMessage;
 
 /// A data message, lent from the window that it stands in and the table of definitions.
 #[derive(Drop)]
@@ -13,8 +13,8 @@ pub struct DataMessage<'a> {
     /// The time offset of a compressed timestamp, 0 to 31.
     pub offset: Option<u8>,
     /// The definition in force of the local number.
-    pub definition: &'a Definition,
+    pub definition: DefinitionMessage<'a>,
     /// The bytes of the fields, in the order and sizes of the definition.
     pub content: &'a [u8],
-    ghost whole: { content_size definition.now ≡ length content.now },
+    ghost whole: { content_size definition ≡ length content.now },
 }

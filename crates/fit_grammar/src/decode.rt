@@ -122,7 +122,7 @@ fn take_item(file: &mut File, window: &[u8], left: usize) -> Result<usize, Fault
     match read_head(window[0]) {
         Head::Definition(_) => {
             let definition = DefinitionMessage::new(&window[..used]).read();
-            file.push_definition(&definition, used as u32)?;
+            file.push_definition(&definition)?;
         }
         Head::Data(local, offset) => file.push_data(local, offset, &window[1..used])?,
         Head::Developer => unreachable!(),

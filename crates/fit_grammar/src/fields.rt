@@ -1,6 +1,5 @@
 // The fields of a message.
 
-use crate::definition::FieldDefinition;
 use fit_base::{Arch, FieldValue};
 use std::marker::Model;
 
@@ -16,7 +15,8 @@ pub struct Field<'m> {
 pub struct Fields<'m> {
     time: Option<&'m [u8]>,
     arch: Arch,
-    fields: &'m [FieldDefinition],
+    // Three bytes a field.
+    fields: &'m [u8],
     content: &'m [u8],
 }
 
@@ -24,12 +24,13 @@ impl<'m> Model for Fields<'m> {
     ghost use Rattle.std.specs.Prelude.{◌≡◌, ℕ, List, ◌++◌, length, sum_by, option_map, IfSome};
     ghost use Rattle.fit_base.specs.Number.{low_first};
     ghost use Rattle.fit_grammar.specs.Message.{MessageField, time_fields, fields_of};
+    ghost use Rattle.fit_grammar.specs.Reading.{fields_in};
 
     ghost Value = { List MessageField };
 
-    ghost view = { λ s. time_fields (option_map (λ bytes. low_first bytes.now) s.time) ++ fields_of s.arch s.fields.now s.content.now };
+    ghost view = { λ s. time_fields (option_map (λ bytes. low_first bytes.now) s.time) ++ fields_of s.arch (fields_in s.fields.now) s.content.now };
 
-    ghost invariant = { λ s. (sum_by (λ field. field.size) s.fields.now ≡ length s.content.now)
+    ghost invariant = { λ s. (sum_by (λ field. field.size) (fields_in s.fields.now) ≡ length s.content.now)
         × IfSome s.time (λ bytes. length bytes.now ≡ 4) };
 }
 
@@ -37,17 +38,18 @@ impl<'m> Fields<'m> {
     ghost use Rattle.std.specs.Prelude.{◌≡◌, ◌++◌, length, sum_by, option_map, IfSome};
     ghost use Rattle.fit_base.specs.Number.{low_first};
     ghost use Rattle.fit_grammar.specs.Message.{time_fields, fields_of};
+    ghost use Rattle.fit_grammar.specs.Reading.{fields_in};
 
     // The fields of this content, whose bytes they use up, behind a time of four bytes.
     pub(crate) fn new(
         time: Option<&'m [u8]>,
         arch: Arch,
-        fields: &'m [FieldDefinition],
+        fields: &'m [u8],
         content: &'m [u8],
     ) -> Self
-        requires whole { sum_by (λ field. field.size) fields.now ≡ length content.now }
+        requires whole { sum_by (λ field. field.size) (fields_in fields.now) ≡ length content.now }
         requires four { IfSome time (λ bytes. length bytes.now ≡ 4) }
-        ensures { result ≡ time_fields (option_map (λ bytes. low_first bytes.now) time.entry) ++ fields_of arch fields.now content.now }
+        ensures { result ≡ time_fields (option_map (λ bytes. low_first bytes.now) time.entry) ++ fields_of arch (fields_in fields.now) content.now }
     {
         Fields {
             time,
@@ -75,13 +77,15 @@ impl<'m> Iterator for Fields<'m> {
                 value: FieldValue::new(0x86, Arch::Little, bytes),
             });
         }
-        let (field, others) = self.fields.split_first()?;
-        let (bytes, rest) = self.content.split_at(field.size as usize);
+        let [number, size, base, others @ ..] = self.fields else {
+            return None;
+        };
+        let (bytes, rest) = self.content.split_at(*size as usize);
         self.fields = others;
         self.content = rest;
         Some(Field {
-            number: field.number,
-            value: FieldValue::new(field.base, self.arch, bytes),
+            number: *number,
+            value: FieldValue::new(*base, self.arch, bytes),
         })
     }
 }

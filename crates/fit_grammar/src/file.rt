@@ -2,8 +2,8 @@
 
 ghost use Rattle.std.specs.Prelude.{◌≡◌, ◌<◌, ◌≤◌, ◌+◌, ◌++◌, ◌∷◌, [], ◌↔◌, ◌⊎◌, ℕ, length, Ok, Err, OnOk, OnErr, IfErr, IsErrOf, IsTrue, ◌^◌};
 ghost use Rattle.fit_grammar.specs.Records.{in_force, IsDefined, data_size};
-ghost use Rattle.fit_grammar.specs.Encoding.{HasEncoding};
-ghost use Rattle.fit_grammar.specs.Item.{Defines, Data, item_size, content_size};
+ghost use Rattle.fit_grammar.specs.Encoding.{HasEncoding, encoded_items};
+ghost use Rattle.fit_grammar.specs.Item.{Defines, Data, content_size};
 ghost use Rattle.fit_grammar.specs.Message.{messages_of};
 ghost use Rattle.fit_grammar.specs.Possible.{CanBeFile};
 ghost use Rattle.fit_grammar.specs.Step.{least_length_of};
@@ -15,34 +15,19 @@ use crate::frame::Frame;
 use crate::item::{ItemFault, least_length};
 use crate::messages::Messages;
 use crate::table::Table;
+use crate::writing::data_byte;
+use crate::written::WrittenDefinition;
 use std::alloc::{AllocError, Global};
 use std::marker::Model;
-
-// An item of a file.
-#[derive(Drop)]
-pub(crate) enum Stored {
-    Definition(Box<Definition>),
-    Data(StoredData),
-}
-
-// A data message, whose content stands in the file's contents.
-#[derive(Clone, Copy)]
-pub(crate) struct StoredData {
-    pub(crate) local: u8,
-    pub(crate) offset: Option<u8>,
-    pub(crate) start: usize,
-    pub(crate) size: usize,
-}
 
 /// A file: its frame, and a row of items in which each data message has a definition in force whose sizes
 /// add up to the length of its content.
 #[derive(Drop)]
 pub struct File {
     frame: Frame,
-    pub(crate) items: Vec<Stored>,
-    pub(crate) contents: Vec<u8>,
+    // The items as they are written, one after another.
+    records: Vec<u8>,
     table: Table,
-    size: u32,
 }
 
 impl Model for File {
@@ -66,10 +51,8 @@ impl File {
     {
         File {
             frame,
-            items: Vec::new(alloc),
-            contents: Vec::new(alloc),
+            records: Vec::new(alloc),
             table: Table::new(),
-            size: 0,
         }
     }
 
@@ -87,7 +70,21 @@ impl File {
     pub fn data_size(&self) -> u32
         ensures { result ≡ data_size self.now.items }
     {
-        self.size
+        self.records.len() as u32
+    }
+
+    // How many bytes more the records can have.
+    fn room(&self) -> usize
+        ensures { result + data_size self.now.items + 1 ≡ 2 ^ 32 }
+    {
+        (u32::MAX - self.data_size()) as usize
+    }
+
+    // The bytes of the records, as they are written.
+    pub(crate) fn records(&self) -> &[u8]
+        ensures { result.now ≡ encoded_items self.now.items }
+    {
+        &self.records
     }
 
     // How many bytes the next item has at least, as far as the window shows.
@@ -102,7 +99,7 @@ impl File {
     pub fn messages(&self) -> Messages<'_>
         ensures { result ≡ messages_of self.now.items }
     {
-        Messages::new(&self.items, &self.contents)
+        Messages::new(&self.records)
     }
 
     /// Adds a definition, which is in force for its local number from here on.
@@ -113,26 +110,23 @@ impl File {
         ensures too_long { IsErrOf result PutFault.TooLong ↔ IsTooLong self.old (Defines d.now) }
         ensures memory { IfErr result (λ fault. (fault ≡ PutFault.TooLong) ⊎ (fault ≡ PutFault.Memory)) }
     {
-        let size = 6 + 3 * d.fields.len();
-        if size > (u32::MAX - self.size) as usize {
+        if 6 + 3 * d.fields.len() > self.room() {
             return Err(PutFault::TooLong);
         }
-        self.push_definition(d, size as u32)?;
+        self.push_definition(d)?;
         Ok(())
     }
 
-    // Adds a definition of this many bytes.
-    pub(crate) fn push_definition(&mut self, d: &Definition, size: u32) -> Result<(), AllocError>
+    // Adds a definition.
+    pub(crate) fn push_definition(&mut self, d: &Definition) -> Result<(), AllocError>
         requires local { d.now.local < 16 }
-        requires size { size ≡ item_size (Defines d.now) }
         requires fits { IsTooLong self.old (Defines d.now) → ⊥ }
         ensures ok { OnOk result (self.new ≡ with_item self.old (Defines d.now)) }
         ensures err { OnErr result (self.new ≡ self.old) }
     {
-        let boxed = Box::new(*self.items.allocator(), d.copied())?;
-        self.items.push(Stored::Definition(boxed))?;
-        self.table.take(d);
-        self.size += size;
+        let written = WrittenDefinition::new(d);
+        self.records.extend_from_slice(written.bytes())?;
+        self.table.keep(written);
         Ok(())
     }
 
@@ -152,8 +146,7 @@ impl File {
         if definition.content_size() != content.len() || !can_offset(local, offset) {
             return Err(PutFault::Length);
         }
-        let size = 1 + content.len();
-        if size > (u32::MAX - self.size) as usize {
+        if 1 + content.len() > self.room() {
             return Err(PutFault::TooLong);
         }
         self.push_data(local, offset, content)?;
@@ -174,19 +167,9 @@ impl File {
         ensures ok { OnOk result (self.new ≡ with_item self.old (Data local offset content.now)) }
         ensures err { OnErr result (self.new ≡ self.old) }
     {
-        self.items.reserve(1)?;
-        let start = self.contents.len();
-        self.contents.extend_from_slice(content)?;
-        let size = content.len();
-        self.items
-            .push(Stored::Data(StoredData {
-                local,
-                offset,
-                start,
-                size,
-            }))
-            .unwrap();
-        self.size += 1 + size as u32;
+        self.records.reserve(1 + content.len())?;
+        self.records.push_reserved(data_byte(local, offset));
+        self.records.extend_from_slice(content).unwrap();
         Ok(())
     }
 }

@@ -2,7 +2,7 @@
 
 ghost use Rattle.std.specs.Prelude.{◌≡◌};
 ghost use Rattle.fit_grammar.specs.Item.{head_of};
-ghost use Rattle.fit_grammar.specs.Step.{head_view};
+ghost use Rattle.fit_grammar.specs.Step.{head_view, local_of};
 
 // What the first byte of an item says, as the specification's `Head`.
 #[derive(Drop)]
@@ -26,5 +26,15 @@ pub(crate) fn read_head(byte: u8) -> Head
         }
     } else {
         Head::Data(byte / 32 % 4, Some(byte % 32))
+    }
+}
+
+// The local number in a first byte.
+pub(crate) fn first_local(byte: u8) -> u8
+    ensures { result ≡ local_of (head_of byte) }
+{
+    match read_head(byte) {
+        Head::Definition(local) | Head::Data(local, _) => local,
+        Head::Developer => 0,
     }
 }

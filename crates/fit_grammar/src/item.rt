@@ -5,11 +5,10 @@ ghost use Rattle.fit_grammar.specs.declared.definition.Definition.{Definition as
 ghost use Rattle.fit_grammar.specs.Item.{Item as AnyItem, Spells, head_of, DefinitionHead, DataHead};
 ghost use Rattle.fit_grammar.specs.Records.{IsDefinedBy};
 ghost use Rattle.fit_grammar.specs.Table.{definition_in};
-ghost use Rattle.fit_grammar.specs.Step.{IsLeastLength, IsStep, IsStepItem, ItemAtFront, ItemBegun, ShowsUndefined, ShowsDeveloper, least_length_of, definition_length_of};
+ghost use Rattle.fit_grammar.specs.Step.{IsLeastLength, IsStep, IsStepItem, ItemAtFront, ItemBegun, ShowsUndefined, ShowsDeveloper, least_length_of, definition_length_of, local_of};
 
 use crate::data::DataMessage;
-use crate::definition::Definition;
-use crate::head::{Head, read_head};
+use crate::head::{Head, first_local, read_head};
 use crate::spelled::DefinitionMessage;
 use crate::table::Table;
 
@@ -109,13 +108,25 @@ pub fn next_item<'a>(window: &'a [u8], table: &'a Table) -> Step<'a>
 fn step_at<'a>(window: &'a [u8], table: &'a Table) -> Step<'a>
     ensures { IsStep (definition_in table.now) window.now result }
 {
-    let [first, ..] = window else {
-        return Step::NeedMore;
-    };
-    match read_head(*first) {
+    match window {
+        [first, ..] => step_under(window, table.get(first_local(*first))),
+        [] => Step::NeedMore,
+    }
+}
+
+// The step of a window that is not empty, where this is the definition of the local number in its first byte.
+pub(crate) fn step_under<'a>(
+    window: &'a [u8],
+    definition: Option<DefinitionMessage<'a>>,
+) -> Step<'a>
+    requires { 1 ≤ length window.now }
+    ensures { (f : ℕ → Option AnyDefinition) → f (local_of (head_of (slice_index window.now 0))) ≡ definition.entry
+        → IsStep f window.now result }
+{
+    match read_head(window[0]) {
         Head::Definition(_) => next_definition(window),
         Head::Developer => Step::Refused(ItemFault::Developer),
-        Head::Data(local, offset) => match table.get(local) {
+        Head::Data(local, offset) => match definition {
             None => Step::Refused(ItemFault::UndefinedLocal(local)),
             Some(definition) => next_data(window, local, offset, definition),
         },
@@ -141,11 +152,11 @@ fn next_data<'a>(
     window: &'a [u8],
     local: u8,
     offset: Option<u8>,
-    definition: &'a Definition,
+    definition: DefinitionMessage<'a>,
 ) -> Step<'a>
     requires begun { 1 ≤ length window.now }
     requires head { head_of (slice_index window.now 0) ≡ DataHead local offset }
-    ensures { (f : ℕ → Option AnyDefinition) → f local ≡ Some definition.now → IsStep f window.now result }
+    ensures { (f : ℕ → Option AnyDefinition) → f local ≡ Some definition.entry → IsStep f window.now result }
 {
     let used = 1 + definition.content_size();
     if window.len() < used {

@@ -11,6 +11,7 @@ mod file;
 mod frame;
 mod head;
 mod item;
+mod latest;
 pub mod laws;
 mod message;
 mod messages;
@@ -21,6 +22,7 @@ mod table;
 mod tests;
 mod time;
 mod writing;
+mod written;
 
 pub use data::DataMessage;
 pub use decode::decode_file;
@@ -37,8 +39,3 @@ pub use output::{WriteFailed, put};
 pub use spelled::DefinitionMessage;
 pub use table::Table;
 pub use writing::{write_data, write_definition};
-
-#[cfg(test)]
-mod decode_tests;
-#[cfg(test)]
-mod item_tests;

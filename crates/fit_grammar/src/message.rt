@@ -5,9 +5,9 @@ ghost use Rattle.fit_grammar.specs.Lent.{message_lent};
 ghost use Rattle.fit_grammar.specs.declared.item.Item.TheVariants as items;
 
 use crate::data::DataMessage;
-use crate::definition::Definition;
 use crate::fields::Fields;
 use crate::item::Item;
+use crate::spelled::DefinitionMessage;
 use crate::time::{next_time, stated_time};
 use std::marker::Model;
 
@@ -15,7 +15,7 @@ use std::marker::Model;
 /// was written under, and beside it the time of a compressed timestamp.
 #[derive(Drop)]
 pub struct Message<'a> {
-    definition: &'a Definition,
+    definition: DefinitionMessage<'a>,
     content: &'a [u8],
     time: Option<[u8; 4]>,
 }
@@ -30,9 +30,9 @@ impl<'a> Model for Message<'a> {
     ghost Value = { LentMessage };
 
     ghost view = { λ m. let time = option_map low_first m.time in
-        record { compressed = time; message = message_under m.definition.now time m.content.now } };
+        record { compressed = time; message = message_under m.definition time m.content.now } };
 
-    ghost invariant = { λ m. (content_size m.definition.now ≡ length m.content.now) × IfSome m.time (λ bytes. length bytes ≡ 4) };
+    ghost invariant = { λ m. (content_size m.definition ≡ length m.content.now) × IfSome m.time (λ bytes. length bytes ≡ 4) };
 }
 
 impl<'a> Message<'a> {
@@ -42,7 +42,7 @@ impl<'a> Message<'a> {
     pub fn global(&self) -> u16
         ensures { result ≡ self.now.message.global }
     {
-        self.definition.global
+        self.definition.global()
     }
 
     /// The fields in order, the time of a compressed timestamp in front as field 253.
@@ -53,8 +53,8 @@ impl<'a> Message<'a> {
             Some(bytes) => Some(bytes),
             None => None,
         };
-        let definition = self.definition;
-        Fields::new(time, definition.arch, &definition.fields, self.content)
+        let definition = &self.definition;
+        Fields::new(time, definition.arch(), definition.fields(), self.content)
     }
 
     /// The time that the message gives: that of its compressed timestamp, else the value of its first
@@ -88,7 +88,7 @@ pub(crate) fn message_in<'a>(m: &DataMessage<'a>, before: u32) -> Message<'a>
         None => None,
     };
     Message {
-        definition: m.definition,
+        definition: m.definition.lent(),
         content: m.content,
         time,
     }

@@ -1,24 +1,24 @@
 // The messages of a file, one after another.
 
-ghost use Rattle.std.specs.Prelude.{◌≡◌, ◌≢◌, ◌<◌, ℕ, [], length, option_map};
-ghost use Rattle.fit_grammar.specs.Latest.{definition_latest};
-ghost use Rattle.std.specs.List.{AllByRecursion};
+ghost use Rattle.std.specs.Prelude.{◌≡◌, ◌≤◌, [], length};
+ghost use Rattle.fit_grammar.specs.Encoding.{encoded_items};
 ghost use Rattle.fit_grammar.specs.Message.{messages_of};
-ghost use Rattle.fit_grammar.specs.Stored.{items_in, LiesWithin};
 ghost use Rattle.fit_grammar.specs.Possible.{AllCanFollow};
+ghost use Rattle.fit_grammar.specs.Rows.{items_in, AreWritten, IsFirst};
+ghost use Rattle.fit_grammar.specs.Table.{definition_in};
 
-use crate::data::DataMessage;
-use crate::definition::Definition;
-use crate::file::Stored;
+use crate::head::first_local;
+use crate::item::{Item, Step, step_under};
+use crate::latest::Latest;
 use crate::message::{Message, message_in};
 use std::marker::Model;
 
 /// The messages of a file in order, with the time carried along. Contracts see those that are left.
 #[derive(Drop)]
 pub struct Messages<'a> {
-    items: &'a [Stored],
-    contents: &'a [u8],
-    latest: [Option<&'a Definition>; 16],
+    // The bytes of the items that are left.
+    rest: &'a [u8],
+    latest: Latest<'a>,
     time: u32,
 }
 
@@ -36,16 +36,15 @@ impl<'a> Model for Messages<'a> {
 }
 
 impl<'a> Messages<'a> {
-    // The messages of all the items of a file.
-    pub(crate) fn new(items: &'a [Stored], contents: &'a [u8]) -> Self
-        requires within { AllByRecursion (LiesWithin (length contents.now)) items.now }
-        requires follow { AllCanFollow [] (items_in contents.now items.now) }
-        ensures { result ≡ messages_of (items_in contents.now items.now) }
+    // The messages of all the items of a file, which these bytes are.
+    pub(crate) fn new(records: &'a [u8]) -> Self
+        requires written { encoded_items (items_in records.now) ≡ records.now }
+        requires follow { AllCanFollow [] (items_in records.now) }
+        ensures { result ≡ messages_of (items_in records.now) }
     {
         Messages {
-            items,
-            contents,
-            latest: none_yet(),
+            rest: records,
+            latest: Latest::new(),
             time: 0,
         }
     }
@@ -61,24 +60,14 @@ impl<'a> Iterator for Messages<'a> {
     ghost remaining = { item_count (λ s. s) };
 
     fn next(&mut self) -> Option<Message<'a>> {
-        while let Some((item, others)) = self.items.split_first() {
-            self.items = others;
+        while !self.rest.is_empty() {
+            let (item, rest) = first_item(self.rest, &self.latest);
+            self.rest = rest;
             match item {
-                Stored::Definition(d) => take_latest(&mut self.latest, d),
-                Stored::Data(m) => {
-                    let Some(definition) = latest_in(&self.latest, m.local) else {
-                        unreachable!();
-                    };
-                    let data = DataMessage {
-                        local: m.local,
-                        offset: m.offset,
-                        definition,
-                        content: &self.contents[m.start..][..m.size],
-                    };
+                Item::Definition(definition) => self.latest.take(&definition),
+                Item::Data(data) => {
                     let message = message_in(&data, self.time);
-                    if let Some(time) = message.time() {
-                        self.time = time;
-                    }
+                    self.time = message.time().unwrap_or(self.time);
                     return Some(message);
                 }
             }
@@ -87,29 +76,16 @@ impl<'a> Iterator for Messages<'a> {
     }
 }
 
-// No definitions.
-fn none_yet<'a>() -> [Option<&'a Definition>; 16]
-    ensures count { length result ≡ 16 }
-    ensures none { (l : ℕ) → definition_latest result l ≡ None }
+// The first of the items that are left, and the bytes of the others.
+fn first_item<'a>(bytes: &'a [u8], latest: &Latest<'a>) -> (Item<'a>, &'a [u8])
+    requires some { 1 ≤ length bytes.now }
+    requires written { AreWritten (definition_in latest.now) bytes.now }
+    ensures { IsFirst (definition_in latest.now) bytes.now result.0 result.1.now }
 {
-    [None; 16]
-}
-
-// Makes this the latest definition of its local number.
-fn take_latest<'a>(latest: &mut [Option<&'a Definition>], definition: &'a Definition)
-    requires { definition.now.local < length latest.old }
-    ensures taken { definition_latest latest.new definition.now.local ≡ Some definition.now }
-    ensures others { (l : ℕ) → l ≢ definition.now.local → definition_latest latest.new l ≡ definition_latest latest.old l }
-{
-    latest[definition.local as usize] = Some(definition);
-}
-
-// The latest definition of a local number, if there is one.
-fn latest_in<'a>(latest: &[Option<&'a Definition>], local: u8) -> Option<&'a Definition>
-    ensures { option_map (λ d. d.now) result ≡ definition_latest latest.now local }
-{
-    match latest.get(local as usize) {
-        Some(Some(d)) => Some(d),
-        _ => None,
-    }
+    let definition = latest.get(first_local(bytes[0]));
+    let Step::Item(item, used) = step_under(bytes, definition) else {
+        unreachable!();
+    };
+    let (_, others) = bytes.split_at(used);
+    (item, others)
 }

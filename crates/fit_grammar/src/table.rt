@@ -1,15 +1,17 @@
 // The definitions in force, one for each local number.
 
-ghost use Rattle.std.specs.Prelude.{◌≡◌, ◌≢◌, ◌<◌, ℕ, MatchOption};
+ghost use Rattle.std.specs.Prelude.{◌≡◌, ◌≢◌, ◌<◌, ℕ};
 ghost use Rattle.fit_grammar.specs.Table.{definition_in};
 
 use crate::definition::Definition;
+use crate::spelled::DefinitionMessage;
+use crate::written::WrittenDefinition;
 use std::marker::Model;
 
 /// For each of the sixteen local numbers its definition in force, or none.
 #[derive(Drop)]
 pub struct Table {
-    slots: [Option<Definition>; 16],
+    slots: [Option<WrittenDefinition>; 16],
 }
 
 impl Model for Table {
@@ -40,15 +42,25 @@ impl Table {
         ensures taken { definition_in self.new d.now.local ≡ Some d.now }
         ensures others { (l : ℕ) → l ≢ d.now.local → definition_in self.new l ≡ definition_in self.old l }
     {
-        self.slots[d.local as usize] = Some(d.copied());
+        self.keep(WrittenDefinition::new(d));
+    }
+
+    // The same, of a definition that is written.
+    pub(crate) fn keep(&mut self, written: WrittenDefinition)
+        requires { written.local < 16 }
+        ensures taken { definition_in self.new written.local ≡ Some written }
+        ensures others { (l : ℕ) → l ≢ written.local → definition_in self.new l ≡ definition_in self.old l }
+    {
+        let local = written.lend().local() as usize;
+        self.slots[local] = Some(written);
     }
 
     /// The definition of a local number, if there is one.
-    pub fn get(&self, local: u8) -> Option<&Definition>
-        ensures { MatchOption result (definition_in self.now local ≡ None) (λ d. definition_in self.now local ≡ Some d.now) }
+    pub fn get(&self, local: u8) -> Option<DefinitionMessage<'_>>
+        ensures { result ≡ definition_in self.now local }
     {
         match self.slots.get(local as usize) {
-            Some(Some(d)) => Some(d),
+            Some(Some(written)) => Some(written.lend()),
             _ => None,
         }
     }

@@ -1,11 +1,16 @@
 // Writing items, in the one form with every reserved bit and byte 0.
 
-ghost use Rattle.std.specs.Prelude.{◌≡◌, ◌+◌, ◌*◌, ◌<◌, ◌≤◌, ◌++◌, length, drop, flat_map};
+ghost use Rattle.std.specs.Prelude.{◌≡◌, ◌+◌, ◌*◌, ◌<◌, ◌≤◌, ◌++◌, [], length, drop, flat_map};
+ghost use Rattle.std.specs.List.{AllByRecursion};
 ghost use Rattle.fit_grammar.specs.Item.{Defines, Data, field_bytes};
-ghost use Rattle.fit_grammar.specs.Encoding.{arch_byte, two_bytes, encoded_item};
+ghost use Rattle.fit_grammar.specs.Encoding.{arch_byte, two_bytes, data_byte as data_byte_of, encoded_item, HasEncoding};
+ghost use Rattle.fit_grammar.specs.Possible.{FieldFits, DefinitionFits};
 
 use crate::definition::{Definition, FieldDefinition};
 use fit_base::Arch;
+
+// The number of bytes of a definition of 255 fields, the most that there are.
+pub(crate) const LONGEST_DEFINITION: usize = 771;
 
 /// Writes a definition at the front of `out`, and leaves the bytes behind it. Answers how many bytes it has.
 pub fn write_definition(definition: &Definition, out: &mut [u8]) -> usize
@@ -13,6 +18,8 @@ pub fn write_definition(definition: &Definition, out: &mut [u8]) -> usize
     requires room { 6 + 3 * length definition.now.fields.items ≤ length out.old }
     ensures count { result ≡ 6 + 3 * length definition.now.fields.items }
     ensures written { out.new ≡ encoded_item (Defines definition.now) ++ drop result out.old }
+    // Each number fits into its bytes, as the types say.
+    ensures fits { DefinitionFits definition.now }
 {
     let [first, second] = number_bytes(definition.arch, definition.global);
     out[..6].copy_from_slice(&[
@@ -51,9 +58,22 @@ fn arch_number(arch: Arch) -> u8
     }
 }
 
+// The first byte of a data message.
+pub(crate) fn data_byte(local: u8, offset: Option<u8>) -> u8
+    requires { HasEncoding (Data local offset []) }
+    ensures { result ≡ data_byte_of local offset }
+{
+    match offset {
+        None => local,
+        Some(offset) => 128 + 32 * local + offset,
+    }
+}
+
 // The two bytes of a number.
 fn number_bytes(arch: Arch, number: u16) -> [u8; 2]
-    ensures { result ≡ two_bytes arch number }
+    ensures bytes { result ≡ two_bytes arch number }
+    // As its type says.
+    ensures fits { number < 65536 }
 {
     match arch {
         Arch::Little => number.to_le_bytes(),
@@ -64,9 +84,12 @@ fn number_bytes(arch: Arch, number: u16) -> [u8; 2]
 // Writes the fields, three bytes each.
 fn write_fields(fields: &[FieldDefinition], out: &mut [u8])
     requires { 3 * length fields.now ≤ length out.old }
-    ensures { out.new ≡ flat_map field_bytes fields.now ++ drop (3 * length fields.now) out.old }
+    ensures written { out.new ≡ flat_map field_bytes fields.now ++ drop (3 * length fields.now) out.old }
+    // As their types say.
+    ensures fit { AllByRecursion FieldFits fields.now }
 {
     for (i, field) in fields.iter().enumerate() {
-        out[3 * i..3 * i + 3].copy_from_slice(&[field.number, field.size, field.base]);
+        let FieldDefinition { number, size, base } = field.in_bytes();
+        out[3 * i..3 * i + 3].copy_from_slice(&[number, size, base]);
     }
 }

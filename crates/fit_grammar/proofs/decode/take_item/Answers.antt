@@ -16,9 +16,6 @@ long c =
     let whole = c.in_ok-used.ensures.whole in
     omega (arith, definition_length c.read-definition.result (take c.in_ok-used.used c.args.window.now) (spelled c), length-take-le c.in_ok-used.used c.args.window.now whole.there)
 
-pub push_definition-requires-clause-size : goal.push_definition-requires-clause-size
-push_definition-requires-clause-size c = long c
-
 pub push_definition-requires-clause-fits : goal.push_definition-requires-clause-fits
 push_definition-requires-clause-fits c = λ past. omega (arith, past, long c, c.in_ok-used.ensures.whole.inside, c.requires.fits)
 

@@ -1,4 +1,4 @@
-use Rattle.std.proofs.Common.{◌≡◌, ℕ, List, [], Option, sym, subst, arith}
+use Rattle.std.proofs.Common.{◌≡◌, ℕ, List, [], Option, sym, ap, subst, ◌∙◌, rules}
 use Rattle.std.proofs.lemmas.List.{nil_from_length}
 use Rattle.fit_grammar.specs.declared.definition.Definition.{Definition}
 use Rattle.fit_grammar.specs.declared.item.Step.TheVariants as steps
@@ -11,11 +11,9 @@ nothing_there : (f : ℕ → Option Definition) (window : List ℕ) → window �
 nothing_there f window none =
     subst (λ (w : List ℕ). IsStep f w steps.NeedMore) (sym none) (record { says = begun_empty f; lent = tt; local = tt })
 
-pub returns-in_default : goal.returns-in_default
-returns-in_default c = nothing_there (definition_in c.args.table.now) c.args.window.now (nil_from_length c.args.window.now (omega arith))
+pub returns-in-empty : goal.returns-in-empty
+returns-in-empty c = nothing_there (definition_in c.args.table.now) c.args.window.now (nil_from_length c.args.window.now (search rules))
 
-pub returns-in-Definition : goal.returns-in-Definition
-returns-in-Definition c = c.next_definition.ensures (definition_in c.args.table.now)
-
-pub returns-in-Some : goal.returns-in-Some
-returns-in-Some c = c.next_data.ensures (definition_in c.args.table.now) c.in-Some.ensures
+pub returns-in-len1-up : goal.returns-in-len1-up
+returns-in-len1-up c =
+    c.step_under.ensures (definition_in c.args.table.now) (sym (c.get.ensures ∙ ap (λ (l : ℕ). definition_in c.args.table.now l) c.first_local.ensures))

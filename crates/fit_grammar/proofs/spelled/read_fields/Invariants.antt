@@ -1,6 +1,9 @@
-use Rattle.std.proofs.Common.{◌≡◌, ◌*◌, length, take, flat_map}
-use Rattle.fit_grammar.specs.Item.{field_bytes}
+use Rattle.std.proofs.Common.{◌≡◌, ◌+◌, ◌*◌, ◌≤◌, ◌++◌, length}
+use Rattle.fit_grammar.specs.Reading.{fields_in}
 use Rattle.fit_grammar.proofs.spelled.read_fields.Given as goal
 
-abbrev pub invariant-loop-i : goal.invariant-loop-i
-invariant-loop-i l = (flat_map field_bytes l.fields.items ≡ take (3 * l.i) l.bytes) × (length l.fields.items ≡ l.i)
+abbrev pub invariant-loop-rest : goal.invariant-loop-rest
+invariant-loop-rest l = (l.fields.items ++ fields_in l.rest ≡ fields_in l.bytes) × (3 * length l.fields.items + length l.rest ≤ 765)
+
+abbrev pub decreases-loop-rest : goal.decreases-loop-rest
+decreases-loop-rest l = length l.rest

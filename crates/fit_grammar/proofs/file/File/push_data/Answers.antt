@@ -1,74 +1,37 @@
-use Rattle.std.proofs.Common.{◌≡◌, ◌+◌, ◌∷◌, [], ◌++◌, List, ℕ, length, take, drop, refl, ap, sym, subst, ◌∙◌, arith}
-use Rattle.std.proofs.lemmas.List.{length-append}
-use Rattle.fit_grammar.specs.declared.file.Stored.{Stored}
-use Rattle.fit_grammar.specs.declared.file.StoredData.{StoredData}
-use Rattle.fit_grammar.specs.declared.file.Stored.TheVariants as stored
-use Rattle.fit_grammar.specs.Item.{Item, Data}
-use Rattle.fit_grammar.specs.Records.{data_size}
-use Rattle.fit_grammar.specs.declared.frame.Frame.{Frame}
+use Rattle.std.proofs.Common.{◌≡◌, ◌∷◌, [], ◌++◌, refl, List, ℕ, ap, sym, subst, append_assoc, ◌∙◌}
+use Rattle.fit_grammar.specs.declared.file.File.TheInside.{Inside}
+use Rattle.fit_grammar.specs.Item.{Data}
+use Rattle.fit_grammar.specs.Encoding.{encoded_item, data_byte}
 use Rattle.fit_grammar.specs.File.{FileValue, with_item, IsTooLong}
-use Rattle.fit_grammar.specs.Possible.{CanFollow, CanBeFile}
-use Rattle.fit_grammar.specs.Stored.{items_in, file_view}
-use Rattle.fit_grammar.proofs.Following.{bytes_fit, follows_in, CanBeFile-push}
+use Rattle.fit_grammar.specs.Stored.{file_view, IsKept}
+use Rattle.fit_grammar.specs.Rows.{items_in}
+use Rattle.fit_grammar.proofs.Following.{bytes_fit, follows_in}
 use Rattle.fit_grammar.proofs.InForce.{in_force-data}
-use Rattle.fit_grammar.proofs.Kept.{items_in-push, items_in-more, data_size-push, within-push, within-more, item_in-last}
+use Rattle.fit_grammar.proofs.Kept.{kept}
 use Rattle.fit_grammar.proofs.file.File.push_data.Goals as goal
 
-abbrev file_by : Frame → List Item → FileValue
-file_by frame items = record { frame = frame; items = items }
+abbrev behind : goal.After-unwrap → Inside
+behind c = record { frame = c.self.inside.frame; records = c.extend_from_slice.new.self; table = c.self.inside.table }
 
-pub invariant_of-self-in_err-extend_from_slice : goal.invariant_of-self-in_err-extend_from_slice
-invariant_of-self-in_err-extend_from_slice c =
+on : (c : goal.After-unwrap)
+    → IsKept (behind c) × (file_view (behind c) ≡ with_item (file_view c.self.inside) (Data c.args.local c.args.offset c.args.content.now))
+on c =
     let old = c.self.inside in
-    let items : c.reserve.new.self.items ≡ old.items.items = c.reserve.ensures.items in
-    let contents : c.extend_from_slice.new.self.items ≡ old.contents.items = c.in_err-extend_from_slice.ensures.items in
-    record {
-      can_be = rw (items, contents) c.self.invariant.can_be;
-      within = rw (items, contents) c.self.invariant.within;
-      table = λ l. rw (items, contents) (c.self.invariant.table l);
-      size = rw (items, contents) c.self.invariant.size;
-    }
-
-pushed : (c : goal.After-self-1) → c.push.new.self.items ≡ c.self.inside.items.items ++ stored.Data (record { local = c.args.local; offset = c.args.offset; start = length c.self.inside.contents.items; size = length c.args.content.now }) ∷ []
-pushed c =
-    (rw c.unwrap.ensures at c.push.ensures.items)
-    ∙ ap (λ (l : List Stored). l ++ stored.Data (record { local = c.args.local; offset = c.args.offset; start = c.len-start.result; size = length c.args.content.now }) ∷ []) c.reserve.ensures.items
-    ∙ ap (λ (n : ℕ). c.self.inside.items.items ++ stored.Data (record { local = c.args.local; offset = c.args.offset; start = n; size = length c.args.content.now }) ∷ []) (c.len-start.ensures ∙ c.self.inside.contents.ok.0)
-
--- the items behind the call
-items_are : (c : goal.After-self-1) → items_in c.extend_from_slice.new.self.items c.push.new.self.items
-    ≡ items_in c.self.inside.contents.items c.self.inside.items.items ++ Data c.args.local c.args.offset c.args.content.now ∷ []
-items_are c =
-    let old = c.self.inside in
-    let content = c.args.content.now in
-    let m : StoredData = record { local = c.args.local; offset = c.args.offset; start = length old.contents.items; size = length content } in
-    let contents : c.extend_from_slice.new.self.items ≡ old.contents.items ++ content = c.in_ok-extend_from_slice.ensures.items in
-    ap (λ (l : List ℕ). items_in l c.push.new.self.items) contents
-    ∙ ap (λ (l : List Stored). items_in (old.contents.items ++ content) l) (pushed c)
-    ∙ items_in-push (old.contents.items ++ content) old.items.items (stored.Data m)
-    ∙ ap (λ (l : List Item). l ++ Data c.args.local c.args.offset (take (length content) (drop (length old.contents.items) (old.contents.items ++ content))) ∷ []) (items_in-more old.contents.items content old.items.items c.self.invariant.within)
-    ∙ ap (λ (i : Item). items_in old.contents.items old.items.items ++ i ∷ []) (item_in-last old.contents.items content c.args.local c.args.offset (length content) refl)
+    let item = Data c.args.local c.args.offset c.args.content.now in
+    let first : c.push_reserved.new.self.items ≡ old.records.items ++ data_byte c.args.local c.args.offset ∷ [] =
+    c.push_reserved.ensures.items ∙ ap (λ (b : List ℕ). b ++ c.data_byte.result ∷ []) c.reserve.ensures.items ∙ ap (λ (n : ℕ). old.records.items ++ n ∷ []) c.data_byte.ensures in
+    let bytes : c.extend_from_slice.new.self.items ≡ old.records.items ++ encoded_item item =
+    (rw c.unwrap.ensures at c.extend_from_slice.ensures.items)
+    ∙ ap (λ (b : List ℕ). b ++ c.args.content.now) first
+    ∙ append_assoc old.records.items (data_byte c.args.local c.args.offset ∷ []) c.args.content.now in
+    kept old (behind c) item c.self.invariant refl bytes
+    (follows_in (file_view old) c.args.self.now item c.self.view_is
+    (record { encodable = c.requires.encodable; fits = bytes_fit c.args.content.now (λ i. (c.type_inv.content i).fits); defined = c.requires.defined }))
+    (λ long. c.requires.fits (subst (λ (v : FileValue). IsTooLong v item) c.self.view_is long))
+    (λ l. c.self.invariant.table l ∙ sym (in_force-data (items_in old.records.items) c.args.local c.args.offset c.args.content.now l))
 
 pub invariant_of-self-2 : goal.invariant_of-self-2
-invariant_of-self-2 c =
-    let old = c.self.inside in
-    let content = c.args.content.now in
-    let items = items_in old.contents.items old.items.items in
-    let contents : c.extend_from_slice.new.self.items ≡ old.contents.items ++ content = c.in_ok-extend_from_slice.ensures.items in
-    let longer : length c.extend_from_slice.new.self.items ≡ length old.contents.items + length content = ap length contents ∙ length-append old.contents.items content in
-    let item = Data c.args.local c.args.offset content in
-    let follows : CanFollow c.args.self.now.items item =
-    record { encodable = c.requires.encodable; fits = bytes_fit content (λ i. (c.type_inv.content i).fits); defined = c.requires.defined } in
-    let can_be : CanBeFile (file_by old.frame (items_in c.extend_from_slice.new.self.items c.push.new.self.items)) =
-    subst CanBeFile (ap (λ (l : List Item). file_by old.frame l) (sym (items_are c))) (CanBeFile-push (file_view old) item c.self.invariant.can_be (follows_in (file_view old) c.args.self.now item c.self.view_is follows) (λ long. c.requires.fits (subst (λ (v : FileValue). IsTooLong v item) c.self.view_is long))) in
-    record {
-      can_be = can_be;
-      within = rw (pushed c, longer) (within-push (length old.contents.items + length content) old.items.items _ (within-more (length old.contents.items) (length old.contents.items + length content) old.items.items (omega arith) c.self.invariant.within) (omega arith));
-      table = λ l. rw (items_are c) (c.self.invariant.table l ∙ sym (in_force-data items c.args.local c.args.offset content l));
-      size = omega (arith, c.self.invariant.size, data_size-push items (Data c.args.local c.args.offset content), ap data_size (items_are c));
-    }
+invariant_of-self-2 c = (on c).0
 
 pub returns-clause-ok : goal.returns-clause-ok
-returns-clause-ok c =
-    let old = c.self.inside in
-    ap (λ (l : List Item). file_by old.frame l) (items_are c) ∙ ap (λ (v : FileValue). with_item v (Data c.args.local c.args.offset c.args.content.now)) c.self.view_is
+returns-clause-ok c = (on c).1 ∙ ap (λ (v : FileValue). with_item v (Data c.args.local c.args.offset c.args.content.now)) c.self.view_is

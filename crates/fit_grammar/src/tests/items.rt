@@ -1,5 +1,5 @@
 // Items as other writers write them, at every window.
-use super::*;
+use crate::*;
 use arrayvec::ArrayVec;
 use fit_base::Arch;
 use std::process::Abort;
@@ -180,7 +180,7 @@ fn assert_largest(rt: &impl Abort, bytes: &[u8], table: &Table) {
         Step::Item(Item::Data(data), _) => {
             assert_eq!(rt; data.local, 15);
             assert_eq!(rt; data.content.len(), 65025);
-            assert_eq!(rt; data.definition.global, 0xFF00);
+            assert_eq!(rt; data.definition.global(), 0xFF00);
         }
         _ => panic!(rt; "a data message was expected"),
     }
