@@ -90,8 +90,8 @@ impl BaseType {
         }
     }
 
-    // The number of the value that stands for no value.
-    pub(crate) fn invalid(self) -> u64
+    /// The number of the value that stands for no value.
+    pub fn invalid(self) -> u64
         ensures { result ≡ (row_of self).invalid }
     {
         match self {

@@ -1,5 +1,5 @@
 -- The shown text of values, by the cases that the code goes through.
-use Rattle.std.proofs.Common.{◌≡◌, ◌≢◌, ℕ, zero, suc, ◌+◌, ◌<◌, ◌≤◌, ◌==◌, ◌↔◌, Bool, true, false, IsTrue, List, [], ◌∷◌, ◌++◌, length, get_or, take, drop, append_assoc, add-zero, refl, sym, ap, ◌∙◌, subst, eq-eqb, codes, decimal, Option, Some, arith, rules, if◌then◌else◌}
+use Rattle.std.proofs.Common.{◌≡◌, ◌≢◌, ℕ, zero, suc, ◌+◌, ◌<◌, ◌≤◌, ◌==◌, true, false, List, [], ◌∷◌, ◌++◌, length, get_or, take, drop, append_assoc, add-zero, refl, ap, ◌∙◌, eq-eqb, codes, decimal, Some, arith, rules, if◌then◌else◌}
 use Rattle.std.proofs.lemmas.List.{at_drop_more, at_drop_all}
 use Rattle.std.specs.Fmt.{signed_decimal}
 use Rattle.std.specs.Int.{to_be_bytes, w64}
@@ -10,7 +10,7 @@ use Rattle.fit_base.specs.declared.base.BaseType.{BaseType}
 use Rattle.fit_base.specs.declared.base.BaseType.TheVariants.{Float32, Float64, String, Byte}
 use Rattle.fit_base.specs.Number.{twos_complement}
 use Rattle.fit_base.specs.Base.{row_of, base_type, has_sign}
-use Rattle.fit_base.specs.Value.{Field, size_by, unsigned_at, signed_at, numbers, IsInvalidAt, IsInvalidBy}
+use Rattle.fit_base.specs.Value.{Field, size_by, unsigned_at, signed_at, numbers}
 use Rattle.fitrec.specs.Text.{hex_byte, hex_text, is_plain, escaped, string_text, byte_text, whole_text, plain_text, number_text, numbers_text, IsNumber, some_text}
 
 -- ---- bytes
@@ -69,40 +69,26 @@ pub plain_float64 : (type : BaseType) (n : ℕ) (bytes : List ℕ) → type ≡ 
 unfolding plain_text
 plain_float64 type n bytes e h = rw (e, h) refl
 
+-- a type with a sign is no float
+pub plain_signed : (type : BaseType) (n : ℕ) → has_sign type ≡ true → whole_text type n ≡ plain_text type n
+unfolding plain_text
+plain_signed Float32 n e = cc
+plain_signed Float64 n e = cc
+plain_signed type n e = refl
+
 pub plain_whole : (type : BaseType) (n : ℕ) → type ≢ Float32 → type ≢ Float64 → whole_text type n ≡ plain_text type n
 unfolding plain_text
 plain_whole Float32 n no_32 no_64 = absurd (no_32 refl)
 plain_whole Float64 n no_32 no_64 = absurd (no_64 refl)
 plain_whole type n no_32 no_64 = refl
 
-invalid_by : (type : BaseType) (field : Field) (i : ℕ) → IsNumber type → IsInvalidBy (Some type) field i ↔ (unsigned_at field i ≡ (row_of type).invalid)
-invalid_by String field i bad = absurd bad
-invalid_by Byte field i bad = absurd bad
-invalid_by type field i numbers = (λ h. h, λ h. h)
-
-pub invalid_is : (type : BaseType) (field : Field) (i : ℕ) → base_type field.base ≡ Some type → IsNumber type →
-    IsInvalidAt field i ↔ (unsigned_at field i ≡ (row_of type).invalid)
-invalid_is type field i known numbers =
-    let P : Option BaseType → Type 0 = λ o. IsInvalidBy o field i ↔ (unsigned_at field i ≡ (row_of type).invalid) in
-    subst P (sym known) (invalid_by type field i numbers)
-
-number_same : (type : BaseType) (n : ℕ) → n ≡ (row_of type).invalid → codes "-" ≡ number_text type n
+pub number_same : (type : BaseType) (n : ℕ) → n ≡ (row_of type).invalid → codes "-" ≡ number_text type n
 unfolding number_text
 number_same type n e = let t : (n == (row_of type).invalid) ≡ true = eq-eqb _ _ e in rw t refl
 
-number_other : (type : BaseType) (n : ℕ) → n ≢ (row_of type).invalid → plain_text type n ≡ number_text type n
+pub number_other : (type : BaseType) (n : ℕ) → n ≢ (row_of type).invalid → plain_text type n ≡ number_text type n
 unfolding number_text
 number_other type n e = let t : (n == (row_of type).invalid) ≡ false = search rules in rw t refl
-
-pub number_invalid : (type : BaseType) (field : Field) (i : ℕ) (b : Bool) → base_type field.base ≡ Some type → IsNumber type →
-    IsTrue b ↔ IsInvalidAt field i → b ≡ true → codes "-" ≡ number_text type (unsigned_at field i)
-number_invalid type field i b known numbers both e =
-    number_same type _ ((invalid_is type field i known numbers).0 (both.0 e))
-
-pub number_valid : (type : BaseType) (field : Field) (i : ℕ) (b : Bool) → base_type field.base ≡ Some type → IsNumber type →
-    IsTrue b ↔ IsInvalidAt field i → b ≡ false → plain_text type (unsigned_at field i) ≡ number_text type (unsigned_at field i)
-number_valid type field i b known numbers both e =
-    number_other type _ (λ h. let t : b ≡ true = both.1 ((invalid_is type field i known numbers).1 h) in cc)
 
 -- ---- rows of numbers
 

@@ -14,9 +14,6 @@ returns-in-Byte g c =
     writes_same c.put_byte_field.ensures
     (ap byte_text c.raw-in-Byte.ensures ∙ byte_values c.args.value.now (c.requires.known ∙ ap Some c.in-Byte.is) c.requires.some)
 
-pub put_numbers-requires-clause-numbers : goal.put_numbers-requires-clause-numbers
-put_numbers-requires-clause-numbers g c = is_number _ c.in_default.not-String c.in_default.not-Byte
-
 pub returns-in_default : goal.returns-in_default
 returns-in_default g c =
     writes_same c.put_numbers.ensures
