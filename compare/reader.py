@@ -1,0 +1,176 @@
+"""A second reader of FIT files: the text that `fitrec show` has to print, or the refusal that it has to give.
+
+It was written from the description of the format (docs/FORMAT.md) and shares nothing with the program."""
+
+# Base type byte: name, size of a value, invalid value.
+BASE_TYPES = {
+    0x00: ("enum", 1, 0xFF),
+    0x01: ("sint8", 1, 0x7F),
+    0x02: ("uint8", 1, 0xFF),
+    0x83: ("sint16", 2, 0x7FFF),
+    0x84: ("uint16", 2, 0xFFFF),
+    0x85: ("sint32", 4, 0x7FFFFFFF),
+    0x86: ("uint32", 4, 0xFFFFFFFF),
+    0x07: ("string", 1, 0x00),
+    0x88: ("float32", 4, 0xFFFFFFFF),
+    0x89: ("float64", 8, 0xFFFFFFFFFFFFFFFF),
+    0x0A: ("uint8z", 1, 0),
+    0x8B: ("uint16z", 2, 0),
+    0x8C: ("uint32z", 4, 0),
+    0x0D: ("byte", 1, 0xFF),
+}
+
+COMMON = {253: "timestamp", 254: "message_index"}
+
+SUMMARY = {
+    0: "event", 1: "event_type", 2: "start_time", 7: "total_elapsed_time", 8: "total_timer_time", 9: "total_distance"}
+
+MESSAGES = {
+    0: ("file_id", {0: "type", 1: "manufacturer", 2: "product", 3: "serial_number", 4: "time_created"}),
+    12: ("sport", {0: "sport", 1: "sub_sport"}),
+    18: ("session", SUMMARY | {
+        5: "sport", 6: "sub_sport", 14: "avg_speed", 15: "max_speed", 16: "avg_heart_rate", 17: "max_heart_rate",
+        20: "avg_power", 21: "max_power", 25: "first_lap_index", 26: "num_laps", 28: "trigger"}),
+    19: ("lap", SUMMARY | {
+        13: "avg_speed", 14: "max_speed", 15: "avg_heart_rate", 16: "max_heart_rate", 19: "avg_power", 20: "max_power",
+        24: "lap_trigger"}),
+    20: ("record", {
+        0: "position_lat", 1: "position_long", 2: "altitude", 3: "heart_rate", 4: "cadence", 5: "distance", 6: "speed",
+        7: "power", 13: "temperature", 73: "enhanced_speed", 78: "enhanced_altitude"}),
+    21: ("event", {0: "event", 1: "event_type"}),
+    34: ("activity", {0: "total_timer_time", 1: "num_sessions", 2: "type", 3: "event", 4: "event_type"}),
+}
+
+
+class Refused(Exception):
+    """A file that is refused; its text is the kind and the place."""
+
+
+def checksum(data):
+    """The checksum, bit by bit."""
+    register = 0
+    for byte in data:
+        for bit in range(8):
+            taken = (register ^ (byte >> bit)) & 1
+            register = (register >> 1) ^ (0xA001 if taken else 0)
+    return register
+
+
+def number(data, big):
+    return int.from_bytes(data, "big" if big else "little")
+
+
+def hexadecimal(data):
+    return "0x" + data.hex().upper()
+
+
+def value_text(base, big, data):
+    """What the bytes of a field hold."""
+    if not data:
+        return ""
+    name, size, invalid = BASE_TYPES.get(base, ("raw", 1, None))
+    if name == "raw" or len(data) % size:
+        return hexadecimal(data)
+    if name == "byte":
+        return "-" if set(data) == {0xFF} else hexadecimal(data)
+    if name == "string":
+        plain = (chr(b) if 0x20 <= b <= 0x7E and b not in b'"\\' else "\\x%02X" % b for b in data.split(b"\0")[0])
+        return '"' + "".join(plain) + '"'
+    texts = []
+    for at in range(0, len(data), size):
+        value = number(data[at:at + size], big)
+        if value == invalid:
+            texts.append("-")
+        elif name.startswith("float"):
+            texts.append("0x%0*X" % (2 * size, value))
+        elif name.startswith("sint") and value >= 1 << (8 * size - 1):
+            texts.append(str(value - (1 << 8 * size)))
+        else:
+            texts.append(str(value))
+    return ",".join(texts)
+
+
+def read_header(data):
+    """The size of the header and of the records."""
+    if not data:
+        raise Refused("Truncated at 0")
+    if data[0] not in (12, 14):
+        raise Refused("HeaderSize at 0")
+    wait(data, 2)
+    if data[1] >> 4 not in (1, 2):
+        raise Refused("Protocol at 1")
+    wait(data, 12)
+    if data[8:12] != b".FIT":
+        raise Refused("Magic at 8")
+    wait(data, data[0])
+    if data[0] == 14 and number(data[12:14], False) not in (0, checksum(data[:12])):
+        raise Refused("HeaderCrc at 12")
+    return data[0], number(data[4:8], False)
+
+
+def wait(data, count):
+    """So many bytes have to be there."""
+    if len(data) < count:
+        raise Refused("Truncated at %d" % len(data))
+
+
+def whole(data, at, end, size):
+    """The item at this place has this size: within the records, and then there."""
+    if at + size > end:
+        raise Refused("SplitMessage at %d" % at)
+    wait(data, at + size)
+
+
+def show(data):
+    """The text of a file."""
+    header, size = read_header(data)
+    at, end = header, header + size
+    definitions, before, lines = {}, 0, []
+    while at < end:
+        wait(data, at + 1)
+        first = data[at]
+        if first & 0xC0 == 0x40:
+            if first & 0x20:
+                raise Refused("Developer at %d" % at)
+            whole(data, at, end, 6)
+            count = data[at + 5]
+            whole(data, at, end, 6 + 3 * count)
+            big = bool(data[at + 2] & 1)
+            fields = [tuple(data[at + 6 + 3 * i:at + 9 + 3 * i]) for i in range(count)]
+            definitions[first & 15] = big, number(data[at + 3:at + 5], big), fields
+            at += 6 + 3 * count
+            continue
+        compressed = first & 0x80
+        local = first >> 5 & 3 if compressed else first & 15
+        if local not in definitions:
+            raise Refused("UndefinedLocal(%d) at %d" % (local, at))
+        big, message, fields = definitions[local]
+        whole(data, at, end, 1 + sum(size for _, size, _ in fields))
+        at += 1
+        shown, stated = [], None
+        if compressed:
+            # the least time that is not below the one before and leaves the offset modulo 32
+            while before % 32 != first & 31:
+                before += 1
+            before %= 1 << 32
+            shown.append((253, str(before) if before != 0xFFFFFFFF else "-"))
+        for field, length, base in fields:
+            content = data[at:at + length]
+            at += length
+            shown.append((field, value_text(base, big, content)))
+            if stated is None and (field, length, base) == (253, 4, 0x86) and content != b"\xFF" * 4:
+                stated = number(content, big)
+        if stated is not None and not compressed:
+            before = stated
+        name, names = MESSAGES.get(message, ("message_%d" % message, {}))
+        names = names | COMMON
+        pairs = "".join(" %s=%s" % (names.get(field, "field_%d" % field), text) for field, text in shown)
+        lines.append("%d %s%s\n" % (len(lines), name, pairs))
+    wait(data, end + 2)
+    if number(data[end:end + 2], False) != checksum(data[:end]):
+        raise Refused("FileCrc at %d" % end)
+    if len(data) > end + 2:
+        raise Refused("TrailingBytes at %d" % (end + 2))
+    versions = data[1] >> 4, data[1] & 15, number(data[2:4], False)
+    head = "header %d protocol %d.%d profile %d data %d\n" % (header, *versions, size)
+    return head + "".join(lines) + "messages %d\n" % len(lines)
