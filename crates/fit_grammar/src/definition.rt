@@ -2,8 +2,15 @@
 
 ghost use Rattle.std.specs.Prelude.{◌≡◌, ◌≤◌, ◌<◌};
 
+pub(crate) mod kept;
+pub(crate) mod latest;
+mod lent;
+mod table;
+
 use arrayvec::ArrayVec;
 use fit_base::Arch;
+pub use lent::DefinitionMessage;
+pub use table::Table;
 
 /// A field as a definition gives it: its number in the profile, how many bytes it has, and its base type
 /// byte. Three bytes in a definition message.
@@ -15,7 +22,7 @@ pub struct FieldDefinition {
 }
 
 impl FieldDefinition {
-    ghost use Rattle.fit_grammar.specs.Possible.{FieldFits};
+    ghost use Rattle.fit_grammar.specs.Calls.Possible.{FieldFits};
 
     // The same field, whose numbers fit into their bytes, as its type says.
     pub(crate) fn in_bytes(self) -> FieldDefinition

@@ -1,22 +1,29 @@
 // A file in memory.
 
 ghost use Rattle.std.specs.Prelude.{◌≡◌, ◌<◌, ◌≤◌, ◌+◌, ◌++◌, ◌∷◌, [], ◌↔◌, ◌⊎◌, ℕ, length, Ok, Err, OnOk, OnErr, IfErr, IsErrOf, IsTrue, ◌^◌};
-ghost use Rattle.fit_grammar.specs.Records.{in_force, IsDefined, data_size};
-ghost use Rattle.fit_grammar.specs.Encoding.{HasEncoding, encoded_items};
-ghost use Rattle.fit_grammar.specs.Item.{Defines, Data, content_size};
-ghost use Rattle.fit_grammar.specs.Message.{messages_of};
-ghost use Rattle.fit_grammar.specs.Possible.{CanBeFile};
-ghost use Rattle.fit_grammar.specs.Step.{least_length_of};
-ghost use Rattle.fit_grammar.specs.File.{IsFrame, with_item, IsTooLong, IsUndefined, HasWrongLength, CanHold, IsOffset};
+ghost use Rattle.fit_grammar.specs.Format.Records.{in_force, IsDefined, data_size};
+ghost use Rattle.fit_grammar.specs.Format.Encoding.{HasEncoding, encoded_items};
+ghost use Rattle.fit_grammar.specs.Format.Item.{Defines, Data, content_size};
+ghost use Rattle.fit_grammar.specs.Format.Message.{messages_of};
+ghost use Rattle.fit_grammar.specs.Calls.Possible.{CanBeFile};
+ghost use Rattle.fit_grammar.specs.Calls.Step.{least_length_of};
+ghost use Rattle.fit_grammar.specs.Format.File.{IsFrame};
+ghost use Rattle.fit_grammar.specs.Calls.Adding.{with_item, IsTooLong, IsUndefined, HasWrongLength, CanHold, IsOffset};
 
-use crate::definition::Definition;
-use crate::fault::PutFault;
-use crate::frame::Frame;
+mod decode;
+mod encode;
+mod fault;
+mod frame;
+
+use crate::definition::kept::WrittenDefinition;
+use crate::definition::{Definition, Table};
+use crate::item::writing::data_byte;
 use crate::item::{ItemFault, least_length};
-use crate::messages::Messages;
-use crate::table::Table;
-use crate::writing::data_byte;
-use crate::written::WrittenDefinition;
+use crate::message::Messages;
+pub use decode::decode_file;
+pub use encode::encode_file;
+pub use fault::{EncodeFault, FaultKind, FileFault, PutFault};
+pub use frame::Frame;
 use std::alloc::{AllocError, Global};
 use std::marker::Model;
 
@@ -31,11 +38,11 @@ pub struct File {
 }
 
 impl Model for File {
-    ghost use Rattle.fit_grammar.specs.File.{FileValue};
+    ghost use Rattle.fit_grammar.specs.Format.File.{FileValue};
 
     ghost Value = { FileValue };
 
-    ghost use Rattle.fit_grammar.specs.Stored.{file_view, IsKept};
+    ghost use Rattle.fit_grammar.specs.Private.KeptFile.{file_view, IsKept};
 
     ghost view = { file_view };
 

@@ -2,15 +2,20 @@
 
 ghost use Rattle.std.specs.Prelude.{◌≡◌, ◌≤◌, ◌++◌, ℕ, List, Option, IfOk, length, slice_index};
 ghost use Rattle.fit_grammar.specs.declared.definition.Definition.{Definition as AnyDefinition};
-ghost use Rattle.fit_grammar.specs.Item.{Item as AnyItem, Spells, head_of, DefinitionHead, DataHead};
-ghost use Rattle.fit_grammar.specs.Records.{IsDefinedBy};
-ghost use Rattle.fit_grammar.specs.Table.{definition_in};
-ghost use Rattle.fit_grammar.specs.Step.{IsLeastLength, IsStep, IsStepItem, ItemAtFront, ItemBegun, ShowsUndefined, ShowsDeveloper, least_length_of, definition_length_of, local_of};
+ghost use Rattle.fit_grammar.specs.Format.Item.{Item as AnyItem, Spells, head_of, DefinitionHead, DataHead};
+ghost use Rattle.fit_grammar.specs.Format.Records.{IsDefinedBy};
+ghost use Rattle.fit_grammar.specs.Calls.Table.{definition_in};
+ghost use Rattle.fit_grammar.specs.Calls.Step.{IsLeastLength, IsStep, IsStepItem, ItemAtFront, ItemBegun, ShowsUndefined, ShowsDeveloper, least_length_of, definition_length_of};
+ghost use Rattle.fit_grammar.specs.Private.FirstByte.{local_of};
 
-use crate::data::DataMessage;
-use crate::head::{Head, first_local, read_head};
-use crate::spelled::DefinitionMessage;
-use crate::table::Table;
+mod data_message;
+pub(crate) mod first_byte;
+pub(crate) mod writing;
+
+use crate::definition::{DefinitionMessage, Table};
+pub use data_message::DataMessage;
+use first_byte::{Head, first_local, read_head};
+pub use writing::{write_data, write_definition};
 
 /// An item of a file's records. It holds a few words, and no definition.
 #[derive(Drop)]
@@ -29,7 +34,7 @@ pub enum ItemFault {
 }
 
 impl ItemFault {
-    ghost use Rattle.fit_grammar.specs.Code.{item_code};
+    ghost use Rattle.fit_grammar.specs.Calls.FaultCode.{item_code};
 
     /// The number of the fault, 1 or 2.
     pub fn code(&self) -> u8

@@ -2,11 +2,11 @@
 
 ghost use Rattle.std.specs.Prelude.{◌≡◌, ℕ, List, ◌++◌, Option};
 ghost use Rattle.fit_grammar.specs.declared.definition.Definition.{Definition};
-ghost use Rattle.fit_grammar.specs.Encoding.{encoded_item, HasEncoding, encoded};
-ghost use Rattle.fit_grammar.specs.File.{FileValue, FileOf};
-ghost use Rattle.fit_grammar.specs.Item.{Item, Spells};
-ghost use Rattle.fit_grammar.specs.Possible.{CanBeFile};
-ghost use Rattle.fit_grammar.specs.Records.{IsDefinedBy};
+ghost use Rattle.fit_grammar.specs.Format.Encoding.{encoded_item, HasEncoding, encoded};
+ghost use Rattle.fit_grammar.specs.Format.File.{FileValue, FileOf};
+ghost use Rattle.fit_grammar.specs.Format.Item.{Item, Spells};
+ghost use Rattle.fit_grammar.specs.Calls.Possible.{CanBeFile};
+ghost use Rattle.fit_grammar.specs.Format.Records.{IsDefinedBy};
 
 /// Under one lookup of definitions, no spelling of a defined item begins the spelling of another. So
 /// bytes are read as items in one way at most.

@@ -1,15 +1,19 @@
 // Messages: data messages read under their definitions and with their times.
 
 ghost use Rattle.std.specs.Prelude.{◌≡◌};
-ghost use Rattle.fit_grammar.specs.Lent.{message_lent};
+ghost use Rattle.fit_grammar.specs.Calls.LentMessage.{message_lent};
 ghost use Rattle.fit_grammar.specs.declared.item.Item.TheVariants as items;
 
-use crate::data::DataMessage;
-use crate::fields::Fields;
-use crate::item::Item;
-use crate::spelled::DefinitionMessage;
-use crate::time::{next_time, stated_time};
+mod fields;
+mod row;
+pub(crate) mod time;
+
+use crate::definition::DefinitionMessage;
+use crate::item::{DataMessage, Item};
+pub use fields::{Field, Fields};
+pub use row::Messages;
 use std::marker::Model;
+use time::{next_time, stated_time};
 
 /// A message, lent from its data message. Contracts see what it says, whatever architecture and header it
 /// was written under, and beside it the time of a compressed timestamp.
@@ -23,9 +27,9 @@ pub struct Message<'a> {
 impl<'a> Model for Message<'a> {
     ghost use Rattle.std.specs.Prelude.{◌≡◌, length, option_map, IfSome};
     ghost use Rattle.fit_base.specs.Number.{low_first};
-    ghost use Rattle.fit_grammar.specs.Item.{content_size};
-    ghost use Rattle.fit_grammar.specs.Message.{message_under};
-    ghost use Rattle.fit_grammar.specs.Lent.{LentMessage};
+    ghost use Rattle.fit_grammar.specs.Format.Item.{content_size};
+    ghost use Rattle.fit_grammar.specs.Format.Message.{message_under};
+    ghost use Rattle.fit_grammar.specs.Calls.LentMessage.{LentMessage};
 
     ghost Value = { LentMessage };
 
@@ -36,7 +40,7 @@ impl<'a> Model for Message<'a> {
 }
 
 impl<'a> Message<'a> {
-    ghost use Rattle.fit_grammar.specs.Lent.{time_of};
+    ghost use Rattle.fit_grammar.specs.Calls.LentMessage.{time_of};
 
     /// The global message number of the profile.
     pub fn global(&self) -> u16

@@ -2,9 +2,9 @@
 use Rattle.std.proofs.Common.{◌≡◌, ℕ, ◌+◌, ◌≤◌, List, [], ◌∷◌, ◌++◌, length, length-append, arith}
 use Rattle.std.proofs.lemmas.List.Sums.{sum_by-cons}
 use Rattle.std.specs.Prelude.{Option, Some, None, unwrap_or, option_to_list}
-use Rattle.fit_grammar.specs.Item.{Item, Defines, Data, item_size}
-use Rattle.fit_grammar.specs.Records.{data_size}
-use Rattle.fit_grammar.specs.Message.{Message, message_at, time_given, messages_after, messages_of}
+use Rattle.fit_grammar.specs.Format.Item.{Item, Defines, Data, item_size}
+use Rattle.fit_grammar.specs.Format.Records.{data_size}
+use Rattle.fit_grammar.specs.Format.Message.{Message, message_at, time_given, messages_after, messages_of}
 
 item_some : (item : Item) → 1 ≤ item_size item
 item_some (Defines d) = omega arith

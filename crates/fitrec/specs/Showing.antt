@@ -1,13 +1,13 @@
 -- What becomes of bytes that are to be shown.
 use Rattle.std.specs.Prelude.{◌≡◌, ℕ, List, Option, Result, Ok, Err}
 use Rattle.std.specs.Io.KnownBytes.{Appends}
-use Rattle.fit_grammar.specs.File.{FileValue, FileOf}
-use Rattle.fit_grammar.specs.Refusal.{IsFaultOf}
+use Rattle.fit_grammar.specs.Format.File.{FileValue, FileOf}
+use Rattle.fit_grammar.specs.Format.Refusal.{IsFaultOf}
 use Rattle.fitrec.specs.declared.show.file.ShowBytesFault.{ShowBytesFault}
 use Rattle.fitrec.specs.declared.show.file.ShowBytesFault.TheVariants.{Write, File}
 use Rattle.fitrec.specs.declared.fault.Fault.{Fault}
 use Rattle.fitrec.specs.declared.fault.Fault.TheVariants as faults
-use Rattle.fit_grammar.specs.Output.{AppendsBeginning}
+use Rattle.fit_grammar.specs.Calls.Output.{AppendsBeginning}
 use Rattle.fitrec.specs.Text.{text_of}
 
 -- the bytes are a file, and all of its text was written, or a beginning of it where the writer failed; or they

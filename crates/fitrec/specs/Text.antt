@@ -9,10 +9,10 @@ use Rattle.fit_base.specs.declared.base.BaseType.TheVariants.{Float32, Float64, 
 use Rattle.fit_base.specs.Number.{twos_complement}
 use Rattle.fit_base.specs.Base.{row_of, base_type, has_sign}
 use Rattle.fit_base.specs.Value.{Values, Numbers, Raw}
-use Rattle.fit_grammar.specs.declared.frame.Frame.{Frame}
-use Rattle.fit_grammar.specs.Records.{data_size}
-use Rattle.fit_grammar.specs.Message.{Message, MessageField, messages_of}
-use Rattle.fit_grammar.specs.File.{FileValue}
+use Rattle.fit_grammar.specs.declared.file.frame.Frame.{Frame}
+use Rattle.fit_grammar.specs.Format.Records.{data_size}
+use Rattle.fit_grammar.specs.Format.Message.{Message, MessageField, messages_of}
+use Rattle.fit_grammar.specs.Format.File.{FileValue}
 use Rattle.fitrec.specs.Profile.{FieldNames, message_named, names_of_fields, field_named}
 
 -- ---- values

@@ -2,7 +2,7 @@
 
 ghost use Rattle.std.specs.Prelude.{decimal};
 ghost use Rattle.std.specs.Fmt.{signed_decimal};
-ghost use Rattle.fit_grammar.specs.Output.{WritesText};
+ghost use Rattle.fit_grammar.specs.Calls.Output.{WritesText};
 
 use fit_grammar::{WriteFailed, put};
 use itoa::Buffer;

@@ -3,7 +3,7 @@
 ghost use Rattle.std.specs.Prelude.{◌≡◌, ◌<◌, ◌==◌, true, position};
 ghost use Rattle.std.specs.Fmt.{digit_glyph};
 ghost use Rattle.std.specs.List.{before_first, flat_map, list_all};
-ghost use Rattle.fit_grammar.specs.Output.{WritesText};
+ghost use Rattle.fit_grammar.specs.Calls.Output.{WritesText};
 ghost use Rattle.fitrec.specs.Text.{hex_byte, hex_text, is_plain, escaped, string_text, byte_text};
 
 use fit_grammar::{WriteFailed, put};

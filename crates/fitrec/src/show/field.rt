@@ -3,7 +3,7 @@
 ghost use Rattle.fit_base.specs.Base.{base_type};
 ghost use Rattle.std.specs.Prelude.{◌≡◌, ◌≢◌};
 ghost use Rattle.fit_base.specs.Value.{count_of, values_of};
-ghost use Rattle.fit_grammar.specs.Output.{WritesText};
+ghost use Rattle.fit_grammar.specs.Calls.Output.{WritesText};
 ghost use Rattle.fitrec.specs.Profile.{field_rows};
 ghost use Rattle.fitrec.specs.Text.{values_text, field_text, field_name};
 

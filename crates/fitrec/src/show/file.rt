@@ -1,8 +1,8 @@
 // A whole file.
 
 ghost use Rattle.std.specs.Prelude.{◌≡◌, ◌<◌, ◌^◌, length, IfOk};
-ghost use Rattle.fit_grammar.specs.Message.{messages_of};
-ghost use Rattle.fit_grammar.specs.Output.{WritesText};
+ghost use Rattle.fit_grammar.specs.Format.Message.{messages_of};
+ghost use Rattle.fit_grammar.specs.Calls.Output.{WritesText};
 ghost use Rattle.fitrec.specs.Text.{messages_text, text_of};
 ghost use Rattle.fitrec.specs.Showing.{ShowsBytes};
 

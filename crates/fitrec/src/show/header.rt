@@ -1,7 +1,7 @@
 // The first line: what the header of a file says.
 
 ghost use Rattle.std.specs.Prelude.{◌++◌, decimal};
-ghost use Rattle.fit_grammar.specs.Output.{WritesText};
+ghost use Rattle.fit_grammar.specs.Calls.Output.{WritesText};
 ghost use Rattle.fitrec.specs.Text.{header_text};
 
 use crate::writing::put_number;

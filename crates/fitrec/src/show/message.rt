@@ -1,7 +1,7 @@
 // The line of a message.
 
 ghost use Rattle.std.specs.Prelude.{◌++◌, decimal, codes};
-ghost use Rattle.fit_grammar.specs.Output.{WritesText};
+ghost use Rattle.fit_grammar.specs.Calls.Output.{WritesText};
 ghost use Rattle.std.specs.List.{flat_map};
 ghost use Rattle.fitrec.specs.Profile.{field_rows};
 ghost use Rattle.fitrec.specs.Text.{field_text, message_name, message_text};

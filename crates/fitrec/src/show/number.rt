@@ -3,7 +3,7 @@
 ghost use Rattle.std.specs.Prelude.{◌≡◌, ◌<◌, ◌==◌, ◌++◌, if◌then◌else◌, [], codes, false};
 ghost use Rattle.fit_base.specs.Base.{base_type, has_sign};
 ghost use Rattle.fit_base.specs.Value.{count_of, value_size, unsigned_at, numbers};
-ghost use Rattle.fit_grammar.specs.Output.{WritesText};
+ghost use Rattle.fit_grammar.specs.Calls.Output.{WritesText};
 ghost use Rattle.fitrec.specs.Text.{plain_text, number_text, numbers_text};
 
 use crate::show::bytes::put_hex;

@@ -1,5 +1,5 @@
-use Rattle.fit_grammar.specs.Table.{definition_in}
-use Rattle.fit_grammar.proofs.Lengths.{answer_holds}
+use Rattle.fit_grammar.specs.Calls.Table.{definition_in}
+use Rattle.fit_grammar.proofs.OneItem.Lengths.{answer_holds}
 use Rattle.fit_grammar.proofs.item.least_length.Goals as goal
 
 pub returns-clause-holds : goal.returns-clause-holds

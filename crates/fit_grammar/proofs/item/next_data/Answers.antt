@@ -1,5 +1,5 @@
 use Rattle.std.proofs.Common.{arith}
-use Rattle.fit_grammar.proofs.Reading.{begun_data}
+use Rattle.fit_grammar.proofs.OneItem.DefinitionRead.{begun_data}
 use Rattle.fit_grammar.proofs.item.next_data.Goals as goal
 
 pub returns-then-window-used : goal.returns-then-window-used

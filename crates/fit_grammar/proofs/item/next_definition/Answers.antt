@@ -1,4 +1,4 @@
-use Rattle.fit_grammar.proofs.Reading.{begun_definition, next_is}
+use Rattle.fit_grammar.proofs.OneItem.DefinitionRead.{begun_definition, next_is}
 use Rattle.fit_grammar.proofs.item.next_definition.Goals as goal
 
 pub returns-then-window-used : goal.returns-then-window-used

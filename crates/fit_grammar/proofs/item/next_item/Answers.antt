@@ -1,5 +1,5 @@
-use Rattle.fit_grammar.specs.Table.{definition_in}
-use Rattle.fit_grammar.proofs.Steps.{only_item, only_more, only_undefined, only_developer}
+use Rattle.fit_grammar.specs.Calls.Table.{definition_in}
+use Rattle.fit_grammar.proofs.OneItem.Steps.{only_item, only_more, only_undefined, only_developer}
 use Rattle.fit_grammar.proofs.item.next_item.Goals as goal
 
 pub returns-clause-item : goal.returns-clause-item

@@ -2,9 +2,9 @@ use Rattle.std.proofs.Common.{◌≡◌, ℕ, List, [], Option, sym, ap, subst, 
 use Rattle.std.proofs.lemmas.List.{nil_from_length}
 use Rattle.fit_grammar.specs.declared.definition.Definition.{Definition}
 use Rattle.fit_grammar.specs.declared.item.Step.TheVariants as steps
-use Rattle.fit_grammar.specs.Table.{definition_in}
-use Rattle.fit_grammar.specs.Step.{IsStep}
-use Rattle.fit_grammar.proofs.Reading.{begun_empty}
+use Rattle.fit_grammar.specs.Calls.Table.{definition_in}
+use Rattle.fit_grammar.specs.Calls.Step.{IsStep}
+use Rattle.fit_grammar.proofs.OneItem.DefinitionRead.{begun_empty}
 use Rattle.fit_grammar.proofs.item.step_at.Goals as goal
 
 nothing_there : (f : ℕ → Option Definition) (window : List ℕ) → window ≡ [] → IsStep f window steps.NeedMore

@@ -1,6 +1,6 @@
 use Rattle.std.proofs.Common.{ap, ◌∙◌}
-use Rattle.fit_grammar.specs.Item.{Head}
-use Rattle.fit_grammar.specs.Step.{local_of}
+use Rattle.fit_grammar.specs.Format.Item.{Head}
+use Rattle.fit_grammar.specs.Private.FirstByte.{local_of}
 use Rattle.fit_grammar.proofs.item.step_under.Goals as goal
 
 pub returns-in-Definition : goal.returns-in-Definition

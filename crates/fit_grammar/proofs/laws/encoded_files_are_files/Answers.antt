@@ -1,4 +1,4 @@
-use Rattle.fit_grammar.proofs.Encoded.{encoded_is_file}
+use Rattle.fit_grammar.proofs.Encoder.Encoded.{encoded_is_file}
 use Rattle.fit_grammar.proofs.laws.encoded_files_are_files.Goals as goal
 
 pub returns : goal.returns

@@ -1,4 +1,4 @@
-use Rattle.fit_grammar.proofs.Spelling.{spelling_one}
+use Rattle.fit_grammar.proofs.OneItem.Spelling.{spelling_one}
 use Rattle.fit_grammar.proofs.laws.no_spelling_begins_another.Goals as goal
 
 pub returns : goal.returns

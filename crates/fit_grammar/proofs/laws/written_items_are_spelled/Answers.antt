@@ -1,4 +1,4 @@
-use Rattle.fit_grammar.proofs.Encoding.{encoded_spells}
+use Rattle.fit_grammar.proofs.Encoder.Encoding.{encoded_spells}
 use Rattle.fit_grammar.proofs.laws.written_items_are_spelled.Goals as goal
 
 pub returns : goal.returns

@@ -1,7 +1,7 @@
 use Rattle.std.proofs.Common.{◌≡◌, [], Some, sym, ◌∙◌}
-use Rattle.fit_grammar.specs.Records.{in_force}
-use Rattle.fit_grammar.specs.Stored.{file_view}
-use Rattle.fit_grammar.proofs.Following.{in_force_small, data_has_encoding}
+use Rattle.fit_grammar.specs.Format.Records.{in_force}
+use Rattle.fit_grammar.specs.Private.KeptFile.{file_view}
+use Rattle.fit_grammar.proofs.KeptRow.Following.{in_force_small, data_has_encoding}
 use Rattle.fit_grammar.proofs.file.File.data.Goals as goal
 
 pub push_data-requires-clause-encodable : goal.push_data-requires-clause-encodable

@@ -1,8 +1,8 @@
 use Rattle.std.proofs.Common.{◌≡◌, length, ap, sym, ◌∙◌, arith}
-use Rattle.fit_grammar.specs.Records.{data_size}
-use Rattle.fit_grammar.specs.File.{FileValue}
-use Rattle.fit_grammar.specs.Rows.{items_in}
-use Rattle.fit_grammar.proofs.Encoded.{encoded_items-length}
+use Rattle.fit_grammar.specs.Format.Records.{data_size}
+use Rattle.fit_grammar.specs.Format.File.{FileValue}
+use Rattle.fit_grammar.specs.Private.ItemRow.{items_in}
+use Rattle.fit_grammar.proofs.Encoder.Encoded.{encoded_items-length}
 use Rattle.fit_grammar.proofs.file.File.data_size.Goals as goal
 
 total : (c : goal.After-len) → c.len.result ≡ data_size (items_in c.self.inside.records.items)

@@ -1,13 +1,14 @@
 use Rattle.std.proofs.Common.{◌≡◌, ◌∷◌, [], ◌++◌, refl, List, ℕ, ap, sym, subst, append_assoc, ◌∙◌}
 use Rattle.fit_grammar.specs.declared.file.File.TheInside.{Inside}
-use Rattle.fit_grammar.specs.Item.{Data}
-use Rattle.fit_grammar.specs.Encoding.{encoded_item, data_byte}
-use Rattle.fit_grammar.specs.File.{FileValue, with_item, IsTooLong}
-use Rattle.fit_grammar.specs.Stored.{file_view, IsKept}
-use Rattle.fit_grammar.specs.Rows.{items_in}
-use Rattle.fit_grammar.proofs.Following.{bytes_fit, follows_in}
-use Rattle.fit_grammar.proofs.InForce.{in_force-data}
-use Rattle.fit_grammar.proofs.Kept.{kept}
+use Rattle.fit_grammar.specs.Format.Item.{Data}
+use Rattle.fit_grammar.specs.Format.Encoding.{encoded_item, data_byte}
+use Rattle.fit_grammar.specs.Format.File.{FileValue}
+use Rattle.fit_grammar.specs.Calls.Adding.{with_item, IsTooLong}
+use Rattle.fit_grammar.specs.Private.KeptFile.{file_view, IsKept}
+use Rattle.fit_grammar.specs.Private.ItemRow.{items_in}
+use Rattle.fit_grammar.proofs.KeptRow.Following.{bytes_fit, follows_in}
+use Rattle.fit_grammar.proofs.KeptRow.InForce.{in_force-data}
+use Rattle.fit_grammar.proofs.KeptRow.Kept.{kept}
 use Rattle.fit_grammar.proofs.file.File.push_data.Goals as goal
 
 abbrev behind : goal.After-unwrap → Inside

@@ -1,12 +1,13 @@
 use Rattle.std.proofs.Common.{◌≡◌, ◌++◌, refl, List, ℕ, ap, subst, ◌∙◌}
 use Rattle.fit_grammar.specs.declared.definition.Definition.{Definition}
 use Rattle.fit_grammar.specs.declared.file.File.TheInside.{Inside}
-use Rattle.fit_grammar.specs.Item.{Defines}
-use Rattle.fit_grammar.specs.Encoding.{encoded_item}
-use Rattle.fit_grammar.specs.File.{FileValue, with_item, IsTooLong}
-use Rattle.fit_grammar.specs.Stored.{file_view, IsKept}
-use Rattle.fit_grammar.specs.Rows.{items_in}
-use Rattle.fit_grammar.proofs.Kept.{kept, table-take}
+use Rattle.fit_grammar.specs.Format.Item.{Defines}
+use Rattle.fit_grammar.specs.Format.Encoding.{encoded_item}
+use Rattle.fit_grammar.specs.Format.File.{FileValue}
+use Rattle.fit_grammar.specs.Calls.Adding.{with_item, IsTooLong}
+use Rattle.fit_grammar.specs.Private.KeptFile.{file_view, IsKept}
+use Rattle.fit_grammar.specs.Private.ItemRow.{items_in}
+use Rattle.fit_grammar.proofs.KeptRow.Kept.{kept, table-take}
 use Rattle.fit_grammar.proofs.file.File.push_definition.Goals as goal
 
 abbrev behind : goal.After-keep → Inside

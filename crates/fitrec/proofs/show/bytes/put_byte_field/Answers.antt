@@ -1,4 +1,4 @@
-use Rattle.fit_grammar.proofs.OutputLemmas.{writes_same}
+use Rattle.fit_grammar.proofs.Encoder.Output.{writes_same}
 use Rattle.fitrec.proofs.TextLemmas.{byte_invalid, byte_valid}
 use Rattle.fitrec.proofs.show.bytes.put_byte_field.Goals as goal
 

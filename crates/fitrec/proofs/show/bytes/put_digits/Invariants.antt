@@ -1,7 +1,7 @@
 use Rattle.std.proofs.Common.{drop}
 use Rattle.std.specs.List.{flat_map}
 use Rattle.fitrec.specs.Text.{hex_byte}
-use Rattle.fit_grammar.proofs.OutputLemmas.{Leaves}
+use Rattle.fit_grammar.proofs.Encoder.Output.{Leaves}
 use Rattle.fitrec.proofs.show.bytes.put_digits.Given as goal
 
 abbrev pub invariant-loop-byte : goal.invariant-loop-byte

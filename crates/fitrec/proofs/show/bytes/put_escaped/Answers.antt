@@ -1,4 +1,4 @@
-use Rattle.fit_grammar.proofs.OutputLemmas.{then_writes, stops_before, writes_same}
+use Rattle.fit_grammar.proofs.Encoder.Output.{then_writes, stops_before, writes_same}
 use Rattle.fitrec.proofs.TextLemmas.{escaped_plain, escaped_other}
 use Rattle.fitrec.proofs.show.bytes.put_escaped.Goals as goal
 

@@ -2,7 +2,7 @@ use Rattle.std.proofs.Common.{◌≡◌, [], arith, ap, ◌∙◌, sym}
 use Rattle.std.proofs.lemmas.Grind.{common_steps}
 use Rattle.std.proofs.lemmas.List.{nil_from_length}
 use Rattle.fitrec.specs.Text.{hex_text}
-use Rattle.fit_grammar.proofs.OutputLemmas.{then_writes, stops_before, writes_same, writes_none}
+use Rattle.fit_grammar.proofs.Encoder.Output.{then_writes, stops_before, writes_same, writes_none}
 use Rattle.fitrec.proofs.TextLemmas.{hex_none, hex_some}
 use Rattle.fitrec.proofs.show.bytes.put_hex.Goals as goal
 

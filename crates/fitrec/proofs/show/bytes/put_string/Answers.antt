@@ -1,7 +1,7 @@
 use Rattle.std.proofs.Common.{ap}
 use Rattle.std.specs.List.{flat_map}
 use Rattle.fitrec.specs.Text.{escaped}
-use Rattle.fit_grammar.proofs.OutputLemmas.{then_writes, stops_before, writes_same}
+use Rattle.fit_grammar.proofs.Encoder.Output.{then_writes, stops_before, writes_same}
 use Rattle.fitrec.proofs.TextLemmas.{string_parts}
 use Rattle.fitrec.proofs.show.bytes.put_string.Goals as goal
 

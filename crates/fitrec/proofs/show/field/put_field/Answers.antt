@@ -1,7 +1,7 @@
 use Rattle.fit_base.specs.Value.{values_of}
-use Rattle.fit_grammar.specs.Message.{MessageField}
+use Rattle.fit_grammar.specs.Format.Message.{MessageField}
 use Rattle.fitrec.specs.Profile.{field_rows}
-use Rattle.fit_grammar.proofs.OutputLemmas.{then_writes, stops_before, writes_same}
+use Rattle.fit_grammar.proofs.Encoder.Output.{then_writes, stops_before, writes_same}
 use Rattle.fitrec.proofs.FieldLemmas.{field_parts}
 use Rattle.fitrec.proofs.show.field.put_field.Goals as goal
 

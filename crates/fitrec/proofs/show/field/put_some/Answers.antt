@@ -1,6 +1,6 @@
 use Rattle.std.proofs.Common.{ap, ◌∙◌, Some}
 use Rattle.fitrec.specs.Text.{string_text, byte_text}
-use Rattle.fit_grammar.proofs.OutputLemmas.{writes_same}
+use Rattle.fit_grammar.proofs.Encoder.Output.{writes_same}
 use Rattle.fitrec.proofs.FieldLemmas.{string_values, byte_values, number_values, is_number}
 use Rattle.fitrec.proofs.show.field.put_some.Goals as goal
 

@@ -1,6 +1,6 @@
 use Rattle.std.proofs.Common.{ap, ◌∙◌, sym}
 use Rattle.fitrec.specs.Text.{hex_text}
-use Rattle.fit_grammar.proofs.OutputLemmas.{writes_same}
+use Rattle.fit_grammar.proofs.Encoder.Output.{writes_same}
 use Rattle.fitrec.proofs.FieldLemmas.{hex_values, known_as}
 use Rattle.fitrec.proofs.show.field.put_value.Goals as goal
 

@@ -1,7 +1,7 @@
 use Rattle.std.proofs.Common.{length, ap, arith}
 use Rattle.std.specs.List.{flat_map, enumerate_from}
 use Rattle.fitrec.specs.Text.{message_text}
-use Rattle.fit_grammar.proofs.OutputLemmas.{leaves_less, leaves_off}
+use Rattle.fit_grammar.proofs.Encoder.Output.{leaves_less, leaves_off}
 use Rattle.fitrec.proofs.show.file.put_messages.Goals as goal
 
 pub loop-message-preserved : goal.loop-message-preserved

@@ -1,8 +1,8 @@
 use Rattle.std.proofs.Common.{◌≡◌, ◌+◌, length}
 use Rattle.std.specs.List.{flat_map, enumerate_from}
-use Rattle.fit_grammar.specs.Message.{messages_of}
+use Rattle.fit_grammar.specs.Format.Message.{messages_of}
 use Rattle.fitrec.specs.Text.{message_text, messages_text}
-use Rattle.fit_grammar.proofs.OutputLemmas.{Leaves}
+use Rattle.fit_grammar.proofs.Encoder.Output.{Leaves}
 use Rattle.fitrec.proofs.show.file.put_messages.Given as goal
 
 abbrev pub invariant-loop-message : goal.invariant-loop-message

@@ -1,5 +1,5 @@
 use Rattle.std.proofs.Common.{refl}
-use Rattle.fit_grammar.proofs.OutputLemmas.{then_writes, stops_before, writes_same}
+use Rattle.fit_grammar.proofs.Encoder.Output.{then_writes, stops_before, writes_same}
 use Rattle.fitrec.proofs.FieldLemmas.{header_parts}
 use Rattle.fitrec.proofs.show.header.put_header.Goals as goal
 

@@ -1,4 +1,4 @@
-use Rattle.fit_grammar.proofs.OutputLemmas.{then_writes, stops_before}
+use Rattle.fit_grammar.proofs.Encoder.Output.{then_writes, stops_before}
 use Rattle.fitrec.proofs.show.header.put_labelled.Goals as goal
 
 pub returns-in_err-put : goal.returns-in_err-put

@@ -2,7 +2,7 @@ use Rattle.std.proofs.Common.{ap}
 use Rattle.std.specs.List.{flat_map}
 use Rattle.fitrec.specs.Profile.{field_rows}
 use Rattle.fitrec.specs.Text.{field_text}
-use Rattle.fit_grammar.proofs.OutputLemmas.{leaves_less, leaves_off}
+use Rattle.fit_grammar.proofs.Encoder.Output.{leaves_less, leaves_off}
 use Rattle.fitrec.proofs.show.message.put_fields.Goals as goal
 
 pub loop-field-preserved : goal.loop-field-preserved

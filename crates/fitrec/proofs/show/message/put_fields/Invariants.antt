@@ -1,7 +1,7 @@
 use Rattle.std.specs.List.{flat_map}
 use Rattle.fitrec.specs.Profile.{field_rows}
 use Rattle.fitrec.specs.Text.{field_text}
-use Rattle.fit_grammar.proofs.OutputLemmas.{Leaves}
+use Rattle.fit_grammar.proofs.Encoder.Output.{Leaves}
 use Rattle.fitrec.proofs.show.message.put_fields.Given as goal
 
 abbrev pub invariant-loop-field : goal.invariant-loop-field

@@ -1,6 +1,6 @@
 use Rattle.std.proofs.Common.{sym, append_assoc, decimal, codes}
 use Rattle.fitrec.specs.Text.{message_name}
-use Rattle.fit_grammar.proofs.OutputLemmas.{then_writes, stops_before, writes_same}
+use Rattle.fit_grammar.proofs.Encoder.Output.{then_writes, stops_before, writes_same}
 use Rattle.fitrec.proofs.show.message.put_start.Goals as goal
 
 pub returns-in_err-put_number : goal.returns-in_err-put_number

@@ -4,7 +4,7 @@ use Rattle.std.proofs.lemmas.Int.{to_z-of_z}
 use Rattle.fit_base.specs.Base.{row_of}
 use Rattle.fit_base.specs.Value.{unsigned_at}
 use Rattle.fitrec.specs.Text.{number_text}
-use Rattle.fit_grammar.proofs.OutputLemmas.{writes_same}
+use Rattle.fit_grammar.proofs.Encoder.Output.{writes_same}
 use Rattle.fitrec.proofs.TextLemmas.{number_same, number_other, whole_signed_at, plain_signed}
 use Rattle.fitrec.proofs.show.number.put_at.Goals as goal
 

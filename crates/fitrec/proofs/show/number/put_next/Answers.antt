@@ -1,5 +1,5 @@
 use Rattle.std.proofs.Common.{◌≡◌, ◌==◌, true, false, rules}
-use Rattle.fit_grammar.proofs.OutputLemmas.{then_writes, stops_before}
+use Rattle.fit_grammar.proofs.Encoder.Output.{then_writes, stops_before}
 use Rattle.fitrec.proofs.show.number.put_next.Goals as goal
 
 pub returns-then-i-eq0 : goal.returns-then-i-eq0

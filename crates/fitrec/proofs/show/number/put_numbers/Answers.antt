@@ -2,7 +2,7 @@ use Rattle.std.proofs.Common.{◌<◌, ◌≤◌, length, arith, subst, List, �
 use Rattle.fit_base.specs.Value.{numbers, value_size, count_of}
 use Rattle.fit_base.proofs.Values.{length-numbers_of, get_or-numbers_of}
 use Rattle.fitrec.specs.Text.{number_text, numbers_text}
-use Rattle.fit_grammar.proofs.OutputLemmas.{Leaves, leaves_all, leaves_less, leaves_off, leaves_none}
+use Rattle.fit_grammar.proofs.Encoder.Output.{Leaves, leaves_all, leaves_less, leaves_off, leaves_none}
 use Rattle.fitrec.proofs.TextLemmas.{rest_next, rest_none, rest_all}
 use Rattle.fitrec.proofs.show.number.put_numbers.Goals as goal
 

@@ -1,6 +1,6 @@
 use Rattle.fit_base.specs.Value.{numbers, value_size, count_of}
 use Rattle.fitrec.specs.Text.{number_text, numbers_text}
-use Rattle.fit_grammar.proofs.OutputLemmas.{Leaves}
+use Rattle.fit_grammar.proofs.Encoder.Output.{Leaves}
 use Rattle.fitrec.proofs.TextLemmas.{rest_text}
 use Rattle.fitrec.proofs.show.number.put_numbers.Given as goal
 

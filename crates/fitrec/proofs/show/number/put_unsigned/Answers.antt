@@ -1,5 +1,5 @@
 use Rattle.std.proofs.Common.{◌∙◌}
-use Rattle.fit_grammar.proofs.OutputLemmas.{writes_same}
+use Rattle.fit_grammar.proofs.Encoder.Output.{writes_same}
 use Rattle.fitrec.proofs.TextLemmas.{plain_float32, plain_float64, plain_whole, whole_unsigned}
 use Rattle.fitrec.proofs.show.number.put_unsigned.Goals as goal
 

@@ -1,0 +1,7 @@
+-- A file in memory: its items read again from the row of bytes that it keeps.
+pub mod InForce
+pub mod ByLookup
+pub mod Following
+pub mod ReadAgain
+pub mod Left
+pub mod Kept

@@ -1,0 +1,63 @@
+-- The least length of the item at the front of a window, and the lengths of spellings that begin with the window.
+use Rattle.std.proofs.Common.{◌≡◌, ℕ, ◌+◌, List, [], ◌∷◌, ◌++◌, length, Option, Some, None, Result, Ok, Err, refl, sym, ap, subst, ◌∙◌, inl, inr, arith}
+use Rattle.std.specs.Prelude.{IsSomeAnd, IfOk, slice_index}
+use Rattle.std.proofs.lemmas.Bool.{cases_lt, lt-ltb, le-ltb}
+use Rattle.std.proofs.lemmas.List.{append-nil, get_or_append_left}
+use Rattle.fit_grammar.specs.declared.definition.Definition.{Definition}
+use Rattle.fit_grammar.specs.declared.item.ItemFault.{ItemFault}
+use Rattle.fit_grammar.specs.Format.Item.{Item, Defines, Data, Head, Spells, SpellsDefinition, content_size}
+use Rattle.fit_grammar.specs.Format.Records.{IsDefinedBy}
+use Rattle.fit_grammar.specs.Calls.Step.{IsLeastLength, least_length_of, length_by, definition_length_of, data_length_of}
+use Rattle.fit_grammar.proofs.OneItem.Spelling.{spelling_not_empty, definition_length, definition_count, data_length}
+use Rattle.fit_grammar.proofs.OneItem.Steps.{item_head, spelling_head}
+
+abbrev result : {A : Type 0} → A → Result A ItemFault
+result x = Ok x
+
+ok_one : (a b : ℕ) → result a ≡ result b → a ≡ b
+ok_one a b e = cc
+
+definition_least : (d : Definition) (window rest : List ℕ) → SpellsDefinition d (window ++ rest)
+    → IsLeastLength (definition_length_of window) (length window) (length (window ++ rest))
+definition_least d window rest p =
+    let whole = definition_length d (window ++ rest) p in
+    elim (cases_lt (length window) 6) [
+      | inl short ↦
+          let six : definition_length_of window ≡ 6 = rw (lt-ltb _ _ short) refl in
+          record { least = rw six (omega arith); exact = λ long. absurd (omega arith) }
+      | inr long ↦
+          let count : slice_index window 5 ≡ length d.fields.items =
+          sym (get_or_append_left window rest 0 5 (omega arith)) ∙ definition_count d (window ++ rest) p in
+          let all : definition_length_of window ≡ length (window ++ rest) = rw (le-ltb _ _ long) (omega arith) in
+          record { least = omega arith; exact = λ _. all }
+    ]
+
+data_least : (o : Option Definition) (local n : ℕ) (content : List ℕ) (window whole : ℕ) → whole ≡ 1 + length content
+    → IsSomeAnd o (λ d. content_size d ≡ length content) → data_length_of local o ≡ Ok n → n ≡ whole
+data_least None local n content window whole long defined e = absurd defined
+data_least (Some d) local n content window whole long defined e = sym (ok_one (1 + content_size d) n e) ∙ ap (λ (k : ℕ). 1 + k) defined ∙ sym long
+
+by_head : (f : ℕ → Option Definition) (i : Item) (window rest : List ℕ) (n : ℕ) → Spells i (window ++ rest) → IsDefinedBy f i
+    → length_by f (item_head i) window ≡ Ok n → IsLeastLength n (length window) (length (window ++ rest))
+by_head f (Defines d) window rest n p defined e =
+    subst (λ (k : ℕ). IsLeastLength k (length window) (length (window ++ rest))) (ok_one (definition_length_of window) n e) (definition_least d window rest p)
+by_head f (Data local offset content) window rest n p defined e =
+    let same = data_least (f local) local n content (length window) (length (window ++ rest)) (data_length local offset content (window ++ rest) p) defined e in
+    record { least = omega arith; exact = λ _. same }
+
+-- the least length of a window holds of each spelling that begins with it
+pub least_length_holds : (f : ℕ → Option Definition) (i : Item) (window rest : List ℕ) (n : ℕ) → Spells i (window ++ rest) → IsDefinedBy f i
+    → least_length_of f window ≡ Ok n → IsLeastLength n (length window) (length (window ++ rest))
+least_length_holds f i [] rest n p defined e =
+    let one : 1 ≡ n = ok_one 1 n e in
+    let some = spelling_not_empty i rest p in
+    record { least = omega arith; exact = λ long. absurd (omega arith) }
+least_length_holds f i (first ∷ window) rest n p defined e =
+    let head = spelling_head i ((first ∷ window) ++ rest) [] (window ++ rest) first p (append-nil ((first ∷ window) ++ rest)) in
+    by_head f i (first ∷ window) rest n p defined (ap (λ (h : Head). length_by f h (first ∷ window)) (sym head) ∙ e)
+
+-- the same of what a function answered
+pub answer_holds : (f : ℕ → Option Definition) (i : Item) (window rest : List ℕ) (answer : Result ℕ ItemFault) → answer ≡ least_length_of f window
+    → Spells i (window ++ rest) → IsDefinedBy f i → IfOk answer (λ n. IsLeastLength n (length window) (length (window ++ rest)))
+answer_holds f i window rest (Ok n) e p defined = least_length_holds f i window rest n p defined (sym e)
+answer_holds f i window rest (Err fault) e p defined = tt

@@ -1,0 +1,2 @@
+-- The time that a message states.
+pub mod Stated

@@ -1,9 +1,0 @@
-use Rattle.std.proofs.Common.{◌≡◌, length}
-use Rattle.fit_grammar.specs.Left.{messages_left, AreLeft}
-use Rattle.fit_grammar.proofs.messages.MessagesIterator.next.Given as goal
-
-abbrev pub invariant-loop-self : goal.invariant-loop-self
-invariant-loop-self l = AreLeft l.self-inside × (messages_left l.self-inside ≡ messages_left l.initial.self-inside)
-
-abbrev pub decreases-loop-self : goal.decreases-loop-self
-decreases-loop-self l = length l.self-inside.rest.now

@@ -1,7 +1,0 @@
-use Rattle.std.proofs.Common.{◌∙◌}
-use Rattle.fit_grammar.proofs.Spelling.{definition_same}
-use Rattle.fit_grammar.proofs.spelled.DefinitionMessage.read.Goals as goal
-
-pub returns : goal.returns
-returns c =
-    definition_same _ _ c.local.ensures c.arch.ensures c.global.ensures (c.read_fields.ensures ∙ c.fields.ensures.fields)

@@ -1,5 +1,0 @@
-use Rattle.fit_grammar.proofs.ReadAgain.{written_definition}
-use Rattle.fit_grammar.proofs.written.WrittenDefinition.lend.Goals as goal
-
-pub new-requires : goal.new-requires
-new-requires c = written_definition _ _ c.self.invariant.local c.self.invariant.written

@@ -1,0 +1,9 @@
+-- What public calls say beside the format.
+pub mod Table
+pub mod Step
+pub mod LentMessage
+pub mod LentField
+pub mod Adding
+pub mod Possible
+pub mod Output
+pub mod FaultCode

@@ -1,0 +1,50 @@
+-- What a file in memory can be: every number fits into the bits or bytes that it is written in, and every data message is defined.
+use Rattle.std.specs.Prelude.{◌^◌, ◌<◌, List, [], ◌∷◌, ◌++◌, length}
+use Rattle.std.specs.List.{AllByRecursion}
+use Rattle.fit_grammar.specs.declared.definition.FieldDefinition.{FieldDefinition}
+use Rattle.fit_grammar.specs.declared.definition.Definition.{Definition}
+use Rattle.fit_grammar.specs.declared.file.frame.Frame.{Frame}
+use Rattle.fit_grammar.specs.Format.Item.{Item, Defines, Data}
+use Rattle.fit_grammar.specs.Format.Records.{IsDefined, data_size}
+use Rattle.fit_grammar.specs.Format.Encoding.{HasEncoding}
+use Rattle.fit_grammar.specs.Format.File.{FileValue, IsFrame}
+
+-- one byte of a header, and two
+pub record FrameFits (frame : Frame) : Type 0 where
+  pub protocol : frame.protocol < 256
+  pub profile : frame.profile < 65536
+
+-- the three bytes of a field
+pub record FieldFits (field : FieldDefinition) : Type 0 where
+  pub number : field.number < 256
+  pub size : field.size < 256
+  pub base : field.base < 256
+
+-- two bytes of a definition, one for the number of its fields, and the fields
+pub record DefinitionFits (d : Definition) : Type 0 where
+  pub global : d.global < 65536
+  pub count : length d.fields.items < 256
+  pub fields : AllByRecursion FieldFits d.fields.items
+
+-- the numbers of an item fit into their bytes
+abbrev pub ItemFits : Item → Type 0
+ItemFits (Defines d) = DefinitionFits d
+ItemFits (Data local offset content) = AllByRecursion (λ byte. byte < 256) content
+
+-- the item has a spelling, and behind these items it is defined
+pub record CanFollow (before : List Item) (item : Item) : Type 0 where
+  pub encodable : HasEncoding item
+  pub fits : ItemFits item
+  pub defined : IsDefined before item
+
+-- behind these items, each of the items can stand in its place
+abbrev pub AllCanFollow : List Item → List Item → Type 0
+AllCanFollow before [] = Unit {0}
+AllCanFollow before (item ∷ items) = CanFollow before item × AllCanFollow (before ++ item ∷ []) items
+
+-- what a file can be
+pub record CanBeFile (v : FileValue) : Type 0 where
+  pub is_frame : IsFrame v.frame
+  pub frame_fits : FrameFits v.frame
+  pub items_follow : AllCanFollow [] v.items
+  pub bound : data_size v.items < 2 ^ 32

@@ -1,0 +1,7 @@
+-- The FIT format itself: what a reader of the standard has to believe.
+pub mod Item
+pub mod Records
+pub mod Message
+pub mod File
+pub mod Refusal
+pub mod Encoding

@@ -1,0 +1,125 @@
+-- The refusal of bytes that are no file: what their shortest beginning that shows a fault shows.
+use Rattle.std.specs.Prelude.{◌≡◌, ◌≢◌, ℕ, ◌+◌, ◌*◌, ◌/◌, ◌<◌, ◌≤◌, List, [], ◌∷◌, ◌++◌, length, take, slice_index, slice_range, Option, None, IsSomeAnd, ◌⊎◌}
+use Rattle.fit_base.specs.Number.{low_first}
+use Rattle.fit_base.specs.Checksum.{crc}
+use Rattle.fit_grammar.specs.declared.file.frame.Frame.{Frame}
+use Rattle.fit_grammar.specs.declared.file.fault.FaultKind.{FaultKind}
+use Rattle.fit_grammar.specs.declared.file.fault.FaultKind.TheVariants.{Truncated, HeaderSize, Magic, Protocol, HeaderCrc, UndefinedLocal, SplitMessage, FileCrc, TrailingBytes, Memory, Developer}
+use Rattle.fit_grammar.specs.declared.file.fault.FileFault.{FileFault}
+use Rattle.fit_grammar.specs.Format.Item.{Item, head_of, DefinitionHead, DeveloperHead, DataHead, content_size}
+use Rattle.fit_grammar.specs.Format.Records.{in_force, Records}
+use Rattle.fit_grammar.specs.Format.File.{FileValue, FileOf, IsHeader, IsClosing, ChecksHeader, mark}
+
+-- a good header and a row of whole items, at the front of a file
+pub record Front : Type 0 where
+  pub frame : Frame
+  pub size : ℕ
+  pub header : List ℕ
+  pub records : List ℕ
+  pub items : List Item
+
+abbrev pub front_bytes : Front → List ℕ
+front_bytes front = front.header ++ front.records
+
+-- the place behind the front
+abbrev pub front_end : Front → ℕ
+front_end front = length front.header + length front.records
+
+pub record IsFront (front : Front) : Type 0 where
+  pub is_header : IsHeader front.header front.frame front.size
+  pub are_records : Records front.records front.items
+  pub inside : length front.records ≤ front.size
+
+-- the last check of a header fails: byte 0, byte 1, bytes 8 to 11, or bytes 12 and 13 where they are given
+abbrev pub HeaderShows : FaultKind → ℕ → List ℕ → Type 0
+HeaderShows HeaderSize place bytes =
+    (place ≡ 0) × (length bytes ≡ 1) × (slice_index bytes 0 ≢ 12) × (slice_index bytes 0 ≢ 14)
+HeaderShows Protocol place bytes =
+    (place ≡ 1) × (length bytes ≡ 2) × (slice_index bytes 1 / 16 ≢ 1) × (slice_index bytes 1 / 16 ≢ 2)
+HeaderShows Magic place bytes = (place ≡ 8) × (length bytes ≡ 12) × (slice_range bytes 8 12 ≢ mark)
+HeaderShows HeaderCrc place bytes =
+    (place ≡ 12) × (length bytes ≡ 14) × (slice_index bytes 0 ≡ 14) × (ChecksHeader bytes → ⊥)
+HeaderShows _ place bytes = ⊥
+
+-- one byte behind the front shows that its item passes the end of the data, for a definition by its least length
+abbrev pub SplitsAtFirst : Front → List ℕ → Type 0
+SplitsAtFirst front tail =
+    (byte : ℕ) × (tail ≡ byte ∷ [])
+    × (((local : ℕ) × (head_of byte ≡ DefinitionHead local) × (front.size < length front.records + 6))
+    ⊎ ((local : ℕ) × (offset : Option ℕ) × (head_of byte ≡ DataHead local offset)
+    × IsSomeAnd (in_force front.items local) (λ d. front.size < length front.records + (1 + content_size d))))
+
+-- six bytes of a definition show that the whole of it passes the end of the data
+abbrev pub SplitsAtCount : Front → List ℕ → Type 0
+SplitsAtCount front tail =
+    (length tail ≡ 6) × ((local : ℕ) × (head_of (slice_index tail 0) ≡ DefinitionHead local))
+    × (front.size < length front.records + (6 + 3 * slice_index tail 5))
+
+-- what the bytes behind a front show
+abbrev pub TailShows : FaultKind → Front → List ℕ → Type 0
+TailShows (UndefinedLocal local) front tail =
+    (length front.records < front.size) × (byte : ℕ) × (offset : Option ℕ) × (tail ≡ byte ∷ [])
+    × (head_of byte ≡ DataHead local offset) × (in_force front.items local ≡ None)
+TailShows Developer front tail =
+    (length front.records < front.size) × (byte : ℕ) × (tail ≡ byte ∷ []) × (head_of byte ≡ DeveloperHead)
+TailShows SplitMessage front tail =
+    (length front.records < front.size) × (SplitsAtFirst front tail ⊎ SplitsAtCount front tail)
+-- all the records, and two bytes that are not the checksum
+TailShows FileCrc front tail =
+    (length front.records ≡ front.size) × (length tail ≡ 2) × (low_first tail ≢ crc (front_bytes front))
+-- a file, and one byte more
+TailShows TrailingBytes front tail =
+    (length front.records ≡ front.size) × (length tail ≡ 3) × IsClosing (front_bytes front) (take 2 tail)
+TailShows _ front tail = ⊥
+
+-- the place of a fault behind a front: an item's first byte, the checksum, or the byte behind it
+abbrev pub place_behind : FaultKind → Front → ℕ
+place_behind TrailingBytes front = front_end front + 2
+place_behind kind front = front_end front
+
+-- the bytes are a front and a tail that shows a fault
+pub record ShowsBehind (kind : FaultKind) (place : ℕ) (bytes : List ℕ) : Type 0 where
+  pub front : Front
+  pub tail : List ℕ
+  pub is_front : IsFront front
+  pub joined : bytes ≡ front_bytes front ++ tail
+  pub shown : TailShows kind front tail
+  pub there : place ≡ place_behind kind front
+
+-- the last of the bytes shows a fault
+abbrev pub Shows : FaultKind → ℕ → List ℕ → Type 0
+Shows kind place bytes = HeaderShows kind place bytes ⊎ ShowsBehind kind place bytes
+
+-- the shortest beginning of the bytes that shows a fault shows this one
+pub record IsShortestShown (bytes : List ℕ) (kind : FaultKind) (place : ℕ) : Type 0 where
+  pub count : ℕ
+  pub within : count ≤ length bytes
+  pub shown : Shows kind place (take count bytes)
+  pub shortest : (n : ℕ) (other : FaultKind) (at : ℕ) → n < count → Shows other at (take n bytes) → ⊥
+
+-- no beginning shows a fault, and the bytes are no file: the input ends too soon
+pub record IsCutShort (bytes : List ℕ) (kind : FaultKind) (place : ℕ) : Type 0 where
+  pub truncated : kind ≡ Truncated
+  pub at_end : place ≡ length bytes
+  pub none_shown : (n : ℕ) (other : FaultKind) (at : ℕ) → n ≤ length bytes → Shows other at (take n bytes) → ⊥
+  pub no_file : (v : FileValue) → FileOf bytes v → ⊥
+
+-- the refusal of bytes that are no file
+abbrev pub Refusal : List ℕ → FaultKind → ℕ → Type 0
+Refusal bytes kind place = IsShortestShown bytes kind place ⊎ IsCutShort bytes kind place
+
+-- an item begins at the place
+pub record ItemBeginsAt (bytes : List ℕ) (place : ℕ) : Type 0 where
+  pub front : Front
+  pub rest : List ℕ
+  pub is_front : IsFront front
+  pub more : length front.records < front.size
+  pub joined : bytes ≡ front_bytes front ++ rest
+  pub there : place ≡ front_end front
+
+-- the fault is the refusal, or want of memory at an item that begins at or before the refusal's place
+abbrev pub IsFaultOf : List ℕ → FileFault → Type 0
+IsFaultOf bytes fault =
+    ((fault.kind ≢ Memory) × Refusal bytes fault.kind fault.place)
+    ⊎ ((fault.kind ≡ Memory) × ItemBeginsAt bytes fault.place
+    × ((kind : FaultKind) (place : ℕ) → Refusal bytes kind place → fault.place ≤ place))

@@ -1,0 +1,12 @@
+-- What only private functions and proofs need. No public clause rests on a word of these.
+pub mod FirstByte
+pub mod DefinitionBytes
+pub mod KeptDefinition
+pub mod LatestDefinitions
+pub mod ByLookup
+pub mod ItemRow
+pub mod KeptFile
+pub mod MessagesLeft
+pub mod StatedTime
+pub mod Decoding
+pub mod CheckedOutput

@@ -1,0 +1,67 @@
+-- What the decoder of files knows on its way through the bytes.
+use Rattle.std.specs.Prelude.{◌≡◌, ◌≢◌, ℕ, ◌+◌, ◌≤◌, ◌<◌, List, length, take, drop, Ok, Err, Option, ◌⊎◌}
+use Rattle.fit_base.specs.Number.{low_first}
+use Rattle.fit_base.specs.Checksum.{crc}
+use Rattle.fit_grammar.specs.declared.definition.Definition.{Definition}
+use Rattle.fit_grammar.specs.declared.file.decode.Header.{Header}
+use Rattle.fit_grammar.specs.declared.file.fault.FaultKind.{FaultKind}
+use Rattle.fit_grammar.specs.declared.file.fault.FaultKind.TheVariants.{Truncated, UndefinedLocal, SplitMessage, FileCrc, TrailingBytes, Memory, Developer}
+use Rattle.fit_grammar.specs.declared.file.fault.FileFault.{FileFault}
+use Rattle.fit_grammar.specs.declared.item.ItemFault.TheVariants as items
+use Rattle.fit_grammar.specs.Format.Item.{Item}
+use Rattle.fit_grammar.specs.Format.Records.{in_force}
+use Rattle.fit_grammar.specs.Calls.Step.{least_length_of, ItemAtFront, ItemBegun}
+use Rattle.fit_grammar.specs.Format.File.{FileValue, IsHeader, IsClosing}
+use Rattle.fit_grammar.specs.Calls.Adding.{with_item}
+use Rattle.fit_grammar.specs.Format.Refusal.{Refusal}
+
+-- the bytes begin with this header
+pub record BeginsWith (bytes : List ℕ) (header : Header) : Type 0 where
+  pub within : header.frame.header_size ≤ length bytes
+  pub is_header : IsHeader (take header.frame.header_size bytes) header.frame header.data_size
+
+-- the bytes are refused so, and not for want of memory
+abbrev pub IsRefusedBy : List ℕ → FileFault → Type 0
+IsRefusedBy bytes fault = (fault.kind ≢ Memory) × Refusal bytes fault.kind fault.place
+
+-- an item of so many bytes was taken from the front of the window into the file
+pub record TakesItem (old new : FileValue) (window : List ℕ) (left used : ℕ) : Type 0 where
+  pub item : Item
+  pub at_front : ItemAtFront (in_force old.items) window item used
+  pub inside : used ≤ left
+  pub added : new ≡ with_item old item
+
+-- the item at the front of the window has this length, and all of it is there and within what is left of the data
+pub record IsWholeLength (definition_for : ℕ → Option Definition) (window : List ℕ) (left used : ℕ) : Type 0 where
+  pub least : least_length_of definition_for window ≡ Ok used
+  pub inside : used ≤ left
+  pub there : used ≤ length window
+
+-- what the window shows where no item is taken, with so much left of the data
+abbrev pub WindowShows : (ℕ → Option Definition) → List ℕ → ℕ → FaultKind → Type 0
+WindowShows definition_for window left (UndefinedLocal local) =
+    least_length_of definition_for window ≡ Err (items.UndefinedLocal local)
+WindowShows definition_for window left Developer = least_length_of definition_for window ≡ Err items.Developer
+WindowShows definition_for window left SplitMessage =
+    (least : ℕ) × (least_length_of definition_for window ≡ Ok least) × (left < least)
+WindowShows definition_for window left Truncated =
+    (least : ℕ) × (least_length_of definition_for window ≡ Ok least) × (least ≤ left) × ItemBegun definition_for window
+WindowShows definition_for window left _ = ⊥
+
+-- want of memory, or what the window shows
+abbrev pub IsItemFault : (ℕ → Option Definition) → List ℕ → ℕ → FaultKind → Type 0
+IsItemFault definition_for window left kind = (kind ≡ Memory) ⊎ WindowShows definition_for window left kind
+
+-- a fault is at its item, or at the end of an input that ends too soon
+abbrev pub fault_of : FaultKind → ℕ → ℕ → FileFault
+fault_of Truncated at len = record { kind = Truncated; place = len }
+fault_of kind at len = record { kind = kind; place = at }
+
+-- what the bytes show behind their records, which end here
+abbrev pub EndShows : List ℕ → ℕ → FaultKind → ℕ → Type 0
+EndShows bytes end Truncated place = (place ≡ length bytes) × (length bytes < end + 2)
+EndShows bytes end FileCrc place =
+    (place ≡ end) × (end + 2 ≤ length bytes) × (low_first (take 2 (drop end bytes)) ≢ crc (take end bytes))
+EndShows bytes end TrailingBytes place =
+    (place ≡ end + 2) × (end + 2 < length bytes) × IsClosing (take end bytes) (take 2 (drop end bytes))
+EndShows bytes end _ place = ⊥

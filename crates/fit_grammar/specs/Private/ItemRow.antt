@@ -1,0 +1,54 @@
+-- Rows of items in the bytes that they are written as, one after another.
+use Rattle.std.specs.Prelude.{◌≡◌, ℕ, zero, suc, ◌<◌, List, [], ◌∷◌, take, drop, length, slice_index, Option, Some, None, unwrap_or, option_map}
+use Rattle.fit_grammar.specs.declared.definition.Definition.{Definition}
+use Rattle.fit_grammar.specs.declared.item.Item.{Item as ReadItem}
+use Rattle.fit_grammar.specs.declared.item.Item.TheVariants as items
+use Rattle.fit_grammar.specs.Format.Item.{Item, Defines, Data, Head, DefinitionHead, DeveloperHead, DataHead, head_of, content_size, item_size}
+use Rattle.fit_grammar.specs.Format.Records.{in_force}
+use Rattle.fit_grammar.specs.Format.Encoding.{encoded_items}
+use Rattle.fit_grammar.specs.Private.DefinitionBytes.{definition_at}
+use Rattle.fit_grammar.specs.Calls.Step.{definition_length_of, item_of}
+use Rattle.fit_grammar.specs.Private.ByLookup.{behind, AllDefinedBy}
+
+-- the item that bytes begin with, by their head; developer fields are in none
+abbrev pub item_by : (ℕ → Option Definition) → Head → List ℕ → Item
+item_by definition_for (DefinitionHead local) bytes = Defines (definition_at (take (definition_length_of bytes) bytes))
+item_by definition_for DeveloperHead bytes = Data 0 None []
+item_by definition_for (DataHead local offset) bytes =
+    Data local offset (take (unwrap_or (option_map content_size (definition_for local)) 0) (drop 1 bytes))
+
+abbrev pub item_at : (ℕ → Option Definition) → List ℕ → Item
+item_at definition_for bytes = item_by definition_for (head_of (slice_index bytes 0)) bytes
+
+-- the items that bytes begin with, this many at most
+abbrev pub items_at : ℕ → (ℕ → Option Definition) → List ℕ → List Item
+items_at zero definition_for bytes = []
+items_at (suc count) definition_for [] = []
+items_at (suc count) definition_for (byte ∷ bytes) =
+    let item = item_at definition_for (byte ∷ bytes) in
+    item ∷ items_at count (behind item definition_for) (drop (item_size item) (byte ∷ bytes))
+
+-- all the items of a row of bytes, under these definitions
+abbrev pub items_under : (ℕ → Option Definition) → List ℕ → List Item
+items_under definition_for bytes = items_at (length bytes) definition_for bytes
+
+-- and under none
+abbrev pub items_in : List ℕ → List Item
+items_in bytes = items_under (in_force []) bytes
+
+-- the bytes are those that the items are written as which they begin with, and these are defined
+pub record AreWritten (definition_for : ℕ → Option Definition) (bytes : List ℕ) : Type 0 where
+  pub written : encoded_items (items_under definition_for bytes) ≡ bytes
+  pub defined : AllDefinedBy definition_for (items_under definition_for bytes)
+
+-- a definition has a local number that there is, and a data message the definition of its local number
+abbrev pub IsLentBy : (ℕ → Option Definition) → ReadItem → Type 0
+IsLentBy definition_for (items.Definition d) = d.local < 16
+IsLentBy definition_for (items.Data m) = definition_for m.local ≡ Some m.definition
+
+-- the bytes are written as this item and others, whose bytes these are
+pub record IsFirst (definition_for : ℕ → Option Definition) (bytes : List ℕ) (item : ReadItem) (others : List ℕ) : Type 0 where
+  pub first : items_under definition_for bytes ≡ item_of item ∷ items_under (behind (item_of item) definition_for) others
+  pub written : AreWritten (behind (item_of item) definition_for) others
+  pub fewer : length others < length bytes
+  pub lent : IsLentBy definition_for item

@@ -1,0 +1,54 @@
+// The latest definitions of a row of items, lent from the row.
+
+ghost use Rattle.std.specs.Prelude.{◌≡◌, ◌≢◌, ◌<◌, ℕ};
+ghost use Rattle.fit_grammar.specs.Calls.Table.{definition_in};
+
+use crate::definition::DefinitionMessage;
+use std::marker::Model;
+
+// For each of the sixteen local numbers the bytes of its latest definition, or none. Contracts see the
+// definitions.
+#[derive(Drop)]
+pub(crate) struct Latest<'a> {
+    slots: [Option<&'a [u8]>; 16],
+}
+
+impl<'a> Model for Latest<'a> {
+    ghost use Rattle.std.specs.Prelude.{List, Option};
+    ghost use Rattle.fit_grammar.specs.declared.definition.Definition.{Definition};
+    ghost use Rattle.fit_grammar.specs.Private.LatestDefinitions.{definitions_of, AreDefinitions};
+
+    ghost Value = { List (Option Definition) };
+
+    ghost view = { definitions_of };
+
+    ghost invariant = { AreDefinitions };
+}
+
+impl<'a> Latest<'a> {
+    // No definitions.
+    pub(crate) fn new() -> Self
+        ensures { (l : ℕ) → definition_in result l ≡ None }
+    {
+        Latest { slots: [None; 16] }
+    }
+
+    // Makes this the latest definition of its local number.
+    pub(crate) fn take(&mut self, definition: &DefinitionMessage<'a>)
+        requires { definition.now.local < 16 }
+        ensures taken { definition_in self.new definition.now.local ≡ Some definition.now }
+        ensures others { (l : ℕ) → l ≢ definition.now.local → definition_in self.new l ≡ definition_in self.old l }
+    {
+        self.slots[definition.local() as usize] = Some(definition.bytes());
+    }
+
+    // The latest definition of a local number, if there is one.
+    pub(crate) fn get(&self, local: u8) -> Option<DefinitionMessage<'a>>
+        ensures { result ≡ definition_in self.now local }
+    {
+        match self.slots.get(local as usize) {
+            Some(Some(bytes)) => Some(DefinitionMessage::new(bytes)),
+            _ => None,
+        }
+    }
+}

@@ -1,0 +1,66 @@
+// The definitions in force, one for each local number.
+
+ghost use Rattle.std.specs.Prelude.{◌≡◌, ◌≢◌, ◌<◌, ℕ};
+ghost use Rattle.fit_grammar.specs.Calls.Table.{definition_in};
+
+use crate::definition::kept::WrittenDefinition;
+use crate::definition::{Definition, DefinitionMessage};
+use std::marker::Model;
+
+/// For each of the sixteen local numbers its definition in force, or none.
+#[derive(Drop)]
+pub struct Table {
+    slots: [Option<WrittenDefinition>; 16],
+}
+
+impl Model for Table {
+    ghost use Rattle.std.specs.Prelude.{List, Option};
+    ghost use Rattle.fit_grammar.specs.declared.definition.Definition.{Definition};
+
+    ghost Value = { List (Option Definition) };
+
+    ghost view = { λ t. t.slots };
+}
+
+impl Table {
+    /// No definitions.
+    pub fn new() -> Table
+        ensures { (l : ℕ) → definition_in result l ≡ None }
+    {
+        Table {
+            slots: [
+                None, None, None, None, None, None, None, None, None, None, None, None, None, None,
+                None, None,
+            ],
+        }
+    }
+
+    /// Makes this the definition of its local number, in the place of an earlier one.
+    pub fn take(&mut self, d: &Definition)
+        requires { d.now.local < 16 }
+        ensures taken { definition_in self.new d.now.local ≡ Some d.now }
+        ensures others { (l : ℕ) → l ≢ d.now.local → definition_in self.new l ≡ definition_in self.old l }
+    {
+        self.keep(WrittenDefinition::new(d));
+    }
+
+    // The same, of a definition that is written.
+    pub(crate) fn keep(&mut self, written: WrittenDefinition)
+        requires { written.local < 16 }
+        ensures taken { definition_in self.new written.local ≡ Some written }
+        ensures others { (l : ℕ) → l ≢ written.local → definition_in self.new l ≡ definition_in self.old l }
+    {
+        let local = written.lend().local() as usize;
+        self.slots[local] = Some(written);
+    }
+
+    /// The definition of a local number, if there is one.
+    pub fn get(&self, local: u8) -> Option<DefinitionMessage<'_>>
+        ensures { result ≡ definition_in self.now local }
+    {
+        match self.slots.get(local as usize) {
+            Some(Some(written)) => Some(written.lend()),
+            _ => None,
+        }
+    }
+}

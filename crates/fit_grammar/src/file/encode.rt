@@ -1,0 +1,81 @@
+// Writing a whole file.
+
+ghost use Rattle.std.specs.Prelude.{◌≡◌};
+ghost use Rattle.fit_grammar.specs.Format.Encoding.{header_front as header_front_of, encoded_header, encoded};
+ghost use Rattle.fit_grammar.specs.Calls.Output.{WritesText};
+ghost use Rattle.fit_grammar.specs.Private.CheckedOutput.{WritesChecked};
+
+use crate::file::{EncodeFault, File, Frame};
+use crate::to_writer::{WriteFailed, put};
+use fit_base::Crc;
+use std::io::Write;
+
+/// Writes the bytes of the file, and at an `Err` a beginning of them. It takes no memory, and fails only
+/// where the writer does.
+pub fn encode_file<W: Write>(file: &File, out: &mut W) -> Result<(), EncodeFault>
+    ensures { WritesText (W.contents out.old) (W.contents out.new) result (encoded file.now) }
+{
+    match put_file(out, file) {
+        Ok(()) => Ok(()),
+        Err(WriteFailed) => Err(EncodeFault::Write),
+    }
+}
+
+// The header, the records and the checksum of both.
+fn put_file<W: Write>(out: &mut W, file: &File) -> Result<(), WriteFailed>
+    ensures { WritesText (W.contents out.old) (W.contents out.new) result (encoded file.now) }
+{
+    let mut checksum = Crc::new();
+    put_header(out, &mut checksum, file.frame(), file.data_size())?;
+    put_checked(out, &mut checksum, file.records())?;
+    put(out, &checksum.value().to_le_bytes())
+}
+
+// The header, with its checksum where it has 14 bytes.
+fn put_header<W: Write>(
+    out: &mut W,
+    checksum: &mut Crc,
+    frame: Frame,
+    size: u32,
+) -> Result<(), WriteFailed>
+    ensures { WritesChecked (W.contents out.old) (W.contents out.new) checksum.old checksum.new result (encoded_header frame size) }
+{
+    let front = header_front(frame, size);
+    if frame.header_size != 14 {
+        return put_checked(out, checksum, &front);
+    }
+    let mut own = Crc::new();
+    own.add(&front);
+    put_checked(out, checksum, &front)?;
+    put_checked(out, checksum, &own.value().to_le_bytes())
+}
+
+// The bytes of a header before its checksum.
+fn header_front(frame: Frame, size: u32) -> [u8; 12]
+    ensures { result ≡ header_front_of frame size }
+{
+    let [profile_1, profile_2] = frame.profile.to_le_bytes();
+    let [size_1, size_2, size_3, size_4] = size.to_le_bytes();
+    [
+        frame.header_size,
+        frame.protocol,
+        profile_1,
+        profile_2,
+        size_1,
+        size_2,
+        size_3,
+        size_4,
+        0x2E,
+        0x46,
+        0x49,
+        0x54,
+    ]
+}
+
+// Hands over the bytes, and takes them into the checksum.
+fn put_checked<W: Write>(out: &mut W, checksum: &mut Crc, bytes: &[u8]) -> Result<(), WriteFailed>
+    ensures { WritesChecked (W.contents out.old) (W.contents out.new) checksum.old checksum.new result bytes.now }
+{
+    checksum.add(bytes);
+    put(out, bytes)
+}

@@ -1,0 +1,95 @@
+// Writing items, in the one form with every reserved bit and byte 0.
+
+ghost use Rattle.std.specs.Prelude.{◌≡◌, ◌+◌, ◌*◌, ◌<◌, ◌≤◌, ◌++◌, [], length, drop, flat_map};
+ghost use Rattle.std.specs.List.{AllByRecursion};
+ghost use Rattle.fit_grammar.specs.Format.Item.{Defines, Data, field_bytes};
+ghost use Rattle.fit_grammar.specs.Format.Encoding.{arch_byte, two_bytes, data_byte as data_byte_of, encoded_item, HasEncoding};
+ghost use Rattle.fit_grammar.specs.Calls.Possible.{FieldFits, DefinitionFits};
+
+use crate::definition::{Definition, FieldDefinition};
+use fit_base::Arch;
+
+// The number of bytes of a definition of 255 fields, the most that there are.
+pub(crate) const LONGEST_DEFINITION: usize = 771;
+
+/// Writes a definition at the front of `out`, and leaves the bytes behind it. Answers how many bytes it has.
+pub fn write_definition(definition: &Definition, out: &mut [u8]) -> usize
+    requires local { definition.now.local < 16 }
+    requires room { 6 + 3 * length definition.now.fields.items ≤ length out.old }
+    ensures count { result ≡ 6 + 3 * length definition.now.fields.items }
+    ensures written { out.new ≡ encoded_item (Defines definition.now) ++ drop result out.old }
+    // Each number fits into its bytes, as the types say.
+    ensures fits { DefinitionFits definition.now }
+{
+    let [first, second] = number_bytes(definition.arch, definition.global);
+    out[..6].copy_from_slice(&[
+        0x40 + definition.local,
+        0,
+        arch_number(definition.arch),
+        first,
+        second,
+        definition.fields.len() as u8,
+    ]);
+    write_fields(&definition.fields, &mut out[6..]);
+    6 + 3 * definition.fields.len()
+}
+
+/// Writes a data message at the front of `out`, with no compressed timestamp, and leaves the bytes behind it.
+/// Answers how many bytes it has.
+pub fn write_data(local: u8, content: &[u8], out: &mut [u8]) -> usize
+    requires local { local < 16 }
+    requires room { 1 + length content.now ≤ length out.old }
+    ensures count { result ≡ 1 + length content.now }
+    ensures written { out.new ≡ encoded_item (Data local None content.now) ++ drop result out.old }
+{
+    let used = 1 + content.len();
+    out[0] = local;
+    out[1..used].copy_from_slice(content);
+    used
+}
+
+// The architecture byte.
+fn arch_number(arch: Arch) -> u8
+    ensures { result ≡ arch_byte arch }
+{
+    match arch {
+        Arch::Little => 0,
+        Arch::Big => 1,
+    }
+}
+
+// The first byte of a data message.
+pub(crate) fn data_byte(local: u8, offset: Option<u8>) -> u8
+    requires { HasEncoding (Data local offset []) }
+    ensures { result ≡ data_byte_of local offset }
+{
+    match offset {
+        None => local,
+        Some(offset) => 128 + 32 * local + offset,
+    }
+}
+
+// The two bytes of a number.
+fn number_bytes(arch: Arch, number: u16) -> [u8; 2]
+    ensures bytes { result ≡ two_bytes arch number }
+    // As its type says.
+    ensures fits { number < 65536 }
+{
+    match arch {
+        Arch::Little => number.to_le_bytes(),
+        Arch::Big => number.to_be_bytes(),
+    }
+}
+
+// Writes the fields, three bytes each.
+fn write_fields(fields: &[FieldDefinition], out: &mut [u8])
+    requires { 3 * length fields.now ≤ length out.old }
+    ensures written { out.new ≡ flat_map field_bytes fields.now ++ drop (3 * length fields.now) out.old }
+    // As their types say.
+    ensures fit { AllByRecursion FieldFits fields.now }
+{
+    for (i, field) in fields.iter().enumerate() {
+        let FieldDefinition { number, size, base } = field.in_bytes();
+        out[3 * i..3 * i + 3].copy_from_slice(&[number, size, base]);
+    }
+}

@@ -1,0 +1,71 @@
+// The time of a message.
+
+ghost use Rattle.std.specs.Prelude.{◌≡◌, length};
+ghost use Rattle.fit_base.specs.Number.{number};
+ghost use Rattle.fit_base.specs.Value.{values_of};
+ghost use Rattle.fit_grammar.specs.Format.Message.{next_time as next_time_of, time_stated, time_in as time_of_values};
+ghost use Rattle.fit_grammar.specs.Calls.LentField.{field_view};
+ghost use Rattle.fit_grammar.specs.Private.StatedTime.{stated_by};
+
+use crate::message::{Field, Fields};
+use byteorder::{BigEndian, ByteOrder, LittleEndian};
+use fit_base::{Arch, FieldValue};
+
+// The least time that is not below the one before and leaves the offset modulo 32, wrapped at 2^32.
+pub(crate) fn next_time(before: u32, offset: u8) -> u32
+    ensures { result ≡ next_time_of before offset }
+{
+    before.wrapping_add((u32::from(offset) + 32 - before % 32) % 32)
+}
+
+// The time that the first field with one states.
+pub(crate) fn stated_time(fields: Fields) -> Option<u32>
+    ensures { result ≡ time_stated fields.entry }
+{
+    for field in fields {
+        let time = time_by(&field);
+        if time.is_some() {
+            return time;
+        }
+    }
+    None
+}
+
+// The time that a field states: that of a field 253 of base type 86.
+fn time_by(field: &Field) -> Option<u32>
+    ensures { result ≡ stated_by (field_view field.now) }
+{
+    if field.number == 253 && field.value.base() == 0x86 {
+        time_in(&field.value)
+    } else {
+        None
+    }
+}
+
+// The one number of a value of base type 86, where it is not invalid.
+fn time_in(value: &FieldValue) -> Option<u32>
+    requires { value.now.base ≡ 0x86 }
+    ensures { result ≡ time_of_values (values_of value.now) }
+{
+    let bytes = value.raw();
+    if bytes.len() != 4 {
+        return None;
+    }
+    let time = read_time(value.arch(), bytes);
+    if time == 0xFFFF_FFFF {
+        None
+    } else {
+        Some(time)
+    }
+}
+
+// The number of four bytes.
+fn read_time(arch: Arch, bytes: &[u8]) -> u32
+    requires { length bytes.now ≡ 4 }
+    ensures { result ≡ number arch bytes.now }
+{
+    match arch {
+        Arch::Little => LittleEndian::read_u32(bytes),
+        Arch::Big => BigEndian::read_u32(bytes),
+    }
+}
