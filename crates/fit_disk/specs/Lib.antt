@@ -1,0 +1,6 @@
+pub mod Content
+pub mod Stored
+pub mod State
+pub mod Story
+pub mod Counts
+pub mod Calls
