@@ -1,33 +1,39 @@
 -- What a crash leaves of a file at rest, and of one that a write or a cut has begun on since.
-use Rattle.std.proofs.Common.{◌≡◌, ◌⊎◌, inl, inr, ℕ, ◌+◌, ◌-◌, ◌<◌, ◌≤◌, max, List, ◌++◌, length, take, drop, get_or, refl, ◌∙◌, arith}
+use Rattle.std.proofs.Common.{subst, ◌≡◌, ◌⊎◌, inl, inr, ℕ, ◌+◌, ◌-◌, ◌<◌, ◌≤◌, max, List, ◌++◌, length, take, drop, get_or, refl, ◌∙◌, arith}
 use Rattle.std.proofs.lemmas.Bool.{cases_lt}
 use Rattle.std.proofs.lemmas.List.{ext_get_or, length-append, length-take, length-drop, get_or-take, get_or-drop, get_or_append_left, get_or-append_right, get_or_past}
 use Rattle.fit_disk.specs.Content.{IsBytes, over, Torn, PartlyCut}
 use Rattle.fit_disk.specs.Stored.{Stored, Left, at_rest, write_begun, cut_begun}
 
 -- at rest, a crash leaves the content and nothing else
-pub rest_left : (c d : List ℕ) → Left (at_rest c) d → d ≡ c
-rest_left c d left = ext_get_or 0 d c (omega (arith, left.no_shorter, left.no_longer)) (λ i low. left.same i (omega (arith, low, left.no_longer)) tt)
+pub rest_left : (file : Stored) (c d : List ℕ) → file ≡ at_rest c → Left file d → d ≡ c
+rest_left file c d rests left_file =
+    let left : Left (at_rest c) d = subst (λ f. Left f d) rests left_file in
+    ext_get_or 0 d c (omega (arith, left.no_shorter, left.no_longer)) (λ i low. left.same i (omega (arith, low, left.no_longer)) tt)
 
 pub left_rest : (c : List ℕ) → IsBytes c → Left (at_rest c) c
 left_rest c bytes = record { no_shorter = omega arith; no_longer = omega arith; same = λ i low outside. refl; bytes = bytes }
 
 -- a write on a file at rest leaves a torn one, whatever reads give meanwhile
-pub torn_left : (at count : ℕ) (now c d : List ℕ) → Left (write_begun at count now (at_rest c)) d → Torn at count c d
-torn_left at count now c d left = record {
-  no_shorter = left.no_shorter;
-  no_longer = left.no_longer;
-  before = λ i low front. left.same i low (inl front, tt);
-  after = λ i low behind. left.same i low (inr behind, tt);
-}
+pub torn_left : (at count : ℕ) (now : List ℕ) (file : Stored) (c d : List ℕ) → file ≡ at_rest c → Left (write_begun at count now file) d → Torn at count c d
+torn_left at count now file c d rests left_file =
+    let left : Left (write_begun at count now (at_rest c)) d = subst (λ f. Left (write_begun at count now f) d) rests left_file in
+    record {
+      no_shorter = left.no_shorter;
+      no_longer = left.no_longer;
+      before = λ i low front. left.same i low (inl front, tt);
+      after = λ i low behind. left.same i low (inr behind, tt);
+    }
 
 -- a cut of a file at rest leaves a part of it
-pub cut_left : (len : ℕ) (now c d : List ℕ) → len ≤ length c → Left (cut_begun len now (at_rest c)) d → PartlyCut len c d
-cut_left len now c d within left = record {
-  no_shorter = omega (arith, left.no_shorter);
-  no_longer = left.no_longer;
-  before = λ i low. left.same i (omega arith) tt;
-}
+pub cut_left : (len : ℕ) (now : List ℕ) (file : Stored) (c d : List ℕ) → file ≡ at_rest c → len ≤ length c → Left (cut_begun len now file) d → PartlyCut len c d
+cut_left len now file c d rests within left_file =
+    let left : Left (cut_begun len now (at_rest c)) d = subst (λ f. Left (cut_begun len now f) d) rests left_file in
+    record {
+      no_shorter = omega (arith, left.no_shorter);
+      no_longer = left.no_longer;
+      before = λ i low. left.same i (omega arith) tt;
+    }
 
 pub length-over : (at : ℕ) (bytes old : List ℕ) → at ≤ length old → length (over at bytes old) ≡ max (length old) (at + length bytes)
 length-over at bytes old within =
