@@ -4,3 +4,4 @@ pub mod State
 pub mod Story
 pub mod Counts
 pub mod Calls
+pub mod Runs
