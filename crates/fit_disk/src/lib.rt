@@ -1,0 +1,6 @@
+//! The disk under a recording: two files, what reads of them give, and what a power cut may leave.
+#![tactic(auto)]
+
+mod disk;
+
+pub use disk::{DeviceError, Disk, Which};
