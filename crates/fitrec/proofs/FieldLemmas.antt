@@ -106,9 +106,6 @@ pub no_name : (o : Option (List ℕ)) (word : List ℕ) (n number : ℕ) → Non
 no_name o word n number none e = rw (← none, e) refl
 
 -- the type that a base type byte has
-pub known_as : (type : BaseType) (byte base : ℕ) → Some type ≡ base_type byte → byte ≡ base → base_type base ≡ Some type
-known_as type byte base known e = ap base_type (sym e) ∙ sym known
-
 -- the parts of a field's text, in their order
 pub field_parts : (names : FieldNames) (field : MessageField) →
     codes " " ++ (field_name names field.number ++ (codes "=" ++ values_text (base_type field.base) field.values)) ≡ field_text names field
