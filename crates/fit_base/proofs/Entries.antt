@@ -1,4 +1,4 @@
--- The tables of the checksum, checked entry by entry against the bits of the definition.
+-- The tables of the checksum, checked entry by entry against the bits of the definition: for `entry`.
 use Rattle.std.proofs.Common.{◌≡◌, ℕ, zero, suc, ◌+◌, ◌*◌, ◌<◌, List, get_or, map, length, refl, sym, ap, ◌∙◌, arith}
 use Rattle.std.specs.List.{range_with_len}
 use Rattle.std.proofs.lemmas.List.{get_or-map}

@@ -1,4 +1,4 @@
--- A writer that was lent and comes back under its name is the same writer, for the last step of `show`.
+-- A writer that was lent and comes back under its name is the same writer: for the last step of `show`.
 use Rattle.std.proofs.Common.{◌≡◌, ℕ, List, [], ◌∷◌, ◌++◌, Option, Some, None, sym, ap, ◌∙◌, subst}
 use Rattle.std.proofs.lemmas.List.{append-nil}
 use Rattle.std.specs.Io.KnownBytes.{Keeps, Appends, append_known}

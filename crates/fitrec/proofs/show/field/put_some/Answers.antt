@@ -17,4 +17,5 @@ returns-in-Byte g c =
 pub returns-in_default : goal.returns-in_default
 returns-in_default g c =
     writes_same c.put_numbers.ensures
-    (number_values c.args.value.now c.args.base c.requires.known (is_number _ c.in_default.not-String c.in_default.not-Byte) c.requires.some)
+    (number_values c.args.value.now c.args.base c.requires.known
+    (is_number _ c.in_default.not-String c.in_default.not-Byte) c.requires.some)
