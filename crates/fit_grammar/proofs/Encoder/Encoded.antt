@@ -1,5 +1,5 @@
 -- The encoded file is a file: for the law of that name; and its parts, as they are written one after another: for `put_file`.
-use Rattle.std.proofs.Common.{◌≡◌, ℕ, ◌/◌, ◌%◌, ◌<◌, List, [], ◌∷◌, ◌++◌, length, refl, sym, ap, subst, ◌∙◌, arith, inl, inr}
+use Rattle.std.proofs.Common.{◌≡◌, ℕ, ◌+◌, ◌/◌, ◌%◌, ◌<◌, List, [], ◌∷◌, ◌++◌, length, refl, sym, ap, subst, ◌∙◌, arith, inl, inr}
 use Rattle.std.specs.Prelude.{flat_map}
 use Rattle.std.proofs.lemmas.List.{length-append}
 use Rattle.std.proofs.lemmas.List.Sums.{sum_by-cons}
@@ -11,7 +11,7 @@ use Rattle.fit_grammar.specs.declared.file.frame.Frame.{Frame}
 use Rattle.fit_grammar.specs.Format.Item.{Item, Defines, Data, item_size, field_bytes}
 use Rattle.fit_grammar.specs.Format.Records.{RecordsAfter, data_size}
 use Rattle.fit_grammar.specs.Format.Encoding.{two_bytes, four_bytes, encoded_item, encoded_items, header_front, with_checksum, encoded_header, encoded}
-use Rattle.fit_grammar.specs.Format.File.{FileValue, FileOf, IsFrame, IsHeader, IsClosing}
+use Rattle.fit_grammar.specs.Format.File.{FileValue, FileOf, IsFrame, ChecksHeader, IsHeader, IsClosing}
 use Rattle.fit_grammar.specs.Calls.Possible.{AllCanFollow, CanBeFile}
 use Rattle.fit_grammar.proofs.OneItem.Spelling.{fields_length}
 use Rattle.fit_grammar.proofs.Encoder.Encoding.{encoded_spells}
@@ -54,33 +54,31 @@ two_again n = omega arith
 four_again : (n : ℕ) → low_first (four_bytes n) ≡ n
 four_again n = omega arith
 
--- with a checksum behind its first twelve bytes, or without
-header_12 : (frame : Frame) (size : ℕ) → IsFrame frame → frame.header_size ≡ 12 → IsHeader (header_front frame size) frame size
-header_12 frame size is_frame short =
+-- twelve bytes and what stands behind them: nothing, or their checksum
+header_by : (frame : Frame) (size : ℕ) (behind : List ℕ) → IsFrame frame → length behind + 12 ≡ frame.header_size
+    → (frame.header_size ≡ 14 → ChecksHeader (header_front frame size ++ behind))
+    → IsHeader (header_front frame size ++ behind) frame size
+header_by frame size behind is_frame whole checked =
     record {
       is_frame = is_frame;
-      whole = sym short;
+      whole = omega (arith, whole);
       header_size = refl;
       protocol = refl;
       profile = two_again frame.profile;
       data_size = four_again size;
       marked = refl;
-      checked = λ long. absurd (omega arith);
+      checked = checked;
     }
+
+header_12 : (frame : Frame) (size : ℕ) → IsFrame frame → frame.header_size ≡ 12 → IsHeader (header_front frame size) frame size
+header_12 frame size is_frame short =
+    header_by frame size [] is_frame (sym short) (λ long. absurd (omega arith))
 
 header_14 : (frame : Frame) (size : ℕ) → IsFrame frame → frame.header_size ≡ 14
     → IsHeader (with_checksum (header_front frame size)) frame size
 header_14 frame size is_frame long =
-    record {
-      is_frame = is_frame;
-      whole = sym long;
-      header_size = refl;
-      protocol = refl;
-      profile = two_again frame.profile;
-      data_size = four_again size;
-      marked = refl;
-      checked = λ l. inr (two_again (crc (header_front frame size)));
-    }
+    let own = two_bytes Little (crc (header_front frame size)) in
+    header_by frame size own is_frame (sym long) (λ _. inr (two_again (crc (header_front frame size))))
 
 pub encoded_header_12 : (frame : Frame) (size : ℕ) → frame.header_size ≡ 12 → encoded_header frame size ≡ header_front frame size
 encoded_header_12 frame size short = rw short refl
