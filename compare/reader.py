@@ -174,3 +174,11 @@ def show(data):
     versions = data[1] >> 4, data[1] & 15, number(data[2:4], False)
     head = "header %d protocol %d.%d profile %d data %d\n" % (header, *versions, size)
     return head + "".join(lines) + "messages %d\n" % len(lines)
+
+
+def wanted(data):
+    """The status of `fitrec show`, its standard output and its standard error, over a file of these bytes."""
+    try:
+        return 0, show(data), ""
+    except Refused as refused:
+        return 1, "", "fitrec: %s\n" % refused

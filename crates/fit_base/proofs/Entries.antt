@@ -1,9 +1,9 @@
--- The tables of the checksum, checked entry by entry against the bits of the definition.
+-- The tables of the checksum, checked entry by entry against the bits of the definition: for `entry`.
 use Rattle.std.proofs.Common.{◌≡◌, ℕ, zero, suc, ◌+◌, ◌*◌, ◌<◌, List, get_or, map, length, refl, sym, ap, ◌∙◌, arith}
 use Rattle.std.specs.List.{range_with_len}
 use Rattle.std.proofs.lemmas.List.{get_or-map}
 use Rattle.std.proofs.lemmas.List.FromFn.{get_or-map-range_with_len}
-use Rattle.fit_base.specs.declared.tables.TheConstants.{AFTER}
+use Rattle.fit_base.specs.declared.checksum.tables.TheConstants.{AFTER}
 use Rattle.fit_base.proofs.Register.{tap, shift, shifts, shifts-add}
 
 -- each entry of the first table is its place after eight bits

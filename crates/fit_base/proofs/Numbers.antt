@@ -1,4 +1,4 @@
--- The sums over bytes, as `byteorder` has them and as the definition of a number has them.
+-- The sums over bytes, as `byteorder` has them and as the definition of a number has them: for reading and `put`.
 use Rattle.std.proofs.Common.{◌≡◌, ℕ, suc, ◌+◌, ◌*◌, ◌^◌, ◌<◌, List, [], ◌∷◌, ◌++◌, length, reverse, drop, append-nil, drop_of_length-le, le_refl, refl, sym, ap, ◌∙◌, arith, pow-suc}
 use Rattle.std.proofs.lemmas.List.{reverse-append, length-reverse}
 use Rattle.byteorder.specs.Endian.{big_number, little_number, big_bytes, little_bytes}
@@ -42,7 +42,8 @@ low_first-written n old fits =
     ∙ ap (little_number (length old)) (sym (append-nil (little_bytes (length old) n)))
     ∙ little_number-reads_back (length old) n [] fits
 
-pub high_first-written : (n : ℕ) (old : List ℕ) → n < 256 ^ length old → low_first (reverse (big_bytes (length old) n ++ drop (length old) old)) ≡ n
+pub high_first-written : (n : ℕ) (old : List ℕ) → n < 256 ^ length old
+    → low_first (reverse (big_bytes (length old) n ++ drop (length old) old)) ≡ n
 high_first-written n old fits =
     let len = length-bytes_high_first (length old) n in
     let rest = drop_of_length-le old (le_refl (length old)) in

@@ -1,4 +1,4 @@
--- Powers of 256 as powers of 2, and a whole range as two halves.
+-- Powers of 256 as powers of 2, and a whole range as two halves: for `Signs` and `put`.
 use Rattle.std.proofs.Common.{◌≡◌, ℕ, zero, suc, ◌+◌, ◌-◌, ◌*◌, ◌^◌, ◌≤◌, refl, sym, ap, ◌∙◌, arith, pow-suc, pow-add}
 
 pub pow256 : (n : ℕ) → 256 ^ n ≡ 2 ^ (8 * n)

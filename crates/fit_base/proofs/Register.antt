@@ -1,4 +1,4 @@
--- The register of the checksum is linear over exclusive or, so that a whole byte can be taken by a table.
+-- The register of the checksum is linear over exclusive or, so that a whole byte can be taken by a table: for `Crc::add`.
 use Rattle.std.proofs.Common.{◌≡◌, ℕ, zero, suc, ◌+◌, ◌*◌, ◌/◌, ◌%◌, ◌^◌, ◌<◌, List, [], ◌∷◌, ◌++◌, fold, flat_map, bit_xor, refl, sym, ap, ◌∙◌, arith, ◌==◌, if◌then◌else◌, append-nil, get_or, take, drop, take-add, take-append-drop, length, pow-suc, mul_assoc, div-add-mod'}
 use Rattle.std.proofs.Math.Nat.{mod-lt, mod-eq_of_lt, div-div-eq-div-mul}
 use Rattle.std.proofs.lemmas.Nat.{xor_shr, xor_mod, xor_block, xor_comm, pow_pos}
@@ -160,17 +160,20 @@ shifts-byte x =
     ∙ ap (λ (h : ℕ). bit_xor h (shifts 8 (x % 256))) (shifts-high 8 (x / 256))
 
 -- one byte more
-pub crc_from-next : (register : ℕ) (bytes : List ℕ) (i : ℕ) → i < length bytes → crc_from (crc_from register (take i bytes)) (get_or bytes i 0 ∷ []) ≡ crc_from register (take (i + 1) bytes)
+pub crc_from-next : (register : ℕ) (bytes : List ℕ) (i : ℕ) → i < length bytes
+    → crc_from (crc_from register (take i bytes)) (get_or bytes i 0 ∷ []) ≡ crc_from register (take (i + 1) bytes)
 crc_from-next register bytes i below =
     sym (crc_from-append register (take i bytes) (get_or bytes i 0 ∷ []))
     ∙ ap (crc_from register) (sym (take_more bytes i 0 below))
 
 -- some bytes more
-pub crc_from-take : (register : ℕ) (bytes : List ℕ) (i n : ℕ) → crc_from (crc_from register (take i bytes)) (take n (drop i bytes)) ≡ crc_from register (take (i + n) bytes)
+pub crc_from-take : (register : ℕ) (bytes : List ℕ) (i n : ℕ)
+    → crc_from (crc_from register (take i bytes)) (take n (drop i bytes)) ≡ crc_from register (take (i + n) bytes)
 crc_from-take register bytes i n =
     sym (crc_from-append register (take i bytes) (take n (drop i bytes)))
     ∙ ap (crc_from register) (sym (take-add i n bytes))
 
-pub crc_from-drop : (register : ℕ) (bytes : List ℕ) (i : ℕ) → crc_from (crc_from register (take i bytes)) (drop i bytes) ≡ crc_from register bytes
+pub crc_from-drop : (register : ℕ) (bytes : List ℕ) (i : ℕ)
+    → crc_from (crc_from register (take i bytes)) (drop i bytes) ≡ crc_from register bytes
 crc_from-drop register bytes i =
     sym (crc_from-append register (take i bytes) (drop i bytes)) ∙ ap (crc_from register) (take-append-drop i bytes)

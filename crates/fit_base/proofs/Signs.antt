@@ -1,4 +1,4 @@
--- Two's complement, and the number that is read by it.
+-- Two's complement, and the number that is read by it: for `with_sign` and `put`.
 use Rattle.std.proofs.Common.{◌≡◌, ℕ, suc, ◌+◌, ◌-◌, ◌*◌, ◌^◌, ◌<◌, ◌≤◌, ℤ, pos, negsuc, neg_ℤ, ◌-ℤ◌, ◌≤ℤ◌, true, false, nat_lt, if◌then◌else◌, refl, ◌∙◌, arith, w64, to_z, of_z}
 use Rattle.std.proofs.lemmas.Int.{ints}
 use Rattle.std.proofs.lemmas.Bool.Decides.{nat_tests}
@@ -13,7 +13,8 @@ pub above_half : (n half whole : ℕ) → half ≤ n → (if nat_lt n half then 
 above_half n half whole above = let e : nat_lt n half ≡ false = grind (arith, nat_tests) in rw e refl
 
 -- a value that fits its size is read back
-pub twos_complement-as_unsigned : (size : ℕ) (value : ℤ) → 1 ≤ size → neg_ℤ (pos (2 ^ (8 * size - 1))) ≤ℤ value → value ≤ℤ pos (2 ^ (8 * size - 1) - 1) → twos_complement size (as_unsigned size value) ≡ value
+pub twos_complement-as_unsigned : (size : ℕ) (value : ℤ) → 1 ≤ size → neg_ℤ (pos (2 ^ (8 * size - 1))) ≤ℤ value
+    → value ≤ℤ pos (2 ^ (8 * size - 1) - 1) → twos_complement size (as_unsigned size value) ≡ value
 twos_complement-as_unsigned size (pos n) some low high =
     let room = pow_pos (8 * size - 1) in
     below_half n (2 ^ (8 * size - 1)) (2 ^ (8 * size)) (omega (arith, ints))
@@ -23,5 +24,6 @@ twos_complement-as_unsigned size (negsuc m) some low high =
     above_half (2 ^ (8 * size) - suc m) (2 ^ (8 * size - 1)) (2 ^ (8 * size)) (omega arith) ∙ omega (arith, ints)
 
 -- what the code computes of a number in the upper half
-pub less_twice : (n half : ℕ) → half < 2 ^ 32 → half ≤ n → n < 2 ^ 33 → to_z w64 (of_z w64 (to_z w64 (n - half) -ℤ to_z w64 half)) ≡ pos n -ℤ pos (half + half)
+pub less_twice : (n half : ℕ) → half < 2 ^ 32 → half ≤ n → n < 2 ^ 33
+    → to_z w64 (of_z w64 (to_z w64 (n - half) -ℤ to_z w64 half)) ≡ pos n -ℤ pos (half + half)
 less_twice n half fits above below = omega (arith, ints)

@@ -1,4 +1,4 @@
--- The list of a field's values, by index: `unsigned` reads its elements one by one.
+-- The list of a field's values, by index: `unsigned` reads its elements one by one. For whoever shows a field.
 use Rattle.std.proofs.Common.{◌≡◌, ℕ, zero, suc, ◌+◌, ◌*◌, ◌<◌, List, length, get_or, take, drop, refl, sym, ap, ◌∙◌, arith}
 use Rattle.std.proofs.lemmas.List.{drop-drop}
 use Rattle.fit_base.specs.declared.order.Arch.{Arch}
@@ -9,7 +9,8 @@ pub length-numbers : (arch : Arch) (size count : ℕ) (bytes : List ℕ) → len
 length-numbers arch size zero bytes = refl
 length-numbers arch size (suc count) bytes = ap suc (length-numbers arch size count (drop size bytes))
 
-pub get_or-numbers : (arch : Arch) (size count : ℕ) (bytes : List ℕ) (i : ℕ) → i < count → get_or (numbers arch size count bytes) i 0 ≡ number arch (take size (drop (i * size) bytes))
+pub get_or-numbers : (arch : Arch) (size count : ℕ) (bytes : List ℕ) (i : ℕ) → i < count
+    → get_or (numbers arch size count bytes) i 0 ≡ number arch (take size (drop (i * size) bytes))
 get_or-numbers arch size zero bytes i below = absurd (omega arith)
 get_or-numbers arch size (suc count) bytes zero below =
     let e : 0 * size ≡ 0 = omega arith in rw e refl
@@ -23,5 +24,6 @@ pub length-numbers_of : (field : Field) → length (numbers field.arch (value_si
 length-numbers_of field = length-numbers field.arch (value_size field) (count_of field) field.bytes
 
 -- and holds the value of each index there
-pub get_or-numbers_of : (field : Field) (i : ℕ) → i < count_of field → get_or (numbers field.arch (value_size field) (count_of field) field.bytes) i 0 ≡ unsigned_at field i
+pub get_or-numbers_of : (field : Field) (i : ℕ) → i < count_of field
+    → get_or (numbers field.arch (value_size field) (count_of field) field.bytes) i 0 ≡ unsigned_at field i
 get_or-numbers_of field i below = get_or-numbers field.arch (value_size field) (count_of field) field.bytes i below

@@ -35,7 +35,9 @@ base_type_in (type ∷ types) code = if (row_of type).code == code then Some typ
 
 -- the type with this base type byte, if there is one
 abbrev pub base_type : ℕ → Option BaseType
-base_type code = base_type_in (Enum ∷ Sint8 ∷ Uint8 ∷ Sint16 ∷ Uint16 ∷ Sint32 ∷ Uint32 ∷ String ∷ Float32 ∷ Float64 ∷ Uint8z ∷ Uint16z ∷ Uint32z ∷ Byte ∷ []) code
+base_type code =
+    base_type_in (Enum ∷ Sint8 ∷ Uint8 ∷ Sint16 ∷ Uint16 ∷ Sint32 ∷ Uint32 ∷ String ∷ Float32 ∷ Float64 ∷ Uint8z
+    ∷ Uint16z ∷ Uint32z ∷ Byte ∷ []) code
 
 -- whether the values of a type have a sign
 abbrev pub has_sign : BaseType → Bool

@@ -3,8 +3,10 @@
 ghost use Rattle.std.specs.Prelude.{◌≡◌, ◌/◌, ◌%◌, ◌<◌, [], ◌∷◌, length, replicate};
 ghost use Rattle.fit_base.specs.Checksum.{crc_from, crc};
 
-use crate::tables::AFTER;
+mod tables;
+
 use std::marker::Model;
+use tables::AFTER;
 
 /// The checksum of a FIT file, over the bytes that were added so far. Contracts see its register.
 #[derive(Clone, Copy, Debug, PartialEq, Eq)]
@@ -28,6 +30,13 @@ impl Crc {
         ensures { result ≡ 0 }
     {
         Crc { register: 0 }
+    }
+
+    /// The checksum of these bytes alone.
+    pub fn of(bytes: &[u8]) -> u16
+        ensures { result ≡ crc bytes.now }
+    {
+        after_bytes(0, bytes)
     }
 
     /// Adds these bytes behind those that were added before.

@@ -13,10 +13,13 @@ struct Case<'a> {
     invalid: [bool; 3],
 }
 
-fn crc_of(bytes: &[u8]) -> u16 {
-    let mut crc = Crc::new();
-    crc.add(bytes);
-    crc.value()
+#[test]
+fn the_example_of_the_crate(rt: HostRuntime) {
+    let field = FieldValue::new(0x84, Arch::Little, &[0xC8, 0x00, 0xFF, 0xFF]);
+    assert_eq!(rt; field.count(), 2);
+    assert_eq!(rt; field.unsigned(0), 200);
+    assert!(rt; field.is_invalid(1));
+    assert_eq!(rt; Crc::of(b"123456789"), 0xBB3D);
 }
 
 #[test]
@@ -24,9 +27,9 @@ fn checksums(rt: HostRuntime) {
     let header = [
         0x0E, 0x10, 0x64, 0x00, 0x12, 0x00, 0x00, 0x00, 0x2E, 0x46, 0x49, 0x54,
     ];
-    assert_eq!(rt; crc_of(&[]), 0);
-    assert_eq!(rt; crc_of(b"123456789"), 0xBB3D);
-    assert_eq!(rt; crc_of(&header), 0x3BA1);
+    assert_eq!(rt; Crc::of(&[]), 0);
+    assert_eq!(rt; Crc::of(b"123456789"), 0xBB3D);
+    assert_eq!(rt; Crc::of(&header), 0x3BA1);
     let mut pieces = Crc::new();
     pieces.add(&header[..5]);
     pieces.add(&header[5..]);

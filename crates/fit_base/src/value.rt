@@ -1,7 +1,6 @@
 // A field of a data message, as its bytes are read.
 
 ghost use Rattle.std.specs.Prelude.{◌≡◌, ◌^◌, ◌<◌, ◌↔◌, ◌==◌, IsTrue, IsSome, IfSome, IsUtf8, position};
-ghost use Rattle.std.specs.List.{before_first};
 
 use crate::base::BaseType;
 use crate::number::{number_of, with_sign};
@@ -13,26 +12,38 @@ use std::marker::Model;
 #[derive(Debug, Drop)]
 pub struct FieldValue<'a> {
     base: u8,
+    // The type that the base type byte names.
+    known: Option<BaseType>,
     arch: Arch,
     bytes: &'a [u8],
 }
 
 impl<'a> Model for FieldValue<'a> {
+    ghost use Rattle.std.specs.Prelude.{◌≡◌};
+    ghost use Rattle.fit_base.specs.Base.{base_type};
     ghost use Rattle.fit_base.specs.Value.{Field};
 
     ghost Value = { Field };
 
     ghost view = { λ v. record { base = v.base; arch = v.arch; bytes = v.bytes.now } };
+
+    ghost invariant = { λ v. v.known ≡ base_type v.base };
 }
 
 impl<'a> FieldValue<'a> {
+    ghost use Rattle.fit_base.specs.Base.{base_type};
     ghost use Rattle.fit_base.specs.Value.{is_raw, count_of, value_size, unsigned_at, is_signed, signed_at, IsInvalidAt, text_of};
 
     /// The field with this base type byte, known or not, this architecture and these bytes.
     pub fn new(base: u8, arch: Arch, bytes: &'a [u8]) -> Self
         ensures { result ≡ record { base = base; arch = arch; bytes = bytes.now } }
     {
-        FieldValue { base, arch, bytes }
+        FieldValue {
+            base,
+            known: BaseType::of(base),
+            arch,
+            bytes,
+        }
     }
 
     /// The base type byte.
@@ -40,6 +51,13 @@ impl<'a> FieldValue<'a> {
         ensures { result ≡ self.now.base }
     {
         self.base
+    }
+
+    /// The type that the base type byte names, if there is one.
+    pub fn base_type(&self) -> Option<BaseType>
+        ensures { result ≡ base_type self.now.base }
+    {
+        self.known
     }
 
     /// The order of the bytes of a value.
@@ -61,7 +79,7 @@ impl<'a> FieldValue<'a> {
     pub fn is_raw(&self) -> bool
         ensures { result ≡ is_raw self.now }
     {
-        match BaseType::of(self.base) {
+        match self.known {
             Some(base) => self.bytes.len() % base.size() != 0,
             None => true,
         }
@@ -71,14 +89,19 @@ impl<'a> FieldValue<'a> {
     pub fn count(&self) -> usize
         ensures { result ≡ count_of self.now }
     {
-        let Some(base) = BaseType::of(self.base) else {
-            return 0;
-        };
-        let size = base.size();
-        if self.bytes.len() % size == 0 {
-            self.bytes.len() / size
-        } else {
-            0
+        match self.known {
+            Some(base) if !self.is_raw() => self.bytes.len() / base.size(),
+            _ => 0,
+        }
+    }
+
+    // The number of bytes of one value; 0 where the base type byte names no type.
+    fn value_size(&self) -> usize
+        ensures { result ≡ value_size self.now }
+    {
+        match self.known {
+            Some(base) => base.size(),
+            None => 0,
         }
     }
 
@@ -89,10 +112,7 @@ impl<'a> FieldValue<'a> {
         ensures number { result ≡ unsigned_at self.now i }
         ensures fits { result < 256 ^ value_size self.now }
     {
-        let Some(base) = BaseType::of(self.base) else {
-            unreachable!();
-        };
-        let size = base.size();
+        let size = self.value_size();
         number_of(self.arch, &self.bytes[i * size..i * size + size])
     }
 
@@ -102,10 +122,7 @@ impl<'a> FieldValue<'a> {
         requires sign { IsTrue (is_signed self.now) }
         ensures { result ≡ signed_at self.now i }
     {
-        let Some(base) = BaseType::of(self.base) else {
-            unreachable!();
-        };
-        with_sign(base.size(), self.unsigned(i))
+        with_sign(self.value_size(), self.unsigned(i))
     }
 
     /// Whether the value at this index, below `count`, is its type's invalid value, which stands for
@@ -115,7 +132,7 @@ impl<'a> FieldValue<'a> {
         requires { i < count_of self.now }
         ensures { IsTrue result ↔ IsInvalidAt self.now i }
     {
-        match BaseType::of(self.base) {
+        match self.known {
             Some(BaseType::Byte) => self.bytes.iter().all(|byte| *byte == 0xFF),
             Some(base) => self.unsigned(i) == base.invalid(),
             None => unreachable!(),
@@ -128,17 +145,17 @@ impl<'a> FieldValue<'a> {
         ensures text { IfSome result (λ text. text.now ≡ text_of self.now) }
         ensures utf8 { IsSome result ↔ IsUtf8 (text_of self.now) }
     {
-        str::from_utf8(before_zero(self.bytes)).ok()
+        str::from_utf8(self.text_bytes()).ok()
     }
-}
 
-// The bytes before the first zero byte, or all where there is none.
-fn before_zero(bytes: &[u8]) -> &[u8]
-    ensures { result.now ≡ before_first (λ byte. byte == 0) bytes.now }
-{
-    match zero_place(bytes) {
-        Some(end) => &bytes[..end],
-        None => bytes,
+    /// The bytes of that text, UTF-8 or not.
+    pub fn text_bytes(&self) -> &'a [u8]
+        ensures { result.now ≡ text_of self.now }
+    {
+        match zero_place(self.bytes) {
+            Some(end) => &self.bytes[..end],
+            None => self.bytes,
+        }
     }
 }
 

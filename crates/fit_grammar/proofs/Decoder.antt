@@ -1,4 +1,4 @@
--- Decoding a file: the refusal of bytes, and that no bytes are two files.
+-- Decoding a file, behind the clauses of `decode_file`: which refusal bytes have, and that they are one file at most.
 pub mod Alignment
 pub mod Headers
 pub mod Quiet

@@ -1,4 +1,4 @@
--- Reading one item: what it is spelled as, and that only one answer is right.
+-- Reading one item: how items are spelled, that only one answer is right, and how long an item is at least.
 pub mod Spelling
 pub mod DefinitionRead
 pub mod Steps

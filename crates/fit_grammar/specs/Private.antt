@@ -7,6 +7,5 @@ pub mod ByLookup
 pub mod ItemRow
 pub mod KeptFile
 pub mod MessagesLeft
-pub mod StatedTime
 pub mod Decoding
 pub mod CheckedOutput

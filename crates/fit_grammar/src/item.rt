@@ -103,7 +103,8 @@ pub fn next_item<'a>(window: &'a [u8], table: &'a Table) -> Step<'a>
     // Where each answer comes.
     ensures item { (i : AnyItem) (used : ℕ) → ItemAtFront (definition_in table.now) window.now i used → IsStepItem result i used }
     ensures more { ItemBegun (definition_in table.now) window.now → result ≡ Step.NeedMore }
-    ensures undefined { (l : ℕ) → ShowsUndefined (definition_in table.now) window.now l → result ≡ Step.Refused (ItemFault.UndefinedLocal l) }
+    ensures undefined { (l : ℕ) → ShowsUndefined (definition_in table.now) window.now l
+        → result ≡ Step.Refused (ItemFault.UndefinedLocal l) }
     ensures developer { ShowsDeveloper window.now → result ≡ Step.Refused ItemFault.Developer }
 {
     step_at(window, table)

@@ -1,4 +1,25 @@
-//! The grammar of FIT files: items, the definitions in force, and whole files.
+//! The grammar of FIT files: items, the definitions in force, messages, and whole files.
+//!
+//! A file is a header (`Frame`), a row of items and a closing checksum. An `Item` is a definition, which says how the
+//! data messages of its local number are laid out from there on, or a `DataMessage` under the definition in force; a
+//! `Table` has these. `next_item` reads the item at the front of some bytes, and `message_of` makes the `Message` of a
+//! data message, with its time and its `Fields`. `write_definition` and `write_data` write items.
+//!
+//! `decode_file` reads a whole file into a `File`, or refuses it for what its shortest bad beginning shows. A `File` is
+//! also built item by item. Its messages are lent one after another, and `encode_file` writes it:
+//!
+//!     let frame = Frame { header_size: 14, protocol: 0x10, profile: 100 };
+//!     let mut file = File::new(alloc, frame);
+//!     file.define(&Definition { local: 0, arch: Arch::Little, global: 20, fields })?;
+//!     file.data(0, None, &[100])?;
+//!     encode_file(&file, &mut bytes)?;
+//!     let read = decode_file(alloc, bytes.as_slice())?;
+//!     let message = read.messages().next().expect(&rt, "one message");
+//!     assert_eq!(rt; message.global(), 20);
+//!
+//! (The test `the_example_of_the_crate`.) What the calls promise is said in the words of `specs/`: `Format` has the FIT
+//! format itself, `Calls` what public calls say beside it, and `Private` what only proofs need. `laws` has what follows
+//! from the definitions alone.
 #![tactic(auto)]
 
 mod definition;

@@ -1,5 +1,7 @@
-// Values from outside, and failures of memory and of writers.
+// Values from outside, sizes, and failures of memory and of writers.
 
 mod decoding;
 mod files;
 mod items;
+mod sizes;
+mod slow;

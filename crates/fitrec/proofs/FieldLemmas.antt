@@ -1,4 +1,4 @@
--- The shown text of a field, by how its values are carried.
+-- The shown text of a field, a message and a file, by their parts: for `show/field`, `show/message` and `show/file`.
 use Rattle.std.proofs.Common.{◌≡◌, ℕ, zero, suc, ◌*◌, ◌/◌, ◌%◌, ◌<◌, ◌==◌, Bool, true, false, List, [], ◌++◌, length, refl, sym, ap, ◌∙◌, append_assoc, eq-eqb, codes, decimal, Option, Some, None, arith, if◌then◌else◌}
 use Rattle.std.proofs.lemmas.Bool.{eqb-true}
 use Rattle.std.proofs.lemmas.List.{nil_from_length}
@@ -64,7 +64,8 @@ more_than_none (suc k) some = (k, refl)
 
 -- a field with values shows them by its type
 pub some_values : (field : Field) (type : BaseType) → base_type field.base ≡ Some type → (count_of field ≡ 0 → ⊥) →
-    some_text (Some type) (numbers field.arch (value_size field) (count_of field) field.bytes) ≡ values_text (base_type field.base) (values_of field)
+    some_text (Some type) (numbers field.arch (value_size field) (count_of field) field.bytes) ≡ values_text
+    (base_type field.base) (values_of field)
 some_values field type known some =
     let k = more_than_none _ some in
     ap (λ o. some_text o (numbers field.arch (value_size field) (count_of field) field.bytes)) (sym known)
@@ -92,7 +93,8 @@ pub byte_values : (field : Field) → base_type field.base ≡ Some Byte → (co
 byte_values field known some = ap byte_text (sym (bytes_at field Byte known refl)) ∙ some_values field Byte known some
 
 pub number_values : (field : Field) (type : BaseType) → base_type field.base ≡ Some type → IsNumber type → (count_of field ≡ 0 → ⊥) →
-    numbers_text type (numbers field.arch (value_size field) (count_of field) field.bytes) ≡ values_text (base_type field.base) (values_of field)
+    numbers_text type (numbers field.arch (value_size field) (count_of field) field.bytes) ≡ values_text
+    (base_type field.base) (values_of field)
 number_values field type known is some = some_numbers type _ is ∙ some_values field type known some
 
 -- a type that is none of the two others is one of numbers
@@ -106,9 +108,6 @@ pub no_name : (o : Option (List ℕ)) (word : List ℕ) (n number : ℕ) → Non
 no_name o word n number none e = rw (← none, e) refl
 
 -- the type that a base type byte has
-pub known_as : (type : BaseType) (byte base : ℕ) → Some type ≡ base_type byte → byte ≡ base → base_type base ≡ Some type
-known_as type byte base known e = ap base_type (sym e) ∙ sym known
-
 -- the parts of a field's text, in their order
 pub field_parts : (names : FieldNames) (field : MessageField) →
     codes " " ++ (field_name names field.number ++ (codes "=" ++ values_text (base_type field.base) field.values)) ≡ field_text names field
@@ -122,7 +121,8 @@ pub header_parts : (frame : Frame) (size a b c d e : ℕ) → a ≡ frame.header
 header_parts frame size a b c d e is_a is_b is_c is_d is_e = rw (is_a, is_b, is_c, is_d, is_e) (simp append_assoc)
 
 -- the parts of a message's line
-pub message_parts : (number : ℕ) (message : Message) (global : ℕ) (names : FieldNames) (fields : List MessageField) → global ≡ message.global →
+pub message_parts : (number : ℕ) (message : Message) (global : ℕ) (names : FieldNames) (fields : List MessageField)
+    → global ≡ message.global →
     names ≡ names_of_fields global → fields ≡ message.fields →
     (decimal number ++ codes " " ++ message_name global) ++ (flat_map (field_text names) fields ++ codes "\n") ≡ message_text number message
 message_parts number message global names fields is_global are_names are_fields = rw (are_names, is_global, are_fields) (simp append_assoc)

@@ -1,4 +1,4 @@
--- What was taken from a reader, piece by piece.
+-- What was taken from a reader, piece by piece: for `read_all`.
 use Rattle.std.proofs.Common.{ℕ, List, [], ◌++◌, Option, Some, None, refl, sym, ap, ◌∙◌, append_assoc}
 use Rattle.std.specs.Io.KnownBytes.{Consumes}
 

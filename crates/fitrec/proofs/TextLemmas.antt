@@ -1,4 +1,4 @@
--- The shown text of values, by the cases that the code goes through.
+-- The shown text of values, by the cases that the code goes through: for `show/bytes` and `show/number`.
 use Rattle.std.proofs.Common.{◌≡◌, ◌≢◌, ℕ, zero, suc, ◌+◌, ◌<◌, ◌≤◌, ◌==◌, true, false, List, [], ◌∷◌, ◌++◌, length, get_or, take, drop, append_assoc, add-zero, refl, ap, ◌∙◌, eq-eqb, codes, decimal, Some, arith, rules, if◌then◌else◌}
 use Rattle.std.proofs.lemmas.List.{at_drop_more, at_drop_all}
 use Rattle.std.specs.Fmt.{signed_decimal}
@@ -32,7 +32,8 @@ unfolding hex_text
 hex_some [] some = absurd (omega arith)
 hex_some (byte ∷ bytes) some = refl
 
-pub string_parts : (bytes : List ℕ) → codes "\"" ++ (flat_map escaped (before_first (λ byte. byte == 0) bytes) ++ codes "\"") ≡ string_text bytes
+pub string_parts : (bytes : List ℕ) → codes "\"" ++
+    (flat_map escaped (before_first (λ byte. byte == 0) bytes) ++ codes "\"") ≡ string_text bytes
 unfolding string_text
 string_parts bytes = simp append_assoc
 

@@ -1,3 +1,4 @@
 pub mod Profile
 pub mod Text
 pub mod Showing
+pub mod Reading

@@ -1,23 +1,22 @@
 // The program as one call: words in, text out, and the exit status.
+//
+// Each subcommand has a file of its own. They share `words`, which reads the command line, `input`, which opens and reads
+// a file, and `status`, which prints a fault.
 
 ghost use Rattle.std.specs.Prelude.{◌≤◌};
-ghost use Rattle.fitrec.specs.Showing.{TellsOf};
+
+mod input;
+mod lent;
+mod show;
+mod words;
 
 use crate::fault::Fault;
-use crate::reading::{MOST_BYTES, ReadFault, read_all};
-use crate::show::{ShowBytesFault, show_bytes};
 use clap::error::ErrorKind;
-use clap::{Arg, ArgAction, Command};
-use std::alloc::Global;
+use show::show_file;
 use std::convert::AsStr;
-use std::fs::{self, OpenFile};
-use std::io::{BufWriter, Write};
+use std::io::Write;
 use std::rt::Files;
-
-// What a command line asks for.
-enum Request<'a> {
-    Show { file: &'a str },
-}
+use words::{Request, read_words};
 
 /// Does what the words behind the program's name ask for. What it shows goes to `out`, and one line on
 /// why it did not go well to `err`. It answers the exit status: 0, or 1 after a fault, or 2 where the
@@ -52,70 +51,6 @@ fn status<E: Write>(done: Result<(), Fault<'_>>, err: &mut E) -> u8
             let _ = writeln!(err, "fitrec: {fault}");
             1
         }
-    }
-}
-
-fn read_words<'a, S: AsStr>(alloc: Global, words: &'a [S]) -> Result<Request<'a>, clap::Error> {
-    let file = Arg::new(alloc, "FILE")
-        .required(true)
-        .action(ArgAction::Set);
-    let show = Command::new(alloc, "show").arg(file)?;
-    let mut fitrec = Command::new(alloc, "fitrec")
-        .no_binary_name(true)
-        .subcommand_required(true)
-        .subcommand(show)?;
-    let matches = fitrec.try_get_matches_from_mut(words)?;
-    if let Some((_, show)) = matches.subcommand() {
-        if let Some(file) = show.get_str("FILE") {
-            return Ok(Request::Show { file });
-        }
-    }
-    Err(fitrec.error(ErrorKind::MissingSubcommand, "no command")?)
-}
-
-fn show_file<'a, R: Files + AllocGlobal, O: Write>(
-    rt: &R,
-    name: &'a str,
-    out: &mut O,
-) -> Result<(), Fault<'a>> {
-    let bytes = file_bytes(rt, name)?;
-    show_buffered(rt.alloc(), bytes.as_slice(), out)
-}
-
-// Shows bytes through one buffer.
-fn show_buffered<O: Write>(alloc: Global, bytes: &[u8], out: &mut O) -> Result<(), Fault<'static>>
-    ensures { TellsOf bytes.now result }
-{
-    let Ok(mut buffered) = BufWriter::new(alloc, out) else {
-        return Err(Fault::NoMemory);
-    };
-    match show_bytes(alloc, bytes, &mut buffered) {
-        Ok(()) => {}
-        Err(ShowBytesFault::Write) => return Err(Fault::Write("-")),
-        Err(ShowBytesFault::File(fault)) => return Err(Fault::File(fault)),
-    }
-    let Ok(out) = buffered.into_inner() else {
-        return Err(Fault::Write("-"));
-    };
-    match out.flush() {
-        Ok(()) => Ok(()),
-        Err(_) => Err(Fault::Write("-")),
-    }
-}
-
-fn file_bytes<'a, R: Files + AllocGlobal>(rt: &R, name: &'a str) -> Result<Vec<u8>, Fault<'a>> {
-    let Ok(mut file) = fs::open(rt, name) else {
-        return Err(Fault::Open(name));
-    };
-    let size = file.metadata().map_or(0, |metadata| metadata.len());
-    if size > MOST_BYTES as u64 {
-        return Err(Fault::TooLarge);
-    }
-    match read_all(rt.alloc(), &mut file) {
-        Ok(bytes) => Ok(bytes),
-        Err(ReadFault::Failed) => Err(Fault::Read(name)),
-        Err(ReadFault::TooLarge) => Err(Fault::TooLarge),
-        Err(ReadFault::NoMemory) => Err(Fault::NoMemory),
     }
 }
 

@@ -25,3 +25,6 @@ pub enum Fault<'a> {
     #[error("{:?} at {}", .0.kind, .0.place)]
     File(FileFault),
 }
+
+#[cfg(test)]
+mod tests;

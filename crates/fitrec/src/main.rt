@@ -1,4 +1,20 @@
 //! The program `fitrec`: it reads FIT files and shows what they say.
+//!
+//! `command` is the program as one call: words in, text out, and the exit status. A subcommand has its file in `command/`;
+//! `show` reads a file whole (`reading`), has `fit_grammar` decode it, and writes its text (`show`) through one buffer. The
+//! names of messages and fields stand in `profile`, and `fault` has the one line that is said where something goes wrong.
+//!
+//!     fitrec show row3.fit
+//!
+//! prints
+//!
+//!     header 14 protocol 1.0 profile 100 data 18
+//!     0 file_id type=4 time_created=1000000000
+//!     messages 1
+//!
+//! (The stored run of this crate: `args`, `data` and `stdout`.) What is promised is said in the words of `specs/`: `Text`
+//! has the text of a file, `Profile` the names in it, `Showing` what becomes of bytes that are to be shown, and `Reading`
+//! what is taken from an input.
 #![tactic(auto)]
 
 mod command;

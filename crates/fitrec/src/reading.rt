@@ -1,12 +1,10 @@
 // Reading a whole input into memory.
 
-ghost use Rattle.std.specs.Prelude.{◌≡◌, ◌<◌, ◌≤◌, length, vec_len, Err, IfOk, IfSome};
+ghost use Rattle.std.specs.Prelude.{◌≡◌, ◌<◌, ◌≤◌, length, vec_len, Err, IfOk, IfErr, IfSome};
+ghost use Rattle.fitrec.specs.Reading.{ReadsAll, Refuses};
 
 use std::alloc::Global;
 use std::io::Read;
-
-/// The most bytes of an input that are read.
-pub const MOST_BYTES: usize = 268_435_456;
 
 const CHUNK: usize = 65_536;
 
@@ -15,18 +13,20 @@ const CHUNK: usize = 65_536;
 pub enum ReadFault {
     /// The reader failed.
     Failed,
-    /// There are more than `MOST_BYTES` bytes.
+    /// There are more bytes than are to be read.
     TooLarge,
     /// Memory was refused.
     NoMemory,
 }
 
-/// All bytes of an input.
-pub fn read_all<T: Read>(alloc: Global, from: &mut T) -> Result<Vec<u8>, ReadFault>
+/// All bytes of an input, which are this many at most.
+pub fn read_all<T: Read>(alloc: Global, from: &mut T, most: usize) -> Result<Vec<u8>, ReadFault>
     ensures all { IfOk result (λ bytes. IfSome (T.remaining from.old) (λ known. bytes.items ≡ known)) }
-    ensures most { IfOk result (λ bytes. vec_len bytes ≤ MOST_BYTES) }
-    ensures too_large { result ≡ Err ReadFault.TooLarge
-        → IfSome (T.remaining from.old) (λ known. MOST_BYTES < length known) }
+    ensures most { IfOk result (λ bytes. vec_len bytes ≤ most) }
+    ensures too_large { result ≡ Err ReadFault.TooLarge → IfSome (T.remaining from.old) (λ known. most < length known) }
+    // What was taken from the input.
+    ensures taken { IfOk result (λ bytes. ReadsAll most (T.remaining from.old) (T.remaining from.new) bytes.items) }
+    ensures refused { IfErr result (Refuses most (T.remaining from.old) (T.remaining from.new)) }
 {
     let mut bytes = Vec::new(alloc);
     let mut chunk = [0u8; CHUNK];
@@ -37,7 +37,7 @@ pub fn read_all<T: Read>(alloc: Global, from: &mut T) -> Result<Vec<u8>, ReadFau
         if taken == 0 {
             return Ok(bytes);
         }
-        if taken > MOST_BYTES - bytes.len() {
+        if taken > most - bytes.len() {
             return Err(ReadFault::TooLarge);
         }
         let Ok(()) = bytes.extend_from_slice(&chunk[..taken]) else {
@@ -45,3 +45,6 @@ pub fn read_all<T: Read>(alloc: Global, from: &mut T) -> Result<Vec<u8>, ReadFau
         };
     }
 }
+
+#[cfg(test)]
+mod tests;

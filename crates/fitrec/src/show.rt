@@ -7,7 +7,7 @@ mod header;
 mod message;
 mod number;
 
-pub use file::{ShowBytesFault, show_bytes};
+pub use file::show;
 
 #[cfg(test)]
 mod tests;

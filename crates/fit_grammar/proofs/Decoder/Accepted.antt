@@ -1,4 +1,4 @@
--- An item whose first byte shows no fault: what its bytes may still show, and where the input ends within it.
+-- An exit: an item that begins well, what its bytes may still show, and the input's end within it. For `Shown`.
 use Rattle.std.proofs.Common.{◌≡◌, ℕ, ◌+◌, ◌*◌, ◌<◌, ◌≤◌, List, [], ◌∷◌, ◌++◌, length, take, drop, Option, Some, None, sym, ap, ◌∙◌, arith, inl, inr}
 use Rattle.std.specs.Prelude.{slice_index, IsSomeAnd}
 use Rattle.std.proofs.lemmas.List.{length-append, get_or-take, take-append-drop, length-take-le}
@@ -23,7 +23,8 @@ none_accepted : (o : Option Definition) (P : Definition → Type 0) → IsSomeAn
 none_accepted None P h e = h
 none_accepted (Some d) P h e = cc
 
-both_sizes : (o : Option Definition) (r s : ℕ) → IsSomeAnd o (λ d. r + (1 + content_size d) ≤ s) → IsSomeAnd o (λ d. s < r + (1 + content_size d)) → ⊥
+both_sizes : (o : Option Definition) (r s : ℕ) → IsSomeAnd o (λ d. r + (1 + content_size d) ≤ s)
+    → IsSomeAnd o (λ d. s < r + (1 + content_size d)) → ⊥
 both_sizes None r s h g = h
 both_sizes (Some d) r s h g = omega arith
 
@@ -34,7 +35,8 @@ accepts_as f byte h a e = rw e at a
 first_of_tail : (byte : ℕ) (after tail more : List ℕ) (other : ℕ) → byte ∷ after ≡ tail ++ more → tail ≡ other ∷ [] → byte ≡ other
 first_of_tail byte after tail more other e is = ap (λ (l : List ℕ). slice_index l 0) (e ∙ ap (λ (l : List ℕ). l ++ more) is)
 
-first_accepted : (f : Front) (byte : ℕ) (after tail more : List ℕ) → AcceptsHead f (head_of byte) → byte ∷ after ≡ tail ++ more → SplitsAtFirst f tail → ⊥
+first_accepted : (f : Front) (byte : ℕ) (after tail more : List ℕ) → AcceptsHead f (head_of byte)
+    → byte ∷ after ≡ tail ++ more → SplitsAtFirst f tail → ⊥
 first_accepted f byte after tail more a e (other, is, inl h) =
     let same = first_of_tail byte after tail more other e is in
     let fits = accepts_as f byte (DefinitionHead h.0) a (ap head_of same ∙ h.1) in
@@ -44,10 +46,12 @@ first_accepted f byte after tail more a e (other, is, inr h) =
     both_sizes (in_force f.items h.0) (length f.records) f.size (accepts_as f byte (DataHead h.0 h.1) a (ap head_of same ∙ h.2)) h.3
 
 -- beside its first byte only a definition's number of fields can show a fault
-pub accepted_mute : (kind : FaultKind) (f : Front) (byte : ℕ) (after tail more : List ℕ) → length f.records < f.size → AcceptsHead f (head_of byte) → byte ∷ after ≡ tail ++ more → (SplitsAtCount f tail → ⊥) → TailShows kind f tail → ⊥
+pub accepted_mute : (kind : FaultKind) (f : Front) (byte : ℕ) (after tail more : List ℕ) → length f.records < f.size
+    → AcceptsHead f (head_of byte) → byte ∷ after ≡ tail ++ more → (SplitsAtCount f tail → ⊥) → TailShows kind f tail → ⊥
 accepted_mute (UndefinedLocal local) f byte after tail more lt a e n sh =
     let same = first_of_tail byte after tail more sh.1 e sh.3 in
-    none_accepted (in_force f.items local) (λ d. length f.records + (1 + content_size d) ≤ f.size) (accepts_as f byte (DataHead local sh.2) a (ap head_of same ∙ sh.4)) sh.5
+    none_accepted (in_force f.items local) (λ d. length f.records + (1 + content_size d) ≤ f.size)
+    (accepts_as f byte (DataHead local sh.2) a (ap head_of same ∙ sh.4)) sh.5
 accepted_mute Developer f byte after tail more lt a e n sh =
     let same = first_of_tail byte after tail more sh.1 e sh.2 in
     accepts_as f byte DeveloperHead a (ap head_of same ∙ sh.3)
@@ -76,8 +80,10 @@ stands_one b f rest p e = record {
 }
 
 -- a definition whose number of fields shows that it passes the end of the data
-pub count_refused : (b : List ℕ) (f : Front) (byte : ℕ) (after : List ℕ) → IsFront f → b ≡ front_bytes f ++ (byte ∷ after) → length f.records < f.size → AcceptsHead f (head_of byte)
-    → (local : ℕ) → head_of byte ≡ DefinitionHead local → 6 ≤ length (byte ∷ after) → f.size < length f.records + (6 + 3 * slice_index (byte ∷ after) 5) → Refusal b SplitMessage (front_end f)
+pub count_refused : (b : List ℕ) (f : Front) (byte : ℕ) (after : List ℕ) → IsFront f
+    → b ≡ front_bytes f ++ (byte ∷ after) → length f.records < f.size → AcceptsHead f (head_of byte)
+    → (local : ℕ) → head_of byte ≡ DefinitionHead local → 6 ≤ length (byte ∷ after)
+    → f.size < length f.records + (6 + 3 * slice_index (byte ∷ after) 5) → Refusal b SplitMessage (front_end f)
 count_refused b f byte after p e lt a local head six past =
     let rest = byte ∷ after in
     let tail = take 6 rest in
@@ -96,8 +102,10 @@ count_refused b f byte after p e lt a local head six past =
     }) (lt, inr shown)
 
 -- the bytes end within an item that has begun
-pub ends_within : (b : List ℕ) (f : Front) (byte : ℕ) (after : List ℕ) → IsFront f → b ≡ front_bytes f ++ (byte ∷ after) → length f.records < f.size → AcceptsHead f (head_of byte)
-    → Blocked f (byte ∷ after) → ((tail more : List ℕ) → byte ∷ after ≡ tail ++ more → SplitsAtCount f tail → ⊥) → Refusal b Truncated (length b)
+pub ends_within : (b : List ℕ) (f : Front) (byte : ℕ) (after : List ℕ) → IsFront f
+    → b ≡ front_bytes f ++ (byte ∷ after) → length f.records < f.size → AcceptsHead f (head_of byte)
+    → Blocked f (byte ∷ after) → ((tail more : List ℕ) → byte ∷ after ≡ tail ++ more → SplitsAtCount f tail → ⊥)
+    → Refusal b Truncated (length b)
 ends_within b f byte after p e lt a blocked count =
     cut_short b f (byte ∷ after) (record {
       is_front = p;
@@ -107,9 +115,11 @@ ends_within b f byte after p e lt a blocked count =
     }) blocked (λ full. absurd (omega arith))
 
 -- the bytes end where an item is to begin
-pub ends_before : (b : List ℕ) (f : Front) → IsFront f → b ≡ front_bytes f ++ [] → length f.records < f.size → Refusal b Truncated (length b)
+pub ends_before : (b : List ℕ) (f : Front) → IsFront f → b ≡ front_bytes f ++ [] → length f.records < f.size
+    → Refusal b Truncated (length b)
 ends_before b f p e lt =
-    let blocked : Blocked f [] = λ item own u joined inside. omega (arith, ap length joined, length-append own u, spelling_not_empty item own inside.spelled) in
+    let blocked : Blocked f [] = λ item own u joined inside.
+    omega (arith, ap length joined, length-append own u, spelling_not_empty item own inside.spelled) in
     cut_short b f [] (record {
       is_front = p;
       joined = e;

@@ -1,4 +1,4 @@
--- Behind all the records: the closing checksum, what follows it, and the end of the input.
+-- An exit: behind all the records, the closing checksum, what follows it, and the input's end. For `Shown`.
 use Rattle.std.proofs.Common.{◌≡◌, ◌≢◌, ℕ, ◌+◌, ◌<◌, ◌≤◌, List, [], ◌∷◌, ◌++◌, length, take, sym, ap, subst, ◌∙◌, append_assoc, arith}
 use Rattle.std.proofs.Math.Seq.{take-append_seam}
 use Rattle.std.proofs.lemmas.List.{length-append}
@@ -25,7 +25,8 @@ full_mute Truncated f tail full sh = absurd sh
 full_mute Memory f tail full sh = absurd sh
 
 -- the input ends within the checksum
-pub closing_cut : (b : List ℕ) (f : Front) (rest : List ℕ) → IsFront f → b ≡ front_bytes f ++ rest → length f.records ≡ f.size → length rest < 2 → Refusal b Truncated (length b)
+pub closing_cut : (b : List ℕ) (f : Front) (rest : List ℕ) → IsFront f → b ≡ front_bytes f ++ rest
+    → length f.records ≡ f.size → length rest < 2 → Refusal b Truncated (length b)
 closing_cut b f rest p e full short =
     cut_short b f rest (record {
       is_front = p;
@@ -35,7 +36,8 @@ closing_cut b f rest p e full short =
     }) (closed_blocked f rest full) (λ _. short)
 
 -- the checksum is wrong
-pub closing_wrong : (b : List ℕ) (f : Front) (tail after : List ℕ) → IsFront f → b ≡ front_bytes f ++ (tail ++ after) → length f.records ≡ f.size → length tail ≡ 2 → low_first tail ≢ crc (front_bytes f) → Refusal b FileCrc (front_end f)
+pub closing_wrong : (b : List ℕ) (f : Front) (tail after : List ℕ) → IsFront f → b ≡ front_bytes f ++ (tail ++ after)
+    → length f.records ≡ f.size → length tail ≡ 2 → low_first tail ≢ crc (front_bytes f) → Refusal b FileCrc (front_end f)
 closing_wrong b f tail after p e full two wrong =
     refused FileCrc b f tail after (record {
       is_front = p;
@@ -45,7 +47,9 @@ closing_wrong b f tail after p e full two wrong =
     }) (full, two, wrong)
 
 -- a byte follows the checksum
-pub closing_followed : (b : List ℕ) (f : Front) (closing : List ℕ) (byte : ℕ) (after : List ℕ) → IsFront f → b ≡ front_bytes f ++ (closing ++ byte ∷ after) → length f.records ≡ f.size → IsClosing (front_bytes f) closing → Refusal b TrailingBytes (front_end f + 2)
+pub closing_followed : (b : List ℕ) (f : Front) (closing : List ℕ) (byte : ℕ) (after : List ℕ) → IsFront f
+    → b ≡ front_bytes f ++ (closing ++ byte ∷ after) → length f.records ≡ f.size → IsClosing (front_bytes f) closing
+    → Refusal b TrailingBytes (front_end f + 2)
 closing_followed b f closing byte after p e full c =
     let tail = closing ++ byte ∷ [] in
     let parts : tail ++ after ≡ closing ++ byte ∷ after = append_assoc closing (byte ∷ []) after in
@@ -59,7 +63,8 @@ closing_followed b f closing byte after p e full c =
     }) (full, three, subst (λ (l : List ℕ). IsClosing (front_bytes f) l) (sym front) c)
 
 -- a front with all its records and the right checksum is a file
-pub closing_right : (b : List ℕ) (f : Front) (closing : List ℕ) → IsFront f → b ≡ front_bytes f ++ closing → length f.records ≡ f.size → IsClosing (front_bytes f) closing → FileOf b (record { frame = f.frame; items = f.items })
+pub closing_right : (b : List ℕ) (f : Front) (closing : List ℕ) → IsFront f → b ≡ front_bytes f ++ closing
+    → length f.records ≡ f.size → IsClosing (front_bytes f) closing → FileOf b (record { frame = f.frame; items = f.items })
 closing_right b f closing p e full c = record {
   header = f.header;
   records = f.records;

@@ -1,4 +1,5 @@
--- What a beginning of a file shows, once a front of the file is known: only what stands behind that front.
+-- What a beginning of a file shows, once a front of the file is known: only what stands behind that front. For `Blocked`,
+-- `Refused` and `HeaderRefused`.
 use Rattle.std.proofs.Common.{◌≡◌, ℕ, ◌+◌, ◌≤◌, List, [], ◌++◌, length, take, drop, sym, ap, ◌∙◌, append_assoc, arith}
 use Rattle.std.proofs.lemmas.List.{take-append-drop, length-append}
 use Rattle.fit_grammar.specs.declared.file.fault.FaultKind.{FaultKind}
@@ -26,12 +27,20 @@ pub record SameFronts (f g : Front) (x y : List ℕ) : Type 0 where
 
 pub same_fronts : (f g : Front) (x y : List ℕ) → IsFront f → IsFront g → front_bytes f ++ x ≡ front_bytes g ++ y → SameFronts f g x y
 same_fronts f g x y p q e =
-    let joined : f.header ++ (f.records ++ x) ≡ g.header ++ (g.records ++ y) = sym (append_assoc f.header f.records x) ∙ e ∙ append_assoc g.header g.records y in
+    let joined : f.header ++ (f.records ++ x) ≡ g.header ++ (g.records ++ y) = sym (append_assoc f.header f.records x)
+    ∙ e ∙ append_assoc g.header g.records y in
     let s = same_header f.header f.frame f.size (f.records ++ x) g.header g.frame g.size (g.records ++ y) p.is_header q.is_header joined in
-    record { frame = s.frame; header = s.header; size = s.size; records = aligned [] f.records f.items x g.records g.items y p.are_records q.are_records s.rest }
+    record {
+      frame = s.frame;
+      header = s.header;
+      size = s.size;
+      records = aligned [] f.records f.items x g.records
+          g.items y p.are_records q.are_records s.rest;
+    }
 
 -- a beginning that is a front and a tail, beside a front of all the bytes
-pub beginning_joined : (b : List ℕ) (m : ℕ) (f g : Front) (rest tail : List ℕ) → b ≡ front_bytes f ++ rest → take m b ≡ front_bytes g ++ tail → front_bytes f ++ rest ≡ front_bytes g ++ (tail ++ drop m b)
+pub beginning_joined : (b : List ℕ) (m : ℕ) (f g : Front) (rest tail : List ℕ) → b ≡ front_bytes f ++ rest
+    → take m b ≡ front_bytes g ++ tail → front_bytes f ++ rest ≡ front_bytes g ++ (tail ++ drop m b)
 beginning_joined b m f g rest tail e d =
     sym e ∙ sym (take-append-drop m b) ∙ ap (λ (l : List ℕ). l ++ drop m b) d ∙ append_assoc (front_bytes g) tail (drop m b)
 
@@ -53,7 +62,9 @@ pub record ShowsLater (f : Front) (rest : List ℕ) (count : ℕ) (kind : FaultK
   pub there : place ≡ place_behind kind front
   pub count_is : count ≡ front_end f + length bytes + length tail
 
-pub later : (kind : FaultKind) (place m : ℕ) (b : List ℕ) (f : Front) (rest : List ℕ) → IsFront f → b ≡ front_bytes f ++ rest → ShowsBehind kind place (take m b) → (more : List Item) × ShowsLater f rest (length (take m b)) kind place more
+pub later : (kind : FaultKind) (place m : ℕ) (b : List ℕ) (f : Front) (rest : List ℕ) → IsFront f
+    → b ≡ front_bytes f ++ rest → ShowsBehind kind place (take m b)
+    → (more : List Item) × ShowsLater f rest (length (take m b)) kind place more
 later kind place m b f rest p e s =
     let same = same_fronts f s.front rest (s.tail ++ drop m b) p s.is_front (beginning_joined b m f s.front rest s.tail e s.joined) in
     elim same.records [
@@ -74,13 +85,33 @@ later kind place m b f rest p e s =
           goes_on = g.goes_on;
           shown = s.shown;
           there = s.there;
-          count_is = omega (arith, ap length s.joined, length-append (front_bytes s.front) s.tail, length-append s.front.header s.front.records, ap length g.bytes_are, length-append f.records g.bytes, ap length same.header);
+          count_is = omega (
+            arith,
+            ap length s.joined,
+            length-append (front_bytes s.front) s.tail,
+            length-append
+                s.front.header s.front.records,
+            ap length g.bytes_are,
+            length-append f.records g.bytes,
+            ap length same.header,
+          );
         },
       )
       | shorter item others g ↦
           let first = g.goes_on.1 in
-          let joined : first.own ++ (g.goes_on.0 ++ rest) ≡ s.tail ++ drop m b = sym (append_assoc first.own g.goes_on.0 rest) ∙ ap (λ (l : List ℕ). l ++ rest) (sym first.joined) ∙ sym g.rest_is in
+          let joined : first.own ++ (g.goes_on.0 ++ rest) ≡ s.tail ++ drop m b =
+          sym (append_assoc first.own g.goes_on.0 rest) ∙ ap (λ (l : List ℕ). l ++ rest) (sym first.joined) ∙ sym g.rest_is in
           let inside : length s.front.records + length first.own ≤ s.front.size =
-          omega (arith, p.inside, same.size, ap length g.bytes_are, length-append s.front.records g.bytes, ap length first.joined, length-append first.own g.goes_on.0) in
-          absurd (item_quiet kind s.front s.tail (drop m b) item first.own (g.goes_on.0 ++ rest) (record { spelled = first.spelled; defined = first.defined; inside = inside }) joined s.shown)
+          omega (
+            arith,
+            p.inside,
+            same.size,
+            ap length g.bytes_are,
+            length-append s.front.records g.bytes,
+            ap length
+                first.joined,
+            length-append first.own g.goes_on.0,
+          ) in
+          absurd (item_quiet kind s.front s.tail (drop m b) item first.own (g.goes_on.0 ++ rest)
+          (record { spelled = first.spelled; defined = first.defined; inside = inside }) joined s.shown)
     ]

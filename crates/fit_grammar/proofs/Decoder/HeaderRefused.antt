@@ -1,4 +1,4 @@
--- Where the header is refused, or the input ends within it.
+-- An exit: the header is refused, or the input ends within it. For `HeaderRead`.
 use Rattle.std.proofs.Common.{◌≡◌, ◌≢◌, ℕ, ◌+◌, ◌/◌, ◌<◌, ◌≤◌, List, ◌∷◌, ◌++◌, length, take, drop, ap, ◌∙◌, append_assoc, arith, ◌⊎◌, inl, inr, refl}
 use Rattle.std.specs.Prelude.{slice_index, slice_range}
 use Rattle.std.proofs.lemmas.Bool.{cases_lt}
@@ -11,7 +11,8 @@ use Rattle.fit_grammar.proofs.Decoder.Headers.{header_at_least, header_first, ta
 use Rattle.fit_grammar.proofs.Decoder.Fronts.{file_front, file_is_front}
 
 -- bytes that begin with a front have at least its header, whose length is byte 0
-front_long : (f : Front) (z : List ℕ) → IsFront f → (12 ≤ length f.header) × (length f.header ≤ length (front_bytes f ++ z)) × (slice_index (front_bytes f ++ z) 0 ≡ length f.header)
+front_long : (f : Front) (z : List ℕ) → IsFront f
+    → (12 ≤ length f.header) × (length f.header ≤ length (front_bytes f ++ z)) × (slice_index (front_bytes f ++ z) 0 ≡ length f.header)
 front_long f z p =
     let e = append_assoc f.header f.records z in (
       header_at_least f.header f.frame f.size p.is_header,
@@ -25,7 +26,8 @@ TooShort x = (length x < 12) ⊎ ((slice_index x 0 ≡ 14) × (length x < 14))
 
 no_front : (x : List ℕ) (f : Front) (z : List ℕ) → IsFront f → x ≡ front_bytes f ++ z → TooShort x → ⊥
 no_front x f z p e (inl short) = let l = front_long f z p in omega (arith, ap length e, l.0, l.1)
-no_front x f z p e (inr short) = let l = front_long f z p in omega (arith, ap length e, ap (λ (k : List ℕ). slice_index k 0) e, l.1, l.2, short.0, short.1)
+no_front x f z p e (inr short) =
+    let l = front_long f z p in omega (arith, ap length e, ap (λ (k : List ℕ). slice_index k 0) e, l.1, l.2, short.0, short.1)
 
 -- in too short bytes only the header shows a fault
 header_only : (kind : FaultKind) (place : ℕ) (x : List ℕ) → TooShort x → Shows kind place x → HeaderShows kind place x
@@ -54,7 +56,8 @@ header_passed Magic place n count b p lt sh =
     let long : 12 ≤ n = omega (arith, sh.1, length-take n b) in
     let le = p.within in
     let whole : take n b ≡ take 12 b = take_own n b ∙ ap (λ (k : ℕ). take k b) sh.1 in
-    sh.2 (ap (λ (l : List ℕ). slice_range l 8 12) whole ∙ (ap (λ (l : List ℕ). take 4 l) (drop-take 8 4 b) ∙ take-take 4 4 (drop 8 b) (omega arith)) ∙ p.marked (omega arith))
+    sh.2 (ap (λ (l : List ℕ). slice_range l 8 12) whole
+    ∙ (ap (λ (l : List ℕ). take 4 l) (drop-take 8 4 b) ∙ take-take 4 4 (drop 8 b) (omega arith)) ∙ p.marked (omega arith))
 header_passed HeaderCrc place n count b p lt sh =
     let le = p.within in
     elim p.first [ inl l ↦ omega (arith, sh.1, length-take n b) | inr l ↦ omega (arith, sh.1, length-take n b) ]
@@ -81,7 +84,8 @@ passed_quiet kind place n count b p lt shown =
     header_passed kind place n count b p lt (header_only kind place (take n b) (beginning_short n b p.first (omega arith)) shown)
 
 -- the header fails a check
-pub header_refused : (kind : FaultKind) (place count : ℕ) (b : List ℕ) → Passes b count → count ≤ length b → HeaderShows kind place (take count b) → Refusal b kind place
+pub header_refused : (kind : FaultKind) (place count : ℕ) (b : List ℕ) → Passes b count → count ≤ length b
+    → HeaderShows kind place (take count b) → Refusal b kind place
 header_refused kind place count b p le h =
     inl (record {
       count = count;

@@ -1,4 +1,4 @@
--- No bytes are a file of two values.
+-- No bytes are a file of two values: for the law of that name.
 use Rattle.std.proofs.Common.{◌≡◌, ℕ, List, [], ◌∷◌, ◌++◌, length, refl, sym, ap, ◌∙◌, arith}
 use Rattle.std.proofs.lemmas.List.{append-nil, length-append}
 use Rattle.fit_grammar.specs.declared.file.frame.Frame.{Frame}
@@ -26,12 +26,14 @@ same_row before a is x b js y more g same =
 value_same : (v w : FileValue) → v.frame ≡ w.frame → v.items ≡ w.items → v ≡ w
 value_same v w frame items =
     let made : Frame → List Item → FileValue = λ f is. record { frame = f; items = is } in
-    let e : made v.frame v.items ≡ made w.frame w.items = ap (λ (f : Frame). made f v.items) frame ∙ ap (λ (is : List Item). made w.frame is) items in
+    let e : made v.frame v.items ≡ made w.frame w.items = ap (λ (f : Frame). made f v.items) frame
+    ∙ ap (λ (is : List Item). made w.frame is) items in
     e
 
 pub one_value : (bytes : List ℕ) (v w : FileValue) → FileOf bytes v → FileOf bytes w → v ≡ w
 one_value bytes v w p q =
-    let same = same_fronts (file_front bytes v p) (file_front bytes w q) p.closing q.closing (file_is_front bytes v p) (file_is_front bytes w q) (sym p.joined ∙ q.joined) in
+    let same = same_fronts (file_front bytes v p) (file_front bytes w q) p.closing q.closing (file_is_front bytes v p)
+    (file_is_front bytes w q) (sym p.joined ∙ q.joined) in
     let items : v.items ≡ w.items = elim same.records [
       | longer more g ↦ same_row [] p.records v.items p.closing q.records w.items q.closing more g same.size
       | shorter item others g ↦ sym (same_row [] q.records w.items q.closing p.records v.items p.closing (item ∷ others) g (sym same.size))

@@ -1,4 +1,4 @@
--- Where an item begins and ends within the data, its bytes show no fault.
+-- Where an item begins and ends within the data, its bytes show no fault: for `Fronts`, `Blocked` and `Accepted`.
 use Rattle.std.proofs.Common.{◌≡◌, ℕ, ◌+◌, ◌<◌, ◌≤◌, List, ◌++◌, length, Option, Some, None, sym, ap, ◌∙◌, arith, inl, inr}
 use Rattle.std.specs.Prelude.{slice_index, IsSomeAnd}
 use Rattle.std.proofs.lemmas.List.{get_or_append_left}
@@ -16,7 +16,8 @@ not_defined None P h e = h
 not_defined (Some d) P h e = cc
 
 -- the definition that a data message has is in force
-some_size : (o : Option Definition) (n : ℕ) (k s : ℕ) → IsSomeAnd o (λ d. content_size d ≡ n) → IsSomeAnd o (λ d. s < k + (1 + content_size d)) → s < k + (1 + n)
+some_size : (o : Option Definition) (n : ℕ) (k s : ℕ) → IsSomeAnd o (λ d. content_size d ≡ n)
+    → IsSomeAnd o (λ d. s < k + (1 + content_size d)) → s < k + (1 + n)
 some_size None n k s h g = absurd h
 some_size (Some d) n k s h g = rw (← h) g
 
@@ -24,7 +25,8 @@ same_local : (l m : ℕ) (o n : Option ℕ) → DataHead l o ≡ DataHead m n �
 same_local l m o n e = cc
 
 -- one byte does not show that the item passes the end
-first_quiet : (g : Front) (tail after : List ℕ) (item : Item) (own u : List ℕ) → Spells item own → IsDefined g.items item → own ++ u ≡ tail ++ after → length g.records + length own ≤ g.size → SplitsAtFirst g tail → ⊥
+first_quiet : (g : Front) (tail after : List ℕ) (item : Item) (own u : List ℕ) → Spells item own
+    → IsDefined g.items item → own ++ u ≡ tail ++ after → length g.records + length own ≤ g.size → SplitsAtFirst g tail → ⊥
 first_quiet g tail after (Defines d) own u p q e le (byte, is, inl h) =
     omega (arith, definition_length d own p, h.2)
 first_quiet g tail after (Defines d) own u p q e le (byte, is, inr h) =
@@ -42,20 +44,24 @@ first_quiet g tail after (Data local offset content) own u p q e le (byte, is, i
     omega (arith, data_length local offset content own p, size)
 
 -- six bytes of a definition do not show that it passes the end
-count_quiet : (g : Front) (tail after : List ℕ) (item : Item) (own u : List ℕ) → Spells item own → own ++ u ≡ tail ++ after → length g.records + length own ≤ g.size → SplitsAtCount g tail → ⊥
+count_quiet : (g : Front) (tail after : List ℕ) (item : Item) (own u : List ℕ) → Spells item own
+    → own ++ u ≡ tail ++ after → length g.records + length own ≤ g.size → SplitsAtCount g tail → ⊥
 count_quiet g tail after (Defines d) own u p e le h =
     let n = definition_length d own p in
     let same : slice_index own 5 ≡ slice_index tail 5 =
-    sym (get_or_append_left own u 0 5 (omega arith)) ∙ ap (λ (l : List ℕ). slice_index l 5) e ∙ get_or_append_left tail after 0 5 (omega (arith, h.0)) in
+    sym (get_or_append_left own u 0 5 (omega arith)) ∙ ap (λ (l : List ℕ). slice_index l 5) e
+    ∙ get_or_append_left tail after 0 5 (omega (arith, h.0)) in
     omega (arith, n, definition_count d own p, h.2)
 count_quiet g tail after (Data local offset content) own u p e le h =
     let ne = data_length local offset content own p in
     let same : slice_index own 0 ≡ slice_index tail 0 =
-    sym (get_or_append_left own u 0 0 (omega arith)) ∙ ap (λ (l : List ℕ). slice_index l 0) e ∙ get_or_append_left tail after 0 0 (omega (arith, h.0)) in
+    sym (get_or_append_left own u 0 0 (omega arith)) ∙ ap (λ (l : List ℕ). slice_index l 0) e
+    ∙ get_or_append_left tail after 0 0 (omega (arith, h.0)) in
     let bad : DataHead local offset ≡ DefinitionHead h.1.0 = sym (data_first local offset content own p) ∙ ap head_of same ∙ h.1.1 in
     cc
 
-undefined_quiet : (g : Front) (item : Item) (byte local : ℕ) (offset : Option ℕ) → IsDefined g.items item → head_of byte ≡ item_head item → head_of byte ≡ DataHead local offset → in_force g.items local ≡ None → ⊥
+undefined_quiet : (g : Front) (item : Item) (byte local : ℕ) (offset : Option ℕ) → IsDefined g.items item
+    → head_of byte ≡ item_head item → head_of byte ≡ DataHead local offset → in_force g.items local ≡ None → ⊥
 undefined_quiet g (Defines d) byte local offset q f h n =
     let bad : DefinitionHead d.local ≡ DataHead local offset = sym f ∙ h in
     cc
@@ -74,9 +80,11 @@ pub record ItemInside (g : Front) (item : Item) (own u : List ℕ) : Type 0 wher
   pub inside : length g.records + length own ≤ g.size
 
 -- its bytes show no fault
-pub item_quiet : (kind : FaultKind) (g : Front) (tail after : List ℕ) (item : Item) (own u : List ℕ) → ItemInside g item own u → own ++ u ≡ tail ++ after → TailShows kind g tail → ⊥
+pub item_quiet : (kind : FaultKind) (g : Front) (tail after : List ℕ) (item : Item) (own u : List ℕ)
+    → ItemInside g item own u → own ++ u ≡ tail ++ after → TailShows kind g tail → ⊥
 item_quiet (UndefinedLocal local) g tail after item own u p e sh =
-    undefined_quiet g item sh.1 local sh.2 p.defined (spelling_head item own u after sh.1 p.spelled (e ∙ ap (λ (l : List ℕ). l ++ after) sh.3)) sh.4 sh.5
+    undefined_quiet g item sh.1 local sh.2 p.defined
+    (spelling_head item own u after sh.1 p.spelled (e ∙ ap (λ (l : List ℕ). l ++ after) sh.3)) sh.4 sh.5
 item_quiet Developer g tail after item own u p e sh =
     developer_quiet item (sym sh.3 ∙ spelling_head item own u after sh.1 p.spelled (e ∙ ap (λ (l : List ℕ). l ++ after) sh.2))
 item_quiet SplitMessage g tail after item own u p e (lt, inl h) = first_quiet g tail after item own u p.spelled p.defined e p.inside h

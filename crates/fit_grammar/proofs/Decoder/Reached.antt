@@ -1,4 +1,4 @@
--- How far a decoder has come: a front of the bytes, whose items it has.
+-- The invariant of the decoder's loop: a front of the bytes, whose items the file has. For `read_file`.
 use Rattle.std.proofs.Common.{◌≡◌, ℕ, ◌+◌, ◌-◌, ◌<◌, ◌^◌, List, [], ◌∷◌, ◌++◌, length, take, drop, refl, sym, ap, subst, ◌∙◌, append_assoc, arith}
 use Rattle.std.proofs.Math.Seq.{drop-append_seam}
 use Rattle.std.proofs.lemmas.List.Sums.{sum_by-cons}
@@ -28,15 +28,18 @@ spelled_size (Defines d) own p = definition_length d own p
 spelled_size (Data local offset content) own p = data_length local offset content own p
 
 -- records are as long as their items say
-pub records_size : (before : List Item) (bytes : List ℕ) (items : List Item) → RecordsAfter before bytes items → length bytes ≡ data_size items
+pub records_size : (before : List Item) (bytes : List ℕ) (items : List Item) → RecordsAfter before bytes items
+    → length bytes ≡ data_size items
 records_size before bytes [] r = ap length r
 records_size before bytes (item ∷ items) r =
     let rest = records_size (before ++ item ∷ []) r.0 items r.2 in
     let own = spelled_size item r.1.own r.1.spelled in
-    ap length r.1.joined ∙ length-append r.1.own r.0 ∙ ap (λ (n : ℕ). n + length r.0) own ∙ ap (λ (n : ℕ). item_size item + n) rest ∙ sym (sum_by-cons item_size item items)
+    ap length r.1.joined ∙ length-append r.1.own r.0 ∙ ap (λ (n : ℕ). n + length r.0) own
+    ∙ ap (λ (n : ℕ). item_size item + n) rest ∙ sym (sum_by-cons item_size item items)
 
 -- one item more
-pub records_more : (before : List Item) (bytes : List ℕ) (items : List Item) (item : Item) (own : List ℕ) → RecordsAfter before bytes items → Spells item own → IsDefined (before ++ items) item
+pub records_more : (before : List Item) (bytes : List ℕ) (items : List Item) (item : Item) (own : List ℕ)
+    → RecordsAfter before bytes items → Spells item own → IsDefined (before ++ items) item
     → RecordsAfter before (bytes ++ own) (items ++ item ∷ [])
 records_more before bytes [] item own r p q = (
   [],
@@ -56,16 +59,19 @@ records_more before bytes (i ∷ items) item own r p q = (
     spelled = r.1.spelled;
     defined = r.1.defined;
   },
-  records_more (before ++ i ∷ []) r.0 items item own r.2 p (subst (λ (is : List Item). IsDefined is item) (sym (append_assoc before (i ∷ []) items)) q),
+  records_more (before ++ i ∷ []) r.0 items item own r.2 p
+      (subst (λ (is : List Item). IsDefined is item) (sym (append_assoc before (i ∷ []) items)) q),
 )
 
 -- the rest is what stands behind the place
 pub rest_there : (b : List ℕ) (f : Front) (rest : List ℕ) → b ≡ front_bytes f ++ rest → drop (front_end f) b ≡ rest
 rest_there b f rest e =
-    ap (λ (k : ℕ). drop k b) (sym (length-append f.header f.records)) ∙ ap (λ (l : List ℕ). drop (length (front_bytes f)) l) e ∙ drop-append_seam (front_bytes f) rest
+    ap (λ (k : ℕ). drop k b) (sym (length-append f.header f.records))
+    ∙ ap (λ (l : List ℕ). drop (length (front_bytes f)) l) e ∙ drop-append_seam (front_bytes f) rest
 
 -- behind the header no item is read yet
-pub reached_first : (b : List ℕ) (h : Header) → BeginsWith b h → h.data_size < 2 ^ 32 → Reached b (record { frame = h.frame; items = [] }) h.frame.header_size (h.frame.header_size + h.data_size)
+pub reached_first : (b : List ℕ) (h : Header) → BeginsWith b h → h.data_size < 2 ^ 32
+    → Reached b (record { frame = h.frame; items = [] }) h.frame.header_size (h.frame.header_size + h.data_size)
 reached_first b h p fits =
     let n = h.frame.header_size in
     let long : length (take n b) ≡ n = length-take-le n b p.within in
@@ -82,7 +88,8 @@ reached_first b h p fits =
     }
 
 -- and behind an item one more is
-pub reached_more : (b : List ℕ) (v w : FileValue) (at end used : ℕ) → Reached b v at end → TakesItem v w (drop at b) (end - at) used → at < end → Reached b w (at + used) end
+pub reached_more : (b : List ℕ) (v w : FileValue) (at end used : ℕ) → Reached b v at end
+    → TakesItem v w (drop at b) (end - at) used → at < end → Reached b w (at + used) end
 reached_more b v w at end used r t lt =
     let f = r.front in
     let window : drop at b ≡ r.rest = ap (λ (k : ℕ). drop k b) r.at_is ∙ rest_there b f r.rest r.joined in
@@ -100,7 +107,9 @@ reached_more b v w at end used r t lt =
       };
       frame_is = r.frame_is ∙ sym (ap (λ (x : FileValue). x.frame) t.added);
       items_are = ap (λ (is : List Item). is ++ t.item ∷ []) r.items_are ∙ sym (ap (λ (x : FileValue). x.items) t.added);
-      joined = r.joined ∙ ap (λ (l : List ℕ). front_bytes f ++ l) parts ∙ sym (append_assoc (front_bytes f) own (drop used (drop at b))) ∙ ap (λ (l : List ℕ). l ++ drop used (drop at b)) (append_assoc f.header f.records own);
+      joined = r.joined ∙ ap (λ (l : List ℕ). front_bytes f ++ l) parts
+          ∙ sym (append_assoc (front_bytes f) own (drop used (drop at b)))
+          ∙ ap (λ (l : List ℕ). l ++ drop used (drop at b)) (append_assoc f.header f.records own);
       at_is = omega (arith, r.at_is, length-append f.records own, long);
       end_is = r.end_is;
       fits = r.fits;

@@ -1,4 +1,4 @@
--- From what stands behind a front to the refusal of the bytes.
+-- From what the bytes behind a front show to the refusal of all bytes: for each exit below.
 use Rattle.std.proofs.Common.{◌≡◌, ℕ, ◌+◌, ◌<◌, List, [], ◌∷◌, ◌++◌, length, take, refl, sym, ap, ◌∙◌, append_assoc, arith, inl, inr}
 use Rattle.std.proofs.Math.Seq.{take-append_seam}
 use Rattle.std.proofs.lemmas.List.{length-append, append-nil}
@@ -17,7 +17,8 @@ pub closed_blocked : (f : Front) (rest : List ℕ) → length f.records ≡ f.si
 closed_blocked f rest e item own u joined p = omega (arith, p.inside, spelling_not_empty item own p.spelled)
 
 -- behind a right checksum less than a file and a byte shows no fault
-pub closing_mute : (kind : FaultKind) (f : Front) (closing after tail more : List ℕ) → length f.records ≡ f.size → IsClosing (front_bytes f) closing → closing ++ after ≡ tail ++ more → length tail < 3 → TailShows kind f tail → ⊥
+pub closing_mute : (kind : FaultKind) (f : Front) (closing after tail more : List ℕ) → length f.records ≡ f.size
+    → IsClosing (front_bytes f) closing → closing ++ after ≡ tail ++ more → length tail < 3 → TailShows kind f tail → ⊥
 closing_mute FileCrc f closing after tail more full c is lt sh =
     let one = bytes_one closing tail after more (c.whole ∙ sym sh.1) is in
     sh.2 (sym (ap low_first one.0) ∙ c.right)
@@ -39,27 +40,47 @@ pub record Stands (b : List ℕ) (f : Front) (rest : List ℕ) (limit : ℕ) : T
   pub blocked : 2 < limit → Blocked f rest
   pub mute : Mute f rest limit
 
-pub quiet : (b : List ℕ) (f : Front) (rest : List ℕ) (limit : ℕ) → Stands b f rest limit → (n : ℕ) (kind : FaultKind) (place : ℕ) → n < front_end f + limit → Shows kind place (take n b) → ⊥
+pub quiet : (b : List ℕ) (f : Front) (rest : List ℕ) (limit : ℕ) → Stands b f rest limit
+    → (n : ℕ) (kind : FaultKind) (place : ℕ) → n < front_end f + limit → Shows kind place (take n b) → ⊥
 quiet b f rest limit s n kind place lt h = quiet_behind b f rest limit s.is_front s.joined s.blocked s.mute n kind place lt h
 
 -- the beginning that ends with a tail behind the front
-beginning : (b : List ℕ) (f : Front) (tail after : List ℕ) → b ≡ front_bytes f ++ (tail ++ after) → take (front_end f + length tail) b ≡ front_bytes f ++ tail
+beginning : (b : List ℕ) (f : Front) (tail after : List ℕ) → b ≡ front_bytes f ++ (tail ++ after)
+    → take (front_end f + length tail) b ≡ front_bytes f ++ tail
 beginning b f tail after e =
-    let long : front_end f + length tail ≡ length (front_bytes f ++ tail) = omega (arith, length-append (front_bytes f) tail, length-append f.header f.records) in
-    ap (λ (k : ℕ). take k b) long ∙ ap (λ (l : List ℕ). take (length (front_bytes f ++ tail)) l) (e ∙ sym (append_assoc (front_bytes f) tail after)) ∙ take-append_seam (front_bytes f ++ tail) after
+    let long : front_end f + length tail ≡ length (front_bytes f ++ tail) =
+    omega (arith, length-append (front_bytes f) tail, length-append f.header f.records) in
+    ap (λ (k : ℕ). take k b) long ∙ ap (λ (l : List ℕ). take (length (front_bytes f ++ tail)) l)
+    (e ∙ sym (append_assoc (front_bytes f) tail after)) ∙ take-append_seam (front_bytes f ++ tail) after
 
 -- a tail that shows a fault
-pub refused : (kind : FaultKind) (b : List ℕ) (f : Front) (tail after : List ℕ) → Stands b f (tail ++ after) (length tail) → TailShows kind f tail → Refusal b kind (place_behind kind f)
+pub refused : (kind : FaultKind) (b : List ℕ) (f : Front) (tail after : List ℕ)
+    → Stands b f (tail ++ after) (length tail) → TailShows kind f tail → Refusal b kind (place_behind kind f)
 refused kind b f tail after s h =
     inl (record {
       count = front_end f + length tail;
-      within = omega (arith, ap length s.joined, length-append (front_bytes f) (tail ++ after), length-append f.header f.records, length-append tail after);
-      shown = inr (record { front = f; tail = tail; is_front = s.is_front; joined = beginning b f tail after s.joined; shown = h; there = refl });
+      within = omega (
+        arith,
+        ap length s.joined,
+        length-append (front_bytes f) (tail ++ after),
+        length-append f.header
+            f.records,
+        length-append tail after,
+      );
+      shown = inr (record {
+        front = f;
+        tail = tail;
+        is_front = s.is_front;
+        joined = beginning b f tail after s.joined;
+        shown = h;
+        there = refl;
+      });
       shortest = λ n other at lt shown. quiet b f (tail ++ after) (length tail) s n other at lt shown;
     })
 
 -- the bytes are no file where they end behind a front too soon
-no_file_behind : (b : List ℕ) (f : Front) (rest : List ℕ) → IsFront f → b ≡ front_bytes f ++ rest → Blocked f rest → (length f.records ≡ f.size → length rest < 2) → (v : FileValue) → FileOf b v → ⊥
+no_file_behind : (b : List ℕ) (f : Front) (rest : List ℕ) → IsFront f → b ≡ front_bytes f ++ rest → Blocked f rest
+    → (length f.records ≡ f.size → length rest < 2) → (v : FileValue) → FileOf b v → ⊥
 no_file_behind b f rest p e blocked unclosed v h =
     let g = file_front b v h in
     let q = file_is_front b v h in
@@ -73,16 +94,26 @@ no_file_behind b f rest p e blocked unclosed v h =
       | shorter item others go ↦
           let first = go.goes_on.1 in
           let some = spelling_not_empty item first.own first.spelled in
-          absurd (omega (arith, p.inside, same.size, ap length go.bytes_are, length-append g.records go.bytes, ap length first.joined, length-append first.own go.goes_on.0))
+          absurd (omega (
+            arith,
+            p.inside,
+            same.size,
+            ap length go.bytes_are,
+            length-append g.records go.bytes,
+            ap length first.joined,
+            length-append first.own go.goes_on.0,
+          ))
     ]
 
 -- the bytes end too soon
-pub cut_short : (b : List ℕ) (f : Front) (rest : List ℕ) → Stands b f rest (length rest + 1) → Blocked f rest → (length f.records ≡ f.size → length rest < 2) → Refusal b Truncated (length b)
+pub cut_short : (b : List ℕ) (f : Front) (rest : List ℕ) → Stands b f rest (length rest + 1) → Blocked f rest
+    → (length f.records ≡ f.size → length rest < 2) → Refusal b Truncated (length b)
 cut_short b f rest s blocked unclosed =
     inr (record {
       truncated = refl;
       at_end = refl;
-      none_shown = λ n other at le shown. quiet b f rest (length rest + 1) s n other at (omega (arith, ap length s.joined, length-append (front_bytes f) rest, length-append f.header f.records)) shown;
+      none_shown = λ n other at le shown. quiet b f rest (length rest + 1) s n other at
+          (omega (arith, ap length s.joined, length-append (front_bytes f) rest, length-append f.header f.records)) shown;
       no_file = no_file_behind b f rest s.is_front s.joined blocked unclosed;
     })
 
@@ -95,6 +126,14 @@ file_not_refused b v kind place h (inl r) =
       is_front = file_is_front b v h;
       joined = h.joined;
       blocked = λ more. closed_blocked g h.closing refl;
-      mute = λ other tail after e lt shown. closing_mute other g h.closing [] tail after refl h.is_closing (append-nil h.closing ∙ e) lt shown;
+      mute = λ other tail after e lt shown. closing_mute other g h.closing [] tail after refl h.is_closing
+          (append-nil h.closing ∙ e) lt shown;
     } in
-    quiet b g h.closing 3 s r.count kind place (omega (arith, r.within, ap length h.joined, length-append (front_bytes g) h.closing, length-append g.header g.records, h.is_closing.whole)) r.shown
+    quiet b g h.closing 3 s r.count kind place (omega (
+      arith,
+      r.within,
+      ap length h.joined,
+      length-append (front_bytes g) h.closing,
+      length-append g.header g.records,
+      h.is_closing.whole,
+    )) r.shown

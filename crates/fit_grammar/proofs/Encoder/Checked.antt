@@ -1,4 +1,4 @@
--- How texts join that were handed to a writer with a checksum running along.
+-- The same with a checksum running along: for the encoder.
 use Rattle.std.proofs.Common.{◌≡◌, ℕ, List, ◌++◌, Option, Result, Ok, Err, sym, ap, ◌∙◌, subst}
 use Rattle.std.specs.Prelude.{OnOk}
 use Rattle.std.specs.Result.{IsErr}
@@ -8,7 +8,8 @@ use Rattle.fit_grammar.specs.Private.CheckedOutput.{WritesChecked}
 use Rattle.fit_grammar.proofs.Encoder.Output.{then_writes, stops_before}
 
 checked_after : {S T E F : Type 0} (o m n : Option (List ℕ)) (before middle after : ℕ) (x : S) (r : Result T E) (a b : List ℕ) →
-    WritesChecked {T = S} {E = F} o m before middle (Ok x) a → WritesChecked m n middle after r b → WritesChecked o n before after r (a ++ b)
+    WritesChecked {T = S} {E = F} o m before middle (Ok x) a → WritesChecked m n middle after r b
+    → WritesChecked o n before after r (a ++ b)
 checked_after o m n before middle after x (Ok y) a b h k =
     record {
       writes = then_writes h.writes k.writes;
@@ -18,7 +19,8 @@ checked_after o m n before middle after x (Err e) a b h k = record { writes = th
 
 -- one text was written, and then another
 pub then_checked : {S T E F : Type 0} {o m n : Option (List ℕ)} {before middle after : ℕ} {x : S} {r : Result T E} {a b : List ℕ} →
-    WritesChecked {T = S} {E = F} o m before middle (Ok x) a → WritesChecked m n middle after r b → WritesChecked o n before after r (a ++ b)
+    WritesChecked {T = S} {E = F} o m before middle (Ok x) a → WritesChecked m n middle after r b
+    → WritesChecked o n before after r (a ++ b)
 then_checked {o = o} {m = m} {n = n} {before = before} {middle = middle} {after = after} {x = x} {r = r} {a = a} {b = b} h k =
     checked_after o m n before middle after x r a b h k
 
@@ -28,10 +30,13 @@ no_checksum (Err e) P bad = tt
 
 -- one text was not written, and so none behind it
 pub stops_checked : {S T E F : Type 0} {o n : Option (List ℕ)} {before middle : ℕ} {e : E} {r : Result T F} {a : List ℕ} →
-    IsErr r → WritesChecked {T = S} {E = E} o n before middle (Err e) a → (after : ℕ) (b : List ℕ) → WritesChecked o n before after r (a ++ b)
+    IsErr r → WritesChecked {T = S} {E = E} o n before middle (Err e) a → (after : ℕ) (b : List ℕ)
+    → WritesChecked o n before after r (a ++ b)
 stops_checked {before = before} {r = r} {a = a} bad h after b =
     record { writes = stops_before bad h.writes b; checksum = no_checksum r (after ≡ crc_from before (a ++ b)) bad }
 
 -- a text is another one
-pub checked_same : {T E : Type 0} {o n : Option (List ℕ)} {before after : ℕ} {r : Result T E} {a b : List ℕ} → WritesChecked o n before after r a → a ≡ b → WritesChecked o n before after r b
-checked_same {o = o} {n = n} {before = before} {after = after} {r = r} h e = let P : List ℕ → Type 0 = λ t. WritesChecked o n before after r t in subst P e h
+pub checked_same : {T E : Type 0} {o n : Option (List ℕ)} {before after : ℕ} {r : Result T E} {a b : List ℕ}
+    → WritesChecked o n before after r a → a ≡ b → WritesChecked o n before after r b
+checked_same {o = o} {n = n} {before = before} {after = after} {r = r} h e =
+    let P : List ℕ → Type 0 = λ t. WritesChecked o n before after r t in subst P e h

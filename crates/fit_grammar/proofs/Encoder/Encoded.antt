@@ -1,5 +1,5 @@
--- The encoded file is a file.
-use Rattle.std.proofs.Common.{◌≡◌, ℕ, ◌/◌, ◌%◌, ◌<◌, List, [], ◌∷◌, ◌++◌, length, refl, sym, ap, subst, ◌∙◌, arith, inl, inr}
+-- The encoded file is a file: for the law of that name; and its parts, as they are written one after another: for `put_file`.
+use Rattle.std.proofs.Common.{◌≡◌, ℕ, ◌+◌, ◌/◌, ◌%◌, ◌<◌, List, [], ◌∷◌, ◌++◌, length, refl, sym, ap, subst, ◌∙◌, arith, inl, inr}
 use Rattle.std.specs.Prelude.{flat_map}
 use Rattle.std.proofs.lemmas.List.{length-append}
 use Rattle.std.proofs.lemmas.List.Sums.{sum_by-cons}
@@ -11,7 +11,7 @@ use Rattle.fit_grammar.specs.declared.file.frame.Frame.{Frame}
 use Rattle.fit_grammar.specs.Format.Item.{Item, Defines, Data, item_size, field_bytes}
 use Rattle.fit_grammar.specs.Format.Records.{RecordsAfter, data_size}
 use Rattle.fit_grammar.specs.Format.Encoding.{two_bytes, four_bytes, encoded_item, encoded_items, header_front, with_checksum, encoded_header, encoded}
-use Rattle.fit_grammar.specs.Format.File.{FileValue, FileOf, IsFrame, IsHeader, IsClosing}
+use Rattle.fit_grammar.specs.Format.File.{FileValue, FileOf, IsFrame, ChecksHeader, IsHeader, IsClosing}
 use Rattle.fit_grammar.specs.Calls.Possible.{AllCanFollow, CanBeFile}
 use Rattle.fit_grammar.proofs.OneItem.Spelling.{fields_length}
 use Rattle.fit_grammar.proofs.Encoder.Encoding.{encoded_spells}
@@ -23,7 +23,13 @@ two_length Big n = refl
 -- an item is written in as many bytes as it has
 pub encoded_item-length : (item : Item) → length (encoded_item item) ≡ item_size item
 encoded_item-length (Defines d) =
-    omega (arith, fields_length d.fields.items, two_length d.arch d.global, length-append (two_bytes d.arch d.global) (length d.fields.items ∷ flat_map field_bytes d.fields.items))
+    omega (
+      arith,
+      fields_length d.fields.items,
+      two_length d.arch d.global,
+      length-append (two_bytes d.arch d.global)
+          (length d.fields.items ∷ flat_map field_bytes d.fields.items),
+    )
 encoded_item-length (Data local offset content) = omega arith
 
 pub encoded_items-length : (items : List Item) → length (encoded_items items) ≡ data_size items
@@ -48,41 +54,42 @@ two_again n = omega arith
 four_again : (n : ℕ) → low_first (four_bytes n) ≡ n
 four_again n = omega arith
 
--- with a checksum behind its first twelve bytes, or without
-header_12 : (frame : Frame) (size : ℕ) → IsFrame frame → frame.header_size ≡ 12 → IsHeader (header_front frame size) frame size
-header_12 frame size is_frame short =
+-- twelve bytes and what stands behind them: nothing, or their checksum
+header_by : (frame : Frame) (size : ℕ) (behind : List ℕ) → IsFrame frame → length behind + 12 ≡ frame.header_size
+    → (frame.header_size ≡ 14 → ChecksHeader (header_front frame size ++ behind))
+    → IsHeader (header_front frame size ++ behind) frame size
+header_by frame size behind is_frame whole checked =
     record {
       is_frame = is_frame;
-      whole = sym short;
+      whole = omega (arith, whole);
       header_size = refl;
       protocol = refl;
       profile = two_again frame.profile;
       data_size = four_again size;
       marked = refl;
-      checked = λ long. absurd (omega arith);
+      checked = checked;
     }
 
-header_14 : (frame : Frame) (size : ℕ) → IsFrame frame → frame.header_size ≡ 14 → IsHeader (with_checksum (header_front frame size)) frame size
+header_12 : (frame : Frame) (size : ℕ) → IsFrame frame → frame.header_size ≡ 12 → IsHeader (header_front frame size) frame size
+header_12 frame size is_frame short =
+    header_by frame size [] is_frame (sym short) (λ long. absurd (omega arith))
+
+header_14 : (frame : Frame) (size : ℕ) → IsFrame frame → frame.header_size ≡ 14
+    → IsHeader (with_checksum (header_front frame size)) frame size
 header_14 frame size is_frame long =
-    record {
-      is_frame = is_frame;
-      whole = sym long;
-      header_size = refl;
-      protocol = refl;
-      profile = two_again frame.profile;
-      data_size = four_again size;
-      marked = refl;
-      checked = λ l. inr (two_again (crc (header_front frame size)));
-    }
+    let own = two_bytes Little (crc (header_front frame size)) in
+    header_by frame size own is_frame (sym long) (λ _. inr (two_again (crc (header_front frame size))))
 
 pub encoded_header_12 : (frame : Frame) (size : ℕ) → frame.header_size ≡ 12 → encoded_header frame size ≡ header_front frame size
 encoded_header_12 frame size short = rw short refl
 
-pub encoded_header_14 : (frame : Frame) (size : ℕ) → frame.header_size ≡ 14 → encoded_header frame size ≡ with_checksum (header_front frame size)
+pub encoded_header_14 : (frame : Frame) (size : ℕ) → frame.header_size ≡ 14
+    → encoded_header frame size ≡ with_checksum (header_front frame size)
 encoded_header_14 frame size long = rw long refl
 
 -- a header and its checksum, as they are written one after the other
-pub header_joined : (frame : Frame) (size : ℕ) (front own : List ℕ) → frame.header_size ≡ 14 → front ≡ header_front frame size → own ≡ two_bytes Little (crc front)
+pub header_joined : (frame : Frame) (size : ℕ) (front own : List ℕ) → frame.header_size ≡ 14
+    → front ≡ header_front frame size → own ≡ two_bytes Little (crc front)
     → front ++ own ≡ encoded_header frame size
 header_joined frame size front own long e f =
     ap (λ (l : List ℕ). front ++ l) f ∙ ap with_checksum e ∙ sym (encoded_header_14 frame size long)
@@ -91,14 +98,17 @@ two_whole : (n : ℕ) → n < 65536 → n % 256 ∷ n / 256 % 256 ∷ [] ≡ two
 two_whole n small = let e : n / 256 % 256 ≡ n / 256 = omega arith in rw e refl
 
 -- the two bytes of a register that went over some bytes are their checksum
-pub checksum_bytes : (before closing : List ℕ) (value register start : ℕ) → closing ≡ value % 256 ∷ value / 256 % 256 ∷ [] → value < 65536 → value ≡ register
+pub checksum_bytes : (before closing : List ℕ) (value register start : ℕ)
+    → closing ≡ value % 256 ∷ value / 256 % 256 ∷ [] → value < 65536 → value ≡ register
     → register ≡ crc_from start before → start ≡ 0 → closing ≡ two_bytes Little (crc before)
 checksum_bytes before closing value register start e small read over none =
     e ∙ two_whole value small ∙ ap (λ (n : ℕ). two_bytes Little n) (read ∙ over ∙ ap (λ (n : ℕ). crc_from n before) none)
 
 -- the parts of a file, as they are written one after the other
-pub file_joined : (v : FileValue) (frame : Frame) (size : ℕ) (items : List Item) (closing : List ℕ) → frame ≡ v.frame → size ≡ data_size v.items → items ≡ v.items
-    → closing ≡ two_bytes Little (crc (encoded_header frame size ++ encoded_items items)) → (encoded_header frame size ++ encoded_items items) ++ closing ≡ encoded v
+pub file_joined : (v : FileValue) (frame : Frame) (size : ℕ) (items : List Item) (closing : List ℕ) → frame ≡ v.frame
+    → size ≡ data_size v.items → items ≡ v.items
+    → closing ≡ two_bytes Little (crc (encoded_header frame size ++ encoded_items items))
+    → (encoded_header frame size ++ encoded_items items) ++ closing ≡ encoded v
 file_joined v frame size items closing f s i e =
     ap (λ (l : List ℕ). (encoded_header frame size ++ encoded_items items) ++ l) e
     ∙ ap (λ (fr : Frame). with_checksum (encoded_header fr size ++ encoded_items items)) f
@@ -108,8 +118,10 @@ file_joined v frame size items closing f s i e =
 pub encoded_is_header : (frame : Frame) (size : ℕ) → IsFrame frame → IsHeader (encoded_header frame size) frame size
 encoded_is_header frame size is_frame =
     elim is_frame.size [
-      | inl short ↦ subst (λ (h : List ℕ). IsHeader h frame size) (sym (encoded_header_12 frame size short)) (header_12 frame size is_frame short)
-      | inr long ↦ subst (λ (h : List ℕ). IsHeader h frame size) (sym (encoded_header_14 frame size long)) (header_14 frame size is_frame long)
+      | inl short ↦
+          subst (λ (h : List ℕ). IsHeader h frame size) (sym (encoded_header_12 frame size short)) (header_12 frame size is_frame short)
+      | inr long ↦
+          subst (λ (h : List ℕ). IsHeader h frame size) (sym (encoded_header_14 frame size long)) (header_14 frame size is_frame long)
     ]
 
 -- the closing checksum behind header and records
@@ -125,7 +137,8 @@ encoded_is_file v h =
       records = records;
       closing = two_bytes Little (crc (header ++ records));
       joined = refl;
-      is_header = subst (λ (n : ℕ). IsHeader header v.frame n) (sym (encoded_items-length v.items)) (encoded_is_header v.frame (data_size v.items) h.is_frame);
+      is_header = subst (λ (n : ℕ). IsHeader header v.frame n) (sym (encoded_items-length v.items))
+          (encoded_is_header v.frame (data_size v.items) h.is_frame);
       are_records = encoded_records [] v.items h.items_follow;
       is_closing = closing_of (header ++ records);
     }

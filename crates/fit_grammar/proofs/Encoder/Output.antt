@@ -1,4 +1,5 @@
--- How texts that were handed to a writer one after another join, and what a loop that writes keeps.
+-- How texts that were handed to a writer one after another join, and what a loop that writes keeps: for `put`, the encoder,
+-- and all that shows a file.
 use Rattle.std.proofs.Common.{◌≡◌, ℕ, List, [], ◌++◌, Option, Some, None, Result, Ok, Err, refl, sym, ap, ◌∙◌, append_assoc, subst, ◌+◌, ◌<◌, ◌≤◌, length, get_or, drop}
 use Rattle.std.proofs.lemmas.List.{append-nil, at_drop_more, at_drop_all}
 use Rattle.std.specs.List.{flat_map}
@@ -32,7 +33,8 @@ begins-after o m n a b h k = record {
   appended = appends-join o m n a k.part h k.appended;
 }
 
-writes-after : {T E : Type 0} (o m n : Option (List ℕ)) (r : Result T E) (a b : List ℕ) → Appends o m a → WritesText m n r b → WritesText o n r (a ++ b)
+writes-after : {T E : Type 0} (o m n : Option (List ℕ)) (r : Result T E) (a b : List ℕ) → Appends o m a
+    → WritesText m n r b → WritesText o n r (a ++ b)
 writes-after o m n (Ok x) a b h k = record { all = appends-join o m n a b h k.all; beginning = tt }
 writes-after o m n (Err e) a b h k = record { all = tt; beginning = begins-after o m n a b h k.beginning }
 
@@ -41,7 +43,8 @@ pub then_writes : {S T E F : Type 0} {o m n : Option (List ℕ)} {x : S} {r : Re
     WritesText {T = S} {E = F} o m (Ok x) a → WritesText m n r b → WritesText o n r (a ++ b)
 then_writes {o = o} {m = m} {n = n} {r = r} {a = a} {b = b} h k = writes-after o m n r a b h.all k
 
-writes-beginning : {T E : Type 0} (o n : Option (List ℕ)) (r : Result T E) (text : List ℕ) → IsErr r → AppendsBeginning o n text → WritesText o n r text
+writes-beginning : {T E : Type 0} (o n : Option (List ℕ)) (r : Result T E) (text : List ℕ) → IsErr r
+    → AppendsBeginning o n text → WritesText o n r text
 writes-beginning o n (Ok x) text bad h = cc
 writes-beginning o n (Err e) text bad h = record { all = tt; beginning = h }
 
@@ -95,7 +98,8 @@ pub leaves_off : {T S E F : Type 0} {o m n : Option (List ℕ)} {e : E} {r : Res
 leaves_off {o = o} {m = m} {n = n} {r = r} {text = text} {part = part} more bad h k e =
     let split : text ≡ h.done ++ (part ++ more) = h.split ∙ ap (λ t. h.done ++ t) e in
     let P : List ℕ → Type 0 = λ t. AppendsBeginning o n t in
-    writes-beginning o n r text bad (subst P (sym split) (begins-after o m n h.done (part ++ more) h.appended (begins-more m n part more k.beginning)))
+    writes-beginning o n r text bad (subst P (sym split)
+    (begins-after o m n h.done (part ++ more) h.appended (begins-more m n part more k.beginning)))
 
 -- ---- a loop that writes a text for each number of a list
 
@@ -109,8 +113,10 @@ pub each_next : {T E : Type 0} {o m n : Option (List ℕ)} {x : T} {text part : 
     Leaves o n text (flat_map f (drop (i + 1) xs))
 each_next {part = part} f xs i h k lt e = leaves_less _ h k (part-drop f xs i part lt e)
 
-pub each_off : {T S E F : Type 0} {o m n : Option (List ℕ)} {d : E} {r : Result T F} {text part : List ℕ} (f : ℕ → List ℕ) (xs : List ℕ) (i : ℕ) →
-    IsErr r → Leaves o m text (flat_map f (drop i xs)) → WritesText {T = S} {E = E} m n (Err d) part → i < length xs → part ≡ f (get_or xs i 0) →
+pub each_off : {T S E F : Type 0} {o m n : Option (List ℕ)} {d : E} {r : Result T F} {text part : List ℕ} (f : ℕ → List ℕ)
+    (xs : List ℕ) (i : ℕ) →
+    IsErr r → Leaves o m text (flat_map f (drop i xs)) → WritesText {T = S} {E = E} m n (Err d) part → i < length xs
+    → part ≡ f (get_or xs i 0) →
     WritesText o n r text
 each_off {part = part} f xs i bad h k lt e = leaves_off _ bad h k (part-drop f xs i part lt e)
 

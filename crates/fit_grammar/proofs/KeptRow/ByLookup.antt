@@ -1,4 +1,4 @@
--- What follows from a lookup of definitions in the place of the items before.
+-- Messages and defined items by a lookup of definitions, and by the items before: for the reading of a kept row.
 use Rattle.std.proofs.Common.{◌≡◌, ℕ, List, [], ◌∷◌, ◌++◌, Option, Some, None, refl, sym, ap, subst, ◌∙◌}
 use Rattle.std.specs.Prelude.{unwrap_or, option_to_list}
 use Rattle.std.proofs.Math.Path.{fun_ext}
@@ -24,13 +24,18 @@ time_same before time (Data local None content) = refl
 time_same before time (Data local (Some offset) content) = refl
 
 -- the messages behind items are those under their definitions in force
-pub messages_same : (before : List Item) (time : ℕ) (items : List Item) → messages_by (in_force before) time items ≡ messages_after before time items
+pub messages_same : (before : List Item) (time : ℕ) (items : List Item)
+    → messages_by (in_force before) time items ≡ messages_after before time items
 messages_same before time [] = refl
 messages_same before time (item ∷ items) =
-    ap (λ (o : Option Message). option_to_list o ++ messages_by (behind item (in_force before)) (unwrap_or (time_by (in_force before) time item) time) items) (message_same before time item)
-    ∙ ap (λ (o : Option ℕ). option_to_list (message_at before time item) ++ messages_by (behind item (in_force before)) (unwrap_or o time) items) (time_same before time item)
-    ∙ ap (λ (f : ℕ → Option Definition). option_to_list (message_at before time item) ++ messages_by f (unwrap_or (time_given before time item) time) items) (behind-in_force before item)
-    ∙ ap (λ (ms : List Message). option_to_list (message_at before time item) ++ ms) (messages_same (before ++ item ∷ []) (unwrap_or (time_given before time item) time) items)
+    ap (λ (o : Option Message). option_to_list o ++ messages_by (behind item (in_force before))
+    (unwrap_or (time_by (in_force before) time item) time) items) (message_same before time item)
+    ∙ ap (λ (o : Option ℕ). option_to_list (message_at before time item) ++ messages_by
+    (behind item (in_force before)) (unwrap_or o time) items) (time_same before time item)
+    ∙ ap (λ (f : ℕ → Option Definition). option_to_list (message_at before time item) ++ messages_by f
+    (unwrap_or (time_given before time item) time) items) (behind-in_force before item)
+    ∙ ap (λ (ms : List Message). option_to_list (message_at before time item) ++ ms)
+    (messages_same (before ++ item ∷ []) (unwrap_or (time_given before time item) time) items)
 
 -- items that can stand in their places are defined under the definitions in force
 pub all_defined : (before items : List Item) → AllCanFollow before items → AllDefinedBy (in_force before) items
@@ -38,5 +43,6 @@ all_defined before [] a = tt
 all_defined before (item ∷ items) a = (
   a.0.encodable,
   a.0.defined,
-  subst (λ (f : ℕ → Option Definition). AllDefinedBy f items) (sym (behind-in_force before item)) (all_defined (before ++ item ∷ []) items a.1),
+  subst (λ (f : ℕ → Option Definition). AllDefinedBy f items) (sym (behind-in_force before item))
+      (all_defined (before ++ item ∷ []) items a.1),
 )

@@ -1,4 +1,4 @@
--- A row of items whose numbers fit and whose data messages are defined goes on to be one, and the definitions in force fit.
+-- A row of items whose numbers fit and whose data messages are defined goes on to be one: for `File::data` and `Kept`.
 use Rattle.std.proofs.Common.{◌≡◌, ℕ, ◌+◌, ◌^◌, ◌<◌, List, [], ◌∷◌, ◌++◌, get_or, suc, Option, Some, None, refl, sym, ap, subst, ◌∙◌, append_assoc, arith, inl, inr}
 use Rattle.std.specs.List.{AllByRecursion}
 use Rattle.std.specs.Option.{option_or}
@@ -15,16 +15,21 @@ use Rattle.fit_grammar.specs.Format.File.{FileValue}
 use Rattle.fit_grammar.specs.Calls.Adding.{with_item, IsTooLong, IsOffset}
 use Rattle.fit_grammar.specs.Calls.Possible.{CanFollow, AllCanFollow, CanBeFile}
 
-pub AllCanFollow-push : (before items : List Item) (item : Item) → AllCanFollow before items → CanFollow (before ++ items) item → AllCanFollow before (items ++ item ∷ [])
+pub AllCanFollow-push : (before items : List Item) (item : Item) → AllCanFollow before items
+    → CanFollow (before ++ items) item → AllCanFollow before (items ++ item ∷ [])
 AllCanFollow-push before [] item a h = (subst (λ (l : List Item). CanFollow l item) (append-nil before) h, tt)
-AllCanFollow-push before (first ∷ items) item a h =
-    (a.0, AllCanFollow-push (before ++ first ∷ []) items item a.1 (subst (λ (l : List Item). CanFollow l item) (sym (append_assoc before (first ∷ []) items)) h))
+AllCanFollow-push before (first ∷ items) item a h = (
+  a.0,
+  AllCanFollow-push (before ++ first ∷ []) items item a.1
+      (subst (λ (l : List Item). CanFollow l item) (sym (append_assoc before (first ∷ []) items)) h),
+)
 
 pub data_size-push : (items : List Item) (item : Item) → data_size (items ++ item ∷ []) ≡ data_size items + item_size item
 data_size-push items item = sum_by-append item_size items (item ∷ []) ∙ ap (λ (n : ℕ). data_size items + n) (omega arith)
 
 -- a file goes on to be one behind an item that can follow and is not too long
-pub CanBeFile-push : (v : FileValue) (item : Item) → CanBeFile v → CanFollow v.items item → (IsTooLong v item → ⊥) → CanBeFile (with_item v item)
+pub CanBeFile-push : (v : FileValue) (item : Item) → CanBeFile v → CanFollow v.items item → (IsTooLong v item → ⊥)
+    → CanBeFile (with_item v item)
 CanBeFile-push v item h follows short =
     record {
       is_frame = h.is_frame;
@@ -64,6 +69,7 @@ in_force_small before [] l d a e = absurd (none-some d e)
 in_force_small before (item ∷ items) l d a e =
     either_small item l d (in_force items l) a.0.encodable (λ c i. in_force_small (before ++ item ∷ []) items l c a.1 i) e
 
-pub data_has_encoding : (local : ℕ) (offset : Option ℕ) (content : List ℕ) → local < 16 → IsOffset local offset → HasEncoding (Data local offset content)
+pub data_has_encoding : (local : ℕ) (offset : Option ℕ) (content : List ℕ) → local < 16 → IsOffset local offset
+    → HasEncoding (Data local offset content)
 data_has_encoding local None content small can = small
 data_has_encoding local (Some offset) content small can = can

@@ -1,4 +1,4 @@
--- A table that agrees with the definitions in force, and goes on to agree with them.
+-- A table that agrees with the definitions in force, and goes on to agree with them behind one item more: for `Kept`.
 use Rattle.std.proofs.Common.{◌≡◌, ◌≢◌, ℕ, List, [], ◌∷◌, ◌++◌, Option, Some, None, refl, sym, ap, ◌∙◌}
 use Rattle.std.specs.Option.{option_or}
 use Rattle.std.proofs.lemmas.Bool.{eq-eqb, ne_eqb}
@@ -15,7 +15,8 @@ or_none None = refl
 or_none (Some x) = refl
 
 -- one item more comes before all others
-pub in_force-append : (items : List Item) (item : Item) (l : ℕ) → in_force (items ++ item ∷ []) l ≡ option_or (definition_by item l) (in_force items l)
+pub in_force-append : (items : List Item) (item : Item) (l : ℕ)
+    → in_force (items ++ item ∷ []) l ≡ option_or (definition_by item l) (in_force items l)
 in_force-append [] item l = sym (or_none (definition_by item l))
 in_force-append (first ∷ items) item l =
     ap (λ (o : Option Definition). option_or o (definition_by first l)) (in_force-append items item l)
@@ -29,5 +30,6 @@ pub in_force-others : (items : List Item) (d : Definition) (l : ℕ) → l ≢ d
 in_force-others items d l other = in_force-append items (Defines d) l ∙ rw (ne_eqb d.local l (λ e. other (sym e))) refl
 
 -- a data message changes none
-pub in_force-data : (items : List Item) (local : ℕ) (offset : Option ℕ) (content : List ℕ) (l : ℕ) → in_force (items ++ Data local offset content ∷ []) l ≡ in_force items l
+pub in_force-data : (items : List Item) (local : ℕ) (offset : Option ℕ) (content : List ℕ) (l : ℕ)
+    → in_force (items ++ Data local offset content ∷ []) l ≡ in_force items l
 in_force-data items local offset content l = in_force-append items (Data local offset content) l

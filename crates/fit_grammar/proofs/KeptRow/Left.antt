@@ -1,4 +1,4 @@
--- The items that are left go on behind the first of them.
+-- The items that are left go on behind the first of them: for `Messages::next`.
 use Rattle.std.proofs.Common.{◌≡◌, ◌≢◌, ℕ, ◌≤◌, List, [], ◌∷◌, ◌++◌, length, take, drop, Option, Some, refl, sym, ap, subst, ◌∙◌, arith, inl, inr}
 use Rattle.std.proofs.Math.Path.{fun_ext}
 use Rattle.std.proofs.lemmas.Bool.Decides.{eqb_tells}
@@ -39,10 +39,12 @@ goes_on : (f : ℕ → Option Definition) (bytes : List ℕ) → AreWritten f by
 goes_on f bytes w some = go_on f bytes (items_under f bytes) refl w.written w.defined some
 
 -- a step over them finds an item
-step_item : (f : ℕ → Option Definition) (bytes : List ℕ) (step : Step) → GoOn f bytes → StepSays f bytes step → (item : Item) × (used : ℕ) × IsStepItem step item used
+step_item : (f : ℕ → Option Definition) (bytes : List ℕ) (step : Step) → GoOn f bytes → StepSays f bytes step
+    → (item : Item) × (used : ℕ) × IsStepItem step item used
 step_item f bytes step g says =
     let front : ItemAtFront f bytes g.item (length (encoded_item g.item)) =
-    subst (λ (b : List ℕ). ItemAtFront f b g.item (length (encoded_item g.item))) (sym g.joined) (encoded_front f g.item (encoded_items g.others) g.encodable g.defined) in
+    subst (λ (b : List ℕ). ItemAtFront f b g.item (length (encoded_item g.item))) (sym g.joined)
+    (encoded_front f g.item (encoded_items g.others) g.encodable g.defined) in
     (g.item, length (encoded_item g.item), only_item f bytes step g.item (length (encoded_item g.item)) says front)
 
 -- so it is an item
@@ -52,7 +54,8 @@ step_found f bytes (steps.Item item used) w some says none = none item used refl
 step_found f bytes steps.NeedMore w some says none = (step_item f bytes steps.NeedMore (goes_on f bytes w some) says).2
 step_found f bytes (steps.Refused fault) w some says none = (step_item f bytes (steps.Refused fault) (goes_on f bytes w some) says).2
 
-lent_by : (f : ℕ → Option Definition) (bytes : List ℕ) (item : ReadItem) (used : ℕ) → IsStep f bytes (steps.Item item used) → IsLentBy f item
+lent_by : (f : ℕ → Option Definition) (bytes : List ℕ) (item : ReadItem) (used : ℕ)
+    → IsStep f bytes (steps.Item item used) → IsLentBy f item
 lent_by f bytes (items.Definition d) used step = step.local
 lent_by f bytes (items.Data m) used step = step.lent
 
@@ -71,7 +74,13 @@ first_is f bytes item used w some step =
     record {
       first = on.items_are ∙ ap (λ (i : Item). i ∷ on.others) (sym one.1) ∙ ap (λ (l : List Item). item_of item ∷ l) (sym again);
       written = record { written = ap encoded_items again ∙ sym one.2; defined = subst (AllDefinedBy g) (sym again) all };
-      fewer = omega (arith, spelling_not_empty (item_of item) (take used bytes) front.spelled, length-take-le used bytes front.within, length-drop used bytes);
+      fewer = omega (
+        arith,
+        spelling_not_empty (item_of item) (take used bytes) front.spelled,
+        length-take-le used
+            bytes front.within,
+        length-drop used bytes,
+      );
       lent = lent_by f bytes item used step;
     }
 

@@ -1,4 +1,4 @@
--- What items are written as is read as those items again.
+-- What items are written as is read as those items again: for a kept definition, a kept row, and `Kept`.
 use Rattle.std.proofs.Common.{◌≡◌, ℕ, zero, suc, ◌+◌, ◌*◌, ◌<◌, ◌≤◌, List, [], ◌∷◌, ◌++◌, length, take, drop, Option, Some, None, refl, sym, ap, subst, ◌∙◌, arith, append-nil, append_assoc, length-append}
 use Rattle.std.specs.Prelude.{slice_index, IsSomeAnd, unwrap_or, option_map}
 use Rattle.std.proofs.Math.Seq.{take-append_seam, drop-append_seam}
@@ -52,7 +52,8 @@ length_is f d rest small =
     let own = encoded_item (Defines d) in
     let head : head_of (64 + d.local) ≡ DefinitionHead d.local = definition_first d own (encoded_spells (Defines d) small) in
     let least : ok (definition_length_of (own ++ rest)) ≡ ok (length own) =
-    sym (ap (λ (h : Head). length_by f h (own ++ rest)) head) ∙ least_of_item f (own ++ rest) (Defines d) (length own) (encoded_front f (Defines d) rest small tt) in
+    sym (ap (λ (h : Head). length_by f h (own ++ rest)) head)
+    ∙ least_of_item f (own ++ rest) (Defines d) (length own) (encoded_front f (Defines d) rest small tt) in
     ok_is (definition_length_of (own ++ rest)) (length own) least
 
 -- and is read there
@@ -102,17 +103,20 @@ items_at-encoded (suc n) f (item ∷ items) a le =
     ∙ ap (λ (bytes : List ℕ). item ∷ items_at n (behind item f) bytes) (drop-append_seam own others)
     ∙ ap (λ (l : List Item). item ∷ l) (items_at-encoded n (behind item f) items a.2 (omega arith))
 
-pub items_under-encoded : (f : ℕ → Option Definition) (items : List Item) → AllDefinedBy f items → items_under f (encoded_items items) ≡ items
+pub items_under-encoded : (f : ℕ → Option Definition) (items : List Item) → AllDefinedBy f items
+    → items_under f (encoded_items items) ≡ items
 items_under-encoded f items a = items_at-encoded (length (encoded_items items)) f items a (omega arith)
 
 -- the bytes of one item more
 pub encoded_items-push : (items : List Item) (item : Item) → encoded_items (items ++ item ∷ []) ≡ encoded_items items ++ encoded_item item
 encoded_items-push [] item = append-nil (encoded_item item)
 encoded_items-push (first ∷ items) item =
-    ap (λ (bytes : List ℕ). encoded_item first ++ bytes) (encoded_items-push items item) ∙ sym (append_assoc (encoded_item first) (encoded_items items) (encoded_item item))
+    ap (λ (bytes : List ℕ). encoded_item first ++ bytes) (encoded_items-push items item)
+    ∙ sym (append_assoc (encoded_item first) (encoded_items items) (encoded_item item))
 
 -- are read as one item more
-pub items_in-push : (records : List ℕ) (item : Item) → encoded_items (items_in records) ≡ records → AllCanFollow [] (items_in records ++ item ∷ [])
+pub items_in-push : (records : List ℕ) (item : Item) → encoded_items (items_in records) ≡ records
+    → AllCanFollow [] (items_in records ++ item ∷ [])
     → items_in (records ++ encoded_item item) ≡ items_in records ++ item ∷ []
 items_in-push records item written follow =
     let items = items_in records ++ item ∷ [] in
@@ -121,7 +125,8 @@ items_in-push records item written follow =
     ∙ items_under-encoded (in_force []) items (all_defined [] items follow)
 
 -- the bytes of a definition in front of others
-pub written_front : (d : Definition) (bytes rest : List ℕ) (len : ℕ) → d.local < 16 → bytes ≡ encoded_item (Defines d) ++ rest → len ≡ 6 + 3 * length d.fields.items
+pub written_front : (d : Definition) (bytes rest : List ℕ) (len : ℕ) → d.local < 16
+    → bytes ≡ encoded_item (Defines d) ++ rest → len ≡ 6 + 3 * length d.fields.items
     → IsWritten (record { bytes = bytes; len = len }) × (definition_at (take len bytes) ≡ d)
 written_front d bytes rest len small joined len_is =
     let own = encoded_item (Defines d) in

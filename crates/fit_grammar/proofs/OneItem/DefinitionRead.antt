@@ -1,4 +1,5 @@
--- What is read of a definition is spelled so, and a beginning of an item goes on as one.
+-- What is read of a definition is spelled so, and a beginning of an item goes on as one: for `DefinitionMessage` and the
+-- reading of one item.
 use Rattle.std.proofs.Common.{◌≡◌, ℕ, zero, suc, ◌+◌, ◌*◌, ◌-◌, ◌/◌, ◌%◌, ◌<◌, ◌≤◌, Bool, true, false, cond, List, [], ◌∷◌, ◌++◌, length, take, drop, replicate, Option, Some, None, refl, ap, ◌∙◌, inl, inr, arith, length-append, length-drop}
 use Rattle.std.specs.Prelude.{slice_index, nat_lt, nat_eq}
 use Rattle.std.specs.List.{flat_map}
@@ -20,7 +21,8 @@ head_by false false c k m l o e = absurd cc
 
 -- the local number of a definition is in the low four bits of its first byte
 pub head_local : (byte l : ℕ) → head_of byte ≡ DefinitionHead l → l ≡ byte % 16
-head_local byte l e = head_by (nat_lt byte 64) (nat_lt byte 128) (nat_eq (byte / 32 % 2) 0) (byte % 16) (byte / 32 % 4) l (Some (byte % 32)) e
+head_local byte l e =
+    head_by (nat_lt byte 64) (nat_lt byte 128) (nat_eq (byte / 32 % 2) 0) (byte % 16) (byte / 32 % 4) l (Some (byte % 32)) e
 
 pub head_below : (byte l : ℕ) → head_of byte ≡ DefinitionHead l → l < 16
 head_below byte l e = let local = head_local byte l e in omega arith
@@ -60,7 +62,17 @@ spelled_by a b c d e n rest head whole =
     let fields = fields_in rest in
     let laid : a ∷ b ∷ c ∷ d ∷ e ∷ n ∷ rest ≡ a ∷ b ∷ c ∷ d ∷ e ∷ length fields ∷ flat_map field_bytes fields =
     rw (fields_in-length n rest whole, fields_in-bytes n rest whole) refl in
-    record { first = a; reserved = b; architecture = c; global_1 = d; global_2 = e; laid_out = laid; head = head; arch = refl; global = refl }
+    record {
+      first = a;
+      reserved = b;
+      architecture = c;
+      global_1 = d;
+      global_2 = e;
+      laid_out = laid;
+      head = head;
+      arch = refl;
+      global = refl;
+    }
 
 -- the bytes of one definition spell it
 pub definition_spelled : (bytes : List ℕ) → AreDefinition bytes → SpellsDefinition (definition_at bytes) bytes
@@ -92,10 +104,12 @@ front_is window l used head some length_is long =
           }
     ]
 
-begun_by : (f : ℕ → Option Definition) (window rest : List ℕ) (d : Definition) → 1 ≤ length rest → SpellsDefinition d (window ++ rest) → ItemBegun f window
+begun_by : (f : ℕ → Option Definition) (window rest : List ℕ) (d : Definition) → 1 ≤ length rest
+    → SpellsDefinition d (window ++ rest) → ItemBegun f window
 begun_by f window rest d more spelled = record { item = Defines d; rest = rest; more = more; spelled = spelled; defined = tt }
 
-begun_as : (f : ℕ → Option Definition) (window rest : List ℕ) → 1 ≤ length rest → SpellsDefinition (definition_at (window ++ rest)) (window ++ rest) → ItemBegun f window
+begun_as : (f : ℕ → Option Definition) (window rest : List ℕ) → 1 ≤ length rest
+    → SpellsDefinition (definition_at (window ++ rest)) (window ++ rest) → ItemBegun f window
 begun_as f window rest more spelled = begun_by f window rest (definition_at (window ++ rest)) more spelled
 
 -- nothing begins a definition
@@ -106,14 +120,20 @@ own : (byte l : ℕ) → head_of byte ≡ DefinitionHead l → head_of byte ≡ 
 own byte l head = head ∙ ap (λ (k : ℕ). DefinitionHead k) (head_local byte l head)
 
 -- what is shorter than the definition at its front begins one
-pub begun_definition : (f : ℕ → Option Definition) (window : List ℕ) (l : ℕ) → 1 ≤ length window → head_of (slice_index window 0) ≡ DefinitionHead l
+pub begun_definition : (f : ℕ → Option Definition) (window : List ℕ) (l : ℕ) → 1 ≤ length window
+    → head_of (slice_index window 0) ≡ DefinitionHead l
     → length window < definition_length_of window → ItemBegun f window
 begun_definition f [] l some head short = absurd (omega arith)
-begun_definition f (a ∷ []) l some head short = begun_as f (a ∷ []) (0 ∷ 0 ∷ 0 ∷ 0 ∷ 0 ∷ []) (omega arith) (spelled_by a 0 0 0 0 0 [] (own a l head) refl)
-begun_definition f (a ∷ b ∷ []) l some head short = begun_as f (a ∷ b ∷ []) (0 ∷ 0 ∷ 0 ∷ 0 ∷ []) (omega arith) (spelled_by a b 0 0 0 0 [] (own a l head) refl)
-begun_definition f (a ∷ b ∷ c ∷ []) l some head short = begun_as f (a ∷ b ∷ c ∷ []) (0 ∷ 0 ∷ 0 ∷ []) (omega arith) (spelled_by a b c 0 0 0 [] (own a l head) refl)
-begun_definition f (a ∷ b ∷ c ∷ d ∷ []) l some head short = begun_as f (a ∷ b ∷ c ∷ d ∷ []) (0 ∷ 0 ∷ []) (omega arith) (spelled_by a b c d 0 0 [] (own a l head) refl)
-begun_definition f (a ∷ b ∷ c ∷ d ∷ e ∷ []) l some head short = begun_as f (a ∷ b ∷ c ∷ d ∷ e ∷ []) (0 ∷ []) (omega arith) (spelled_by a b c d e 0 [] (own a l head) refl)
+begun_definition f (a ∷ []) l some head short =
+    begun_as f (a ∷ []) (0 ∷ 0 ∷ 0 ∷ 0 ∷ 0 ∷ []) (omega arith) (spelled_by a 0 0 0 0 0 [] (own a l head) refl)
+begun_definition f (a ∷ b ∷ []) l some head short =
+    begun_as f (a ∷ b ∷ []) (0 ∷ 0 ∷ 0 ∷ 0 ∷ []) (omega arith) (spelled_by a b 0 0 0 0 [] (own a l head) refl)
+begun_definition f (a ∷ b ∷ c ∷ []) l some head short =
+    begun_as f (a ∷ b ∷ c ∷ []) (0 ∷ 0 ∷ 0 ∷ []) (omega arith) (spelled_by a b c 0 0 0 [] (own a l head) refl)
+begun_definition f (a ∷ b ∷ c ∷ d ∷ []) l some head short =
+    begun_as f (a ∷ b ∷ c ∷ d ∷ []) (0 ∷ 0 ∷ []) (omega arith) (spelled_by a b c d 0 0 [] (own a l head) refl)
+begun_definition f (a ∷ b ∷ c ∷ d ∷ e ∷ []) l some head short =
+    begun_as f (a ∷ b ∷ c ∷ d ∷ e ∷ []) (0 ∷ []) (omega arith) (spelled_by a b c d e 0 [] (own a l head) refl)
 begun_definition f (a ∷ b ∷ c ∷ d ∷ e ∷ n ∷ rest) l some head short =
     let window : List ℕ = a ∷ b ∷ c ∷ d ∷ e ∷ n ∷ rest in
     let long : nat_lt (length window) 6 ≡ false = le-ltb _ _ (omega arith) in
@@ -121,7 +141,8 @@ begun_definition f (a ∷ b ∷ c ∷ d ∷ e ∷ n ∷ rest) l some head short 
     let more = replicate (3 * n - length rest) 0 in
     let missing : 1 ≤ length more = omega (arith, length-replicate {A = ℕ} (3 * n - length rest) 0) in
     begun_as f (a ∷ b ∷ c ∷ d ∷ e ∷ n ∷ rest) more missing
-    (spelled_by a b c d e n (rest ++ more) (own a l head) (omega (arith, length-append rest more, length-replicate {A = ℕ} (3 * n - length rest) 0)))
+    (spelled_by a b c d e n (rest ++ more) (own a l head)
+    (omega (arith, length-append rest more, length-replicate {A = ℕ} (3 * n - length rest) 0)))
 
 -- what is shorter than the data message at its front begins one
 pub begun_data : (f : ℕ → Option Definition) (window : List ℕ) (d : Definition) (local : ℕ) (offset : Option ℕ) → 1 ≤ length window
@@ -140,7 +161,8 @@ begun_data f (first ∷ content) d local offset some head there short =
     }
 
 -- a whole definition is an item at the front
-pub next_is : (f : ℕ → Option Definition) (window : List ℕ) (l used : ℕ) (d : Definition) → head_of (slice_index window 0) ≡ DefinitionHead l → 1 ≤ length window
+pub next_is : (f : ℕ → Option Definition) (window : List ℕ) (l used : ℕ) (d : Definition)
+    → head_of (slice_index window 0) ≡ DefinitionHead l → 1 ≤ length window
     → used ≡ definition_length_of window → used ≤ length window → d ≡ definition_at (take used window)
     → IsStep f window (steps.Item (items.Definition d) used)
 next_is f window l used d head some length_is long value =

@@ -1,4 +1,4 @@
--- The least length of the item at the front of a window, by what the window holds.
+-- What the least length says by what the window holds: a whole item, a beginning of one, or none: for the decoder.
 use Rattle.std.proofs.Common.{◌≡◌, ℕ, ◌+◌, ◌*◌, ◌<◌, ◌≤◌, Bool, List, [], ◌∷◌, length, take, drop, Option, Some, None, Result, Ok, refl, sym, ap, ◌∙◌, arith, cond}
 use Rattle.std.specs.Prelude.{slice_index, IsSomeAnd}
 use Rattle.std.proofs.lemmas.Bool.{le-ltb}
@@ -18,7 +18,8 @@ ok n = Ok n
 pub ok_is : (m n : ℕ) → ok m ≡ ok n → m ≡ n
 ok_is m n e = cc
 
-least_by_head : (f : ℕ → Option Definition) (first : ℕ) (rest : List ℕ) (h : Head) → head_of first ≡ h → least_length_of f (first ∷ rest) ≡ length_by f h (first ∷ rest)
+least_by_head : (f : ℕ → Option Definition) (first : ℕ) (rest : List ℕ) (h : Head) → head_of first ≡ h
+    → least_length_of f (first ∷ rest) ≡ length_by f h (first ∷ rest)
 least_by_head f first rest h e = ap (λ (k : Head). length_by f k (first ∷ rest)) e
 
 some_length : (o : Option Definition) (local n : ℕ) → IsSomeAnd o (λ d. content_size d ≡ n) → data_length_of local o ≡ Ok (1 + n)
@@ -29,7 +30,8 @@ abbrev no_bytes : List ℕ
 no_bytes = []
 
 -- an item at the front has its least length
-pub least_of_item : (f : ℕ → Option Definition) (window : List ℕ) (item : Item) (used : ℕ) → ItemAtFront f window item used → least_length_of f window ≡ Ok used
+pub least_of_item : (f : ℕ → Option Definition) (window : List ℕ) (item : Item) (used : ℕ)
+    → ItemAtFront f window item used → least_length_of f window ≡ Ok used
 least_of_item f [] item used p =
     let none : length (take used no_bytes) ≡ used = length-take-le used no_bytes p.within in
     absurd (omega (arith, p.within, none, spelling_not_empty item (take used no_bytes) p.spelled))
@@ -37,8 +39,10 @@ least_of_item f (first ∷ rest) (Defines d) used p =
     let window = first ∷ rest in
     let long : length (take used window) ≡ used = length-take-le used window p.within in
     let n = definition_length d (take used window) p.spelled in
-    let head : head_of first ≡ DefinitionHead d.local = spelling_head (Defines d) (take used window) (drop used window) rest first p.spelled (take-append-drop used window) in
-    let count : slice_index window 5 ≡ length d.fields.items = sym (get_or-take used window 5 0 (omega arith)) ∙ definition_count d (take used window) p.spelled in
+    let head : head_of first ≡ DefinitionHead d.local = spelling_head (Defines d) (take used window)
+    (drop used window) rest first p.spelled (take-append-drop used window) in
+    let count : slice_index window 5 ≡ length d.fields.items = sym (get_or-take used window 5 0 (omega arith))
+    ∙ definition_count d (take used window) p.spelled in
     let within = p.within in
     least_by_head f first rest (DefinitionHead d.local) head
     ∙ ap (λ (b : Bool). Ok (cond b 6 (6 + 3 * slice_index window 5))) (le-ltb (length window) 6 (omega arith))
@@ -47,26 +51,34 @@ least_of_item f (first ∷ rest) (Data local offset content) used p =
     let window = first ∷ rest in
     let long : length (take used window) ≡ used = length-take-le used window p.within in
     let n = data_length local offset content (take used window) p.spelled in
-    let head : head_of first ≡ DataHead local offset = spelling_head (Data local offset content) (take used window) (drop used window) rest first p.spelled (take-append-drop used window) in
-    least_by_head f first rest (DataHead local offset) head ∙ some_length (f local) local (length content) p.defined ∙ ap (λ (k : ℕ). Ok k) (omega arith)
+    let head : head_of first ≡ DataHead local offset = spelling_head (Data local offset content) (take used window)
+    (drop used window) rest first p.spelled (take-append-drop used window) in
+    least_by_head f first rest (DataHead local offset) head ∙ some_length (f local) local (length content) p.defined
+    ∙ ap (λ (k : ℕ). Ok k) (omega arith)
 
 -- a window that is shorter than its least length is a beginning of an item
-begun_by : (f : ℕ → Option Definition) (first : ℕ) (rest : List ℕ) (least : ℕ) (h : Head) → head_of first ≡ h → length_by f h (first ∷ rest) ≡ Ok least → length (first ∷ rest) < least → ItemBegun f (first ∷ rest)
+begun_by : (f : ℕ → Option Definition) (first : ℕ) (rest : List ℕ) (least : ℕ) (h : Head) → head_of first ≡ h
+    → length_by f h (first ∷ rest) ≡ Ok least → length (first ∷ rest) < least → ItemBegun f (first ∷ rest)
 begun_by f first rest least (DefinitionHead l) e is short =
     begun_definition f (first ∷ rest) l (omega arith) e (omega (arith, ok_is (definition_length_of (first ∷ rest)) least is))
 begun_by f first rest least DeveloperHead e is short = absurd cc
 begun_by f first rest least (DataHead l o) e is short = begun_under f (f l) first rest least l o refl e is short
   where
-    begun_under : (f : ℕ → Option Definition) (d : Option Definition) (first : ℕ) (rest : List ℕ) (least l : ℕ) (o : Option ℕ) → f l ≡ d → head_of first ≡ DataHead l o → data_length_of l d ≡ Ok least → length (first ∷ rest) < least → ItemBegun f (first ∷ rest)
+    begun_under : (f : ℕ → Option Definition) (d : Option Definition) (first : ℕ) (rest : List ℕ) (least l : ℕ)
+        (o : Option ℕ) → f l ≡ d → head_of first ≡ DataHead l o → data_length_of l d ≡ Ok least
+        → length (first ∷ rest) < least → ItemBegun f (first ∷ rest)
     begun_under f None first rest least l o there e is short = absurd cc
-    begun_under f (Some d) first rest least l o there e is short = begun_data f (first ∷ rest) d l o (omega arith) e there (omega (arith, ok_is (1 + content_size d) least is))
+    begun_under f (Some d) first rest least l o there e is short = begun_data f (first ∷ rest) d l o (omega arith) e
+        there (omega (arith, ok_is (1 + content_size d) least is))
 
-pub least_begun : (f : ℕ → Option Definition) (window : List ℕ) (least : ℕ) → least_length_of f window ≡ Ok least → length window < least → ItemBegun f window
+pub least_begun : (f : ℕ → Option Definition) (window : List ℕ) (least : ℕ) → least_length_of f window ≡ Ok least
+    → length window < least → ItemBegun f window
 least_begun f [] least e short = begun_empty f
 least_begun f (first ∷ rest) least e short = begun_by f first rest least (head_of first) refl e short
 
 -- a whole definition at the front of a window
-pub definition_whole : (f : ℕ → Option Definition) (window : List ℕ) (used l : ℕ) (d : Definition) → least_length_of f window ≡ Ok used → used ≤ length window → DefinitionHead l ≡ head_of (slice_index window 0)
+pub definition_whole : (f : ℕ → Option Definition) (window : List ℕ) (used l : ℕ) (d : Definition)
+    → least_length_of f window ≡ Ok used → used ≤ length window → DefinitionHead l ≡ head_of (slice_index window 0)
     → d ≡ definition_at (take used window) → SpellsDefinition d (take used window)
 definition_whole f [] used l d least le head same = absurd (omega (arith, ok_is 1 used least))
 definition_whole f (first ∷ rest) used l d least le head same =

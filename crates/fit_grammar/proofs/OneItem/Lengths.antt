@@ -1,4 +1,4 @@
--- The least length of the item at the front of a window, and the lengths of spellings that begin with the window.
+-- The least length of the item at the front of a window, against each spelling that begins with it: for `least_length`.
 use Rattle.std.proofs.Common.{◌≡◌, ℕ, ◌+◌, List, [], ◌∷◌, ◌++◌, length, Option, Some, None, Result, Ok, Err, refl, sym, ap, subst, ◌∙◌, inl, inr, arith}
 use Rattle.std.specs.Prelude.{IsSomeAnd, IfOk, slice_index}
 use Rattle.std.proofs.lemmas.Bool.{cases_lt, lt-ltb, le-ltb}
@@ -35,14 +35,17 @@ definition_least d window rest p =
 data_least : (o : Option Definition) (local n : ℕ) (content : List ℕ) (window whole : ℕ) → whole ≡ 1 + length content
     → IsSomeAnd o (λ d. content_size d ≡ length content) → data_length_of local o ≡ Ok n → n ≡ whole
 data_least None local n content window whole long defined e = absurd defined
-data_least (Some d) local n content window whole long defined e = sym (ok_one (1 + content_size d) n e) ∙ ap (λ (k : ℕ). 1 + k) defined ∙ sym long
+data_least (Some d) local n content window whole long defined e =
+    sym (ok_one (1 + content_size d) n e) ∙ ap (λ (k : ℕ). 1 + k) defined ∙ sym long
 
 by_head : (f : ℕ → Option Definition) (i : Item) (window rest : List ℕ) (n : ℕ) → Spells i (window ++ rest) → IsDefinedBy f i
     → length_by f (item_head i) window ≡ Ok n → IsLeastLength n (length window) (length (window ++ rest))
 by_head f (Defines d) window rest n p defined e =
-    subst (λ (k : ℕ). IsLeastLength k (length window) (length (window ++ rest))) (ok_one (definition_length_of window) n e) (definition_least d window rest p)
+    subst (λ (k : ℕ). IsLeastLength k (length window) (length (window ++ rest)))
+    (ok_one (definition_length_of window) n e) (definition_least d window rest p)
 by_head f (Data local offset content) window rest n p defined e =
-    let same = data_least (f local) local n content (length window) (length (window ++ rest)) (data_length local offset content (window ++ rest) p) defined e in
+    let same = data_least (f local) local n content (length window) (length (window ++ rest))
+    (data_length local offset content (window ++ rest) p) defined e in
     record { least = omega arith; exact = λ _. same }
 
 -- the least length of a window holds of each spelling that begins with it
@@ -57,7 +60,8 @@ least_length_holds f i (first ∷ window) rest n p defined e =
     by_head f i (first ∷ window) rest n p defined (ap (λ (h : Head). length_by f h (first ∷ window)) (sym head) ∙ e)
 
 -- the same of what a function answered
-pub answer_holds : (f : ℕ → Option Definition) (i : Item) (window rest : List ℕ) (answer : Result ℕ ItemFault) → answer ≡ least_length_of f window
+pub answer_holds : (f : ℕ → Option Definition) (i : Item) (window rest : List ℕ) (answer : Result ℕ ItemFault)
+    → answer ≡ least_length_of f window
     → Spells i (window ++ rest) → IsDefinedBy f i → IfOk answer (λ n. IsLeastLength n (length window) (length (window ++ rest)))
 answer_holds f i window rest (Ok n) e p defined = least_length_holds f i window rest n p defined (sym e)
 answer_holds f i window rest (Err fault) e p defined = tt

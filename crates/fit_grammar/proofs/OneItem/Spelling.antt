@@ -1,4 +1,5 @@
--- The spellings of items: where they begin, how long they are, and that none begins another.
+-- Where spellings of items begin, how long they are, and that none begins another: for the law of that name, and for
+-- whatever reads items one after another.
 use Rattle.std.proofs.Common.{◌≡◌, ℕ, ◌+◌, ◌*◌, ◌≤◌, List, [], ◌∷◌, ◌++◌, length, Option, Some, None, refl, sym, ap, ◌∙◌, arith}
 use Rattle.std.specs.Prelude.{slice_index, IsSomeAnd}
 use Rattle.std.specs.List.{flat_map}
@@ -41,10 +42,13 @@ bytes_one (a ∷ c) (b ∷ k) x y same e =
     let bytes : c ≡ k = rest.0 in
     (cc, rest.1)
 
-pub definition_same : (d c : Definition) → d.local ≡ c.local → d.arch ≡ c.arch → d.global ≡ c.global → d.fields.items ≡ c.fields.items → d ≡ c
+pub definition_same : (d c : Definition) → d.local ≡ c.local → d.arch ≡ c.arch → d.global ≡ c.global
+    → d.fields.items ≡ c.fields.items → d ≡ c
 definition_same d c local arch global items =
-    let made : (l : ℕ) (a : Arch) (g : ℕ) (fs : List FieldDefinition) → Definition = λ l a g fs. record { local = l; arch = a; global = g; fields = record { items = fs } } in
-    let e : made d.local d.arch d.global d.fields.items ≡ made c.local c.arch c.global c.fields.items = rw (local, arch, global, items) refl in
+    let made : (l : ℕ) (a : Arch) (g : ℕ) (fs : List FieldDefinition) → Definition = λ l a g fs. record
+    { local = l; arch = a; global = g; fields = record { items = fs } } in
+    let e : made d.local d.arch d.global d.fields.items ≡ made c.local c.arch c.global c.fields.items =
+    rw (local, arch, global, items) refl in
     e
 
 pub definition_one : (d c : Definition) (a x b y : List ℕ) → SpellsDefinition d a → SpellsDefinition c b → a ++ x ≡ b ++ y
@@ -66,7 +70,8 @@ definition_one d c a x b y p q e =
     let bytes : a ≡ b = p.laid_out ∙ rw (first, reserved, architecture, global_1, global_2, items) refl ∙ sym q.laid_out in
     (bytes, same, fields.1)
 
-same_size : (o : Option Definition) (c k : List ℕ) → IsSomeAnd o (λ d. content_size d ≡ length c) → IsSomeAnd o (λ d. content_size d ≡ length k) → length c ≡ length k
+same_size : (o : Option Definition) (c k : List ℕ) → IsSomeAnd o (λ d. content_size d ≡ length c)
+    → IsSomeAnd o (λ d. content_size d ≡ length k) → length c ≡ length k
 same_size None c k p q = absurd p
 same_size (Some d) c k p q = sym p ∙ q
 
@@ -114,7 +119,8 @@ pub definition_count : (d : Definition) (a : List ℕ) → SpellsDefinition d a 
 definition_count d a p = rw p.laid_out refl
 
 -- a data message begins with its head and has one byte and its content
-pub data_first : (local : ℕ) (offset : Option ℕ) (content a : List ℕ) → SpellsData local offset content a → head_of (slice_index a 0) ≡ DataHead local offset
+pub data_first : (local : ℕ) (offset : Option ℕ) (content a : List ℕ) → SpellsData local offset content a
+    → head_of (slice_index a 0) ≡ DataHead local offset
 data_first local offset content a p = rw p.laid_out p.head
 
 pub data_length : (local : ℕ) (offset : Option ℕ) (content a : List ℕ) → SpellsData local offset content a → length a ≡ 1 + length content

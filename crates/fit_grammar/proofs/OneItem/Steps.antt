@@ -1,4 +1,4 @@
--- Of a window and a lookup of definitions only one step is right.
+-- Of a window and a lookup of definitions only one step is right: so `next_item` answers wherever an answer is right.
 use Rattle.std.proofs.Common.{◌≡◌, ℕ, List, [], ◌∷◌, ◌++◌, length, take, drop, Option, Some, None, refl, sym, ap, ◌∙◌, arith, append_assoc}
 use Rattle.std.specs.Prelude.{IsSomeAnd}
 use Rattle.std.proofs.lemmas.List.{take-append-drop, length-take, append-nil, length-append}
@@ -12,7 +12,8 @@ use Rattle.fit_grammar.specs.Calls.Step.{item_of, ItemAtFront, ItemBegun, ShowsU
 use Rattle.fit_grammar.proofs.OneItem.Spelling.{spelling_one}
 
 -- one item at the front
-pub items_one : (f : ℕ → Option Definition) (window : List ℕ) (i j : Item) (m n : ℕ) → ItemAtFront f window i m → ItemAtFront f window j n → (i ≡ j) × (m ≡ n)
+pub items_one : (f : ℕ → Option Definition) (window : List ℕ) (i j : Item) (m n : ℕ) → ItemAtFront f window i m
+    → ItemAtFront f window j n → (i ≡ j) × (m ≡ n)
 items_one f window i j m n p q =
     let one = spelling_one f i j (take m window) (drop m window) (take n window) (drop n window) p.spelled q.spelled p.defined q.defined
     (take-append-drop m window ∙ sym (take-append-drop n window)) in
@@ -22,11 +23,13 @@ items_one f window i j m n p q =
     (one.1, omega (arith, same, length-take m window, length-take n window))
 
 -- an item at the front has not only begun
-pub item_not_begun : (f : ℕ → Option Definition) (window : List ℕ) (i : Item) (used : ℕ) → ItemAtFront f window i used → ItemBegun f window → ⊥
+pub item_not_begun : (f : ℕ → Option Definition) (window : List ℕ) (i : Item) (used : ℕ) → ItemAtFront f window i used
+    → ItemBegun f window → ⊥
 item_not_begun f window i used p q =
     let whole : take used window ++ drop used window ++ q.rest ≡ (window ++ q.rest) ++ [] =
     ap (λ (x : List ℕ). x ++ q.rest) (take-append-drop used window) ∙ sym (append-nil (window ++ q.rest)) in
-    let one = spelling_one f i q.item (take used window) (drop used window ++ q.rest) (window ++ q.rest) [] p.spelled q.spelled p.defined q.defined
+    let one = spelling_one f i q.item (take used window) (drop used window ++ q.rest) (window ++ q.rest) [] p.spelled
+    q.spelled p.defined q.defined
     (sym (append_assoc (take used window) (drop used window) q.rest) ∙ whole) in
     let none : length (drop used window ++ q.rest) ≡ 0 = ap length one.2 in
     let more = q.more in
@@ -47,18 +50,23 @@ spelling_head (Data local offset content) a x rest byte p e =
     let first : byte ≡ p.first = cc in
     rw first p.head
 
-front_head : (f : ℕ → Option Definition) (window rest : List ℕ) (i : Item) (used byte : ℕ) → ItemAtFront f window i used → window ≡ byte ∷ rest → head_of byte ≡ item_head i
-front_head f window rest i used byte p e = spelling_head i (take used window) (drop used window) rest byte p.spelled (take-append-drop used window ∙ e)
+front_head : (f : ℕ → Option Definition) (window rest : List ℕ) (i : Item) (used byte : ℕ)
+    → ItemAtFront f window i used → window ≡ byte ∷ rest → head_of byte ≡ item_head i
+front_head f window rest i used byte p e =
+    spelling_head i (take used window) (drop used window) rest byte p.spelled (take-append-drop used window ∙ e)
 
-begun_head : (f : ℕ → Option Definition) (window rest : List ℕ) (byte : ℕ) → (p : ItemBegun f window) → window ≡ byte ∷ rest → head_of byte ≡ item_head p.item
+begun_head : (f : ℕ → Option Definition) (window rest : List ℕ) (byte : ℕ) → (p : ItemBegun f window)
+    → window ≡ byte ∷ rest → head_of byte ≡ item_head p.item
 begun_head f window rest byte p e =
-    spelling_head p.item (window ++ p.rest) [] (rest ++ p.rest) byte p.spelled (append-nil (window ++ p.rest) ∙ ap (λ (x : List ℕ). x ++ p.rest) e)
+    spelling_head p.item (window ++ p.rest) [] (rest ++ p.rest) byte p.spelled
+    (append-nil (window ++ p.rest) ∙ ap (λ (x : List ℕ). x ++ p.rest) e)
 
 undefined_by : (o : Option Definition) (size : Definition → Type 0) → IsSomeAnd o size → o ≡ None → ⊥
 undefined_by None size p e = p
 undefined_by (Some d) size p e = cc
 
-not_undefined : (f : ℕ → Option Definition) (i : Item) (l : ℕ) (o : Option ℕ) → IsDefinedBy f i → item_head i ≡ DataHead l o → f l ≡ None → ⊥
+not_undefined : (f : ℕ → Option Definition) (i : Item) (l : ℕ) (o : Option ℕ) → IsDefinedBy f i
+    → item_head i ≡ DataHead l o → f l ≡ None → ⊥
 not_undefined f (Defines d) l o p e none = cc
 not_undefined f (Data local offset content) l o p e none =
     let same : local ≡ l = cc in
@@ -68,11 +76,13 @@ not_developer : (i : Item) → item_head i ≡ DeveloperHead → ⊥
 not_developer (Defines d) e = cc
 not_developer (Data local offset content) e = cc
 
-item_not_undefined : (f : ℕ → Option Definition) (window : List ℕ) (i : Item) (used l : ℕ) → ItemAtFront f window i used → ShowsUndefined f window l → ⊥
+item_not_undefined : (f : ℕ → Option Definition) (window : List ℕ) (i : Item) (used l : ℕ)
+    → ItemAtFront f window i used → ShowsUndefined f window l → ⊥
 item_not_undefined f window i used l p q =
     not_undefined f i l q.offset p.defined (sym (front_head f window q.rest i used q.first p q.joined) ∙ q.head) q.undefined
 
-item_not_developer : (f : ℕ → Option Definition) (window : List ℕ) (i : Item) (used : ℕ) → ItemAtFront f window i used → ShowsDeveloper window → ⊥
+item_not_developer : (f : ℕ → Option Definition) (window : List ℕ) (i : Item) (used : ℕ) → ItemAtFront f window i used
+    → ShowsDeveloper window → ⊥
 item_not_developer f window i used p q = not_developer i (sym (front_head f window q.rest i used q.first p q.joined) ∙ q.head)
 
 begun_not_undefined : (f : ℕ → Option Definition) (window : List ℕ) (l : ℕ) → ItemBegun f window → ShowsUndefined f window l → ⊥
@@ -96,25 +106,30 @@ undefined_not_developer f window l p q =
     let head : DataHead l p.offset ≡ DeveloperHead = sym p.head ∙ ap head_of first ∙ q.head in
     cc
 
-pub only_item : (f : ℕ → Option Definition) (window : List ℕ) (step : Step) (i : Item) (used : ℕ) → StepSays f window step → ItemAtFront f window i used → IsStepItem step i used
+pub only_item : (f : ℕ → Option Definition) (window : List ℕ) (step : Step) (i : Item) (used : ℕ)
+    → StepSays f window step → ItemAtFront f window i used → IsStepItem step i used
 only_item f window (steps.Item j count) i used says p = items_one f window (item_of j) i count used says p
 only_item f window steps.NeedMore i used says p = absurd (item_not_begun f window i used p says)
 only_item f window (steps.Refused (UndefinedLocal l)) i used says p = absurd (item_not_undefined f window i used l p says)
 only_item f window (steps.Refused Developer) i used says p = absurd (item_not_developer f window i used p says)
 
-pub only_more : (f : ℕ → Option Definition) (window : List ℕ) (step : Step) → StepSays f window step → ItemBegun f window → step ≡ steps.NeedMore
+pub only_more : (f : ℕ → Option Definition) (window : List ℕ) (step : Step) → StepSays f window step
+    → ItemBegun f window → step ≡ steps.NeedMore
 only_more f window (steps.Item j count) says p = absurd (item_not_begun f window (item_of j) count says p)
 only_more f window steps.NeedMore says p = refl
 only_more f window (steps.Refused (UndefinedLocal l)) says p = absurd (begun_not_undefined f window l p says)
 only_more f window (steps.Refused Developer) says p = absurd (begun_not_developer f window p says)
 
-pub only_undefined : (f : ℕ → Option Definition) (window : List ℕ) (step : Step) (l : ℕ) → StepSays f window step → ShowsUndefined f window l → step ≡ steps.Refused (UndefinedLocal l)
+pub only_undefined : (f : ℕ → Option Definition) (window : List ℕ) (step : Step) (l : ℕ) → StepSays f window step
+    → ShowsUndefined f window l → step ≡ steps.Refused (UndefinedLocal l)
 only_undefined f window (steps.Item j count) l says p = absurd (item_not_undefined f window (item_of j) count l says p)
 only_undefined f window steps.NeedMore l says p = absurd (begun_not_undefined f window l says p)
-only_undefined f window (steps.Refused (UndefinedLocal m)) l says p = ap (λ (k : ℕ). steps.Refused (UndefinedLocal k)) (undefined_one f window m l says p)
+only_undefined f window (steps.Refused (UndefinedLocal m)) l says p =
+    ap (λ (k : ℕ). steps.Refused (UndefinedLocal k)) (undefined_one f window m l says p)
 only_undefined f window (steps.Refused Developer) l says p = absurd (undefined_not_developer f window l p says)
 
-pub only_developer : (f : ℕ → Option Definition) (window : List ℕ) (step : Step) → StepSays f window step → ShowsDeveloper window → step ≡ steps.Refused Developer
+pub only_developer : (f : ℕ → Option Definition) (window : List ℕ) (step : Step) → StepSays f window step
+    → ShowsDeveloper window → step ≡ steps.Refused Developer
 only_developer f window (steps.Item j count) says p = absurd (item_not_developer f window (item_of j) count says p)
 only_developer f window steps.NeedMore says p = absurd (begun_not_developer f window says p)
 only_developer f window (steps.Refused (UndefinedLocal l)) says p = absurd (undefined_not_developer f window l says p)

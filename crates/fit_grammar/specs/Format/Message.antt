@@ -50,11 +50,14 @@ abbrev pub time_in : Values → Option ℕ
 time_in (Numbers (time ∷ [])) = if time == 0xFFFFFFFF then None else Some time
 time_in _ = None
 
+-- the time that a field states: that of a field 253 of base type 86
+abbrev pub stated_by : MessageField → Option ℕ
+stated_by field = if (field.number == 253) && (field.base == 0x86) then time_in field.values else None
+
 -- the first field 253 of base type 86 and size 4 that is not invalid
 abbrev pub time_stated : List MessageField → Option ℕ
 time_stated [] = None
-time_stated (field ∷ fields) =
-    option_or (if (field.number == 253) && (field.base == 0x86) then time_in field.values else None) (time_stated fields)
+time_stated (field ∷ fields) = option_or (stated_by field) (time_stated fields)
 
 -- the time of a compressed timestamp, behind the time before it
 abbrev pub compressed_time : ℕ → Option ℕ → Option ℕ

@@ -1,7 +1,6 @@
 // Reading a whole file.
 
 ghost use Rattle.std.specs.Prelude.{◌≡◌, ◌≢◌, ◌<◌, ◌≤◌, ◌+◌, ◌↔◌, ◌⊎◌, ◌^◌, ℕ, length, take, drop, slice_range, OnOk, IfOk, IfErr, IsTrue};
-ghost use Rattle.fit_base.specs.Checksum.{crc};
 ghost use Rattle.fit_grammar.specs.Format.Records.{in_force, data_size};
 ghost use Rattle.fit_grammar.specs.Format.File.{mark, ChecksHeader, IsClosing, FileValue, FileOf};
 ghost use Rattle.fit_grammar.specs.Format.Refusal.{IsFaultOf};
@@ -99,15 +98,7 @@ fn checks_header(header: &[u8]) -> bool
     ensures { IsTrue result ↔ ChecksHeader header.now }
 {
     let given = LittleEndian::read_u16(&header[12..14]);
-    given == 0 || given == checksum(&header[..12])
-}
-
-fn checksum(bytes: &[u8]) -> u16
-    ensures { result ≡ crc bytes.now }
-{
-    let mut crc = Crc::new();
-    crc.add(bytes);
-    crc.value()
+    given == 0 || given == Crc::of(&header[..12])
 }
 
 // Takes the item at the front of the window into the file, with so much left of the data.
@@ -158,7 +149,7 @@ fn check_end(bytes: &[u8], end: usize) -> Result<(), FileFault>
     if rest.len() < 2 {
         return Err(fault(FaultKind::Truncated, bytes.len()));
     }
-    if LittleEndian::read_u16(&rest[..2]) != checksum(front) {
+    if LittleEndian::read_u16(&rest[..2]) != Crc::of(front) {
         return Err(fault(FaultKind::FileCrc, end));
     }
     if rest.len() > 2 {

@@ -44,10 +44,8 @@ fn put_header<W: Write>(
     if frame.header_size != 14 {
         return put_checked(out, checksum, &front);
     }
-    let mut own = Crc::new();
-    own.add(&front);
     put_checked(out, checksum, &front)?;
-    put_checked(out, checksum, &own.value().to_le_bytes())
+    put_checked(out, checksum, &Crc::of(&front).to_le_bytes())
 }
 
 // The bytes of a header before its checksum.

@@ -28,7 +28,8 @@ impl<'m> Model for Fields<'m> {
 
     ghost Value = { List MessageField };
 
-    ghost view = { λ s. time_fields (option_map (λ bytes. low_first bytes.now) s.time) ++ fields_of s.arch (fields_in s.fields.now) s.content.now };
+    ghost view = { λ s. time_fields (option_map (λ bytes. low_first bytes.now) s.time)
+        ++ fields_of s.arch (fields_in s.fields.now) s.content.now };
 
     ghost invariant = { λ s. (sum_by (λ field. field.size) (fields_in s.fields.now) ≡ length s.content.now)
         × IfSome s.time (λ bytes. length bytes.now ≡ 4) };
@@ -49,7 +50,8 @@ impl<'m> Fields<'m> {
     ) -> Self
         requires whole { sum_by (λ field. field.size) (fields_in fields.now) ≡ length content.now }
         requires four { IfSome time (λ bytes. length bytes.now ≡ 4) }
-        ensures { result ≡ time_fields (option_map (λ bytes. low_first bytes.now) time.entry) ++ fields_of arch (fields_in fields.now) content.now }
+        ensures { result ≡ time_fields (option_map (λ bytes. low_first bytes.now) time.entry)
+            ++ fields_of arch (fields_in fields.now) content.now }
     {
         Fields {
             time,

@@ -3,9 +3,8 @@
 ghost use Rattle.std.specs.Prelude.{◌≡◌, length};
 ghost use Rattle.fit_base.specs.Number.{number};
 ghost use Rattle.fit_base.specs.Value.{values_of};
-ghost use Rattle.fit_grammar.specs.Format.Message.{next_time as next_time_of, time_stated, time_in as time_of_values};
+ghost use Rattle.fit_grammar.specs.Format.Message.{next_time as next_time_of, stated_by, time_stated, time_in as time_of_values};
 ghost use Rattle.fit_grammar.specs.Calls.LentField.{field_view};
-ghost use Rattle.fit_grammar.specs.Private.StatedTime.{stated_by};
 
 use crate::message::{Field, Fields};
 use byteorder::{BigEndian, ByteOrder, LittleEndian};

@@ -2,66 +2,19 @@
 
 ghost use Rattle.std.specs.Prelude.{◌≡◌, ◌≤◌};
 
+use super::decoding::FILE_ID;
+use super::slow::Slow;
 use crate::{
-    Definition, EncodeFault, FaultKind, FieldDefinition, File, Frame, PutFault, encode_file,
+    Definition, EncodeFault, FaultKind, FieldDefinition, File, Frame, PutFault, decode_file,
+    encode_file,
 };
 use arrayvec::ArrayVec;
 use fit_base::Arch;
 use std::alloc::Global;
-use std::io::{self, Write};
 use std::process::Abort;
 use std::test::Fail;
 
-// One file_id message of type activity, created at 1,000,000,000.
-const SMALL: [u8; 34] = [
-    0x0E, 0x10, 0x64, 0x00, 0x12, 0x00, 0x00, 0x00, 0x2E, 0x46, 0x49, 0x54, 0xA1, 0x3B, 0x40, 0x00,
-    0x00, 0x00, 0x00, 0x02, 0x00, 0x01, 0x00, 0x04, 0x04, 0x86, 0x00, 0x04, 0x00, 0xCA, 0x9A, 0x3B,
-    0x38, 0x1C,
-];
-
 const CONTENT: [u8; 5] = [0x04, 0x00, 0xCA, 0x9A, 0x3B];
-
-// A writer over memory that takes at most so many bytes a call, and fails behind so many calls.
-#[derive(Drop)]
-struct Page {
-    bytes: [u8; 128],
-    len: usize,
-    step: usize,
-    calls: usize,
-    ghost within: { len ≤ 128 },
-}
-
-impl Page {
-    fn new(step: usize, calls: usize) -> Page {
-        Page {
-            bytes: [0; 128],
-            len: 0,
-            step,
-            calls,
-        }
-    }
-
-    fn written(&self) -> &[u8] {
-        &self.bytes[..self.len]
-    }
-}
-
-impl Write for Page {
-    fn write(&mut self, buf: &[u8]) -> io::Result<usize> {
-        if self.calls == 0 {
-            return Err(io::Error::from(io::ErrorKind::BrokenPipe));
-        }
-        self.calls -= 1;
-        let taken = buf.len().min(self.step).min(128 - self.len);
-        self.bytes[self.len..self.len + taken].copy_from_slice(&buf[..taken]);
-        self.len += taken;
-        Ok(taken)
-    }
-
-    fn flush(&mut self) -> io::Result<()> {
-        Ok(())
-    }
-}
 
 // A definition of file_id with its fields type and time_created.
 fn file_id(local: u8) -> Definition
@@ -86,7 +39,7 @@ fn file_id(local: u8) -> Definition
     }
 }
 
-fn empty_file(alloc: Global) -> File {
+pub(crate) fn empty_file(alloc: Global) -> File {
     let frame = Frame {
         header_size: 14,
         protocol: 0x10,
@@ -103,21 +56,51 @@ fn small_file(alloc: Global) -> Result<File, PutFault> {
 }
 
 // Whether the file is written as these bytes.
-fn is_written(file: &File, bytes: &[u8]) -> bool {
-    let mut page = Page::new(128, 128);
-    encode_file(file, &mut page).is_ok() && page.written() == bytes
+fn is_written(alloc: Global, file: &File, bytes: &[u8]) -> bool {
+    let mut out = Slow::new(alloc, 128, 128);
+    encode_file(file, &mut out).is_ok() && out.written() == bytes
+}
+
+#[test]
+fn the_example_of_the_crate(rt: HostRuntime) -> Result<(), Fail> {
+    let alloc = rt.alloc();
+    let mut fields = ArrayVec::new();
+    fields.push(FieldDefinition {
+        number: 3,
+        size: 1,
+        base: 0x02,
+    });
+    let mut bytes = Vec::new(alloc);
+    let frame = Frame {
+        header_size: 14,
+        protocol: 0x10,
+        profile: 100,
+    };
+    let mut file = File::new(alloc, frame);
+    file.define(&Definition {
+        local: 0,
+        arch: Arch::Little,
+        global: 20,
+        fields,
+    })?;
+    file.data(0, None, &[100])?;
+    encode_file(&file, &mut bytes)?;
+    let read = decode_file(alloc, bytes.as_slice())?;
+    let message = read.messages().next().expect(&rt, "one message");
+    assert_eq!(rt; message.global(), 20);
+    Ok(())
 }
 
 #[test]
 fn writes_a_file(rt: HostRuntime) -> Result<(), Fail> {
     let mut file = small_file(rt.alloc())?;
-    assert!(rt; is_written(&file, &SMALL));
+    assert!(rt; is_written(rt.alloc(), &file, &FILE_ID));
     assert_eq!(rt; file.data(5, None, &[0]), Err(PutFault::UndefinedLocal));
-    assert!(rt; is_written(&file, &SMALL));
+    assert!(rt; is_written(rt.alloc(), &file, &FILE_ID));
     assert_eq!(rt; file.data(0, None, &[4]), Err(PutFault::Length));
-    assert!(rt; is_written(&file, &SMALL));
+    assert!(rt; is_written(rt.alloc(), &file, &FILE_ID));
     assert_eq!(rt; file.data(0, Some(32), &CONTENT), Err(PutFault::Length));
-    assert!(rt; is_written(&file, &SMALL));
+    assert!(rt; is_written(rt.alloc(), &file, &FILE_ID));
     Ok(())
 }
 
@@ -125,10 +108,10 @@ fn writes_a_file(rt: HostRuntime) -> Result<(), Fail> {
 fn offsets_need_a_low_local_number(rt: HostRuntime) -> Result<(), Fail> {
     let mut file = small_file(rt.alloc())?;
     file.define(&file_id(4))?;
-    let mut before = Page::new(128, 128);
+    let mut before = Slow::new(rt.alloc(), 128, 128);
     encode_file(&file, &mut before)?;
     assert_eq!(rt; file.data(4, Some(0), &CONTENT), Err(PutFault::Length));
-    assert!(rt; is_written(&file, before.written()));
+    assert!(rt; is_written(rt.alloc(), &file, before.written()));
     Ok(())
 }
 
@@ -153,16 +136,16 @@ fn lends_messages_with_their_times(rt: HostRuntime) -> Result<(), Fail> {
 fn a_failing_writer_has_a_beginning(rt: HostRuntime) -> Result<(), Fail> {
     let file = small_file(rt.alloc())?;
     for calls in 0..16 {
-        let mut page = Page::new(5, calls);
-        let answer = encode_file(&file, &mut page);
-        assert!(rt; SMALL.starts_with(page.written()));
-        if page.len == 34 {
+        let mut out = Slow::new(rt.alloc(), 5, calls);
+        let answer = encode_file(&file, &mut out);
+        assert!(rt; FILE_ID.starts_with(out.written()));
+        if out.written().len() == 34 {
             assert_eq!(rt; answer, Ok(()));
         } else {
             assert_eq!(rt; answer, Err(EncodeFault::Write));
         }
     }
-    let mut full = Page::new(0, 9);
+    let mut full = Slow::new(rt.alloc(), 0, 9);
     assert_eq!(rt; encode_file(&file, &mut full), Err(EncodeFault::Write));
     Ok(())
 }

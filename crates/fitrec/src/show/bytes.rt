@@ -1,11 +1,12 @@
 // Bytes as hexadecimal digits and as a string.
 
-ghost use Rattle.std.specs.Prelude.{◌≡◌, ◌<◌, ◌==◌, true, position};
+ghost use Rattle.std.specs.Prelude.{◌≡◌, ◌<◌, ◌==◌, true};
 ghost use Rattle.std.specs.Fmt.{digit_glyph};
-ghost use Rattle.std.specs.List.{before_first, flat_map, list_all};
+ghost use Rattle.std.specs.List.{flat_map, list_all};
 ghost use Rattle.fit_grammar.specs.Calls.Output.{WritesText};
 ghost use Rattle.fitrec.specs.Text.{hex_byte, hex_text, is_plain, escaped, string_text, byte_text};
 
+use fit_base::FieldValue;
 use fit_grammar::{WriteFailed, put};
 use std::io::Write;
 
@@ -30,11 +31,11 @@ fn put_digits<W: Write>(out: &mut W, bytes: &[u8]) -> Result<(), WriteFailed>
 }
 
 /// A string between quotation marks, up to its first zero byte.
-pub fn put_string<W: Write>(out: &mut W, bytes: &[u8]) -> Result<(), WriteFailed>
-    ensures { WritesText (W.contents out.old) (W.contents out.new) result (string_text bytes.now) }
+pub fn put_string<W: Write>(out: &mut W, field: &FieldValue<'_>) -> Result<(), WriteFailed>
+    ensures { WritesText (W.contents out.old) (W.contents out.new) result (string_text field.now.bytes) }
 {
     put(out, b"\"")?;
-    put_all_escaped(out, before_zero(bytes))?;
+    put_all_escaped(out, field.text_bytes())?;
     put(out, b"\"")
 }
 
@@ -96,20 +97,4 @@ fn hex_digit(digit: u8) -> u8
     } else {
         b'A' + (digit - 10)
     }
-}
-
-// The bytes before the first zero byte, or all where there is none.
-fn before_zero(bytes: &[u8]) -> &[u8]
-    ensures { result.now ≡ before_first (λ byte. byte == 0) bytes.now }
-{
-    match zero_place(bytes) {
-        Some(end) => &bytes[..end],
-        None => bytes,
-    }
-}
-
-fn zero_place(bytes: &[u8]) -> Option<usize>
-    ensures { result ≡ position (λ byte. byte == 0) bytes.now }
-{
-    bytes.iter().position(|byte| *byte == 0)
 }

@@ -52,7 +52,7 @@ fn put_value<W: Write>(out: &mut W, value: &FieldValue<'_>) -> Result<(), WriteF
     if value.count() == 0 {
         return put_hex(out, value.raw());
     }
-    match BaseType::of(value.base()) {
+    match value.base_type() {
         Some(base) => put_some(out, base, value),
         None => unreachable!(),
     }
@@ -70,7 +70,7 @@ fn put_some<W: Write>(
         (values_text (base_type value.now.base) (values_of value.now)) }
 {
     match base {
-        BaseType::String => put_string(out, value.raw()),
+        BaseType::String => put_string(out, value),
         BaseType::Byte => put_byte_field(out, value.raw()),
         _ => put_numbers(out, base, value),
     }

@@ -4,12 +4,10 @@ ghost use Rattle.std.specs.Prelude.{◌≡◌, ◌<◌, ◌^◌, length, IfOk};
 ghost use Rattle.fit_grammar.specs.Format.Message.{messages_of};
 ghost use Rattle.fit_grammar.specs.Calls.Output.{WritesText};
 ghost use Rattle.fitrec.specs.Text.{messages_text, text_of};
-ghost use Rattle.fitrec.specs.Showing.{ShowsBytes};
 
 use crate::show::header::{put_header, put_labelled};
 use crate::show::message::put_message;
-use fit_grammar::{File, FileFault, WriteFailed, decode_file, put};
-use std::alloc::Global;
+use fit_grammar::{File, WriteFailed, put};
 use std::io::Write;
 
 /// Why a file was not shown.
@@ -28,29 +26,6 @@ impl ShowFault {
     }
 }
 
-/// Why bytes were not shown.
-#[derive(Clone, Copy, Debug, PartialEq, Eq)]
-pub enum ShowBytesFault {
-    /// The writer failed, or took no byte.
-    Write,
-    /// The bytes are no file.
-    File(FileFault),
-}
-
-impl ShowBytesFault {
-    ghost use Rattle.fitrec.specs.Showing.{code_of};
-
-    /// The number of the fault.
-    pub fn code(&self) -> u8
-        ensures { result ≡ code_of self.now }
-    {
-        match self {
-            ShowBytesFault::Write => 1,
-            ShowBytesFault::File(_) => 2,
-        }
-    }
-}
-
 /// Writes the text of a file, in one pass and with no allocation.
 pub fn show<W: Write>(file: &File, out: &mut W) -> Result<(), ShowFault>
     ensures { WritesText (W.contents out.old) (W.contents out.new) result (text_of file.now) }
@@ -58,20 +33,6 @@ pub fn show<W: Write>(file: &File, out: &mut W) -> Result<(), ShowFault>
     match put_file(out, file) {
         Ok(()) => Ok(()),
         Err(WriteFailed) => Err(ShowFault::Write),
-    }
-}
-
-/// Writes the text of the file that these bytes are. They are read whole before anything is written.
-pub fn show_bytes<W: Write>(alloc: Global, bytes: &[u8], out: &mut W) -> Result<(), ShowBytesFault>
-    ensures { ShowsBytes (W.contents out.old) (W.contents out.new) bytes.now result }
-{
-    let file = match decode_file(alloc, bytes) {
-        Ok(file) => file,
-        Err(fault) => return Err(ShowBytesFault::File(fault)),
-    };
-    match show(&file, out) {
-        Ok(()) => Ok(()),
-        Err(ShowFault::Write) => Err(ShowBytesFault::Write),
     }
 }
 

@@ -63,36 +63,114 @@ fn shows_values(rt: HostRuntime) -> Result<(), Fail> {
     Ok(())
 }
 
+// The rows of the profile, of each message its number, its name and its fields.
 #[test]
 fn names_messages_and_fields(rt: HostRuntime) {
-    let messages = [
-        (0, "file_id"),
-        (12, "sport"),
-        (18, "session"),
-        (19, "lap"),
-        (20, "record"),
-        (21, "event"),
-        (34, "activity"),
+    let rows: [(u16, &str, &[(u8, &str)]); 7] = [
+        (
+            0,
+            "file_id",
+            &[
+                (0, "type"),
+                (1, "manufacturer"),
+                (2, "product"),
+                (3, "serial_number"),
+                (4, "time_created"),
+            ],
+        ),
+        (12, "sport", &[(0, "sport"), (1, "sub_sport")]),
+        (
+            18,
+            "session",
+            &[
+                (0, "event"),
+                (1, "event_type"),
+                (2, "start_time"),
+                (5, "sport"),
+                (6, "sub_sport"),
+                (7, "total_elapsed_time"),
+                (8, "total_timer_time"),
+                (9, "total_distance"),
+                (14, "avg_speed"),
+                (15, "max_speed"),
+                (16, "avg_heart_rate"),
+                (17, "max_heart_rate"),
+                (20, "avg_power"),
+                (21, "max_power"),
+                (25, "first_lap_index"),
+                (26, "num_laps"),
+                (28, "trigger"),
+            ],
+        ),
+        (
+            19,
+            "lap",
+            &[
+                (0, "event"),
+                (1, "event_type"),
+                (2, "start_time"),
+                (7, "total_elapsed_time"),
+                (8, "total_timer_time"),
+                (9, "total_distance"),
+                (13, "avg_speed"),
+                (14, "max_speed"),
+                (15, "avg_heart_rate"),
+                (16, "max_heart_rate"),
+                (19, "avg_power"),
+                (20, "max_power"),
+                (24, "lap_trigger"),
+            ],
+        ),
+        (
+            20,
+            "record",
+            &[
+                (0, "position_lat"),
+                (1, "position_long"),
+                (2, "altitude"),
+                (3, "heart_rate"),
+                (4, "cadence"),
+                (5, "distance"),
+                (6, "speed"),
+                (7, "power"),
+                (13, "temperature"),
+                (73, "enhanced_speed"),
+                (78, "enhanced_altitude"),
+            ],
+        ),
+        (21, "event", &[(0, "event"), (1, "event_type")]),
+        (
+            34,
+            "activity",
+            &[
+                (0, "total_timer_time"),
+                (1, "num_sessions"),
+                (2, "type"),
+                (3, "event"),
+                (4, "event_type"),
+            ],
+        ),
     ];
-    for (number, name) in messages {
+    for (number, name, fields) in rows {
         assert_eq!(rt; message_name(number), Some(name));
+        for (field, name) in fields {
+            assert_eq!(rt;
+                field_name(fields_of(number), *field),
+                Some(*name),
+                "{number}"
+            );
+        }
+        let named = (0..=255)
+            .filter(|field| field_name(fields_of(number), *field).is_some())
+            .count();
+        assert_eq!(rt; named, fields.len() + 2, "{number}");
     }
-    assert_eq!(rt; message_name(1), None);
-    let fields = [
-        (0, 3, "serial_number"),
-        (12, 1, "sub_sport"),
-        (18, 253, "timestamp"),
-        (18, 26, "num_laps"),
-        (19, 24, "lap_trigger"),
-        (20, 3, "heart_rate"),
-        (20, 73, "enhanced_speed"),
-        (20, 78, "enhanced_altitude"),
-        (21, 1, "event_type"),
-        (34, 1, "num_sessions"),
-        (1000, 254, "message_index"),
-    ];
-    for (message, field, name) in fields {
-        assert_eq!(rt; field_name(fields_of(message), field), Some(name));
+    let named = (0..=65535)
+        .filter(|number| message_name(*number).is_some())
+        .count();
+    assert_eq!(rt; named, rows.len());
+    for number in [0, 1, 20, 1000] {
+        assert_eq!(rt; field_name(fields_of(number), 253), Some("timestamp"));
+        assert_eq!(rt; field_name(fields_of(number), 254), Some("message_index"));
     }
-    assert_eq!(rt; field_name(fields_of(20), 99), None);
 }

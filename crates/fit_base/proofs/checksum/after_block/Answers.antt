@@ -4,5 +4,16 @@ use Rattle.fit_base.proofs.checksum.after_block.Goals as goal
 
 pub returns : goal.returns
 returns c =
-    rw (c.entry.ensures, c.entry-2.ensures, c.entry-3.ensures, c.entry-4.ensures, c.entry-5.ensures, c.entry-6.ensures, c.entry-7.ensures, c.entry-8.ensures, c.low_byte.ensures, c.high_byte.ensures)
+    rw (
+      c.entry.ensures,
+      c.entry-2.ensures,
+      c.entry-3.ensures,
+      c.entry-4.ensures,
+      c.entry-5.ensures,
+      c.entry-6.ensures,
+      c.entry-7.ensures,
+      c.entry-8.ensures,
+      c.low_byte.ensures,
+      c.high_byte.ensures,
+    )
     (by_entries c.args.register c.args.block.now (omega arith) c.requires (λ k. omega (arith, c.type_inv.block k)))

@@ -20,9 +20,11 @@ loop-k-preserved c =
 pub returns : goal.returns
 returns c =
     let blocks : c.loop-k.k ≡ length c.args.bytes.now / 8 = omega arith in
-    let rest : length (drop (8 * (length c.args.bytes.now / 8)) c.args.bytes.now) ≤ length c.args.bytes.now - 8 * (length c.args.bytes.now / 8) =
+    let rest : length (drop (8 * (length c.args.bytes.now / 8)) c.args.bytes.now)
+    ≤ length c.args.bytes.now - 8 * (length c.args.bytes.now / 8) =
     omega (arith, length-drop (8 * (length c.args.bytes.now / 8)) c.args.bytes.now) in
     c.after_few.ensures
     ∙ ap (crc_from c.loop-k.register) (take_all _ _ rest)
-    ∙ ap (λ (r : ℕ). crc_from r (drop (8 * (length c.args.bytes.now / 8)) c.args.bytes.now)) (c.loop-k.invariant ∙ ap (λ (k : ℕ). crc_from c.args.register (take (8 * k) c.args.bytes.now)) blocks)
+    ∙ ap (λ (r : ℕ). crc_from r (drop (8 * (length c.args.bytes.now / 8)) c.args.bytes.now))
+    (c.loop-k.invariant ∙ ap (λ (k : ℕ). crc_from c.args.register (take (8 * k) c.args.bytes.now)) blocks)
     ∙ crc_from-drop c.args.register c.args.bytes.now (8 * (length c.args.bytes.now / 8))

@@ -16,4 +16,5 @@ returns-in-empty c = nothing_there (definition_in c.args.table.now) c.args.windo
 
 pub returns-in-len1-up : goal.returns-in-len1-up
 returns-in-len1-up c =
-    c.step_under.ensures (definition_in c.args.table.now) (sym (c.get.ensures ∙ ap (λ (l : ℕ). definition_in c.args.table.now l) c.first_local.ensures))
+    c.step_under.ensures (definition_in c.args.table.now)
+    (sym (c.get.ensures ∙ ap (λ (l : ℕ). definition_in c.args.table.now l) c.first_local.ensures))

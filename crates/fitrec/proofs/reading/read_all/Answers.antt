@@ -1,4 +1,4 @@
-use Rattle.std.proofs.Common.{List, ℕ, arith, sym, subst, length-take}
+use Rattle.std.proofs.Common.{List, ℕ, arith, sym, subst, length-append, length-take}
 use Rattle.std.specs.Io.KnownBytes.{Consumes}
 use Rattle.fitrec.proofs.ReadingLemmas.{consumes_none, consumes_more}
 use Rattle.fitrec.proofs.reading.read_all.Goals as goal
@@ -15,3 +15,13 @@ loop-taken-preserved g c =
           (consumes_more _ _ _ _ _ c.loop-taken.invariant.0 c.in-Ok.ensures.bytes.0),
       omega (arith, c.in-Ok-extend_from_slice.ensures.len, c.len.ensures, length-take {A = ℕ}),
     )
+
+pub returns-then-taken-most-clause-refused : goal.returns-then-taken-most-clause-refused
+returns-then-taken-most-clause-refused g c =
+    let consumed = consumes_more _ _ _ _ _ c.loop-taken.invariant.0 c.in-Ok.ensures.bytes.0 in
+    (_, consumed, omega (arith, c.if-taken-most.true, c.len.ensures, c.in-Ok.ensures.bound, length-append {A = ℕ}, length-take {A = ℕ}))
+
+pub returns-in_default-extend_from_slice-clause-refused : goal.returns-in_default-extend_from_slice-clause-refused
+returns-in_default-extend_from_slice-clause-refused g c =
+    let consumed = consumes_more _ _ _ _ _ c.loop-taken.invariant.0 c.in-Ok.ensures.bytes.0 in
+    (_, consumed, omega (arith, c.if-taken-most.false, c.len.ensures, c.in-Ok.ensures.bound, length-append {A = ℕ}, length-take {A = ℕ}))

@@ -7,7 +7,8 @@ use Rattle.fit_grammar.proofs.file.File.data_size.Goals as goal
 
 total : (c : goal.After-len) → c.len.result ≡ data_size (items_in c.self.inside.records.items)
 total c =
-    c.len.ensures ∙ c.self.inside.records.ok.0 ∙ sym (ap length c.self.invariant.written) ∙ encoded_items-length (items_in c.self.inside.records.items)
+    c.len.ensures ∙ c.self.inside.records.ok.0 ∙ sym (ap length c.self.invariant.written)
+    ∙ encoded_items-length (items_in c.self.inside.records.items)
 
 pub overflow_cast-result : goal.overflow_cast-result
 overflow_cast-result c = record { fits = omega (arith, total c, c.self.invariant.can_be.bound) }

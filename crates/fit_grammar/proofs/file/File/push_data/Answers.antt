@@ -20,14 +20,20 @@ on c =
     let old = c.self.inside in
     let item = Data c.args.local c.args.offset c.args.content.now in
     let first : c.push_reserved.new.self.items ≡ old.records.items ++ data_byte c.args.local c.args.offset ∷ [] =
-    c.push_reserved.ensures.items ∙ ap (λ (b : List ℕ). b ++ c.data_byte.result ∷ []) c.reserve.ensures.items ∙ ap (λ (n : ℕ). old.records.items ++ n ∷ []) c.data_byte.ensures in
+    c.push_reserved.ensures.items ∙ ap (λ (b : List ℕ). b ++ c.data_byte.result ∷ []) c.reserve.ensures.items
+    ∙ ap (λ (n : ℕ). old.records.items ++ n ∷ []) c.data_byte.ensures in
     let bytes : c.extend_from_slice.new.self.items ≡ old.records.items ++ encoded_item item =
     (rw c.unwrap.ensures at c.extend_from_slice.ensures.items)
     ∙ ap (λ (b : List ℕ). b ++ c.args.content.now) first
     ∙ append_assoc old.records.items (data_byte c.args.local c.args.offset ∷ []) c.args.content.now in
     kept old (behind c) item c.self.invariant refl bytes
     (follows_in (file_view old) c.args.self.now item c.self.view_is
-    (record { encodable = c.requires.encodable; fits = bytes_fit c.args.content.now (λ i. (c.type_inv.content i).fits); defined = c.requires.defined }))
+    (record {
+      encodable = c.requires.encodable;
+      fits = bytes_fit c.args.content.now
+          (λ i. (c.type_inv.content i).fits);
+      defined = c.requires.defined;
+    }))
     (λ long. c.requires.fits (subst (λ (v : FileValue). IsTooLong v item) c.self.view_is long))
     (λ l. c.self.invariant.table l ∙ sym (in_force-data (items_in old.records.items) c.args.local c.args.offset c.args.content.now l))
 

@@ -19,7 +19,8 @@ on c =
     let d = c.args.d.now in
     let same = c.new-written.ensures.same in
     let bytes : c.extend_from_slice.new.self.items ≡ old.records.items ++ encoded_item (Defines d) =
-    c.in_ok-extend_from_slice.ensures.items ∙ ap (λ (b : List ℕ). old.records.items ++ b) (c.bytes.ensures ∙ ap (λ (e : Definition). encoded_item (Defines e)) same) in
+    c.in_ok-extend_from_slice.ensures.items ∙ ap (λ (b : List ℕ). old.records.items ++ b)
+    (c.bytes.ensures ∙ ap (λ (e : Definition). encoded_item (Defines e)) same) in
     let taken = rw same at c.keep.ensures in
     kept old (behind c) (Defines d) c.self.invariant refl bytes
     (record { encodable = c.requires.local; fits = c.new-written.ensures.fits; defined = tt })

@@ -12,7 +12,8 @@ memory_by b v fault file (inl refused) = absurd (file_not_refused b v fault.kind
 memory_by b v fault file (inr memory) = memory.0
 
 -- of a file only want of memory is told
-memory_alone : (b : List ℕ) (v : FileValue) (r : Result FileValue FileFault) → FileOf b v → IfErr r (IsFaultOf b) → IfErr r (λ fault. fault.kind ≡ Memory)
+memory_alone : (b : List ℕ) (v : FileValue) (r : Result FileValue FileFault) → FileOf b v → IfErr r (IsFaultOf b)
+    → IfErr r (λ fault. fault.kind ≡ Memory)
 memory_alone b v (Ok file) is h = tt
 memory_alone b v (Err fault) is h = memory_by b v fault is h
 

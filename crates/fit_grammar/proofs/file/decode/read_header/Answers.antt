@@ -17,7 +17,8 @@ passes_first b count first le = record {
   within = elim first [ inl e ↦ omega arith | inr e ↦ omega arith ];
 }
 
-passes_major : (b : List ℕ) (count : ℕ) → (slice_index b 0 ≡ 12) ⊎ (slice_index b 0 ≡ 14) → (slice_index b 1 / 16 ≡ 1) ⊎ (slice_index b 1 / 16 ≡ 2) → count ≤ 12 → Passes b count
+passes_major : (b : List ℕ) (count : ℕ) → (slice_index b 0 ≡ 12) ⊎ (slice_index b 0 ≡ 14)
+    → (slice_index b 1 / 16 ≡ 1) ⊎ (slice_index b 1 / 16 ≡ 2) → count ≤ 12 → Passes b count
 passes_major b count first major le = record {
   first = first;
   major = λ more. major;
@@ -30,30 +31,40 @@ returns-then-len-eq0-clause-refused c = empty_refused c.args.bytes.now _ c.fault
 
 pub returns-then-not-is_header_size-clause-refused : goal.returns-then-not-is_header_size-clause-refused
 returns-then-not-is_header_size-clause-refused c =
-    first_refused c.args.bytes.now _ c.fault-then-not-is_header_size.ensures (omega arith) (λ h. false≢true (c.if-not-is_header_size.ensures.1 h))
+    first_refused c.args.bytes.now _ c.fault-then-not-is_header_size.ensures (omega arith)
+    (λ h. false≢true (c.if-not-is_header_size.ensures.1 h))
 
 pub returns-then-len-lt2-clause-refused : goal.returns-then-len-lt2-clause-refused
 returns-then-len-lt2-clause-refused c =
-    cut_refused c.args.bytes.now _ c.fault-then-len-lt2.ensures (passes_first c.args.bytes.now (length c.args.bytes.now + 1) (c.if-not-is_header_size.ensures.0 refl) (omega arith))
+    cut_refused c.args.bytes.now _ c.fault-then-len-lt2.ensures
+    (passes_first c.args.bytes.now (length c.args.bytes.now + 1) (c.if-not-is_header_size.ensures.0 refl) (omega arith))
 
 pub returns-then-not-is_major-clause-refused : goal.returns-then-not-is_major-clause-refused
 returns-then-not-is_major-clause-refused c =
     let b = c.args.bytes.now in
     let long : length (take 2 b) ≡ 2 = length-take-le 2 b (omega arith) in
     let same = header_byte 2 b 1 (omega arith) in
-    check_refused b _ Protocol 1 2 c.fault-then-not-is_major.ensures (λ e. cc) (passes_first b 2 (c.if-not-is_header_size.ensures.0 refl) (omega arith)) (omega arith)
-    (refl, long, λ e. false≢true (c.if-not-is_major.ensures.1 (inl (rw same at e))), λ e. false≢true (c.if-not-is_major.ensures.1 (inr (rw same at e))))
+    check_refused b _ Protocol 1 2 c.fault-then-not-is_major.ensures (λ e. cc)
+    (passes_first b 2 (c.if-not-is_header_size.ensures.0 refl) (omega arith)) (omega arith) (
+      refl,
+      long,
+      λ e. false≢true (c.if-not-is_major.ensures.1 (inl (rw same at e))),
+      λ e. false≢true
+          (c.if-not-is_major.ensures.1 (inr (rw same at e))),
+    )
 
 pub returns-then-len-lt12-clause-refused : goal.returns-then-len-lt12-clause-refused
 returns-then-len-lt12-clause-refused c =
     let b = c.args.bytes.now in
-    cut_refused b _ c.fault-then-len-lt12.ensures (passes_major b (length b + 1) (c.if-not-is_header_size.ensures.0 refl) (c.if-not-is_major.ensures.0 refl) (omega arith))
+    cut_refused b _ c.fault-then-len-lt12.ensures (passes_major b (length b + 1)
+    (c.if-not-is_header_size.ensures.0 refl) (c.if-not-is_major.ensures.0 refl) (omega arith))
 
 pub returns-then-not-is_marked-clause-refused : goal.returns-then-not-is_marked-clause-refused
 returns-then-not-is_marked-clause-refused c =
     let b = c.args.bytes.now in
     let long : length (take 12 b) ≡ 12 = length-take-le 12 b (omega arith) in
-    check_refused b _ Magic 8 12 c.fault-then-not-is_marked.ensures (λ e. cc) (passes_major b 12 (c.if-not-is_header_size.ensures.0 refl) (c.if-not-is_major.ensures.0 refl) (omega arith)) (omega arith)
+    check_refused b _ Magic 8 12 c.fault-then-not-is_marked.ensures (λ e. cc)
+    (passes_major b 12 (c.if-not-is_header_size.ensures.0 refl) (c.if-not-is_major.ensures.0 refl) (omega arith)) (omega arith)
     (refl, long, λ e. false≢true (c.if-not-is_marked.ensures.1 (sym (header_range 12 b 8 4 (omega arith)) ∙ e)))
 
 pub returns-then-len-header_size-clause-refused : goal.returns-then-len-header_size-clause-refused
@@ -75,7 +86,13 @@ returns-then-not-checks_header-clause-refused c =
       major = λ more. c.if-not-is_major.ensures.0 refl;
       marked = λ more. c.if-not-is_marked.ensures.0 refl;
       within = omega arith;
-    }) (omega arith) (refl, long, header_byte 14 b 0 (omega arith) ∙ c.if-header_size-eq14.true, λ h. false≢true (c.if-not-checks_header.ensures.1 h))
+    }) (omega arith) (
+      refl,
+      long,
+      header_byte 14 b 0 (omega arith)
+          ∙ c.if-header_size-eq14.true,
+      λ h. false≢true (c.if-not-checks_header.ensures.1 h),
+    )
 
 pub returns-clause-header : goal.returns-clause-header
 returns-clause-header c =

@@ -9,12 +9,17 @@ use Rattle.fit_grammar.proofs.file.decode.take_item.Goals as goal
 spelled : (c : goal.After-definition-1) → SpellsDefinition c.read-definition.result (take c.in_ok-used.used c.args.window.now)
 spelled c =
     let whole = c.in_ok-used.ensures.whole in
-    definition_whole (in_force c.args.file.now.items) c.args.window.now c.in_ok-used.used c.in-Definition.field-0 c.read-definition.result whole.least whole.there c.in-Definition.ensures (c.read-definition.ensures ∙ c.new.ensures)
+    definition_whole (in_force c.args.file.now.items) c.args.window.now c.in_ok-used.used c.in-Definition.field-0
+    c.read-definition.result whole.least whole.there c.in-Definition.ensures (c.read-definition.ensures ∙ c.new.ensures)
 
 long : (c : goal.After-definition-1) → c.in_ok-used.used ≡ 6 + 3 * length c.read-definition.result.fields.items
 long c =
     let whole = c.in_ok-used.ensures.whole in
-    omega (arith, definition_length c.read-definition.result (take c.in_ok-used.used c.args.window.now) (spelled c), length-take-le c.in_ok-used.used c.args.window.now whole.there)
+    omega (
+      arith,
+      definition_length c.read-definition.result (take c.in_ok-used.used c.args.window.now) (spelled c),
+      length-take-le c.in_ok-used.used c.args.window.now whole.there,
+    )
 
 pub push_definition-requires-clause-fits : goal.push_definition-requires-clause-fits
 push_definition-requires-clause-fits c = λ past. omega (arith, past, long c, c.in_ok-used.ensures.whole.inside, c.requires.fits)
@@ -28,7 +33,13 @@ returns-in_ok-push_definition-in-Definition-clause-taken c =
     let whole = c.in_ok-used.ensures.whole in
     record {
       item = Defines c.read-definition.result;
-      at_front = record { within = whole.there; spelled = definition_whole (in_force c.args.file.now.items) c.args.window.now c.in_ok-used.used c.in-Definition.field-0 c.read-definition.result whole.least whole.there c.in-Definition.ensures (c.read-definition.ensures ∙ c.new.ensures); defined = tt };
+      at_front = record {
+        within = whole.there;
+        spelled = definition_whole (in_force c.args.file.now.items)
+            c.args.window.now c.in_ok-used.used c.in-Definition.field-0 c.read-definition.result whole.least whole.there
+            c.in-Definition.ensures (c.read-definition.ensures ∙ c.new.ensures);
+        defined = tt;
+      };
       inside = whole.inside;
       added = c.in_ok-push_definition-in-Definition.ensures.ok;
     }

@@ -12,4 +12,4 @@ pub returns : goal.returns
 returns g c =
     checked_same (then_checked c.in_ok-put_checked.ensures c.put_checked-3.ensures)
     (header_joined c.args.frame c.args.size _ _ c.if-frame-ne14.false c.header_front-front.ensures
-    (checksum_bytes _ _ c.value.result _ _ c.to_le_bytes.ensures c.value.type_inv c.value.ensures c.add.ensures c.new-own.ensures))
+    (checksum_bytes _ _ c.of.result _ 0 c.to_le_bytes.ensures c.of.type_inv refl c.of.ensures refl))

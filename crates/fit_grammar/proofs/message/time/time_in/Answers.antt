@@ -1,5 +1,5 @@
 use Rattle.std.proofs.Common.{length, sym, ◌∙◌, ap}
-use Rattle.fit_grammar.proofs.Times.Stated.{no_time}
+use Rattle.fit_grammar.proofs.StatedTime.{no_time}
 use Rattle.fit_grammar.proofs.message.time.time_in.Goals as goal
 
 pub returns-then-bytes-ne4 : goal.returns-then-bytes-ne4

@@ -12,7 +12,8 @@ loop-byte-preserved g c =
 
 pub returns-in_err-put_escaped : goal.returns-in_err-put_escaped
 returns-in_err-put_escaped g c =
-    each_off escaped c.args.bytes.now c.loop-byte.byte-index c.from_residual.ensures.0 c.loop-byte.invariant c.in_err-put_escaped.ensures (omega arith) refl
+    each_off escaped c.args.bytes.now c.loop-byte.byte-index c.from_residual.ensures.0 c.loop-byte.invariant
+    c.in_err-put_escaped.ensures (omega arith) refl
 
 pub returns : goal.returns
 returns g c = each_done escaped c.args.bytes.now c.loop-byte.byte-index tt c.loop-byte.invariant (omega arith)

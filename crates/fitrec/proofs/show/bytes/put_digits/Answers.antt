@@ -12,7 +12,8 @@ loop-byte-preserved g c =
 
 pub returns-in_err-put : goal.returns-in_err-put
 returns-in_err-put g c =
-    each_off hex_byte c.args.bytes.now c.loop-byte.byte-index c.from_residual.ensures.0 c.loop-byte.invariant c.in_err-put.ensures (omega arith) c.hex_byte.ensures
+    each_off hex_byte c.args.bytes.now c.loop-byte.byte-index c.from_residual.ensures.0 c.loop-byte.invariant
+    c.in_err-put.ensures (omega arith) c.hex_byte.ensures
 
 pub returns : goal.returns
 returns g c = each_done hex_byte c.args.bytes.now c.loop-byte.byte-index tt c.loop-byte.invariant (omega arith)

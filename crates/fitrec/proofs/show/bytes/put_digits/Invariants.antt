@@ -6,4 +6,5 @@ use Rattle.fitrec.proofs.show.bytes.put_digits.Given as goal
 
 abbrev pub invariant-loop-byte : goal.invariant-loop-byte
 invariant-loop-byte g l =
-    Leaves (g.W.Write.contents l.initial.out) (g.W.Write.contents l.out) (flat_map hex_byte l.bytes) (flat_map hex_byte (drop l.byte-index l.bytes))
+    Leaves (g.W.Write.contents l.initial.out) (g.W.Write.contents l.out) (flat_map hex_byte l.bytes)
+    (flat_map hex_byte (drop l.byte-index l.bytes))

@@ -13,12 +13,12 @@ returns-in_err-put_all_escaped g c =
     writes_same
     (then_writes c.in_ok-put.ensures
     (stops_before c.from_residual-in_err-put_all_escaped.ensures.0
-    (writes_same c.in_err-put_all_escaped.ensures (ap (flat_map escaped) c.before_zero.ensures)) _))
+    (writes_same c.in_err-put_all_escaped.ensures (ap (flat_map escaped) c.text_bytes.ensures)) _))
     (string_parts _)
 
 pub returns : goal.returns
 returns g c =
     writes_same
     (then_writes c.in_ok-put.ensures
-    (then_writes (writes_same c.in_ok-put_all_escaped.ensures (ap (flat_map escaped) c.before_zero.ensures)) c.put-2.ensures))
+    (then_writes (writes_same c.in_ok-put_all_escaped.ensures (ap (flat_map escaped) c.text_bytes.ensures)) c.put-2.ensures))
     (string_parts _)

@@ -1,7 +1,7 @@
 use Rattle.std.proofs.Common.{ap, ◌∙◌, sym}
 use Rattle.fitrec.specs.Text.{hex_text}
 use Rattle.fit_grammar.proofs.Encoder.Output.{writes_same}
-use Rattle.fitrec.proofs.FieldLemmas.{hex_values, known_as}
+use Rattle.fitrec.proofs.FieldLemmas.{hex_values}
 use Rattle.fitrec.proofs.show.field.put_value.Goals as goal
 
 pub returns-then-count-eq0 : goal.returns-then-count-eq0
@@ -9,4 +9,4 @@ returns-then-count-eq0 g c =
     writes_same c.put_hex.ensures (ap hex_text c.raw.ensures ∙ hex_values c.args.value.now (sym c.count.ensures ∙ c.if-count-eq0.true))
 
 pub put_some-requires-clause-known : goal.put_some-requires-clause-known
-put_some-requires-clause-known g c = known_as _ _ c.args.value.now.base c.in-Some.ensures.table c.base.ensures
+put_some-requires-clause-known g c = sym c.in-Some.ensures

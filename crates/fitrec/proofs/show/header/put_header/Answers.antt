@@ -10,25 +10,35 @@ returns-in_err-put_labelled g c =
 
 pub returns-in_err-put_labelled-2 : goal.returns-in_err-put_labelled-2
 returns-in_err-put_labelled-2 g c =
-    writes_same (then_writes c.in_ok-put_labelled.ensures (stops_before c.from_residual-in_err-put_labelled-2.ensures.0 c.in_err-put_labelled-2.ensures _))
+    writes_same (then_writes c.in_ok-put_labelled.ensures
+    (stops_before c.from_residual-in_err-put_labelled-2.ensures.0 c.in_err-put_labelled-2.ensures _))
     (header_parts c.args.frame c.args.size _ _ _ _ _ c.from.ensures c.from-2.ensures refl refl refl)
 
 pub returns-in_err-put_labelled-3 : goal.returns-in_err-put_labelled-3
 returns-in_err-put_labelled-3 g c =
-    writes_same (then_writes c.in_ok-put_labelled.ensures (then_writes c.in_ok-put_labelled-2.ensures (stops_before c.from_residual-in_err-put_labelled-3.ensures.0 c.in_err-put_labelled-3.ensures _)))
+    writes_same (then_writes c.in_ok-put_labelled.ensures
+    (then_writes c.in_ok-put_labelled-2.ensures (stops_before c.from_residual-in_err-put_labelled-3.ensures.0
+    c.in_err-put_labelled-3.ensures _)))
     (header_parts c.args.frame c.args.size _ _ _ _ _ c.from.ensures c.from-2.ensures c.from-3.ensures refl refl)
 
 pub returns-in_err-put_labelled-4 : goal.returns-in_err-put_labelled-4
 returns-in_err-put_labelled-4 g c =
-    writes_same (then_writes c.in_ok-put_labelled.ensures (then_writes c.in_ok-put_labelled-2.ensures (then_writes c.in_ok-put_labelled-3.ensures (stops_before c.from_residual-in_err-put_labelled-4.ensures.0 c.in_err-put_labelled-4.ensures _))))
+    writes_same (then_writes c.in_ok-put_labelled.ensures
+    (then_writes c.in_ok-put_labelled-2.ensures (then_writes c.in_ok-put_labelled-3.ensures
+    (stops_before c.from_residual-in_err-put_labelled-4.ensures.0 c.in_err-put_labelled-4.ensures _))))
     (header_parts c.args.frame c.args.size _ _ _ _ _ c.from.ensures c.from-2.ensures c.from-3.ensures c.from-4.ensures refl)
 
 pub returns-in_err-put_labelled-5 : goal.returns-in_err-put_labelled-5
 returns-in_err-put_labelled-5 g c =
-    writes_same (then_writes c.in_ok-put_labelled.ensures (then_writes c.in_ok-put_labelled-2.ensures (then_writes c.in_ok-put_labelled-3.ensures (then_writes c.in_ok-put_labelled-4.ensures (stops_before c.from_residual-in_err-put_labelled-5.ensures.0 c.in_err-put_labelled-5.ensures _)))))
+    writes_same (then_writes c.in_ok-put_labelled.ensures
+    (then_writes c.in_ok-put_labelled-2.ensures (then_writes c.in_ok-put_labelled-3.ensures
+    (then_writes c.in_ok-put_labelled-4.ensures (stops_before c.from_residual-in_err-put_labelled-5.ensures.0
+    c.in_err-put_labelled-5.ensures _)))))
     (header_parts c.args.frame c.args.size _ _ _ _ _ c.from.ensures c.from-2.ensures c.from-3.ensures c.from-4.ensures c.from-5.ensures)
 
 pub returns : goal.returns
 returns g c =
-    writes_same (then_writes c.in_ok-put_labelled.ensures (then_writes c.in_ok-put_labelled-2.ensures (then_writes c.in_ok-put_labelled-3.ensures (then_writes c.in_ok-put_labelled-4.ensures (then_writes c.in_ok-put_labelled-5.ensures c.put.ensures)))))
+    writes_same (then_writes c.in_ok-put_labelled.ensures
+    (then_writes c.in_ok-put_labelled-2.ensures (then_writes c.in_ok-put_labelled-3.ensures
+    (then_writes c.in_ok-put_labelled-4.ensures (then_writes c.in_ok-put_labelled-5.ensures c.put.ensures)))))
     (header_parts c.args.frame c.args.size _ _ _ _ _ c.from.ensures c.from-2.ensures c.from-3.ensures c.from-4.ensures c.from-5.ensures)

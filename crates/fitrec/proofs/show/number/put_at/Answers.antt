@@ -11,12 +11,14 @@ use Rattle.fitrec.proofs.show.number.put_at.Goals as goal
 pub returns-then-number-invalid : goal.returns-then-number-invalid
 returns-then-number-invalid g c =
     writes_same c.put.ensures
-    (number_same c.args.base c.unsigned-number.result (c.if-number-invalid.true ∙ c.invalid.ensures) ∙ ap (number_text c.args.base) c.unsigned-number.ensures.number)
+    (number_same c.args.base c.unsigned-number.result (c.if-number-invalid.true ∙ c.invalid.ensures)
+    ∙ ap (number_text c.args.base) c.unsigned-number.ensures.number)
 
 pub returns-then-is_signed : goal.returns-then-is_signed
 returns-then-is_signed g c =
     let n = unsigned_at c.args.field.now c.args.i in
-    let other : n ≢ (row_of c.args.base).invalid = λ e. c.if-number-invalid.false (c.unsigned-number.ensures.number ∙ e ∙ sym c.invalid.ensures) in
+    let other : n ≢ (row_of c.args.base).invalid = λ e. c.if-number-invalid.false
+    (c.unsigned-number.ensures.number ∙ e ∙ sym c.invalid.ensures) in
     writes_same c.put_signed.ensures
     (ap signed_decimal (to_z-of_z w64 _ (search rules) ∙ c.signed.ensures)
     ∙ whole_signed_at c.args.base c.args.field.now c.args.i c.requires.known (sym c.if-is_signed.ensures)

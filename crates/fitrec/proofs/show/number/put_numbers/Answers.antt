@@ -9,7 +9,8 @@ use Rattle.fitrec.proofs.show.number.put_numbers.Goals as goal
 pub loop-i-init : goal.loop-i-init
 loop-i-init g c =
     let ns = numbers c.args.field.now.arch (value_size c.args.field.now) (count_of c.args.field.now) c.args.field.now.bytes in
-    let P : List ℕ → Type 0 = λ t. Leaves (g.W.Write.contents c.args.out.now) (g.W.Write.contents c.args.out.now) (numbers_text c.args.base ns) t in
+    let P : List ℕ → Type 0 = λ t. Leaves (g.W.Write.contents c.args.out.now) (g.W.Write.contents c.args.out.now)
+    (numbers_text c.args.base ns) t in
     subst P (rest_all c.args.base ns) (leaves_all _ _)
 
 pub loop-i-preserved : goal.loop-i-preserved
@@ -33,5 +34,6 @@ returns g c =
     let field = c.args.field.now in
     let ns = numbers field.arch (value_size field) (count_of field) field.bytes in
     let none : length ns ≤ c.loop-i.i = omega (arith, length-numbers_of field, c.count-i-end.ensures) in
-    let P : List ℕ → Type 0 = λ t. Leaves (g.W.Write.contents c.args.out.now) (g.W.Write.contents c.loop-i.out) (numbers_text c.args.base ns) t in
+    let P : List ℕ → Type 0 = λ t. Leaves (g.W.Write.contents c.args.out.now) (g.W.Write.contents c.loop-i.out)
+    (numbers_text c.args.base ns) t in
     leaves_none tt (subst P (rest_none (number_text c.args.base) ns c.loop-i.i none) c.loop-i.invariant)

@@ -12,4 +12,5 @@ returns-in-Float64 g c = writes_same c.put_hex-in-Float64.ensures (plain_float64
 pub returns-in_default : goal.returns-in_default
 returns-in_default g c =
     writes_same c.put_number.ensures
-    (whole_unsigned c.args.base c.args.number c.requires ∙ plain_whole c.args.base c.args.number c.in_default.not-Float32 c.in_default.not-Float64)
+    (whole_unsigned c.args.base c.args.number c.requires
+    ∙ plain_whole c.args.base c.args.number c.in_default.not-Float32 c.in_default.not-Float64)

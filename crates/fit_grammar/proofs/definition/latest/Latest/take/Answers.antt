@@ -24,5 +24,6 @@ pub returns-clause-others : goal.returns-clause-others
 returns-clause-others c = λ l other.
     let slots = c.self.inside.slots in
     ap (λ (s : List (Option Definition)). definition_in s l) (map-set spelled slots c.local.result (Some c.bytes.result))
-    ∙ get_or-set_other (map spelled slots) c.local.result l (Some (definition_at c.bytes.result.now)) None (λ e. other (e ∙ c.local.ensures))
+    ∙ get_or-set_other (map spelled slots) c.local.result l (Some (definition_at c.bytes.result.now)) None
+    (λ e. other (e ∙ c.local.ensures))
     ∙ ap (λ (s : List (Option Definition)). definition_in s l) c.self.view_is

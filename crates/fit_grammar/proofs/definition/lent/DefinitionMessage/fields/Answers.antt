@@ -8,7 +8,8 @@ use Rattle.fit_grammar.proofs.definition.lent.DefinitionMessage.fields.Goals as 
 pub returns-clause-fields : goal.returns-clause-fields
 returns-clause-fields c =
     let whole = fields_fit c.self.inside.bytes.now c.self.invariant in
-    ap fields_in (take_all _ _ (omega (arith, whole, c.fields_size-size.ensures.size))) ∙ ap (λ (d : Definition). d.fields.items) c.self.view_is
+    ap fields_in (take_all _ _ (omega (arith, whole, c.fields_size-size.ensures.size)))
+    ∙ ap (λ (d : Definition). d.fields.items) c.self.view_is
 
 pub returns-clause-bound : goal.returns-clause-bound
 returns-clause-bound c =

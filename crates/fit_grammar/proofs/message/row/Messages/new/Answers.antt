@@ -12,7 +12,8 @@ pub invariant_of-result : goal.invariant_of-result
 invariant_of-result c =
     let records = c.args.records.now in
     let none : in_force [] ≡ definition_in c.new.result = fun_ext (λ l. sym (c.new.ensures l)) in
-    let left : AreWritten (in_force []) records = record { written = c.requires.written; defined = all_defined [] (items_in records) c.requires.follow } in
+    let left : AreWritten (in_force []) records = record
+    { written = c.requires.written; defined = all_defined [] (items_in records) c.requires.follow } in
     subst (λ (f : ℕ → Option Definition). AreWritten f records) none left
 
 pub returns : goal.returns

@@ -1,21 +1,15 @@
-#!/usr/bin/env -S python3 -B
 """Holds `fitrec show` against the second reader, over each change of one byte of a small file and over files that are
-made at random, whole and damaged.
+made at random, whole and damaged."""
 
-    compare/compare.py [FILES [SEED]]
-
-It makes FILES files (5,000 where it is not said), and ends with status 1 where the two differ."""
-
+import concurrent.futures
+import os
 import pathlib
 import random
+import re
 import subprocess
-import sys
 import tempfile
 
-from reader import BASE_TYPES, MESSAGES, Refused, checksum, show
-
-ROOT = pathlib.Path(__file__).resolve().parent.parent
-SMALL = (ROOT / "crates/fitrec/data/row3.fit").read_bytes()
+from reader import BASE_TYPES, MESSAGES, checksum, wanted
 
 
 def two(value):
@@ -95,36 +89,24 @@ def changes(data):
                 yield data[:at] + bytes([byte]) + data[at + 1:]
 
 
-def wanted(data):
-    try:
-        return 0, show(data), ""
-    except Refused as refused:
-        return 1, "", "fitrec: %s\n" % refused
+def judge(program, folder, number, data):
+    """What the second reader makes of a file, and where the program says something else, both."""
+    path = pathlib.Path(folder) / ("%d.fit" % number)
+    path.write_bytes(data)
+    ran = subprocess.run([program, "show", path], capture_output=True, text=True)
+    path.unlink()
+    said, want = (ran.returncode, ran.stdout, ran.stderr), wanted(data)
+    kind = re.sub("[( ].*", "", want[2].strip().removeprefix("fitrec: ")) or "shown"
+    return kind, None if said == want else (data.hex(), want, said)
 
 
-def main(files=5000, seed=1):
+def check(program, small, files, seed):
+    """Yields a name and a difference, or None, for each file. The small file is one that is shown."""
     pick = random.Random(seed)
-    inputs = list(changes(SMALL))
+    inputs = list(changes(small))
     for _ in range(files):
         data = made(pick)
         inputs.append(data if pick.random() < 0.5 else damaged(pick, data))
-    subprocess.run([ROOT / "fitrec"], capture_output=True)  # which proves and builds it where it is not there yet
-    program = ROOT / "crates/fitrec/out/fitrec"
-    differences, kinds = 0, {}
-    with tempfile.NamedTemporaryFile(suffix=".fit") as file:
-        for data in inputs:
-            pathlib.Path(file.name).write_bytes(data)
-            ran = subprocess.run([program, "show", file.name], capture_output=True, text=True)
-            want = wanted(data)
-            kind = want[2].partition(" ")[2].partition(" at ")[0].partition("(")[0] or "shown"
-            kinds[kind] = kinds.get(kind, 0) + 1
-            if (ran.returncode, ran.stdout, ran.stderr) != want:
-                differences += 1
-                print("differs:", data.hex(), want, ran.stdout, ran.stderr)
-    print("%d files, %d differences" % (len(inputs), differences))
-    print(", ".join("%s %d" % pair for pair in sorted(kinds.items())))
-    return 1 if differences else 0
-
-
-if __name__ == "__main__":
-    sys.exit(main(*map(int, sys.argv[1:])))
+    with tempfile.TemporaryDirectory() as folder, concurrent.futures.ThreadPoolExecutor(os.cpu_count()) as pool:
+        for kind, difference in pool.map(lambda row: judge(program, folder, *row), enumerate(inputs)):
+            yield "made files: " + kind, difference

@@ -1,0 +1,156 @@
+"""Holds the program itself: what it says on which stream and how it ends, for each kind of answer, at the limits, with
+output that fails and with little memory."""
+
+import os
+import pathlib
+import re
+import resource
+import subprocess
+import tempfile
+import threading
+
+from reader import checksum, wanted
+
+MOST = 268435456
+
+
+def framed(records):
+    """A file with these records and right checksums."""
+    start = bytes([14, 0x10, 100, 0]) + len(records).to_bytes(4, "little") + b".FIT"
+    start += checksum(start).to_bytes(2, "little")
+    return start + records + checksum(start + records).to_bytes(2, "little")
+
+
+def long_content(size):
+    """A record of this much content, in fields of type byte."""
+    sizes = [255] * (size // 255) + [size % 255] * (size % 255 > 0)
+    definition = bytes([0x40, 0, 0, 20, 0, len(sizes)]) + b"".join(bytes([99, own, 13]) for own in sizes)
+    return framed(definition + b"\0" + bytes(at % 250 + 1 for at in range(size)))
+
+
+def many_messages(count):
+    """So many messages without fields."""
+    return framed(bytes([0x40, 0, 0, 0xE8, 3, 0]) + bytes(count))
+
+
+class Program:
+    """The program, and a folder for its files."""
+
+    def __init__(self, program, folder):
+        self.program, self.folder = program, pathlib.Path(folder)
+
+    def run(self, *words, **how):
+        """The status, the output and the errors of a run."""
+        how = {"stdout": subprocess.PIPE, "stderr": subprocess.PIPE} | how
+        ran = subprocess.run([self.program, *words], stdin=subprocess.DEVNULL, cwd=self.folder, timeout=100, **how)
+        return ran.returncode, (ran.stdout or b"").decode(), (ran.stderr or b"").decode()
+
+    def write(self, name, data):
+        (self.folder / name).write_bytes(data)
+        return name
+
+
+def answers(fitrec, small):
+    """Each kind of answer: shown, refused, not opened, not read."""
+    name = fitrec.write("small.fit", small)
+    yield "a file is shown", fitrec.run("show", name), wanted(small)
+    yield "a file is refused", fitrec.run("show", fitrec.write("cut.fit", small[:-1])), wanted(small[:-1])
+    yield "no such file", fitrec.run("show", "none.fit"), (1, "", "fitrec: cannot open none.fit\n")
+    yield "no name", fitrec.run("show", ""), (1, "", "fitrec: cannot open \n")
+    yield "a folder", fitrec.run("show", "."), (1, "", "fitrec: cannot read .\n")
+    yield "a file that is named -", fitrec.run("show", "-"), (1, "", "fitrec: cannot open -\n")
+    yield "words that are no text", fitrec.run("show", b"\xff")[:2], (1, "")
+
+
+def wrong_words(fitrec):
+    """A wrong command line: status 2, nothing on standard output, and a text that names what is wrong or missing."""
+    cases = [
+        ([], "subcommand"), (["show"], "<FILE>"), (["shown", "x"], "shown"), (["show", "x", "surplus"], "surplus"),
+        (["show", "--other", "x"], "--other"), (["--other"], "--other"), (["--version"], "--version"),
+        (["help"], "show"), (["--help"], "show"), (["show", "--help"], "<FILE>"), (["help", "show"], "<FILE>")]
+    for words, named in cases:
+        status, out, err = fitrec.run(*words)
+        yield "wrong words: %s" % " ".join(words), (status, out, named in err), (2, "", True)
+
+
+def sizes(fitrec):
+    """Long content and many messages."""
+    for size in (1, 255, 256, 5000, 65025):
+        data = long_content(size)
+        yield "content of %d bytes" % size, fitrec.run("show", fitrec.write("long.fit", data)), wanted(data)
+    data = many_messages(1000001)
+    yield "a million messages", fitrec.run("show", fitrec.write("many.fit", data)), wanted(data)
+
+
+def feed(path, count):
+    """Writes so many zeros to a pipe of this name, or as many as are read."""
+    piece = bytes(1 << 20)
+    try:
+        with open(path, "wb", buffering=0) as pipe:
+            while count:
+                count -= pipe.write(piece[:count])
+    except BrokenPipeError:
+        pass
+
+
+def limits(fitrec):
+    """As many bytes as are read, and one more: by a file whose size is known, and by a pipe."""
+    pipe = fitrec.folder / "pipe"
+    os.mkfifo(pipe)
+    for count, line in ((MOST, "HeaderSize at 0"), (MOST + 1, "TooLarge")):
+        want = 1, "", "fitrec: %s\n" % line
+        with open(fitrec.folder / "large.fit", "wb") as file:
+            file.truncate(count)
+        yield "a file of %d bytes" % count, fitrec.run("show", "large.fit"), want
+        writer = threading.Thread(target=feed, args=(pipe, count))
+        writer.start()
+        yield "a pipe of %d bytes" % count, fitrec.run("show", "pipe"), want
+        writer.join()
+
+
+def outputs(fitrec, small):
+    """Output that takes nothing, or that nobody reads."""
+    name, line = fitrec.write("small.fit", small), "fitrec: cannot write -\n"
+    long = fitrec.write("many.fit", many_messages(20000))
+    for file in (name, long):
+        with open("/dev/full", "wb") as full:
+            yield "output that is full, of " + file, fitrec.run("show", file, stdout=full), (1, "", line)
+            yield "errors that are full, of " + file, fitrec.run("show", file + "x", stderr=full), (1, "", "")
+        read, write = (open(end, mode) for end, mode in zip(os.pipe(), ("rb", "wb")))
+        read.close()
+        yield "output that nobody reads, of " + file, fitrec.run("show", file, stdout=write), (1, "", line)
+        write.close()
+
+
+def memory(fitrec):
+    """With more and more memory: nothing is shown and one line says why, at places that never go back, until it is."""
+    data = many_messages(300000)
+    name, want = fitrec.write("many.fit", data), wanted(data)
+    place, limit, told = 0, 1 << 20, set()
+    while True:
+        limit += 1 << 15
+        said = fitrec.run("show", name, preexec_fn=lambda: resource.setrlimit(resource.RLIMIT_AS, (limit, limit)))
+        if said[0] != 1:
+            # where there is no memory for the program itself, it does not start
+            if said[0] == 0:
+                break
+            continue
+        line = re.fullmatch(r"fitrec: (?:(NoMemory)|Memory at (\d+))\n|Error: Kind\(OutOfMemory\)\n", said[2])
+        good = line and said[1] == "" and int(line[2] or 0) >= place
+        place = int(line[2] or 0) if line else place
+        told.add("at an item" if place else "at once")
+        if not good:
+            yield "memory of %d bytes" % limit, said, "one line on the want of memory"
+    yield "memory enough", said, want
+    yield "want of memory", told, {"at once", "at an item"}
+
+
+def check(program, small):
+    """Yields a name and a difference, or None, for each run."""
+    with tempfile.TemporaryDirectory() as folder:
+        fitrec = Program(program, folder)
+        runs = (answers(fitrec, small), wrong_words(fitrec), sizes(fitrec), limits(fitrec), outputs(fitrec, small),
+                memory(fitrec))
+        for rows in runs:
+            for name, said, want in rows:
+                yield name, None if said == want else (want, said)

@@ -1,2 +1,0 @@
--- The time that a message states.
-pub mod Stated

@@ -1,0 +1,56 @@
+// The file that a subcommand reads.
+
+ghost use Rattle.std.specs.Prelude.{◌≡◌, ◌<◌, ◌↔◌, IsTrue, IfOk, IfErr};
+ghost use Rattle.fitrec.specs.Reading.{ReadsAll, fault_of_read, IsReadFault, IsFileFault};
+
+use crate::fault::Fault;
+use crate::reading::{ReadFault, read_all};
+use std::alloc::Global;
+use std::fs::{self, OpenFile};
+use std::io::Read;
+use std::rt::Files;
+
+// The most bytes of a file that are read.
+const MOST_BYTES: usize = 268_435_456;
+
+/// All bytes of the file of this name. One that is known to be too large is not read.
+pub fn read_file<'a, R: Files + AllocGlobal>(rt: &R, name: &'a str) -> Result<Vec<u8>, Fault<'a>>
+    ensures { IfErr result (IsFileFault name.entry) }
+{
+    let Ok(mut file) = fs::open(rt, name) else {
+        return Err(Fault::Open(name));
+    };
+    let size = file.metadata().map_or(0, |metadata| metadata.len());
+    if is_too_large(size) {
+        return Err(Fault::TooLarge);
+    }
+    read_input(rt.alloc(), name, &mut file)
+}
+
+fn is_too_large(size: u64) -> bool
+    ensures { IsTrue result ↔ 268435456 < size }
+{
+    size > MOST_BYTES as u64
+}
+
+// All bytes of the input of this name.
+fn read_input<'a, T: Read>(alloc: Global, name: &'a str, from: &mut T) -> Result<Vec<u8>, Fault<'a>>
+    ensures all { IfOk result (λ bytes. ReadsAll 268435456 (T.remaining from.old) (T.remaining from.new) bytes.items) }
+    ensures refused { IfErr result (IsReadFault 268435456 (T.remaining from.old) (T.remaining from.new) name.entry) }
+{
+    match read_all(alloc, from, MOST_BYTES) {
+        Ok(bytes) => Ok(bytes),
+        Err(fault) => Err(fault_of(name, fault)),
+    }
+}
+
+// What the program says of an input of this name that was not read.
+fn fault_of<'a>(name: &'a str, fault: ReadFault) -> Fault<'a>
+    ensures { result ≡ fault_of_read name.entry fault }
+{
+    match fault {
+        ReadFault::Failed => Fault::Read(name),
+        ReadFault::TooLarge => Fault::TooLarge,
+        ReadFault::NoMemory => Fault::NoMemory,
+    }
+}

@@ -1,0 +1,56 @@
+// The subcommand `show`: the text of a file.
+
+ghost use Rattle.std.specs.Prelude.{OnOk, IfErr};
+ghost use Rattle.std.specs.Io.KnownBytes.{Appends};
+ghost use Rattle.fitrec.specs.Showing.{ShowsBytes, IsOutputFault};
+ghost use Rattle.fitrec.specs.Text.{text_of};
+
+use crate::command::input::read_file;
+use crate::command::lent::Lent;
+use crate::fault::Fault;
+use crate::show::show;
+use fit_grammar::{File, decode_file};
+use std::alloc::Global;
+use std::io::{BufWriter, Write};
+use std::rt::Files;
+
+/// Shows the file of this name.
+pub fn show_file<'a, R: Files + AllocGlobal, O: Write>(
+    rt: &R,
+    name: &'a str,
+    out: &mut O,
+) -> Result<(), Fault<'a>> {
+    let bytes = read_file(rt, name)?;
+    show_bytes(rt.alloc(), bytes.as_slice(), out)
+}
+
+// Shows the file that these bytes are. They are read whole before anything is written.
+fn show_bytes<O: Write>(alloc: Global, bytes: &[u8], out: &mut O) -> Result<(), Fault<'static>>
+    ensures { ShowsBytes (O.contents out.old) (O.contents out.new) bytes.now result }
+{
+    match decode_file(alloc, bytes) {
+        Ok(file) => show_buffered(alloc, &file, out),
+        Err(fault) => Err(Fault::File(fault)),
+    }
+}
+
+// Shows a file through one buffer, to the last byte.
+fn show_buffered<O: Write>(alloc: Global, file: &File, out: &mut O) -> Result<(), Fault<'static>>
+    ensures all { OnOk result (Appends (O.contents out.old) (O.contents out.new) (text_of file.now)) }
+    ensures fault { IfErr result IsOutputFault }
+{
+    let Ok(mut buffered) = BufWriter::new(alloc, Lent::new(out)) else {
+        return Err(Fault::NoMemory);
+    };
+    let Ok(()) = show(file, &mut buffered) else {
+        return Err(Fault::Write("-"));
+    };
+    let Ok(lent) = buffered.into_inner() else {
+        return Err(Fault::Write("-"));
+    };
+    let Lent { out } = lent;
+    match out.flush() {
+        Ok(()) => Ok(()),
+        Err(_) => Err(Fault::Write("-")),
+    }
+}
