@@ -1,2 +1,5 @@
 pub mod Leaving
 pub mod Moments
+pub mod Sound
+pub mod Cycling
+pub mod Halves

@@ -4,3 +4,5 @@ pub mod State
 pub mod Story
 pub mod Counts
 pub mod Calls
+pub mod Cycle
+pub mod Half

@@ -2,5 +2,6 @@
 #![tactic(auto)]
 
 mod disk;
+mod half;
 
 pub use disk::{DeviceError, Disk, Which};
