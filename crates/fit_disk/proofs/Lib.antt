@@ -3,3 +3,4 @@ pub mod Moments
 pub mod Sound
 pub mod Cycling
 pub mod Halves
+pub mod Records

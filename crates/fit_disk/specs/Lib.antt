@@ -6,3 +6,6 @@ pub mod Counts
 pub mod Calls
 pub mod Cycle
 pub mod Half
+pub mod Events
+pub mod Recorded
+pub mod Store

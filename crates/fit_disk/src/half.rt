@@ -1,6 +1,6 @@
 // One file of the memory disk.
 
-ghost use Rattle.std.specs.Prelude.{◌≡◌, ℕ, ◌+◌, ◌^◌, ◌<◌, ◌≤◌, min, List, [], length, take, slice_index, vec_len, vec_capacity, if◌then◌else◌, OnOk};
+ghost use Rattle.std.specs.Prelude.{◌≡◌, ℕ, ◌+◌, ◌^◌, ◌<◌, ◌≤◌, max, min, List, [], length, take, slice_index, vec_len, vec_capacity, if◌then◌else◌, OnOk};
 ghost use Rattle.fit_disk.specs.Content.{over};
 ghost use Rattle.fit_disk.specs.Stored.{Stored, at_rest, write_begun, cut_begun};
 ghost use Rattle.fit_disk.specs.Cycle.{is_outside, is_kept, free_below, length_by, byte_by, left_by, taken_by};
@@ -13,7 +13,7 @@ use std::alloc::{AllocError, Global};
 pub(crate) struct Half {
     seen: Vec<u8>,
     least: usize,
-    greatest: usize,
+    pub(crate) greatest: usize,
     written: Vec<(usize, usize)>,
     ghost order: { least ≤ greatest },
     // A power cut needs no memory.
@@ -56,8 +56,9 @@ impl Half {
     pub(crate) fn begin_write(&mut self, at: usize, bytes: &[u8], is_done: bool)
         requires within { at ≤ vec_len self.old.seen }
         requires room { HasRoom self.old (at + length bytes.now) }
-        ensures { (file : Stored) → IsHalf self.old file → IsHalf self.new
+        ensures begun { (file : Stored) → IsHalf self.old file → IsHalf self.new
             (write_begun at (length bytes.now) (if is_done then over at bytes.now file.seen else file.seen) file) }
+        ensures greatest { self.new.greatest ≡ max self.old.greatest (at + length bytes.now) }
     {
         self.written.push_reserved((at, bytes.len()));
         self.greatest = self.greatest.max(at + bytes.len());
@@ -90,7 +91,9 @@ impl Half {
     // Leaves what a power cut does for these choice bytes, and answers how many of them it took.
     pub(crate) fn cycle(&mut self, choices: &[u8]) -> usize
         ensures left { (file : Stored) → IsHalf self.old file → IsHalf self.new (at_rest (left_by file choices.now)) }
-        ensures taken { (file : Stored) → IsHalf self.old file → result ≡ min (length choices.now) (taken_by file choices.now) }
+        ensures taken { (file : Stored) → IsHalf self.old file → result ≡ min (taken_by file choices.now) (length choices.now) }
+        ensures within { result ≤ length choices.now }
+        ensures greatest { self.new.greatest ≤ self.old.greatest }
     {
         let len = chosen_length(self.least, self.greatest, choices);
         set_length(&mut self.seen, len);

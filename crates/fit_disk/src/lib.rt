@@ -2,6 +2,8 @@
 #![tactic(auto)]
 
 mod disk;
+mod event;
 mod half;
+mod store;
 
 pub use disk::{DeviceError, Disk, Which};
