@@ -9,3 +9,5 @@ pub mod Half
 pub mod Events
 pub mod Recorded
 pub mod Store
+pub mod Clock
+pub mod Memory

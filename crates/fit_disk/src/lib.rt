@@ -1,9 +1,13 @@
 //! The disk under a recording: two files, what reads of them give, and what a power cut may leave.
 #![tactic(auto)]
 
+mod clock;
 mod disk;
 mod event;
 mod half;
+mod memory;
 mod store;
+mod tally;
 
 pub use disk::{DeviceError, Disk, Which};
+pub use memory::Memory;
