@@ -1,6 +1,7 @@
 // The disk in memory: an honest disk whose failures and power cuts are scheduled.
 
 ghost use Rattle.std.specs.Prelude.{◌≡◌, ◌⊎◌, ℕ, ◌≤◌, Bool, true, false, min, List, length, IsTrue, IfOk, OnErr};
+ghost use Rattle.fit_disk.specs.State.{BothLeft, seen_in};
 ghost use Rattle.fit_disk.specs.Story.{then_state, seen_of};
 ghost use Rattle.fit_disk.specs.Cycle.{cycled, taken_in};
 ghost use Rattle.fit_disk.specs.Events.{fresh};
@@ -82,6 +83,7 @@ impl Memory {
         ensures now { (memory_story self.new).now ≡ cycled choices.now (memory_story self.old).now }
         ensures story { (memory_story self.new ≡ memory_story self.old)
             ⊎ (memory_story self.new ≡ then_state (cycled choices.now (memory_story self.old).now) (memory_story self.old)) }
+        ensures left { BothLeft (memory_story self.old).now (seen_in (memory_story self.new).now) }
         ensures taken { result ≡ min (taken_in choices.now (memory_story self.old).now) (length choices.now) }
         ensures counts { memory_counts self.new ≡ memory_counts self.old }
         ensures schedule { memory_schedule self.new ≡ unplanned (memory_counts self.old) }
@@ -93,7 +95,7 @@ impl Memory {
 }
 
 impl Disk for Memory {
-    ghost use Rattle.fit_disk.specs.Memory.{memory_story, memory_counts, memory_schedule, was_refused};
+    ghost use Rattle.fit_disk.specs.Memory.{memory_story, memory_counts, memory_schedule, was_refused, FailsCleanly};
 
     ghost honest = { true };
 
@@ -105,17 +107,39 @@ impl Disk for Memory {
 
     ghost sound = { λ m _. record { data_left = m.store.in_data.sound; journal_left = m.store.in_journal.sound } };
 
-    fn size(&mut self, which: Which) -> Result<u64, DeviceError> {
+    fn size(&mut self, which: Which) -> Result<u64, DeviceError>
+        ensures size { IfOk result (λ size. size ≡ length (seen_of which (memory_story self.old))) }
+        ensures same { memory_story self.new ≡ memory_story self.old }
+        ensures counted { CountsCall result (memory_counts self.old) (memory_counts self.new) }
+        ensures reads { (memory_counts self.new).data_reads ≡ (memory_counts self.old).data_reads }
+        ensures planned { memory_schedule self.new ≡ memory_schedule self.old }
+        ensures refused { was_refused self.new ≡ was_refused self.old }
+    {
         self.clock.call()?;
         Ok(self.store.content(which).len() as u64)
     }
 
-    fn read(&mut self, which: Which, at: u64, buffer: &mut [u8]) -> Result<usize, DeviceError> {
+    fn read(&mut self, which: Which, at: u64, buffer: &mut [u8]) -> Result<usize, DeviceError>
+        ensures within { IfOk result (λ count. count ≤ length buffer.old) }
+        ensures bytes { IfOk result (ReadsAt (seen_of which (memory_story self.old)) at (length buffer.old) buffer.new) }
+        ensures same { memory_story self.new ≡ memory_story self.old }
+        ensures counted { CountsCall result (memory_counts self.old) (memory_counts self.new) }
+        ensures reads { CountsRead which (memory_counts self.old) (memory_counts self.new) }
+        ensures planned { memory_schedule self.new ≡ memory_schedule self.old }
+        ensures refused { was_refused self.new ≡ was_refused self.old }
+    {
         self.clock.read(which)?;
         Ok(copy_from(self.store.content(which), at, buffer))
     }
 
-    fn write(&mut self, which: Which, at: u64, bytes: &[u8]) -> Result<(), DeviceError> {
+    fn write(&mut self, which: Which, at: u64, bytes: &[u8]) -> Result<(), DeviceError>
+        requires { at ≤ length (seen_of which (memory_story self.old)) }
+        ensures wrote { Wrote which at bytes.now result (memory_story self.old) (memory_story self.new) }
+        ensures clean { FailsCleanly result self.old self.new }
+        ensures counted { CountsCall result (memory_counts self.old) (memory_counts self.new) }
+        ensures reads { (memory_counts self.new).data_reads ≡ (memory_counts self.old).data_reads }
+        ensures planned { memory_schedule self.new ≡ memory_schedule self.old }
+    {
         let answer = self.clock.call();
         match self.store.write(which, at as usize, bytes, answer.is_ok()) {
             Ok(()) => answer,
@@ -123,7 +147,14 @@ impl Disk for Memory {
         }
     }
 
-    fn cut(&mut self, which: Which, len: u64) -> Result<(), DeviceError> {
+    fn cut(&mut self, which: Which, len: u64) -> Result<(), DeviceError>
+        requires { len ≤ length (seen_of which (memory_story self.old)) }
+        ensures shortened { Shortened which len result (memory_story self.old) (memory_story self.new) }
+        ensures clean { FailsCleanly result self.old self.new }
+        ensures counted { CountsCall result (memory_counts self.old) (memory_counts self.new) }
+        ensures reads { (memory_counts self.new).data_reads ≡ (memory_counts self.old).data_reads }
+        ensures planned { memory_schedule self.new ≡ memory_schedule self.old }
+    {
         let answer = self.clock.call();
         match self.store.cut(which, len as usize, answer.is_ok()) {
             Ok(()) => answer,
@@ -131,7 +162,13 @@ impl Disk for Memory {
         }
     }
 
-    fn sync(&mut self, which: Which) -> Result<(), DeviceError> {
+    fn sync(&mut self, which: Which) -> Result<(), DeviceError>
+        ensures synced { Synced which result (memory_story self.old) (memory_story self.new) }
+        ensures clean { FailsCleanly result self.old self.new }
+        ensures counted { CountsCall result (memory_counts self.old) (memory_counts self.new) }
+        ensures reads { (memory_counts self.new).data_reads ≡ (memory_counts self.old).data_reads }
+        ensures planned { memory_schedule self.new ≡ memory_schedule self.old }
+    {
         self.clock.call()?;
         match self.store.sync(which) {
             Ok(()) => Ok(()),
