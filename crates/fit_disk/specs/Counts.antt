@@ -25,6 +25,19 @@ abbrev pub CountsRead : Which → Counts → Counts → Type 0
 CountsRead Data old new = new.data_reads + old.calls ≡ old.data_reads + new.calls
 CountsRead Journal old new = new.data_reads ≡ old.data_reads
 
+-- the counts with one call more
+abbrev pub with_call : Counts → Counts
+with_call counts = record counts { calls = counts.calls + 1 }
+
+-- the counts with one read more of this file
+abbrev pub with_read : Which → Counts → Counts
+with_read Data counts = record { calls = counts.calls + 1; data_reads = counts.data_reads + 1; failed = counts.failed }
+with_read Journal counts = with_call counts
+
+-- the counts with one failure more
+abbrev pub with_failure : Counts → Counts
+with_failure counts = record counts { failed = counts.failed + 1 }
+
 -- a call has failed since, or the counts have come to their last value
 abbrev pub HasFailed : Counts → Counts → Type 0
 HasFailed old new = new.calls < last_count → old.failed < new.failed

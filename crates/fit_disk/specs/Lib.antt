@@ -11,3 +11,5 @@ pub mod Recorded
 pub mod Store
 pub mod Clock
 pub mod Memory
+pub mod Files
+pub mod Code

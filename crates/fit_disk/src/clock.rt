@@ -1,7 +1,7 @@
 // The calls of the memory disk by number: how many were made, and which of them are to fail.
 
 ghost use Rattle.std.specs.Prelude.{IsOk, is_ok, if◌then◌else◌, ◌≡◌, ◌≤◌, ◌<◌, ℕ, ◌+◌, Bool, true, false, IsErr, OnErr, OnOk, ◌↔◌, ◌||◌, ◌==◌};
-ghost use Rattle.fit_disk.specs.Counts.{Counts, CountsCall, CountsRead, FailedAsPlanned, is_at, is_from, is_planned, failing_at, cut_off_at, unplanned, no_calls, last_count};
+ghost use Rattle.fit_disk.specs.Counts.{Counts, CountsCall, CountsRead, FailedAsPlanned, is_at, is_from, is_planned, failing_at, cut_off_at, unplanned, no_calls, last_count, with_failure};
 ghost use Rattle.fit_disk.specs.Clock.{counts_of, schedule_by};
 
 use crate::tally::Tally;
@@ -26,11 +26,7 @@ impl Clock {
         ensures schedule { clock_schedule result ≡ unplanned no_calls }
         ensures refused { result.was_refused ≡ false }
     {
-        let none = Tally {
-            calls: 0,
-            data_reads: 0,
-            failed: 0,
-        };
+        let none = Tally::new();
         Clock {
             counts: none,
             fail: None,
@@ -47,54 +43,47 @@ impl Clock {
         self.was_refused || self.counts.calls == u64::MAX
     }
 
-    // Counts a call, and answers whether it fails as it is planned to, or since the counts are at their last value.
+    // Counts a call. It fails where that is planned, and where the counts are at their last value.
     pub(crate) fn call(&mut self) -> Result<(), DeviceError>
         ensures counted { CountsCall result (clock_counts self.old) (clock_counts self.new) }
         ensures reads { self.new.counts.data_reads ≡ self.old.counts.data_reads }
         ensures schedule { clock_schedule self.new ≡ clock_schedule self.old }
         ensures refused { self.new.was_refused ≡ self.old.was_refused }
     {
-        if self.counts.calls == u64::MAX {
-            return Err(DeviceError);
-        }
-        self.counts.calls += 1;
-        if is_at_number(self.fail, self.counts.calls)
-            || is_from_number(self.cut, self.counts.calls)
-        {
-            self.counts.failed += 1;
+        self.counts.call()?;
+        if is_due(self.fail, self.cut, self.counts.calls) {
+            self.counts.fail();
             return Err(DeviceError);
         }
         Ok(())
     }
 
-    // Counts a read, and answers as `call` does.
+    // Counts a read, which fails as a call does.
     pub(crate) fn read(&mut self, which: Which) -> Result<(), DeviceError>
         ensures counted { CountsCall result (clock_counts self.old) (clock_counts self.new) }
         ensures reads { CountsRead which (clock_counts self.old) (clock_counts self.new) }
         ensures schedule { clock_schedule self.new ≡ clock_schedule self.old }
         ensures refused { self.new.was_refused ≡ self.old.was_refused }
     {
-        let before = self.counts.calls;
-        let answer = self.call();
-        match which {
-            Which::Data => self.counts.data_reads += self.counts.calls - before,
-            Which::Journal => {}
+        self.counts.read(which)?;
+        if is_due(self.fail, self.cut, self.counts.calls) {
+            self.counts.fail();
+            return Err(DeviceError);
         }
-        answer
+        Ok(())
     }
 
     // Lets the call that was counted last fail, since memory was refused in it.
     pub(crate) fn refuse(&mut self, answer: Result<(), DeviceError>) -> Result<(), DeviceError>
         requires { IsOk answer → self.old.counts.failed < self.old.counts.calls }
         ensures err { IsErr result }
-        ensures counts { clock_counts self.new ≡ record (clock_counts self.old)
-            { failed = self.old.counts.failed + (if is_ok answer then 1 else 0) } }
+        ensures counts { clock_counts self.new ≡ (if is_ok answer then with_failure (clock_counts self.old) else clock_counts self.old) }
         ensures schedule { clock_schedule self.new ≡ clock_schedule self.old }
         ensures refused { self.new.was_refused ≡ true }
     {
         self.was_refused = true;
         match answer {
-            Ok(()) => self.counts.failed += 1,
+            Ok(()) => self.counts.fail(),
             Err(_) => {}
         }
         Err(DeviceError)
@@ -132,6 +121,13 @@ impl Clock {
         self.cut = None;
         self.since = self.counts;
     }
+}
+
+// Whether the call of this number is to fail.
+fn is_due(fail: Option<u64>, cut: Option<u64>, number: u64) -> bool
+    ensures { result ≡ (is_at fail number || is_from cut number) }
+{
+    is_at_number(fail, number) || is_from_number(cut, number)
 }
 
 // Whether the planned number is this one.

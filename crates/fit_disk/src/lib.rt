@@ -4,10 +4,12 @@
 mod clock;
 mod disk;
 mod event;
+mod files;
 mod half;
 mod memory;
 mod store;
 mod tally;
 
 pub use disk::{DeviceError, Disk, Which};
+pub use files::{Files, OpenFault};
 pub use memory::Memory;
