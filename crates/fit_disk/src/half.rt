@@ -83,9 +83,7 @@ impl Half {
     pub(crate) fn sync(&mut self)
         ensures { (file : Stored) → IsHalf self.old file → IsHalf self.new (at_rest file.seen) }
     {
-        self.written.clear();
-        self.least = self.seen.len();
-        self.greatest = self.seen.len();
+        self.rest();
     }
 
     // Leaves what a power cut does for these choice bytes, and answers how many of them it took.
@@ -98,10 +96,20 @@ impl Half {
         let len = chosen_length(self.least, self.greatest, choices);
         set_length(&mut self.seen, len);
         let taken = vary(&mut self.seen, self.least, &self.written, choices);
-        self.written.clear();
-        self.least = len;
-        self.greatest = len;
+        self.rest();
         taken.min(choices.len())
+    }
+
+    // From now on a power cut leaves what reads give.
+    fn rest(&mut self)
+        ensures seen { self.new.seen ≡ self.old.seen }
+        ensures least { self.new.least ≡ vec_len self.old.seen }
+        ensures greatest { self.new.greatest ≡ vec_len self.old.seen }
+        ensures written { self.new.written.items ≡ [] }
+    {
+        self.written.clear();
+        self.least = self.seen.len();
+        self.greatest = self.seen.len();
     }
 }
 

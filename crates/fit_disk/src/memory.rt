@@ -169,11 +169,11 @@ impl Disk for Memory {
         ensures reads { (memory_counts self.new).data_reads ≡ (memory_counts self.old).data_reads }
         ensures planned { memory_schedule self.new ≡ memory_schedule self.old }
     {
-        self.clock.call()?;
-        match self.store.sync(which) {
-            Ok(()) => Ok(()),
-            Err(_) => self.clock.refuse(Ok(())),
+        let answer = self.clock.call();
+        if answer.is_ok() && self.store.sync(which).is_err() {
+            return self.clock.refuse(answer);
         }
+        answer
     }
 }
 
