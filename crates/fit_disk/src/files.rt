@@ -43,16 +43,23 @@ impl OpenFault {
 }
 
 impl From<io::Error> for OpenFault {
+    ghost use Rattle.fit_disk.specs.Code.{fault_of};
+
+    ghost from_gives = { λ error fault. fault ≡ fault_of error };
+
     fn from(error: io::Error) -> OpenFault {
-        if error.kind() == ErrorKind::OutOfMemory {
-            OpenFault::Memory
-        } else {
-            OpenFault::Open
+        match error.kind() {
+            ErrorKind::OutOfMemory => OpenFault::Memory,
+            _ => OpenFault::Open,
         }
     }
 }
 
 impl From<AllocError> for OpenFault {
+    ghost use Rattle.fit_disk.specs.declared.files.OpenFault.TheVariants.{Memory};
+
+    ghost from_gives = { λ _ fault. fault ≡ Memory };
+
     fn from(_: AllocError) -> OpenFault {
         OpenFault::Memory
     }
