@@ -1,0 +1,142 @@
+// What power cuts leave for given choice bytes. The expected contents are worked out by hand from the disk model.
+
+use super::{cut, write};
+use crate::{DeviceError, Disk, Memory, Which};
+use std::alloc::Global;
+use std::test::Fail;
+
+// The data file is synced as `abcd`, and its two middle bytes are written over.
+fn torn(alloc: Global) -> Result<Memory, DeviceError> {
+    let mut disk = Memory::new(alloc);
+    write(&mut disk, Which::Data, 0, b"abcd")?;
+    disk.sync(Which::Data)?;
+    write(&mut disk, Which::Data, 1, b"XY")?;
+    Ok(disk)
+}
+
+#[test]
+fn only_the_written_middle_varies(rt: HostRuntime) -> Result<(), Fail> {
+    let cases: [(&[u8], usize, &[u8]); 5] = [
+        (&[], 0, b"a\0\0d"),
+        (&[0, 0, 0, 0, 0xA5], 5, b"a\xA5\0d"),
+        (
+            &[0, 0, 0, 0, 0xA5, 0xFF, 0, 0, 0, 0, 7, 7],
+            10,
+            b"a\xA5\xFFd",
+        ),
+        (&[0xA5; 12], 10, b"a\xA5\xA5d"),
+        (&[0xFF; 12], 10, b"a\xFF\xFFd"),
+    ];
+    for (choices, taken, content) in cases {
+        let mut disk = torn(rt.alloc())?;
+        assert_eq!(rt; disk.cycle(choices), taken);
+        assert_eq!(rt; disk.content(Which::Data), content);
+        assert_eq!(rt; disk.content(Which::Journal), b"".as_slice());
+    }
+    Ok(())
+}
+
+#[test]
+fn the_length_of_what_was_not_synced_varies(rt: HostRuntime) -> Result<(), Fail> {
+    let cases: [(&[u8], usize, &[u8]); 6] = [
+        (&[], 0, b""),
+        (&[2, 0, 0, 0, 0xA5, 0xFF], 6, b"\xA5\xFF"),
+        (&[7, 0, 0, 0, 1, 2, 3], 7, b"\x01\x02\x03"),
+        (&[0, 1, 0, 0, 9], 5, b""),
+        // A5A5A5A5 leaves 1 by 4, and FFFFFFFF leaves 3.
+        (&[0xA5; 20], 9, b"\xA5"),
+        (&[0xFF; 20], 11, b"\xFF\xFF\xFF"),
+    ];
+    for (choices, taken, content) in cases {
+        let mut disk = Memory::new(rt.alloc());
+        write(&mut disk, Which::Data, 0, b"abc")?;
+        assert_eq!(rt; disk.cycle(choices), taken);
+        assert_eq!(rt; disk.content(Which::Data), content);
+    }
+    Ok(())
+}
+
+#[test]
+fn a_cut_may_come_back_as_any_bytes(rt: HostRuntime) -> Result<(), Fail> {
+    let cases: [(&[u8], usize, &[u8]); 4] = [
+        (&[], 0, b"ab"),
+        (
+            &[4, 0, 0, 0, 0xA5, 0xA5, 0xA5, 0xA5],
+            8,
+            b"ab\xA5\xA5\xA5\xA5",
+        ),
+        (&[1, 0, 0, 0, 0xFF], 5, b"ab\xFF"),
+        // FFFFFFFF leaves 0 by 5.
+        (&[0xFF; 9], 8, b"ab"),
+    ];
+    for (choices, taken, content) in cases {
+        let mut disk = Memory::new(rt.alloc());
+        write(&mut disk, Which::Data, 0, b"abcdef")?;
+        disk.sync(Which::Data)?;
+        cut(&mut disk, Which::Data, 2)?;
+        write(&mut disk, Which::Data, 2, b"Z")?;
+        assert_eq!(rt; disk.cycle(choices), taken);
+        assert_eq!(rt; disk.content(Which::Data), content);
+    }
+    Ok(())
+}
+
+#[test]
+fn the_data_file_takes_its_choices_first(rt: HostRuntime) -> Result<(), Fail> {
+    let mut disk = Memory::new(rt.alloc());
+    write(&mut disk, Which::Journal, 0, b"j")?;
+    write(&mut disk, Which::Data, 0, b"d")?;
+    assert_eq!(rt; disk.cycle(&[1, 0, 0, 0, 0x11, 1, 0, 0, 0, 0x22, 0x33]), 10);
+    assert_eq!(rt; disk.content(Which::Data), b"\x11".as_slice());
+    assert_eq!(rt; disk.content(Which::Journal), b"\x22".as_slice());
+    Ok(())
+}
+
+#[test]
+fn what_was_left_is_kept_from_then_on(rt: HostRuntime) -> Result<(), Fail> {
+    let mut disk = torn(rt.alloc())?;
+    disk.cycle(&[0, 0, 0, 0, 0xA5, 0xFF]);
+    assert_eq!(rt; disk.cycle(&[7, 7, 7]), 3);
+    assert_eq!(rt; disk.cycle(&[7; 10]), 8);
+    assert_eq!(rt; disk.content(Which::Data), b"a\xA5\xFFd".as_slice());
+    // It is what the next write is torn against.
+    write(&mut disk, Which::Data, 3, b"Z")?;
+    disk.cycle(&[0, 0, 0, 0, 0x5A]);
+    assert_eq!(rt; disk.content(Which::Data), b"a\xA5\xFF\x5A".as_slice());
+    Ok(())
+}
+
+#[test]
+fn a_failed_write_was_begun(rt: HostRuntime) -> Result<(), Fail> {
+    let mut disk = torn(rt.alloc())?;
+    disk.sync(Which::Data)?;
+    disk.fail_at(1);
+    assert!(rt; write(&mut disk, Which::Data, 3, b"ZZ").is_err());
+    assert_eq!(rt; disk.content(Which::Data), b"aXYd".as_slice());
+    disk.cycle(&[1, 0, 0, 0, 0xA5, 0xFF]);
+    assert_eq!(rt; disk.content(Which::Data), b"aXY\xA5\xFF".as_slice());
+    Ok(())
+}
+
+#[test]
+fn a_failed_cut_was_begun(rt: HostRuntime) -> Result<(), Fail> {
+    let mut disk = torn(rt.alloc())?;
+    disk.sync(Which::Data)?;
+    disk.fail_at(1);
+    assert!(rt; cut(&mut disk, Which::Data, 1).is_err());
+    assert_eq!(rt; disk.content(Which::Data), b"aXYd".as_slice());
+    disk.cycle(&[1, 0, 0, 0, 0xA5]);
+    assert_eq!(rt; disk.content(Which::Data), b"a\xA5".as_slice());
+    Ok(())
+}
+
+#[test]
+fn a_failed_sync_keeps_nothing_new_and_loses_nothing(rt: HostRuntime) -> Result<(), Fail> {
+    let mut disk = torn(rt.alloc())?;
+    disk.fail_at(1);
+    assert!(rt; disk.sync(Which::Data).is_err());
+    assert_eq!(rt; disk.content(Which::Data), b"aXYd".as_slice());
+    disk.cycle(&[]);
+    assert_eq!(rt; disk.content(Which::Data), b"a\0\0d".as_slice());
+    Ok(())
+}
