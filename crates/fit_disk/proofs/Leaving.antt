@@ -114,3 +114,6 @@ left_less len now file d left = record {
   same = λ i low outside. left.same i (omega arith) outside;
   bytes = left.bytes;
 }
+
+pub drop_bytes : (count : ℕ) (old : List ℕ) → IsBytes old → IsBytes (drop count old)
+drop_bytes count old bytes i = rw (get_or-drop count old i 0) (bytes (count + i))

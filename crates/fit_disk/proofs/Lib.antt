@@ -1,2 +1,6 @@
 pub mod Leaving
 pub mod Moments
+pub mod Sound
+pub mod Cycling
+pub mod Halves
+pub mod Records

@@ -1,5 +1,5 @@
 -- The calls of a disk by number: how many were made, and which of them are arranged to fail.
-use Rattle.std.specs.Prelude.{◌≡◌, ℕ, ◌+◌, ◌-◌, ◌^◌, ◌<◌, ◌≤◌, min, Option, Result, OnOk, OnErr}
+use Rattle.std.specs.Prelude.{◌≡◌, ℕ, zero, suc, ◌+◌, ◌-◌, ◌^◌, ◌<◌, ◌≤◌, min, Bool, false, ◌||◌, ◌==◌, nat_lt, nat_le, if◌then◌else◌, Option, None, Some, Result, OnOk, OnErr}
 use Rattle.fit_disk.specs.declared.disk.Which.{Which}
 use Rattle.fit_disk.specs.declared.disk.Which.TheVariants.{Data, Journal}
 
@@ -25,6 +25,19 @@ abbrev pub CountsRead : Which → Counts → Counts → Type 0
 CountsRead Data old new = new.data_reads + old.calls ≡ old.data_reads + new.calls
 CountsRead Journal old new = new.data_reads ≡ old.data_reads
 
+-- the counts with one call more
+abbrev pub with_call : Counts → Counts
+with_call counts = record counts { calls = counts.calls + 1 }
+
+-- the counts with one read more of this file
+abbrev pub with_read : Which → Counts → Counts
+with_read Data counts = record { calls = counts.calls + 1; data_reads = counts.data_reads + 1; failed = counts.failed }
+with_read Journal counts = with_call counts
+
+-- the counts with one failure more
+abbrev pub with_failure : Counts → Counts
+with_failure counts = record counts { failed = counts.failed + 1 }
+
 -- a call has failed since, or the counts have come to their last value
 abbrev pub HasFailed : Counts → Counts → Type 0
 HasFailed old new = new.calls < last_count → old.failed < new.failed
@@ -35,3 +48,45 @@ pub record Schedule : Type 0 where
   pub fail : Option ℕ
   pub cut : Option ℕ
   pub since : Counts
+
+-- the call of that number is the one that is to fail
+abbrev pub is_at : Option ℕ → ℕ → Bool
+is_at None number = false
+is_at (Some planned) number = number == planned
+
+-- the call of that number is one of those from which on all are to fail: the power is gone
+abbrev pub is_from : Option ℕ → ℕ → Bool
+is_from None number = false
+is_from (Some planned) number = nat_le planned number
+
+abbrev pub is_planned : Schedule → ℕ → Bool
+is_planned schedule number = is_at schedule.fail number || is_from schedule.cut number
+
+-- how many of the first so many calls are to fail
+abbrev pub failures : Schedule → ℕ → ℕ
+failures schedule zero = 0
+failures schedule (suc number) = failures schedule number + (if is_planned schedule (suc number) then 1 else 0)
+
+-- since the schedule was made, as many calls have failed as it says
+abbrev pub FailedAsPlanned : Counts → Schedule → Type 0
+FailedAsPlanned counts schedule = counts.failed + failures schedule schedule.since.calls ≡ schedule.since.failed + failures schedule counts.calls
+
+-- the number of the k-th call from now; none where the counts come to their last value before
+abbrev pub number_of : ℕ → ℕ → Option ℕ
+number_of calls k = if nat_lt (calls + k) (2 ^ 64) then Some (calls + k) else None
+
+-- a schedule that lets the k-th call from now fail
+abbrev pub failing_at : ℕ → Counts → Schedule → Schedule
+failing_at k counts old = record { fail = number_of counts.calls k; cut = old.cut; since = counts }
+
+-- a schedule that lets the power go at the k-th call from now, unless it is gone
+abbrev pub cut_off_at : ℕ → Counts → Schedule → Schedule
+cut_off_at k counts old = record { fail = old.fail; cut = if is_from old.cut counts.calls then old.cut else number_of counts.calls k; since = counts }
+
+-- nothing is to fail
+abbrev pub unplanned : Counts → Schedule
+unplanned counts = record { fail = None; cut = None; since = counts }
+
+-- no call was made
+abbrev pub no_calls : Counts
+no_calls = record { calls = 0; data_reads = 0; failed = 0 }

@@ -5,3 +5,12 @@ pub mod Story
 pub mod Counts
 pub mod Calls
 pub mod Runs
+pub mod Cycle
+pub mod Half
+pub mod Events
+pub mod Recorded
+pub mod Store
+pub mod Clock
+pub mod Memory
+pub mod Files
+pub mod Code

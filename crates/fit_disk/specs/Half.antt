@@ -1,0 +1,18 @@
+-- What one file of the memory disk stands for.
+use Rattle.std.specs.Prelude.{◌≡◌, ℕ, ◌<◌, ◌≤◌, vec_len, vec_capacity}
+use Rattle.fit_disk.specs.declared.half.Half.{Half}
+use Rattle.fit_disk.specs.Stored.{Stored, Left}
+use Rattle.fit_disk.specs.Cycle.{is_outside}
+
+-- The half is this file. What was synced is not stored: where it is kept, what reads give agrees with it.
+pub record IsHalf (half : Half) (file : Stored) : Type 0 where
+  pub seen : file.seen ≡ half.seen.items
+  pub least : file.least ≡ half.least
+  pub greatest : file.greatest ≡ half.greatest
+  pub written : (place : ℕ) → is_outside place half.written.items ≡ is_outside place file.written
+  pub sound : Left file file.seen
+
+-- a write up to this end needs no memory
+pub record HasRoom (half : Half) (end : ℕ) : Type 0 where
+  pub bytes : end ≤ vec_capacity half.seen
+  pub range : vec_len half.written < vec_capacity half.written

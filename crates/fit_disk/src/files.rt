@@ -1,0 +1,217 @@
+// The two real files of a recording.
+
+ghost use Rattle.std.proofs.lemmas.Bool.{false≢true};
+ghost use Rattle.std.specs.Prelude.{◌+◌, ◌<◌, ◌≡◌, ◌≤◌, ℕ, false, true, length, IfOk, IsErr};
+ghost use Rattle.fit_disk.specs.Counts.{unplanned, no_calls, with_failure};
+ghost use Rattle.fit_disk.specs.Events.{fresh};
+
+use crate::tally::Tally;
+use crate::{DeviceError, Disk, Which};
+use std::alloc::AllocError;
+use std::fs::{File, OpenOptions};
+use std::io::{self, ErrorKind};
+use std::os::fd::AsRawFd;
+use std::os::unix::fs::FileExt;
+use std::path::Path;
+
+const DATA_NAME: &str = "activity.fit";
+
+const JOURNAL_NAME: &str = "activity.frj";
+
+/// Why the files of a folder are not opened.
+#[derive(Clone, Copy, Debug, PartialEq, Eq)]
+pub enum OpenFault {
+    /// The folder is missing, one of its files cannot be made, opened or synced, or another program has them
+    /// open.
+    Open,
+    /// A growth was refused.
+    Memory,
+}
+
+impl OpenFault {
+    ghost use Rattle.fit_disk.specs.Code.{open_code};
+
+    /// The number of the fault, 1 or 2.
+    pub fn code(&self) -> u8
+        ensures { result ≡ open_code self.now }
+    {
+        match self {
+            OpenFault::Open => 1,
+            OpenFault::Memory => 2,
+        }
+    }
+}
+
+impl From<io::Error> for OpenFault {
+    fn from(error: io::Error) -> OpenFault {
+        if error.kind() == ErrorKind::OutOfMemory {
+            OpenFault::Memory
+        } else {
+            OpenFault::Open
+        }
+    }
+}
+
+impl From<AllocError> for OpenFault {
+    fn from(_: AllocError) -> OpenFault {
+        OpenFault::Memory
+    }
+}
+
+/// The files `activity.fit` and `activity.frj` of a folder. Nothing is promised of their bytes: what a real disk
+/// has to keep for that is the user's part.
+#[derive(Drop)]
+pub struct Files {
+    data: File,
+    journal: File,
+    counts: Tally,
+}
+
+impl Files {
+    ghost use Rattle.fit_disk.specs.Files.{files_counts};
+
+    /// Opens both files of an existing folder, and makes those that are missing. While they are open a second
+    /// `open` of the folder, by any program that locks them, gives `Open`. What the files hold is on the disk then,
+    /// and what reads give is what is on the disk.
+    pub fn open(rt: &HostRuntime, folder: &str) -> Result<Files, OpenFault>
+        ensures { IfOk result (λ files. files_counts files ≡ no_calls) }
+    {
+        let path = Path::new(folder);
+        let data = open_locked(rt, path.join(rt.alloc(), DATA_NAME)?.as_str())?;
+        let journal = open_locked(rt, path.join(rt.alloc(), JOURNAL_NAME)?.as_str())?;
+        // The name of a file that was made is on the disk only once the folder is synced.
+        let named = if folder.is_empty() { "." } else { folder };
+        File::open(rt, named)?.sync_all()?;
+        settle(&data)?;
+        settle(&journal)?;
+        Ok(Files {
+            data,
+            journal,
+            counts: Tally::new(),
+        })
+    }
+
+    fn file(&self, which: Which) -> &File {
+        match which {
+            Which::Data => &self.data,
+            Which::Journal => &self.journal,
+        }
+    }
+
+    // The call that was counted last failed.
+    fn failed<T>(&mut self) -> Result<T, DeviceError>
+        requires { self.old.counts.failed < self.old.counts.calls }
+        ensures err { IsErr result }
+        ensures counts { files_counts self.new ≡ with_failure (files_counts self.old) }
+    {
+        self.counts.fail();
+        Err(DeviceError)
+    }
+}
+
+impl Disk for Files {
+    ghost use Rattle.fit_disk.specs.Files.{files_counts};
+
+    ghost honest = { false };
+
+    ghost story = { λ _. fresh };
+
+    ghost counts = { files_counts };
+
+    ghost schedule = { λ _. unplanned no_calls };
+
+    ghost sound = { λ _ honest. absurd (false≢true honest) };
+
+    fn size(&mut self, which: Which) -> Result<u64, DeviceError> {
+        self.counts.call()?;
+        match self.file(which).metadata() {
+            Ok(found) => Ok(found.len()),
+            Err(_) => self.failed(),
+        }
+    }
+
+    fn read(&mut self, which: Which, at: u64, buffer: &mut [u8]) -> Result<usize, DeviceError> {
+        self.counts.read(which)?;
+        match read_all_at(self.file(which), at, buffer) {
+            Ok(count) => Ok(count),
+            Err(_) => self.failed(),
+        }
+    }
+
+    fn write(&mut self, which: Which, at: u64, bytes: &[u8]) -> Result<(), DeviceError> {
+        self.counts.call()?;
+        match self.file(which).write_all_at(bytes, at) {
+            Ok(()) => Ok(()),
+            Err(_) => self.failed(),
+        }
+    }
+
+    fn cut(&mut self, which: Which, len: u64) -> Result<(), DeviceError> {
+        self.counts.call()?;
+        match self.file(which).set_len(len) {
+            Ok(()) => Ok(()),
+            Err(_) => self.failed(),
+        }
+    }
+
+    fn sync(&mut self, which: Which) -> Result<(), DeviceError> {
+        self.counts.call()?;
+        match self.file(which).sync_data() {
+            Ok(()) => Ok(()),
+            Err(_) => self.failed(),
+        }
+    }
+}
+
+// Reads from a place on until the buffer is full or the file ends, and answers how many bytes.
+fn read_all_at(file: &File, at: u64, buffer: &mut [u8]) -> io::Result<usize>
+    ensures { IfOk result (λ count. count ≤ length buffer.old) }
+{
+    let mut count = 0;
+    for _ in 0..u64::MAX {
+        if count == buffer.len() {
+            return Ok(count);
+        }
+        match file.read_at(&mut buffer[count..], at.wrapping_add(count as u64)) {
+            Ok(0) => return Ok(count),
+            Ok(more) => count += more,
+            Err(error) if error.kind() == ErrorKind::Interrupted => {}
+            Err(error) => return Err(error),
+        }
+    }
+    Err(ErrorKind::Interrupted.into())
+}
+
+// Opens a regular file, or makes it, and locks it.
+fn open_locked(rt: &HostRuntime, path: &str) -> io::Result<File> {
+    let mut file = open_or_make(rt, path)?;
+    // What is meant for a standard stream that was closed must not land in the file.
+    if file.as_raw_fd() <= 2 {
+        file = file.try_clone()?;
+    }
+    if !file.metadata()?.is_file() {
+        return Err(ErrorKind::Unsupported.into());
+    }
+    file.try_lock()?;
+    Ok(file)
+}
+
+fn open_or_make(rt: &HostRuntime, path: &str) -> io::Result<File> {
+    OpenOptions::new()
+        .read(true)
+        .write(true)
+        .create(true)
+        .open(rt, path)
+}
+
+// Syncs a file, and drops the system's copies of its pages: after a sync that failed in an earlier process these may
+// differ from what is on the disk.
+fn settle(file: &File) -> io::Result<()> {
+    file.sync_all()?;
+    let advised = libc::posix_fadvise(file.as_raw_fd(), 0, 0, libc::POSIX_FADV_DONTNEED);
+    if advised == 0 {
+        Ok(())
+    } else {
+        Err(io::Error::from_raw_os_error(advised))
+    }
+}

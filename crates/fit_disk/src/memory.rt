@@ -1,0 +1,192 @@
+// The disk in memory: an honest disk whose failures and power cuts are scheduled.
+
+ghost use Rattle.std.specs.Prelude.{◌≡◌, ◌⊎◌, ℕ, ◌≤◌, Bool, true, false, min, List, length, IsTrue, IfOk, OnErr};
+ghost use Rattle.fit_disk.specs.State.{BothLeft, seen_in};
+ghost use Rattle.fit_disk.specs.Story.{then_state, seen_of};
+ghost use Rattle.fit_disk.specs.Cycle.{cycled, taken_in};
+ghost use Rattle.fit_disk.specs.Events.{fresh};
+ghost use Rattle.fit_disk.specs.Calls.{ReadsAt, Wrote, Shortened, Synced};
+ghost use Rattle.fit_disk.specs.Counts.{FailedAsPlanned, CountsCall, CountsRead, failing_at, cut_off_at, unplanned, no_calls};
+ghost use Rattle.fit_disk.specs.Clock.{counts_of, schedule_by};
+
+use crate::clock::Clock;
+use crate::store::Store;
+use crate::{DeviceError, Disk, Which};
+use std::alloc::Global;
+
+/// An honest disk in memory. A call fails only where it is scheduled to, where memory was refused, and where the
+/// counts are at their last value; a write or cut that fails changes nothing that reads give.
+#[derive(Drop)]
+pub struct Memory {
+    store: Store,
+    clock: Clock,
+    /// Unless memory was refused, as many calls have failed since the schedule was made as it says.
+    pub ghost planned: { clock.was_refused ≡ false → FailedAsPlanned (counts_of clock.counts) (schedule_by clock.fail clock.cut clock.since) },
+}
+
+impl Memory {
+    ghost use Rattle.fit_disk.specs.Memory.{memory_story, memory_counts, memory_schedule, was_refused, is_spent};
+
+    /// Two empty files. It takes memory only as they grow.
+    pub fn new(alloc: Global) -> Memory
+        ensures story { memory_story result ≡ fresh }
+        ensures counts { memory_counts result ≡ no_calls }
+        ensures schedule { memory_schedule result ≡ unplanned no_calls }
+        ensures refused { was_refused result ≡ false }
+    {
+        Memory {
+            store: Store::new(alloc),
+            clock: Clock::new(),
+        }
+    }
+
+    /// What reads of a file would give, without a call of the device.
+    pub fn content(&self, which: Which) -> &[u8]
+        ensures { result.now ≡ seen_of which (memory_story self.now) }
+    {
+        self.store.content(which)
+    }
+
+    /// Whether memory was refused in it so far, or its counts are at their last value.
+    pub fn spent(&self) -> bool
+        ensures { result ≡ is_spent self.now }
+    {
+        self.clock.is_spent()
+    }
+
+    /// Lets the k-th call from now fail, from 1 on, and later ones go on.
+    pub fn fail_at(&mut self, k: u32)
+        requires { 1 ≤ k }
+        ensures story { memory_story self.new ≡ memory_story self.old }
+        ensures counts { memory_counts self.new ≡ memory_counts self.old }
+        ensures schedule { memory_schedule self.new ≡ failing_at k (memory_counts self.old) (memory_schedule self.old) }
+        ensures refused { was_refused self.new ≡ was_refused self.old }
+    {
+        self.clock.fail_at(k);
+    }
+
+    /// Lets the power go at the k-th call from now, from 1 on: that call and all later ones fail until `cycle`.
+    /// While the power is gone it stays gone.
+    pub fn cut_at(&mut self, k: u32)
+        requires { 1 ≤ k }
+        ensures story { memory_story self.new ≡ memory_story self.old }
+        ensures counts { memory_counts self.new ≡ memory_counts self.old }
+        ensures schedule { memory_schedule self.new ≡ cut_off_at k (memory_counts self.old) (memory_schedule self.old) }
+        ensures refused { was_refused self.new ≡ was_refused self.old }
+    {
+        self.clock.cut_at(k);
+    }
+
+    /// Leaves of both files what a power cut does for these choice bytes, brings the power back, and drops what
+    /// was scheduled. It answers how many of the choice bytes it took, and takes no memory.
+    pub fn cycle(&mut self, choices: &[u8]) -> usize
+        ensures now { (memory_story self.new).now ≡ cycled choices.now (memory_story self.old).now }
+        ensures story { (memory_story self.new ≡ memory_story self.old)
+            ⊎ (memory_story self.new ≡ then_state (cycled choices.now (memory_story self.old).now) (memory_story self.old)) }
+        ensures left { BothLeft (memory_story self.old).now (seen_in (memory_story self.new).now) }
+        ensures taken { result ≡ min (taken_in choices.now (memory_story self.old).now) (length choices.now) }
+        ensures counts { memory_counts self.new ≡ memory_counts self.old }
+        ensures schedule { memory_schedule self.new ≡ unplanned (memory_counts self.old) }
+        ensures refused { was_refused self.new ≡ was_refused self.old }
+    {
+        self.clock.drop_plans();
+        self.store.cycle(choices)
+    }
+}
+
+impl Disk for Memory {
+    ghost use Rattle.fit_disk.specs.Memory.{memory_story, memory_counts, memory_schedule, was_refused, FailsCleanly};
+
+    ghost honest = { true };
+
+    ghost story = { memory_story };
+
+    ghost counts = { memory_counts };
+
+    ghost schedule = { memory_schedule };
+
+    ghost sound = { λ m _. record { data_left = m.store.in_data.sound; journal_left = m.store.in_journal.sound } };
+
+    fn size(&mut self, which: Which) -> Result<u64, DeviceError>
+        ensures size { IfOk result (λ size. size ≡ length (seen_of which (memory_story self.old))) }
+        ensures same { memory_story self.new ≡ memory_story self.old }
+        ensures counted { CountsCall result (memory_counts self.old) (memory_counts self.new) }
+        ensures reads { (memory_counts self.new).data_reads ≡ (memory_counts self.old).data_reads }
+        ensures planned { memory_schedule self.new ≡ memory_schedule self.old }
+        ensures refused { was_refused self.new ≡ was_refused self.old }
+    {
+        self.clock.call()?;
+        Ok(self.store.content(which).len() as u64)
+    }
+
+    fn read(&mut self, which: Which, at: u64, buffer: &mut [u8]) -> Result<usize, DeviceError>
+        ensures within { IfOk result (λ count. count ≤ length buffer.old) }
+        ensures bytes { IfOk result (ReadsAt (seen_of which (memory_story self.old)) at (length buffer.old) buffer.new) }
+        ensures same { memory_story self.new ≡ memory_story self.old }
+        ensures counted { CountsCall result (memory_counts self.old) (memory_counts self.new) }
+        ensures reads { CountsRead which (memory_counts self.old) (memory_counts self.new) }
+        ensures planned { memory_schedule self.new ≡ memory_schedule self.old }
+        ensures refused { was_refused self.new ≡ was_refused self.old }
+    {
+        self.clock.read(which)?;
+        Ok(copy_from(self.store.content(which), at, buffer))
+    }
+
+    fn write(&mut self, which: Which, at: u64, bytes: &[u8]) -> Result<(), DeviceError>
+        requires { at ≤ length (seen_of which (memory_story self.old)) }
+        ensures wrote { Wrote which at bytes.now result (memory_story self.old) (memory_story self.new) }
+        ensures clean { FailsCleanly result self.old self.new }
+        ensures counted { CountsCall result (memory_counts self.old) (memory_counts self.new) }
+        ensures reads { (memory_counts self.new).data_reads ≡ (memory_counts self.old).data_reads }
+        ensures planned { memory_schedule self.new ≡ memory_schedule self.old }
+    {
+        let answer = self.clock.call();
+        match self.store.write(which, at as usize, bytes, answer.is_ok()) {
+            Ok(()) => answer,
+            Err(_) => self.clock.refuse(answer),
+        }
+    }
+
+    fn cut(&mut self, which: Which, len: u64) -> Result<(), DeviceError>
+        requires { len ≤ length (seen_of which (memory_story self.old)) }
+        ensures shortened { Shortened which len result (memory_story self.old) (memory_story self.new) }
+        ensures clean { FailsCleanly result self.old self.new }
+        ensures counted { CountsCall result (memory_counts self.old) (memory_counts self.new) }
+        ensures reads { (memory_counts self.new).data_reads ≡ (memory_counts self.old).data_reads }
+        ensures planned { memory_schedule self.new ≡ memory_schedule self.old }
+    {
+        let answer = self.clock.call();
+        match self.store.cut(which, len as usize, answer.is_ok()) {
+            Ok(()) => answer,
+            Err(_) => self.clock.refuse(answer),
+        }
+    }
+
+    fn sync(&mut self, which: Which) -> Result<(), DeviceError>
+        ensures synced { Synced which result (memory_story self.old) (memory_story self.new) }
+        ensures clean { FailsCleanly result self.old self.new }
+        ensures counted { CountsCall result (memory_counts self.old) (memory_counts self.new) }
+        ensures reads { (memory_counts self.new).data_reads ≡ (memory_counts self.old).data_reads }
+        ensures planned { memory_schedule self.new ≡ memory_schedule self.old }
+    {
+        self.clock.call()?;
+        match self.store.sync(which) {
+            Ok(()) => Ok(()),
+            Err(_) => self.clock.refuse(Ok(())),
+        }
+    }
+}
+
+// Copies the content from a place on into the front of the buffer, as far as both go.
+fn copy_from(content: &[u8], at: u64, buffer: &mut [u8]) -> usize
+    ensures within { result ≤ length buffer.old }
+    ensures bytes { ReadsAt content.now at (length buffer.old) buffer.new result }
+{
+    if at >= content.len() as u64 {
+        return 0;
+    }
+    let rest = &content[at as usize..];
+    let count = rest.len().min(buffer.len());
+    buffer[..count].copy_from_slice(&rest[..count]);
+    count
+}
