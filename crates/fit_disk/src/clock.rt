@@ -1,7 +1,7 @@
 // The calls of the memory disk by number: how many were made, and which of them are to fail.
 
-ghost use Rattle.std.specs.Prelude.{IsOk, is_ok, if◌then◌else◌, ◌≡◌, ◌≤◌, ◌<◌, ℕ, ◌+◌, Bool, true, false, IsErr, OnErr, OnOk, ◌↔◌, ◌||◌, ◌==◌};
-ghost use Rattle.fit_disk.specs.Counts.{Counts, CountsCall, CountsRead, FailedAsPlanned, is_at, is_from, is_planned, failing_at, cut_off_at, unplanned, no_calls, last_count, with_failure};
+ghost use Rattle.std.specs.Prelude.{IsOk, is_ok, if◌then◌else◌, ◌≡◌, ◌<◌, true, false, IsErr, ◌||◌, ◌==◌};
+ghost use Rattle.fit_disk.specs.Counts.{CountsCall, CountsRead, FailedAsPlanned, is_at, is_from, failing_at, cut_off_at, unplanned, no_calls, last_count, with_failure};
 ghost use Rattle.fit_disk.specs.Clock.{counts_of, schedule_by};
 
 use crate::tally::Tally;

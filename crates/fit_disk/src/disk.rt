@@ -1,6 +1,6 @@
 // The trait that recorder and recovery are proved over.
 
-ghost use Rattle.std.specs.Prelude.{◌≡◌, ℕ, ◌≤◌, Bool, IsTrue, IfOk, List, length};
+ghost use Rattle.std.specs.Prelude.{◌≡◌, ◌≤◌, Bool, IsTrue, IfOk, length};
 ghost use Rattle.fit_disk.specs.Counts.{Counts, Schedule, CountsCall, CountsRead};
 
 /// One of the two files of a recording.

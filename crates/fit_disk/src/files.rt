@@ -1,7 +1,7 @@
 // The two real files of a recording.
 
 ghost use Rattle.std.proofs.lemmas.Bool.{false≢true};
-ghost use Rattle.std.specs.Prelude.{◌+◌, ◌<◌, ◌≡◌, ◌≤◌, ℕ, false, true, length, IfOk, IsErr};
+ghost use Rattle.std.specs.Prelude.{◌+◌, ◌<◌, ◌≡◌, ◌≤◌, false, true, length, IfOk, IsErr};
 ghost use Rattle.fit_disk.specs.Counts.{unplanned, no_calls, with_failure};
 ghost use Rattle.fit_disk.specs.Events.{fresh};
 

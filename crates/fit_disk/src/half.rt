@@ -1,6 +1,6 @@
 // One file of the memory disk.
 
-ghost use Rattle.std.specs.Prelude.{◌≡◌, ℕ, ◌+◌, ◌^◌, ◌<◌, ◌≤◌, max, min, List, [], length, take, slice_index, vec_len, vec_capacity, if◌then◌else◌, OnOk};
+ghost use Rattle.std.specs.Prelude.{◌≡◌, ℕ, ◌+◌, ◌^◌, ◌<◌, ◌≤◌, max, min, [], length, take, slice_index, vec_len, vec_capacity, if◌then◌else◌, OnOk};
 ghost use Rattle.fit_disk.specs.Content.{over};
 ghost use Rattle.fit_disk.specs.Stored.{Stored, at_rest, write_begun, cut_begun};
 ghost use Rattle.fit_disk.specs.Cycle.{is_outside, is_kept, free_below, length_by, byte_by, left_by, taken_by};

@@ -1,6 +1,6 @@
 // The disk in memory: an honest disk whose failures and power cuts are scheduled.
 
-ghost use Rattle.std.specs.Prelude.{◌≡◌, ◌⊎◌, ℕ, ◌≤◌, Bool, true, false, min, List, length, IsTrue, IfOk, OnErr};
+ghost use Rattle.std.specs.Prelude.{◌≡◌, ◌⊎◌, ◌≤◌, true, false, min, length, IfOk};
 ghost use Rattle.fit_disk.specs.State.{BothLeft, seen_in};
 ghost use Rattle.fit_disk.specs.Story.{then_state, seen_of};
 ghost use Rattle.fit_disk.specs.Cycle.{cycled, taken_in};

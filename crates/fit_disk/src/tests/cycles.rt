@@ -1,7 +1,7 @@
 // What power cuts leave for given choice bytes. The expected contents are worked out by hand from the disk model.
 
-use super::{cut, write};
-use crate::{DeviceError, Disk, Memory, Which};
+use super::{cut, cycle, sync, write};
+use crate::{DeviceError, Memory, Which};
 use std::alloc::Global;
 use std::test::Fail;
 
@@ -9,7 +9,7 @@ use std::test::Fail;
 fn torn(alloc: Global) -> Result<Memory, DeviceError> {
     let mut disk = Memory::new(alloc);
     write(&mut disk, Which::Data, 0, b"abcd")?;
-    disk.sync(Which::Data)?;
+    sync(&mut disk, Which::Data)?;
     write(&mut disk, Which::Data, 1, b"XY")?;
     Ok(disk)
 }
@@ -29,7 +29,7 @@ fn only_the_written_middle_varies(rt: HostRuntime) -> Result<(), Fail> {
     ];
     for (choices, taken, content) in cases {
         let mut disk = torn(rt.alloc())?;
-        assert_eq!(rt; disk.cycle(choices), taken);
+        assert_eq!(rt; cycle(&mut disk, choices), taken);
         assert_eq!(rt; disk.content(Which::Data), content);
         assert_eq!(rt; disk.content(Which::Journal), b"".as_slice());
     }
@@ -50,7 +50,7 @@ fn the_length_of_what_was_not_synced_varies(rt: HostRuntime) -> Result<(), Fail>
     for (choices, taken, content) in cases {
         let mut disk = Memory::new(rt.alloc());
         write(&mut disk, Which::Data, 0, b"abc")?;
-        assert_eq!(rt; disk.cycle(choices), taken);
+        assert_eq!(rt; cycle(&mut disk, choices), taken);
         assert_eq!(rt; disk.content(Which::Data), content);
     }
     Ok(())
@@ -72,10 +72,10 @@ fn a_cut_may_come_back_as_any_bytes(rt: HostRuntime) -> Result<(), Fail> {
     for (choices, taken, content) in cases {
         let mut disk = Memory::new(rt.alloc());
         write(&mut disk, Which::Data, 0, b"abcdef")?;
-        disk.sync(Which::Data)?;
+        sync(&mut disk, Which::Data)?;
         cut(&mut disk, Which::Data, 2)?;
         write(&mut disk, Which::Data, 2, b"Z")?;
-        assert_eq!(rt; disk.cycle(choices), taken);
+        assert_eq!(rt; cycle(&mut disk, choices), taken);
         assert_eq!(rt; disk.content(Which::Data), content);
     }
     Ok(())
@@ -86,7 +86,10 @@ fn the_data_file_takes_its_choices_first(rt: HostRuntime) -> Result<(), Fail> {
     let mut disk = Memory::new(rt.alloc());
     write(&mut disk, Which::Journal, 0, b"j")?;
     write(&mut disk, Which::Data, 0, b"d")?;
-    assert_eq!(rt; disk.cycle(&[1, 0, 0, 0, 0x11, 1, 0, 0, 0, 0x22, 0x33]), 10);
+    assert_eq!(rt;
+        cycle(&mut disk, &[1, 0, 0, 0, 0x11, 1, 0, 0, 0, 0x22, 0x33]),
+        10
+    );
     assert_eq!(rt; disk.content(Which::Data), b"\x11".as_slice());
     assert_eq!(rt; disk.content(Which::Journal), b"\x22".as_slice());
     Ok(())
@@ -95,13 +98,13 @@ fn the_data_file_takes_its_choices_first(rt: HostRuntime) -> Result<(), Fail> {
 #[test]
 fn what_was_left_is_kept_from_then_on(rt: HostRuntime) -> Result<(), Fail> {
     let mut disk = torn(rt.alloc())?;
-    disk.cycle(&[0, 0, 0, 0, 0xA5, 0xFF]);
-    assert_eq!(rt; disk.cycle(&[7, 7, 7]), 3);
-    assert_eq!(rt; disk.cycle(&[7; 10]), 8);
+    cycle(&mut disk, &[0, 0, 0, 0, 0xA5, 0xFF]);
+    assert_eq!(rt; cycle(&mut disk, &[7, 7, 7]), 3);
+    assert_eq!(rt; cycle(&mut disk, &[7; 10]), 8);
     assert_eq!(rt; disk.content(Which::Data), b"a\xA5\xFFd".as_slice());
     // It is what the next write is torn against.
     write(&mut disk, Which::Data, 3, b"Z")?;
-    disk.cycle(&[0, 0, 0, 0, 0x5A]);
+    cycle(&mut disk, &[0, 0, 0, 0, 0x5A]);
     assert_eq!(rt; disk.content(Which::Data), b"a\xA5\xFF\x5A".as_slice());
     Ok(())
 }
@@ -109,11 +112,11 @@ fn what_was_left_is_kept_from_then_on(rt: HostRuntime) -> Result<(), Fail> {
 #[test]
 fn a_failed_write_was_begun(rt: HostRuntime) -> Result<(), Fail> {
     let mut disk = torn(rt.alloc())?;
-    disk.sync(Which::Data)?;
+    sync(&mut disk, Which::Data)?;
     disk.fail_at(1);
     assert!(rt; write(&mut disk, Which::Data, 3, b"ZZ").is_err());
     assert_eq!(rt; disk.content(Which::Data), b"aXYd".as_slice());
-    disk.cycle(&[1, 0, 0, 0, 0xA5, 0xFF]);
+    cycle(&mut disk, &[1, 0, 0, 0, 0xA5, 0xFF]);
     assert_eq!(rt; disk.content(Which::Data), b"aXY\xA5\xFF".as_slice());
     Ok(())
 }
@@ -121,11 +124,11 @@ fn a_failed_write_was_begun(rt: HostRuntime) -> Result<(), Fail> {
 #[test]
 fn a_failed_cut_was_begun(rt: HostRuntime) -> Result<(), Fail> {
     let mut disk = torn(rt.alloc())?;
-    disk.sync(Which::Data)?;
+    sync(&mut disk, Which::Data)?;
     disk.fail_at(1);
     assert!(rt; cut(&mut disk, Which::Data, 1).is_err());
     assert_eq!(rt; disk.content(Which::Data), b"aXYd".as_slice());
-    disk.cycle(&[1, 0, 0, 0, 0xA5]);
+    cycle(&mut disk, &[1, 0, 0, 0, 0xA5]);
     assert_eq!(rt; disk.content(Which::Data), b"a\xA5".as_slice());
     Ok(())
 }
@@ -134,9 +137,9 @@ fn a_failed_cut_was_begun(rt: HostRuntime) -> Result<(), Fail> {
 fn a_failed_sync_keeps_nothing_new_and_loses_nothing(rt: HostRuntime) -> Result<(), Fail> {
     let mut disk = torn(rt.alloc())?;
     disk.fail_at(1);
-    assert!(rt; disk.sync(Which::Data).is_err());
+    assert!(rt; sync(&mut disk, Which::Data).is_err());
     assert_eq!(rt; disk.content(Which::Data), b"aXYd".as_slice());
-    disk.cycle(&[]);
+    cycle(&mut disk, &[]);
     assert_eq!(rt; disk.content(Which::Data), b"a\0\0d".as_slice());
     Ok(())
 }

@@ -1,23 +1,23 @@
 // Reads, writes, cuts and syncs of the memory disk, and its scheduled and refused calls.
 
-use super::{cut, write};
-use crate::{DeviceError, Disk, Memory, Which};
+use super::{cut, cycle, read, size, sync, write};
+use crate::{DeviceError, Memory, Which};
 use std::test::Fail;
 
 #[test]
 fn reads_what_was_written(rt: HostRuntime) -> Result<(), Fail> {
     let mut disk = Memory::new(rt.alloc());
     let mut buffer = [0x2E; 6];
-    assert_eq!(rt; disk.size(Which::Data)?, 0);
-    assert_eq!(rt; disk.read(Which::Data, 0, &mut buffer)?, 0);
+    assert_eq!(rt; size(&mut disk, Which::Data)?, 0);
+    assert_eq!(rt; read(&mut disk, Which::Data, 0, &mut buffer)?, 0);
     write(&mut disk, Which::Data, 0, b"abcd")?;
-    assert_eq!(rt; disk.size(Which::Data)?, 4);
-    assert_eq!(rt; disk.read(Which::Data, 0, &mut buffer)?, 4);
+    assert_eq!(rt; size(&mut disk, Which::Data)?, 4);
+    assert_eq!(rt; read(&mut disk, Which::Data, 0, &mut buffer)?, 4);
     assert_eq!(rt; buffer, *b"abcd..");
-    assert_eq!(rt; disk.read(Which::Data, 2, &mut buffer[..1])?, 1);
+    assert_eq!(rt; read(&mut disk, Which::Data, 2, &mut buffer[..1])?, 1);
     assert_eq!(rt; buffer, *b"cbcd..");
     for at in [4, 5, u64::MAX] {
-        assert_eq!(rt; disk.read(Which::Data, at, &mut buffer)?, 0);
+        assert_eq!(rt; read(&mut disk, Which::Data, at, &mut buffer)?, 0);
     }
     // Over the end, at the end, and nothing.
     write(&mut disk, Which::Data, 2, b"XYZ")?;
@@ -25,7 +25,7 @@ fn reads_what_was_written(rt: HostRuntime) -> Result<(), Fail> {
     write(&mut disk, Which::Data, 6, b"")?;
     write(&mut disk, Which::Data, 0, b"A")?;
     assert_eq!(rt; disk.content(Which::Data), b"AbXYZ!".as_slice());
-    assert_eq!(rt; disk.read(Which::Data, 3, &mut buffer)?, 3);
+    assert_eq!(rt; read(&mut disk, Which::Data, 3, &mut buffer)?, 3);
     assert_eq!(rt; disk.content(Which::Journal), b"".as_slice());
     Ok(())
 }
@@ -36,12 +36,12 @@ fn cuts_and_syncs_change_no_other_byte(rt: HostRuntime) -> Result<(), Fail> {
     write(&mut disk, Which::Journal, 0, b"abcdef")?;
     write(&mut disk, Which::Data, 0, b"1")?;
     cut(&mut disk, Which::Journal, 6)?;
-    disk.sync(Which::Journal)?;
+    sync(&mut disk, Which::Journal)?;
     cut(&mut disk, Which::Journal, 2)?;
     assert_eq!(rt; disk.content(Which::Journal), b"ab".as_slice());
     write(&mut disk, Which::Journal, 2, b"Z")?;
-    disk.sync(Which::Journal)?;
-    disk.sync(Which::Data)?;
+    sync(&mut disk, Which::Journal)?;
+    sync(&mut disk, Which::Data)?;
     assert_eq!(rt; disk.content(Which::Journal), b"abZ".as_slice());
     cut(&mut disk, Which::Journal, 0)?;
     assert_eq!(rt; disk.content(Which::Journal), b"".as_slice());
@@ -56,14 +56,14 @@ fn call(disk: &mut Memory, number: u32) -> Result<(), DeviceError> {
     match number {
         1 => write(disk, Which::Data, 0, b"ab"),
         2 => write(disk, Which::Journal, 0, b"cd"),
-        3 | 9 => disk.sync(Which::Data),
-        4 => disk.sync(Which::Journal),
-        5 => disk.size(Which::Data).map(|_| ()),
-        6 => disk.read(Which::Data, 0, &mut buffer).map(|_| ()),
+        3 | 9 => sync(disk, Which::Data),
+        4 => sync(disk, Which::Journal),
+        5 => size(disk, Which::Data).map(|_| ()),
+        6 => read(disk, Which::Data, 0, &mut buffer).map(|_| ()),
         7 => write(disk, Which::Data, 2, b"ef"),
         8 => cut(disk, Which::Data, 3),
-        10 => disk.size(Which::Journal).map(|_| ()),
-        11 => disk.read(Which::Journal, 0, &mut buffer).map(|_| ()),
+        10 => size(disk, Which::Journal).map(|_| ()),
+        11 => read(disk, Which::Journal, 0, &mut buffer).map(|_| ()),
         _ => cut(disk, Which::Journal, 1),
     }
 }
@@ -90,7 +90,7 @@ fn each_call_fails_once_the_power_is_gone(rt: HostRuntime) {
             let failed = call(&mut disk, number).is_err();
             assert_eq!(rt; failed, number >= scheduled, "call {number} of {scheduled}");
         }
-        disk.cycle(&[]);
+        cycle(&mut disk, &[]);
         for number in 1..=12 {
             assert!(rt;
                 call(&mut disk, number).is_ok(),
@@ -106,23 +106,23 @@ fn a_schedule_replaces_the_pending_one(rt: HostRuntime) {
     disk.fail_at(1);
     disk.fail_at(3);
     for expected in [false, false, true, false] {
-        assert_eq!(rt; disk.sync(Which::Data).is_err(), expected);
+        assert_eq!(rt; sync(&mut disk, Which::Data).is_err(), expected);
     }
     // One call of both kinds: it fails once, and the power is gone and stays so.
     disk.fail_at(2);
     disk.cut_at(2);
     for expected in [false, true, true] {
-        assert_eq!(rt; disk.sync(Which::Data).is_err(), expected);
+        assert_eq!(rt; sync(&mut disk, Which::Data).is_err(), expected);
     }
     disk.cut_at(9);
-    assert!(rt; disk.sync(Which::Data).is_err());
+    assert!(rt; sync(&mut disk, Which::Data).is_err());
     // A power cut drops both kinds.
-    disk.cycle(&[]);
+    cycle(&mut disk, &[]);
     disk.fail_at(1);
     disk.cut_at(2);
-    disk.cycle(&[]);
+    cycle(&mut disk, &[]);
     for _ in 0..4 {
-        assert!(rt; disk.sync(Which::Data).is_ok());
+        assert!(rt; sync(&mut disk, Which::Data).is_ok());
     }
 }
 
@@ -152,7 +152,7 @@ fn a_refused_growth_changes_nothing(rt: HostRuntime) -> Result<(), Fail> {
     assert_eq!(rt; disk.spent(), was_refused);
     assert_eq!(rt; disk.content(Which::Data), b"abe".as_slice());
     assert_eq!(rt; disk.content(Which::Journal), b"c".as_slice());
-    assert_eq!(rt; disk.cycle(&[0, 0, 0, 0, 1, 0, 0, 0, 0xA5]), 9);
+    assert_eq!(rt; cycle(&mut disk, &[0, 0, 0, 0, 1, 0, 0, 0, 0xA5]), 9);
     assert_eq!(rt; disk.content(Which::Data), b"abe".as_slice());
     assert_eq!(rt; disk.content(Which::Journal), b"c\xA5".as_slice());
     Ok(())
