@@ -2,8 +2,8 @@
 //!
 //! A field of a data message is some bytes under a base type byte and an architecture. `FieldValue` lends these three:
 //! it counts the values, reads a number where it is asked for one, and tells which values are invalid. `BaseType` is a
-//! row of the protocol's table of types, and `Arch` the order of the bytes. `put` writes a value so that `FieldValue`
-//! reads it again. `Crc` is the checksum of a file, over bytes that may come in pieces.
+//! row of the protocol's table of types, `Arch` the order of the bytes, and `number_of` the number of some bytes. `put`
+//! writes a value so that `FieldValue` reads it again. `Crc` is the checksum of a file, over bytes that may come in pieces.
 //!
 //!     let field = FieldValue::new(0x84, Arch::Little, &[0xC8, 0x00, 0xFF, 0xFF]);
 //!     assert_eq!(rt; field.count(), 2);
@@ -27,6 +27,7 @@ mod value;
 
 pub use base::BaseType;
 pub use checksum::Crc;
+pub use number::number_of;
 pub use order::Arch;
 pub use putting::put;
 pub use value::FieldValue;

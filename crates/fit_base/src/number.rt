@@ -7,8 +7,8 @@ ghost use Rattle.fit_base.specs.Value.{IsValueSize};
 use crate::order::Arch;
 use byteorder::{BigEndian, ByteOrder, LittleEndian};
 
-// The number of these bytes, which are as many as a value of some base type has.
-pub(crate) fn number_of(arch: Arch, bytes: &[u8]) -> u64
+/// The number of these bytes, which are as many as a value of some base type has: 1, 2, 4 or 8.
+pub fn number_of(arch: Arch, bytes: &[u8]) -> u64
     requires { IsValueSize (length bytes.now) }
     ensures number { result ≡ number arch bytes.now }
     ensures fits { result < 256 ^ length bytes.now }

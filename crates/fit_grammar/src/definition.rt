@@ -1,6 +1,6 @@
 // Definition messages.
 
-ghost use Rattle.std.specs.Prelude.{◌≡◌, ◌≤◌, ◌<◌};
+ghost use Rattle.std.specs.Prelude.{◌≡◌, ◌<◌};
 
 pub(crate) mod kept;
 pub(crate) mod latest;

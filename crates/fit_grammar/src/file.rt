@@ -1,6 +1,6 @@
 // A file in memory.
 
-ghost use Rattle.std.specs.Prelude.{◌≡◌, ◌<◌, ◌≤◌, ◌+◌, ◌++◌, ◌∷◌, [], ◌↔◌, ◌⊎◌, ℕ, length, Ok, Err, OnOk, OnErr, IfErr, IsErrOf, IsTrue, ◌^◌};
+ghost use Rattle.std.specs.Prelude.{◌≡◌, ◌<◌, ◌+◌, [], ◌↔◌, ◌⊎◌, length, Ok, Err, OnOk, OnErr, IfErr, IsErrOf, IsTrue, ◌^◌};
 ghost use Rattle.fit_grammar.specs.Format.Records.{in_force, IsDefined, data_size};
 ghost use Rattle.fit_grammar.specs.Format.Encoding.{HasEncoding, encoded_items};
 ghost use Rattle.fit_grammar.specs.Format.Item.{Defines, Data, content_size};

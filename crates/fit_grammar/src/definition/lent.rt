@@ -1,14 +1,13 @@
 // Definition messages as they stand in a file.
 
-ghost use Rattle.std.specs.Prelude.{◌≡◌, ◌≤◌, ◌*◌, ℕ, length, flat_map};
+ghost use Rattle.std.specs.Prelude.{◌≡◌, ◌≤◌, ◌*◌, length};
 ghost use Rattle.fit_base.specs.Number.{number};
-ghost use Rattle.fit_grammar.specs.Format.Item.{arch_of, content_size, field_bytes};
+ghost use Rattle.fit_grammar.specs.Format.Item.{arch_of, content_size};
 ghost use Rattle.fit_grammar.specs.Private.DefinitionBytes.{fields_in, definition_at, AreDefinition};
 
 use crate::definition::{Definition, FieldDefinition};
 use arrayvec::ArrayVec;
-use byteorder::{BigEndian, ByteOrder, LittleEndian};
-use fit_base::Arch;
+use fit_base::{Arch, number_of};
 use std::marker::Model;
 
 /// A definition message, lent in the bytes that spell it. Contracts see the definition.
@@ -70,7 +69,7 @@ impl<'a> DefinitionMessage<'a> {
     pub fn global(&self) -> u16
         ensures { result ≡ self.now.global }
     {
-        read_global(self.arch(), &self.bytes[3..5])
+        number_of(self.arch(), &self.bytes[3..5]) as u16
     }
 
     // The bytes of the fields, three each.
@@ -144,15 +143,4 @@ fn read_fields(bytes: &[u8]) -> ArrayVec<FieldDefinition, 255>
         rest = others;
     }
     fields
-}
-
-// The global message number in two bytes.
-fn read_global(arch: Arch, bytes: &[u8]) -> u16
-    requires { length bytes.now ≡ 2 }
-    ensures { result ≡ number arch bytes.now }
-{
-    match arch {
-        Arch::Little => LittleEndian::read_u16(bytes),
-        Arch::Big => BigEndian::read_u16(bytes),
-    }
 }

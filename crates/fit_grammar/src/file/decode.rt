@@ -1,6 +1,6 @@
 // Reading a whole file.
 
-ghost use Rattle.std.specs.Prelude.{◌≡◌, ◌≢◌, ◌<◌, ◌≤◌, ◌+◌, ◌↔◌, ◌⊎◌, ◌^◌, ℕ, length, take, drop, slice_range, OnOk, IfOk, IfErr, IsTrue};
+ghost use Rattle.std.specs.Prelude.{◌≡◌, ◌<◌, ◌≤◌, ◌+◌, ◌↔◌, ◌⊎◌, ◌^◌, ℕ, length, take, drop, slice_range, OnOk, IfOk, IfErr, IsTrue};
 ghost use Rattle.fit_grammar.specs.Format.Records.{in_force, data_size};
 ghost use Rattle.fit_grammar.specs.Format.File.{mark, ChecksHeader, IsClosing, FileValue, FileOf};
 ghost use Rattle.fit_grammar.specs.Format.Refusal.{IsFaultOf};

@@ -21,7 +21,7 @@ pub struct Fields<'m> {
 }
 
 impl<'m> Model for Fields<'m> {
-    ghost use Rattle.std.specs.Prelude.{◌≡◌, ℕ, List, ◌++◌, length, sum_by, option_map, IfSome};
+    ghost use Rattle.std.specs.Prelude.{◌≡◌, List, ◌++◌, length, sum_by, option_map, IfSome};
     ghost use Rattle.fit_base.specs.Number.{low_first};
     ghost use Rattle.fit_grammar.specs.Format.Message.{MessageField, time_fields, fields_of};
     ghost use Rattle.fit_grammar.specs.Private.DefinitionBytes.{fields_in};

@@ -1,14 +1,12 @@
 // The time of a message.
 
-ghost use Rattle.std.specs.Prelude.{◌≡◌, length};
-ghost use Rattle.fit_base.specs.Number.{number};
+ghost use Rattle.std.specs.Prelude.{◌≡◌};
 ghost use Rattle.fit_base.specs.Value.{values_of};
 ghost use Rattle.fit_grammar.specs.Format.Message.{next_time as next_time_of, stated_by, time_stated, time_in as time_of_values};
 ghost use Rattle.fit_grammar.specs.Calls.LentField.{field_view};
 
 use crate::message::{Field, Fields};
-use byteorder::{BigEndian, ByteOrder, LittleEndian};
-use fit_base::{Arch, FieldValue};
+use fit_base::{FieldValue, number_of};
 
 // The least time that is not below the one before and leaves the offset modulo 32, wrapped at 2^32.
 pub(crate) fn next_time(before: u32, offset: u8) -> u32
@@ -50,21 +48,10 @@ fn time_in(value: &FieldValue) -> Option<u32>
     if bytes.len() != 4 {
         return None;
     }
-    let time = read_time(value.arch(), bytes);
+    let time = number_of(value.arch(), bytes) as u32;
     if time == 0xFFFF_FFFF {
         None
     } else {
         Some(time)
-    }
-}
-
-// The number of four bytes.
-fn read_time(arch: Arch, bytes: &[u8]) -> u32
-    requires { length bytes.now ≡ 4 }
-    ensures { result ≡ number arch bytes.now }
-{
-    match arch {
-        Arch::Little => LittleEndian::read_u32(bytes),
-        Arch::Big => BigEndian::read_u32(bytes),
     }
 }

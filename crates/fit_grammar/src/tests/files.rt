@@ -1,6 +1,6 @@
 // Files that are built in memory and written.
 
-ghost use Rattle.std.specs.Prelude.{◌≡◌, ◌≤◌};
+ghost use Rattle.std.specs.Prelude.{◌≡◌};
 
 use super::decoding::FILE_ID;
 use super::slow::Slow;
