@@ -1,5 +1,9 @@
 // The subcommand `check`: whether a file is an activity, and what it says of itself.
 
+ghost use Rattle.std.specs.Prelude.{IfErr};
+ghost use Rattle.fitrec.specs.Showing.{IsOutputFault};
+ghost use Rattle.fitrec.specs.Checking.{ChecksBytes};
+
 use crate::command::input::read_file;
 use crate::fault::Fault;
 use crate::summary::SummaryLine;
@@ -19,8 +23,10 @@ pub fn check_file<'a, R: Files + AllocGlobal, O: Write>(
     check_bytes(rt.alloc(), bytes.as_slice(), out)
 }
 
-// Checks the file that these bytes are.
-fn check_bytes<O: Write>(alloc: Global, bytes: &[u8], out: &mut O) -> Result<(), Fault<'static>> {
+// Checks the file that these bytes are. Nothing is written unless it is an activity.
+fn check_bytes<O: Write>(alloc: Global, bytes: &[u8], out: &mut O) -> Result<(), Fault<'static>>
+    ensures { ChecksBytes (O.contents out.old) (O.contents out.new) bytes.now result }
+{
     let file = match decode_file(alloc, bytes) {
         Ok(file) => file,
         Err(fault) => return Err(Fault::File(fault)),
@@ -32,7 +38,9 @@ fn check_bytes<O: Write>(alloc: Global, bytes: &[u8], out: &mut O) -> Result<(),
 }
 
 // Prints the line, to the last byte.
-fn print<O: Write>(line: SummaryLine, out: &mut O) -> Result<(), Fault<'static>> {
+fn print<O: Write>(line: SummaryLine, out: &mut O) -> Result<(), Fault<'static>>
+    ensures { IfErr result IsOutputFault }
+{
     if writeln!(out, "{line}").is_err() || out.flush().is_err() {
         return Err(Fault::Write("-"));
     }

@@ -2,7 +2,7 @@
 
 use clap::error::ErrorKind;
 use clap::{Arg, ArgAction, Command};
-use std::alloc::{AllocError, Global};
+use std::alloc::Global;
 use std::convert::AsStr;
 
 /// What a command line asks for.
@@ -13,8 +13,12 @@ pub enum Request<'a> {
 
 /// Reads the words behind the program's name.
 pub fn read_words<'a, S: AsStr>(alloc: Global, words: &'a [S]) -> Result<Request<'a>, clap::Error> {
-    let show = of_file(alloc, "show", "Shows every message of a FIT file, a line each")?;
-    let check = of_file(alloc, "check", "Says whether a FIT file is an activity, and sums it up in a line")?;
+    let show = Command::new(alloc, "show")
+        .about("Shows every message of a FIT file, a line each")
+        .arg(file_argument(alloc))?;
+    let check = Command::new(alloc, "check")
+        .about("Says whether a FIT file is an activity, and sums it up in one line")
+        .arg(file_argument(alloc))?;
     let mut fitrec = Command::new(alloc, "fitrec")
         .no_binary_name(true)
         .about("Reads the FIT files of sports watches and bicycle computers")
@@ -33,11 +37,10 @@ pub fn read_words<'a, S: AsStr>(alloc: Global, words: &'a [S]) -> Result<Request
     Err(fitrec.error(ErrorKind::MissingSubcommand, "no command")?)
 }
 
-// A subcommand over one file, with what it is for.
-fn of_file(alloc: Global, name: &'static str, about: &'static str) -> Result<Command<'static>, AllocError> {
-    let file = Arg::new(alloc, "FILE")
+// The one argument of a subcommand over a file.
+fn file_argument<'a>(alloc: Global) -> Arg<'a> {
+    Arg::new(alloc, "FILE")
         .required(true)
         .help("The path of a FIT file")
-        .action(ArgAction::Set);
-    Command::new(alloc, name).about(about).arg(file)
+        .action(ArgAction::Set)
 }
