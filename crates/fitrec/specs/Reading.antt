@@ -38,3 +38,4 @@ IsFileFault name (faults.Write other) = ⊥
 IsFileFault name faults.TooLarge = Unit {0}
 IsFileFault name faults.NoMemory = Unit {0}
 IsFileFault name (faults.File fault) = ⊥
+IsFileFault name (faults.Activity fault) = ⊥

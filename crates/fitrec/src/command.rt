@@ -5,12 +5,14 @@
 
 ghost use Rattle.std.specs.Prelude.{◌≤◌};
 
+mod check;
 mod input;
 mod lent;
 mod show;
 mod words;
 
 use crate::fault::Fault;
+use check::check_file;
 use clap::error::ErrorKind;
 use show::show_file;
 use std::convert::AsStr;
@@ -31,6 +33,7 @@ pub fn command<R: Files + AllocGlobal, S: AsStr, O: Write, E: Write>(
 {
     match read_words(rt.alloc(), words) {
         Ok(Request::Show { file }) => status(show_file(rt, file, out), err),
+        Ok(Request::Check { file }) => status(check_file(rt, file, out), err),
         Err(refusal) => match refusal.kind() {
             ErrorKind::OutOfMemory => status(Err(Fault::NoMemory), err),
             _ => {

@@ -1,5 +1,6 @@
 // Why the program ends without having done what it was asked for.
 
+use fit_activity::ActivityFault;
 use fit_grammar::FileFault;
 use thiserror::Error;
 
@@ -24,6 +25,9 @@ pub enum Fault<'a> {
     /// The bytes are no FIT file that is read here.
     #[error("{:?} at {}", .0.kind, .0.place)]
     File(FileFault),
+    /// The file is no activity.
+    #[error("{0:?}")]
+    Activity(ActivityFault),
 }
 
 #[cfg(test)]

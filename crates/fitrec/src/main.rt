@@ -22,15 +22,28 @@ mod fault;
 mod profile;
 mod reading;
 mod show;
+mod summary;
 mod writing;
 
+use std::io::{ErrorKind, Write};
 use std::process::ExitCode;
 use std::{env, io};
 
 fn main(rt: HostRuntime) -> io::Result<ExitCode> {
-    let words: Vec<String> = env::args(&rt)?.skip(1).collect(rt.alloc())?;
     let mut out = rt.stdout();
     let mut err = rt.stderr();
+    let args = match env::args(&rt) {
+        Ok(args) => args,
+        Err(fault) => {
+            let line = match fault.kind() {
+                ErrorKind::InvalidData => "the command line is not UTF-8",
+                _ => "NoMemory",
+            };
+            let _ = writeln!(err, "fitrec: {line}");
+            return Ok(ExitCode::from(1));
+        }
+    };
+    let words: Vec<String> = args.skip(1).collect(rt.alloc())?;
     let status = command::command(&rt, words.as_slice(), &mut out, &mut err);
     Ok(ExitCode::from(status))
 }

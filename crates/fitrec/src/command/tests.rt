@@ -1,5 +1,6 @@
 // The program as one call, over files of their own. Texts and places are from outside.
 
+mod checks;
 mod files;
 mod output;
 mod refusals;

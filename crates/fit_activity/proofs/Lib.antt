@@ -1,0 +1,13 @@
+pub mod Pushed
+pub mod Timing
+pub mod Added
+pub mod Judged
+pub mod Summed
+pub mod Spelled
+pub mod Said
+pub mod Heeded
+pub mod OneOf
+pub mod Recognised
+pub mod Identified
+pub mod Counted
+pub mod Passed

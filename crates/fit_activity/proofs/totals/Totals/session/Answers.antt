@@ -1,0 +1,8 @@
+use Rattle.std.proofs.Common.{ap, ◌∙◌, ◌+◌}
+use Rattle.fit_activity.specs.Step.{session_by}
+use Rattle.fit_activity.proofs.Summed.{session_from, session-kept}
+use Rattle.fit_activity.proofs.totals.Totals.session.Goals as goal
+
+pub returns : goal.returns
+returns c = λ list are.
+    ap (session_from c.self.inside.start.sport (c.self.inside.laps + 1)) c.stretch.ensures ∙ ap session_by c.self.view_is ∙ session-kept _ list are

@@ -1,0 +1,14 @@
+pub mod Recording
+pub mod Timer
+pub mod Stretch
+pub mod Told
+pub mod Spoken
+pub mod Refusal
+pub mod Speaking
+pub mod Totals
+pub mod Step
+pub mod Speech
+pub mod Heard
+pub mod Activity
+pub mod Reader
+pub mod Seen

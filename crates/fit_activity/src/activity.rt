@@ -1,0 +1,58 @@
+// Whether a file is an activity, and what its first session says.
+
+ghost use Rattle.std.specs.Prelude.{◌≡◌};
+ghost use Rattle.fit_grammar.specs.Format.Message.{messages_of};
+
+use fit_grammar::File;
+
+/// What an activity file says of itself.
+#[derive(Clone, Copy, Debug, PartialEq, Eq)]
+pub struct Summary {
+    /// The number of record messages.
+    pub records: u32,
+    /// The number of lap messages.
+    pub laps: u32,
+    /// The number of session messages.
+    pub sessions: u32,
+    /// The start time of the first session, in seconds since 1989-12-31T00:00:00Z. This and the next three are None where
+    /// the session has no such field, or the first one is invalid or not one uint32.
+    pub start: Option<u32>,
+    /// Its total elapsed time, in ms.
+    pub elapsed_ms: Option<u32>,
+    /// Its total timer time, in ms.
+    pub timer_ms: Option<u32>,
+    /// Its total distance, in cm.
+    pub distance_cm: Option<u32>,
+}
+
+/// Why a file is no activity. The first in this order is answered.
+#[derive(Clone, Copy, Debug, PartialEq, Eq)]
+pub enum ActivityFault {
+    /// The first message is no file_id.
+    NoFileId,
+    /// Its first field type is not the enum value 4, activity.
+    NotActivity,
+    /// There is no lap.
+    NoLap,
+    /// There is no session.
+    NoSession,
+    /// There is no activity message.
+    NoActivity,
+}
+
+impl ActivityFault {
+    ghost use Rattle.fit_activity.specs.Activity.{activity_fault_code};
+
+    /// The number of the fault.
+    pub fn code(&self) -> u8
+        ensures { result ≡ activity_fault_code self.now }
+    {
+        match self {
+            ActivityFault::NoFileId => 1,
+            ActivityFault::NotActivity => 2,
+            ActivityFault::NoLap => 3,
+            ActivityFault::NoSession => 4,
+            ActivityFault::NoActivity => 5,
+        }
+    }
+}

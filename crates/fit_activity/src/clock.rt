@@ -1,0 +1,87 @@
+// The times of a recording, and how long the timer ran.
+
+ghost use Rattle.std.specs.Prelude.{◌≡◌, ◌+◌, ◌≤◌};
+
+// The times of a recording, and for how many seconds the timer ran, as far as it has come.
+#[derive(Clone, Copy, Debug)]
+pub(crate) struct Clock {
+    pub(crate) start: u32,
+    // The last time.
+    pub(crate) end: u32,
+    // The time at which the open lap begins.
+    pub(crate) lap: u32,
+    pub(crate) running: bool,
+    // The seconds of the timer, since the start and since the open lap began.
+    pub(crate) timer: u32,
+    pub(crate) lap_timer: u32,
+}
+
+impl Clock {
+    ghost use Rattle.fit_activity.specs.Totals.{KeepsTime};
+    ghost use Rattle.fit_activity.specs.Step.{clock_at, clock_until, clock_switched, clock_lapped};
+
+    // The clock of a start.
+    pub(crate) fn at(time: u32) -> Clock
+        ensures { result ≡ clock_at time }
+    {
+        Clock {
+            start: time,
+            end: time,
+            lap: time,
+            running: true,
+            timer: 0,
+            lap_timer: 0,
+        }
+    }
+
+    // The clock at a later time.
+    pub(crate) fn until(&self, time: u32) -> Clock
+        requires kept { KeepsTime self.now }
+        requires later { self.now.end ≤ time }
+        requires not_late { time ≤ self.now.start + 4000000 }
+        ensures clock { result ≡ clock_until self.now time }
+        ensures kept { KeepsTime result }
+    {
+        let more = if self.running { time - self.end } else { 0 };
+        Clock {
+            start: self.start,
+            end: time,
+            lap: self.lap,
+            running: self.running,
+            timer: self.timer + more,
+            lap_timer: self.lap_timer + more,
+        }
+    }
+
+    // The timer runs from now on, or it stands.
+    pub(crate) fn switched(&self, running: bool) -> Clock
+        requires { KeepsTime self.now }
+        ensures clock { result ≡ clock_switched self.now running }
+        ensures kept { KeepsTime result }
+    {
+        Clock {
+            start: self.start,
+            end: self.end,
+            lap: self.lap,
+            running,
+            timer: self.timer,
+            lap_timer: self.lap_timer,
+        }
+    }
+
+    // A lap begins now.
+    pub(crate) fn lapped(&self) -> Clock
+        requires { KeepsTime self.now }
+        ensures clock { result ≡ clock_lapped self.now }
+        ensures kept { KeepsTime result }
+    {
+        Clock {
+            start: self.start,
+            end: self.end,
+            lap: self.end,
+            running: self.running,
+            timer: self.timer,
+            lap_timer: 0,
+        }
+    }
+}

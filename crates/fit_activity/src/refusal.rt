@@ -1,0 +1,44 @@
+// Why a start or an entry is refused.
+
+ghost use Rattle.std.specs.Prelude.{◌≡◌};
+
+/// Why a start or an entry is not recorded. Several may hold; the first in this order is answered.
+#[derive(Clone, Copy, Debug, PartialEq, Eq)]
+pub enum Refusal {
+    /// The recording has ended.
+    Stopped,
+    /// The time is below the last entry's, or is the invalid 0xFFFFFFFF; of a start, it is below 0x10000000 or invalid.
+    Time,
+    /// The time is more than 4,000,000 seconds after the start.
+    TooLong,
+    /// A sample or a pause while the timer stands.
+    TimerStopped,
+    /// A resume while the timer runs.
+    TimerRunning,
+    /// A lap behind 999 others.
+    TooManyLaps,
+    /// A field of this number holds its invalid value; no field of a lower number does.
+    Value(u8),
+    /// The distance is less than the last one known.
+    Distance,
+}
+
+impl Refusal {
+    ghost use Rattle.fit_activity.specs.Refusal.{refusal_code};
+
+    /// The number of the refusal.
+    pub fn code(&self) -> u8
+        ensures { result ≡ refusal_code self.now }
+    {
+        match self {
+            Refusal::Time => 1,
+            Refusal::Distance => 2,
+            Refusal::Value(_) => 3,
+            Refusal::TimerStopped => 4,
+            Refusal::TimerRunning => 5,
+            Refusal::TooLong => 6,
+            Refusal::TooManyLaps => 7,
+            Refusal::Stopped => 8,
+        }
+    }
+}

@@ -1,0 +1,57 @@
+// The sum, the count and the greatest of some values.
+
+ghost use Rattle.std.specs.Prelude.{◌≡◌, ◌<◌, ◌+◌, ◌^◌, IfSome};
+ghost use Rattle.fit_activity.specs.Step.{tally_with, greater_of, average_of};
+
+// The sum, the count and the greatest of some values.
+#[derive(Clone, Copy, Debug, PartialEq, Eq)]
+pub(crate) struct Tally {
+    total: u64,
+    count: u64,
+    pub(crate) greatest: Option<u16>,
+}
+
+impl Tally {
+    // Of no values.
+    pub(crate) const NONE: Tally = Tally {
+        total: 0,
+        count: 0,
+        greatest: None,
+    };
+
+    // With a value more, if there is one.
+    pub(crate) fn with(self, value: Option<u16>) -> Tally
+        requires total { self.total < 2 ^ 60 }
+        requires count { self.count < 2 ^ 60 }
+        ensures { result ≡ tally_with self value }
+    {
+        match value {
+            None => self,
+            Some(value) => Tally {
+                total: self.total + u64::from(value),
+                count: self.count + 1,
+                greatest: greater(self.greatest, value),
+            },
+        }
+    }
+
+    // The floor of the sum over the count, where there are values and it is that small.
+    pub(crate) fn average(&self) -> Option<u16>
+        ensures { result ≡ average_of self.now }
+    {
+        if self.count == 0 {
+            return None;
+        }
+        u16::try_from(self.total / self.count).ok()
+    }
+}
+
+// The greater of a value and those before it.
+pub(crate) fn greater(greatest: Option<u16>, value: u16) -> Option<u16>
+    ensures { result ≡ greater_of greatest value }
+{
+    match greatest {
+        None => Some(value),
+        Some(greatest) => Some(greatest.max(value)),
+    }
+}

@@ -1,0 +1,251 @@
+// The running totals of a recording.
+
+ghost use Rattle.std.specs.Prelude.{◌≡◌, ◌+◌, ◌*◌, ◌≤◌, ◌<◌, ◌^◌, ◌++◌, ◌∷◌, [], ℕ, List, None, length, IsTrue, if◌then◌else◌};
+ghost use Rattle.std.specs.Result.{result_err};
+
+use crate::clock::Clock;
+use crate::entry::{Entry, Sample};
+use crate::refusal::Refusal;
+use crate::rules::{in_range, invalid_field, start_in_range};
+use crate::start::Start;
+use crate::summary::{ActivitySummary, LapSummary, SessionSummary};
+use crate::sums::Sums;
+use std::marker::Model;
+
+/// What a recording adds up to so far, in one fixed state. Contracts say of which list of entries.
+#[derive(Debug, Drop)]
+pub struct Totals {
+    start: Start,
+    clock: Clock,
+    stopped: bool,
+    // How many laps were added.
+    laps: u16,
+    // The last distance known.
+    distance: Option<u32>,
+    // What the samples add up to, in the whole recording and in the open lap.
+    whole: Sums,
+    lap: Sums,
+}
+
+impl Model for Totals {
+    ghost use Rattle.std.specs.Prelude.{◌≤◌};
+    ghost use Rattle.fit_activity.specs.Totals.{Kept, KeepsTime};
+
+    ghost Value = { Kept };
+
+    ghost view = { λ t. record {
+      start = t.start;
+      clock = t.clock;
+      stopped = t.stopped;
+      laps = t.laps;
+      distance = t.distance;
+      whole = t.whole;
+      lap = t.lap;
+    } };
+
+    ghost invariant = { λ t. KeepsTime t.clock × (t.laps ≤ 999) };
+}
+
+impl Totals {
+    ghost use Rattle.fit_activity.specs.Recording.{Recorded, Started, Added, EntryFits, entry_time, is_lap};
+    ghost use Rattle.fit_activity.specs.Timer.{runs_now};
+    ghost use Rattle.fit_activity.specs.Stretch.{end_time, lap_of, lap_at, session_of, activity_of};
+    ghost use Rattle.fit_activity.specs.Refusal.{start_refusal, refusal_of, has_stopped};
+    ghost use Rattle.fit_activity.specs.Totals.{AreTotals, KeepsTime};
+    ghost use Rattle.fit_activity.specs.Step.{totals_after, lap_by, SumsHaveRoom, refusal_by, refusal_by_kind, refusal_by_values};
+
+    /// The totals of a start, whose `check` was Ok.
+    pub fn start(start: &Start) -> Totals
+        requires { start_refusal start.now ≡ None }
+        ensures { AreTotals result (Started start.now ∷ []) }
+    {
+        let start = start_in_range(*start);
+        Totals {
+            start,
+            clock: Clock::at(start.time),
+            stopped: false,
+            laps: 0,
+            distance: None,
+            whole: Sums::at(None),
+            lap: Sums::at(None),
+        }
+    }
+
+    /// Whether the entry may stand behind the recording so far; else why not.
+    pub fn check(&self, entry: &Entry) -> Result<(), Refusal>
+        ensures first { (list : List Recorded) → AreTotals self.now list → result_err result ≡ refusal_of list entry.now }
+        // As its types say.
+        ensures fits { EntryFits entry.now }
+    {
+        self.judge(in_range(entry))
+    }
+
+    // The first cause that holds, by the numbers kept.
+    fn judge(&self, entry: &Entry) -> Result<(), Refusal>
+        ensures { result_err result ≡ refusal_by self.now entry.now }
+    {
+        let time = entry.time();
+        if self.stopped {
+            return Err(Refusal::Stopped);
+        }
+        if time < self.clock.end || time == u32::MAX {
+            return Err(Refusal::Time);
+        }
+        if time - self.clock.start > 4_000_000 {
+            return Err(Refusal::TooLong);
+        }
+        self.judge_kind(entry)
+    }
+
+    // The first cause that holds beside those of the time.
+    fn judge_kind(&self, entry: &Entry) -> Result<(), Refusal>
+        ensures { result_err result ≡ refusal_by_kind self.now entry.now }
+    {
+        match entry {
+            Entry::Sample(_) | Entry::Pause(_) if !self.clock.running => Err(Refusal::TimerStopped),
+            Entry::Resume(_) if self.clock.running => Err(Refusal::TimerRunning),
+            Entry::Lap(_) if self.laps >= 999 => Err(Refusal::TooManyLaps),
+            Entry::Sample(sample) => self.judge_values(sample),
+            _ => Ok(()),
+        }
+    }
+
+    // Whether a sample's fields hold values, and its distance is no less than the last one known.
+    fn judge_values(&self, sample: &Sample) -> Result<(), Refusal>
+        ensures { result_err result ≡ refusal_by_values self.now sample.now }
+    {
+        if let Some(field) = invalid_field(sample) {
+            return Err(Refusal::Value(field));
+        }
+        match (sample.distance, self.distance) {
+            (Some(distance), Some(known)) if distance < known => Err(Refusal::Distance),
+            _ => Ok(()),
+        }
+    }
+
+    /// Adds an entry, whose `check` was Ok. A recording has fewer than 4,294,967,296 entries, its start among them.
+    pub fn add(&mut self, entry: &Entry)
+        requires { (list : List Recorded) × AreTotals self.old list × (refusal_of list entry.now ≡ None) × (length list < 2 ^ 32) }
+        ensures { (list : List Recorded) → AreTotals self.old list → AreTotals self.new (list ++ Added entry.now ∷ []) }
+    {
+        self.step(in_range(entry));
+    }
+
+    // The numbers kept with an entry more.
+    fn step(&mut self, entry: &Entry)
+        requires later { self.old.clock.end ≤ entry_time entry.now }
+        requires not_late { entry_time entry.now ≤ self.old.clock.start + 4000000 }
+        requires lap_left { IsTrue (is_lap (Added entry.now)) → self.old.laps < 999 }
+        requires whole { SumsHaveRoom self.old.whole }
+        requires lap { SumsHaveRoom self.old.lap }
+        ensures step { self.new ≡ totals_after self.old entry.now }
+        // As all totals do.
+        ensures kept { KeepsTime self.old.clock }
+    {
+        let clock = self.clock.until(entry.time());
+        match entry {
+            Entry::Sample(sample) => {
+                self.clock = clock;
+                self.distance = sample.distance.or(self.distance);
+                self.whole.add(sample);
+                self.lap.add(sample);
+            }
+            Entry::Lap(_) => {
+                self.clock = clock.lapped();
+                self.laps += 1;
+                self.lap = Sums::at(self.distance);
+            }
+            Entry::Pause(_) => self.clock = clock.switched(false),
+            Entry::Resume(_) => self.clock = clock.switched(true),
+            Entry::Stop(_) => {
+                self.clock = clock.switched(false);
+                self.stopped = true;
+            }
+        }
+    }
+
+    /// The time of the last entry, in seconds since 1989-12-31T00:00:00Z.
+    pub fn end_time(&self) -> u32
+        ensures { (list : List Recorded) → AreTotals self.now list → result ≡ end_time list }
+    {
+        self.clock.end
+    }
+
+    /// Whether the timer runs behind the last entry.
+    pub fn running(&self) -> bool
+        ensures { (list : List Recorded) → AreTotals self.now list → result ≡ runs_now list }
+    {
+        self.clock.running
+    }
+
+    /// Whether the recording has ended with a stop.
+    pub fn stopped(&self) -> bool
+        ensures { (list : List Recorded) → AreTotals self.now list → result ≡ has_stopped list }
+    {
+        self.stopped
+    }
+
+    // The time of the last entry, where that is no stop.
+    pub(crate) fn open_end(&self) -> Option<u32>
+        ensures { result ≡ (if self.now.stopped then None else Some self.now.clock.end) }
+    {
+        if self.stopped {
+            None
+        } else {
+            Some(self.clock.end)
+        }
+    }
+
+    /// The open lap, which begins behind the last start or lap, as if it ended with the last entry.
+    pub fn lap(&self) -> LapSummary
+        ensures { (list : List Recorded) → AreTotals self.now list → result ≡ lap_of list }
+    {
+        self.lap_by(self.clock)
+    }
+
+    // The open lap, as it ends at a time that a lap may have.
+    pub(crate) fn lap_at(&self, time: u32) -> LapSummary
+        requires later { self.now.clock.end ≤ time }
+        requires not_late { time ≤ self.now.clock.start + 4000000 }
+        ensures { (list : List Recorded) → AreTotals self.now list → result ≡ lap_at list time }
+    {
+        self.lap_by(self.clock.until(time))
+    }
+
+    // The open lap, by the clock at its end.
+    fn lap_by(&self, clock: Clock) -> LapSummary
+        requires { KeepsTime clock }
+        ensures { result ≡ lap_by self.now clock }
+    {
+        LapSummary {
+            index: self.laps,
+            stretch: self
+                .lap
+                .stretch(clock.lap, clock.end, clock.lap_timer, self.distance),
+        }
+    }
+
+    /// The whole recording so far. The open lap counts as one of its laps.
+    pub fn session(&self) -> SessionSummary
+        ensures { (list : List Recorded) → AreTotals self.now list → result ≡ session_of list }
+    {
+        let clock = &self.clock;
+        SessionSummary {
+            sport: self.start.sport,
+            laps: self.laps + 1,
+            stretch: self
+                .whole
+                .stretch(clock.start, clock.end, clock.timer, self.distance),
+        }
+    }
+
+    /// The activity, whose only session this recording is.
+    pub fn activity(&self) -> ActivitySummary
+        ensures { (list : List Recorded) → AreTotals self.now list → result ≡ activity_of list }
+    {
+        ActivitySummary {
+            time: self.clock.end,
+            timer: 1000 * self.clock.timer,
+        }
+    }
+}
