@@ -21,7 +21,7 @@ use crate::item::writing::data_byte;
 use crate::item::{ItemFault, least_length};
 use crate::message::Messages;
 pub use decode::decode_file;
-pub use encode::encode_file;
+pub use encode::{encode_file, header_front};
 pub use fault::{EncodeFault, FaultKind, FileFault, PutFault};
 pub use frame::Frame;
 use std::alloc::{AllocError, Global};

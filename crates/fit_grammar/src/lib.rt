@@ -34,6 +34,7 @@ mod to_writer;
 pub use definition::{Definition, DefinitionMessage, FieldDefinition, Table};
 pub use file::{
     EncodeFault, FaultKind, File, FileFault, Frame, PutFault, decode_file, encode_file,
+    header_front,
 };
 pub use item::{
     DataMessage, Item, ItemFault, Step, least_length, next_item, write_data, write_definition,

@@ -48,8 +48,8 @@ fn put_header<W: Write>(
     put_checked(out, checksum, &Crc::of(&front).to_le_bytes())
 }
 
-// The bytes of a header before its checksum.
-fn header_front(frame: Frame, size: u32) -> [u8; 12]
+/// The bytes of a header before its checksum, over this many bytes of records.
+pub fn header_front(frame: Frame, size: u32) -> [u8; 12]
     ensures { result ≡ header_front_of frame size }
 {
     let [profile_1, profile_2] = frame.profile.to_le_bytes();

@@ -1,0 +1,9 @@
+pub mod KeptLemmas
+pub mod StoreLemmas
+pub mod BeginLemmas
+pub mod FinishLemmas
+pub mod SpellLemmas
+pub mod WriteLemmas
+pub mod RecorderLemmas
+pub mod AnswerLemmas
+pub mod StartLemmas

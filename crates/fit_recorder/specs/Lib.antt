@@ -1,0 +1,13 @@
+pub mod Kept
+pub mod Saying
+pub mod OneMessage
+pub mod Body
+pub mod Starting
+pub mod Standing
+pub mod Recording
+pub mod FaultCode
+pub mod Answers
+pub mod Store
+pub mod Spelled
+pub mod Frame
+pub mod Begun
