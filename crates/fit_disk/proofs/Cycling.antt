@@ -19,16 +19,19 @@ outside_from place [] outside = refl
 outside_from place (range ∷ ranges) outside =
     and_from _ _ (⊎_elim (λ front. or_left _ _ (lt-ltb place range.0 front)) (λ behind. or_right _ _ (le-leb (range.0 + range.1) place behind)) outside.0) (outside_from place ranges outside.1)
 
-pub kept_from : (least : ℕ) (written : List (ℕ × ℕ)) (place : ℕ) → place < least → IsOutside place written → is_kept least written place ≡ true
+pub kept_from : (least : ℕ) (written : List (ℕ × ℕ)) (place : ℕ) → place < least → IsOutside place written
+    → is_kept least written place ≡ true
 kept_from least written place low outside = and_from _ _ (lt-ltb place least low) (outside_from place written outside)
 
 -- what is kept is as it was synced
-pub kept_same : (file : Stored) (place : ℕ) → Left file file.seen → is_kept file.least file.written place ≡ true → get_or file.seen place 0 ≡ get_or file.synced place 0
+pub kept_same : (file : Stored) (place : ℕ) → Left file file.seen → is_kept file.least file.written place ≡ true
+    → get_or file.seen place 0 ≡ get_or file.synced place 0
 kept_same file place left kept =
     let parts = and_parts _ _ kept in
     left.same place (ltb-true place file.least parts.0) (outside_is place file.written parts.1)
 
-pub length_in_range : (least greatest : ℕ) (choices : List ℕ) → least ≤ greatest → (least ≤ length_by least greatest choices) × (length_by least greatest choices ≤ greatest)
+pub length_in_range : (least greatest : ℕ) (choices : List ℕ) → least ≤ greatest
+    → (least ≤ length_by least greatest choices) × (length_by least greatest choices ≤ greatest)
 length_in_range least greatest choices order = (omega arith, omega arith)
 
 module _ (file : Stored) (choices : List ℕ) where
@@ -38,13 +41,15 @@ module _ (file : Stored) (choices : List ℕ) where
   pub length-left_by : length (left_by file choices) ≡ length_by file.least file.greatest choices
   length-left_by = length-map-range_with_len (byte_by file.least file.written file.synced choices) 0 (length_by file.least file.greatest choices)
 
-  pub get_or-left_by : (place : ℕ) → place < length_by file.least file.greatest choices → get_or (left_by file choices) place 0 ≡ byte_by file.least file.written file.synced choices place
+  pub get_or-left_by : (place : ℕ) → place < length_by file.least file.greatest choices
+      → get_or (left_by file choices) place 0 ≡ byte_by file.least file.written file.synced choices place
   get_or-left_by place low = get_or-map-range_with_len (byte_by file.least file.written file.synced choices) 0 (length_by file.least file.greatest choices) place place 0 low (omega arith)
 
   byte_below : (place : ℕ) → Left file file.seen → IsBytes choices → byte_by file.least file.written file.synced choices place < 256
   byte_below place left bytes = by_test (is_kept file.least file.written place) refl
     where
-      by_test : (kept : Bool) → is_kept file.least file.written place ≡ kept → (if kept then get_or file.synced place 0 else get_or choices (4 + free_below file.least file.written place) 0) < 256
+      by_test : (kept : Bool) → is_kept file.least file.written place ≡ kept
+          → (if kept then get_or file.synced place 0 else get_or choices (4 + free_below file.least file.written place) 0) < 256
       by_test true is = rw (← kept_same file place left is) (left.bytes place)
       by_test false is = bytes (4 + free_below file.least file.written place)
 

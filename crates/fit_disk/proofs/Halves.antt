@@ -16,7 +16,8 @@ and_swap false true c = refl
 and_swap false false c = refl
 
 -- one range more, at either end
-pub outside_push : (place : ℕ) (ranges : List (ℕ × ℕ)) (range : ℕ × ℕ) → is_outside place (ranges ++ range ∷ []) ≡ is_outside place (range ∷ ranges)
+pub outside_push : (place : ℕ) (ranges : List (ℕ × ℕ)) (range : ℕ × ℕ)
+    → is_outside place (ranges ++ range ∷ []) ≡ is_outside place (range ∷ ranges)
 outside_push place [] range = refl
 outside_push place (first ∷ ranges) range = ap (λ rest. is_beside place first && rest) (outside_push place ranges range) ∙ and_swap (is_beside place first) (is_beside place range) (is_outside place ranges)
 
@@ -36,7 +37,9 @@ module _ (least : ℕ) (xs ys : List (ℕ × ℕ)) (same : (place : ℕ) → is_
   free_same zero = refl
   free_same (suc n) = rw (free_same n, same n) refl
 
-  pub byte_same : (before synced choices : List ℕ) (place : ℕ) → (is_kept least ys place ≡ true → get_or before place 0 ≡ get_or synced place 0) → byte_by least xs before choices place ≡ byte_by least ys synced choices place
+  pub byte_same : (before synced choices : List ℕ) (place : ℕ)
+      → (is_kept least ys place ≡ true → get_or before place 0 ≡ get_or synced place 0)
+      → byte_by least xs before choices place ≡ byte_by least ys synced choices place
   byte_same before synced choices place kept = rw (same place, free_same place) (by_test (is_kept least ys place) refl)
     where
       by_test : (test : Bool) → is_kept least ys place ≡ test
@@ -73,5 +76,6 @@ half_cycled old new file before choices is bytes resized size each least greates
         let low : place < old.least = ltb-true place old.least (and_parts _ _ kept).0 in
         resized place low ∙ rw (← is.seen) (kept_same file place is.sound (rw is.least kept))
 
-pub half_taken : (half : Half) (file : Stored) (choices : List ℕ) → IsHalf half file → 4 + free_below half.least half.written.items (length_by half.least half.greatest choices) ≡ taken_by file choices
+pub half_taken : (half : Half) (file : Stored) (choices : List ℕ) → IsHalf half file
+    → 4 + free_below half.least half.written.items (length_by half.least half.greatest choices) ≡ taken_by file choices
 half_taken half file choices is = rw (is.least, is.greatest) (ap (λ n. 4 + n) (free_same half.least half.written.items file.written is.written (length_by half.least half.greatest choices)))

@@ -15,7 +15,8 @@ pub left_rest : (c : List ℕ) → IsBytes c → Left (at_rest c) c
 left_rest c bytes = record { no_shorter = omega arith; no_longer = omega arith; same = λ i low outside. refl; bytes = bytes }
 
 -- a write on a file at rest leaves a torn one, whatever reads give meanwhile
-pub torn_left : (at count : ℕ) (now : List ℕ) (file : Stored) (c d : List ℕ) → file ≡ at_rest c → Left (write_begun at count now file) d → Torn at count c d
+pub torn_left : (at count : ℕ) (now : List ℕ) (file : Stored) (c d : List ℕ) → file ≡ at_rest c
+    → Left (write_begun at count now file) d → Torn at count c d
 torn_left at count now file c d rests left_file =
     let left : Left (write_begun at count now (at_rest c)) d = subst (λ f. Left (write_begun at count now f) d) rests left_file in
     record {
@@ -26,7 +27,8 @@ torn_left at count now file c d rests left_file =
     }
 
 -- a cut of a file at rest leaves a part of it
-pub cut_left : (len : ℕ) (now : List ℕ) (file : Stored) (c d : List ℕ) → file ≡ at_rest c → len ≤ length c → Left (cut_begun len now file) d → PartlyCut len c d
+pub cut_left : (len : ℕ) (now : List ℕ) (file : Stored) (c d : List ℕ) → file ≡ at_rest c → len ≤ length c
+    → Left (cut_begun len now file) d → PartlyCut len c d
 cut_left len now file c d rests within left_file =
     let left : Left (cut_begun len now (at_rest c)) d = subst (λ f. Left (cut_begun len now f) d) rests left_file in
     record {
@@ -45,13 +47,15 @@ over_before at bytes old i within front =
     let low : i < length (take at old) = omega (arith, length-take at old) in
     get_or_append_left (take at old) (bytes ++ drop (at + length bytes) old) 0 i low ∙ get_or-take at old i 0 front
 
-pub over_inside : (at : ℕ) (bytes old : List ℕ) (i : ℕ) → at ≤ length old → i < length bytes → get_or (over at bytes old) (at + i) 0 ≡ get_or bytes i 0
+pub over_inside : (at : ℕ) (bytes old : List ℕ) (i : ℕ) → at ≤ length old → i < length bytes
+    → get_or (over at bytes old) (at + i) 0 ≡ get_or bytes i 0
 over_inside at bytes old i within low =
     let size : length (take at old) ≡ at = omega (arith, length-take at old) in
     let here : at + i - at ≡ i = omega arith in
     get_or-append_right (take at old) (bytes ++ drop (at + length bytes) old) at (at + i) 0 size (omega arith) ∙ rw here (get_or_append_left bytes (drop (at + length bytes) old) 0 i low)
 
-pub over_after : (at : ℕ) (bytes old : List ℕ) (i : ℕ) → at ≤ length old → at + length bytes ≤ i → get_or (over at bytes old) i 0 ≡ get_or old i 0
+pub over_after : (at : ℕ) (bytes old : List ℕ) (i : ℕ) → at ≤ length old → at + length bytes ≤ i
+    → get_or (over at bytes old) i 0 ≡ get_or old i 0
 over_after at bytes old i within behind =
     let size : length (take at old) ≡ at = omega (arith, length-take at old) in
     let place : at + length bytes + (i - at - length bytes) ≡ i = omega arith in

@@ -45,7 +45,8 @@ module _ (P : Contents → Type 0) where
     start = first.start;
   }
 
-  last_has : (since : List State) (old new : Story) → new.now ∷ new.past ≡ since ++ (old.now ∷ old.past) → All (LeavesOnly P) since → LeavesOnly P old.now → LeavesOnly P new.now
+  last_has : (since : List State) (old new : Story) → new.now ∷ new.past ≡ since ++ (old.now ∷ old.past)
+      → All (LeavesOnly P) since → LeavesOnly P old.now → LeavesOnly P new.now
   last_has [] old new states each start = let same : new.now ≡ old.now = cc in subst (LeavesOnly P) (sym same) start
   last_has (state ∷ since) old new states each start = let same : new.now ≡ state = cc in subst (LeavesOnly P) (sym same) (All-head (LeavesOnly P) state since each)
 
@@ -71,6 +72,8 @@ module _ (P : Contents → Type 0) where
     shortened_on len (Err e) leaves shortened = ⊎_elim (λ same. stays old mid new run same) (λ part. to old mid new _ run part.2 (leaves part.0)) shortened.err
 
     -- a sync, done or failed
-    pub synced_on : {T E : Type 0} (result : Result T E) → LeavesOnly P (with_file which (at_rest (seen_of which mid)) mid.now) → Synced which result mid new → Throughout P old new
+    pub synced_on : {T E : Type 0} (result : Result T E)
+        → LeavesOnly P (with_file which (at_rest (seen_of which mid)) mid.now) → Synced which result mid new
+        → Throughout P old new
     synced_on (Ok x) leaves synced = to old mid new _ run synced.ok leaves
     synced_on (Err e) leaves synced = stays old mid new run synced.err

@@ -14,11 +14,13 @@ pub record ReadsAt (seen : List ℕ) (at room : ℕ) (buffer : List ℕ) (count 
 -- a part of the write was done: reads give one content that this may have made
 abbrev pub PartlyWrote : Which → ℕ → ℕ → Story → Story → Type 0
 PartlyWrote which at count old new =
-    (now : List ℕ) × Torn at count (seen_of which old) now × (new ≡ then_file which (write_begun at count now (file_of which old.now)) old)
+    (now : List ℕ) × Torn at count (seen_of which old) now
+    × (new ≡ then_file which (write_begun at count now (file_of which old.now)) old)
 
 -- all of the bytes were written; or the write failed before it began, or in part
 pub record Wrote {T E : Type 0} (which : Which) (at : ℕ) (bytes : List ℕ) (result : Result T E) (old new : Story) : Type 0 where
-  pub ok : OnOk result (new ≡ then_file which (write_begun at (length bytes) (over at bytes (seen_of which old)) (file_of which old.now)) old)
+  pub ok : OnOk result (new ≡
+      then_file which (write_begun at (length bytes) (over at bytes (seen_of which old)) (file_of which old.now)) old)
   pub err : OnErr result ((new ≡ old) ⊎ PartlyWrote which at (length bytes) old new)
 
 -- a part of the cut was done

@@ -69,7 +69,8 @@ failures schedule (suc number) = failures schedule number + (if is_planned sched
 
 -- since the schedule was made, as many calls have failed as it says
 abbrev pub FailedAsPlanned : Counts → Schedule → Type 0
-FailedAsPlanned counts schedule = counts.failed + failures schedule schedule.since.calls ≡ schedule.since.failed + failures schedule counts.calls
+FailedAsPlanned counts schedule =
+    counts.failed + failures schedule schedule.since.calls ≡ schedule.since.failed + failures schedule counts.calls
 
 -- the number of the k-th call from now; none where the counts come to their last value before
 abbrev pub number_of : ℕ → ℕ → Option ℕ
@@ -81,7 +82,11 @@ failing_at k counts old = record { fail = number_of counts.calls k; cut = old.cu
 
 -- a schedule that lets the power go at the k-th call from now, unless it is gone
 abbrev pub cut_off_at : ℕ → Counts → Schedule → Schedule
-cut_off_at k counts old = record { fail = old.fail; cut = if is_from old.cut counts.calls then old.cut else number_of counts.calls k; since = counts }
+cut_off_at k counts old = record {
+  fail = old.fail;
+  cut = if is_from old.cut counts.calls then old.cut else number_of counts.calls k;
+  since = counts;
+}
 
 -- nothing is to fail
 abbrev pub unplanned : Counts → Schedule

@@ -6,7 +6,8 @@ use Rattle.fit_disk.specs.State.{State}
 
 -- four choice bytes as a number, the low byte first; missing ones are 0
 abbrev pub chosen_number : List ℕ → ℕ
-chosen_number choices = slice_index choices 0 + 256 * slice_index choices 1 + 65536 * slice_index choices 2 + 16777216 * slice_index choices 3
+chosen_number choices =
+    slice_index choices 0 + 256 * slice_index choices 1 + 65536 * slice_index choices 2 + 16777216 * slice_index choices 3
 
 -- whether the place is before or behind the range
 abbrev pub is_beside : ℕ → ℕ × ℕ → Bool
@@ -37,7 +38,8 @@ byte_by least written before choices place =
 
 -- what is left of a file for these choice bytes
 abbrev pub left_by : Stored → List ℕ → List ℕ
-left_by file choices = map (byte_by file.least file.written file.synced choices) (range_with_len 0 (length_by file.least file.greatest choices))
+left_by file choices =
+    map (byte_by file.least file.written file.synced choices) (range_with_len 0 (length_by file.least file.greatest choices))
 
 -- how many choice bytes a file takes, missing ones among them
 abbrev pub taken_by : Stored → List ℕ → ℕ

@@ -20,7 +20,8 @@ IsOutside place (range ∷ ranges) = ((place < range.0) ⊎ (range.0 + range.1 �
 pub record Left (file : Stored) (content : List ℕ) : Type 0 where
   pub no_shorter : file.least ≤ length content
   pub no_longer : length content ≤ file.greatest
-  pub same : (place : ℕ) → place < file.least → IsOutside place file.written → slice_index content place ≡ slice_index file.synced place
+  pub same : (place : ℕ) → place < file.least → IsOutside place file.written
+      → slice_index content place ≡ slice_index file.synced place
   pub bytes : IsBytes content
 
 -- whatever a crash leaves of the file has P

@@ -133,7 +133,8 @@ fn put(seen: &mut Vec<u8>, at: usize, bytes: &[u8])
 fn set_length(seen: &mut Vec<u8>, len: usize)
     requires { len ≤ vec_capacity seen.old }
     ensures long { vec_len seen.new ≡ len }
-    ensures same { (place : ℕ) → place < len → place < vec_len seen.old → slice_index seen.new.items place ≡ slice_index seen.old.items place }
+    ensures same { (place : ℕ) → place < len → place < vec_len seen.old
+        → slice_index seen.new.items place ≡ slice_index seen.old.items place }
     ensures room { vec_capacity seen.old ≤ vec_capacity seen.new }
 {
     let _ = seen.resize(len, 0);

@@ -21,7 +21,8 @@ pub struct Memory {
     store: Store,
     clock: Clock,
     /// Unless memory was refused, as many calls have failed since the schedule was made as it says.
-    pub ghost planned: { clock.was_refused ≡ false → FailedAsPlanned (counts_of clock.counts) (schedule_by clock.fail clock.cut clock.since) },
+    pub ghost planned: { clock.was_refused ≡ false
+        → FailedAsPlanned (counts_of clock.counts) (schedule_by clock.fail clock.cut clock.since) },
 }
 
 impl Memory {

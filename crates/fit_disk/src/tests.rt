@@ -5,6 +5,18 @@ mod files;
 mod memory;
 
 use crate::{DeviceError, Disk, Memory, Which};
+use std::process::Abort;
+
+// Tests that a file of the disk holds this.
+fn expect(rt: &impl Abort, disk: &Memory, which: Which, content: &[u8]) {
+    assert!(rt; disk.content(which) == content, "{:?}", disk.content(which));
+}
+
+// Cuts the power of the disk, which takes so many of the choice bytes.
+fn cycle(rt: &impl Abort, disk: &mut Memory, choices: &[u8], taken: usize) {
+    let took = disk.cycle(choices);
+    assert!(rt; took == taken, "took {took}");
+}
 
 // The calls of the memory disk, which say no more here than what they answer.
 fn size(disk: &mut Memory, which: Which) -> Result<u64, DeviceError> {
@@ -17,10 +29,6 @@ fn read(disk: &mut Memory, which: Which, at: u64, buffer: &mut [u8]) -> Result<u
 
 fn sync(disk: &mut Memory, which: Which) -> Result<(), DeviceError> {
     disk.sync(which)
-}
-
-fn cycle(disk: &mut Memory, choices: &[u8]) -> usize {
-    disk.cycle(choices)
 }
 
 // Writes at a place, or at the end of a shorter file.

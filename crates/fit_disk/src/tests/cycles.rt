@@ -1,6 +1,6 @@
 // What power cuts leave for given choice bytes. The expected contents are worked out by hand from the disk model.
 
-use super::{cut, cycle, sync, write};
+use super::{cut, cycle, expect, sync, write};
 use crate::{DeviceError, Memory, Which};
 use std::alloc::Global;
 use std::test::Fail;
@@ -29,9 +29,9 @@ fn only_the_written_middle_varies(rt: HostRuntime) -> Result<(), Fail> {
     ];
     for (choices, taken, content) in cases {
         let mut disk = torn(rt.alloc())?;
-        assert_eq!(rt; cycle(&mut disk, choices), taken);
-        assert_eq!(rt; disk.content(Which::Data), content);
-        assert_eq!(rt; disk.content(Which::Journal), b"".as_slice());
+        cycle(&rt, &mut disk, choices, taken);
+        expect(&rt, &disk, Which::Data, content);
+        expect(&rt, &disk, Which::Journal, b"");
     }
     Ok(())
 }
@@ -50,8 +50,8 @@ fn the_length_of_what_was_not_synced_varies(rt: HostRuntime) -> Result<(), Fail>
     for (choices, taken, content) in cases {
         let mut disk = Memory::new(rt.alloc());
         write(&mut disk, Which::Data, 0, b"abc")?;
-        assert_eq!(rt; cycle(&mut disk, choices), taken);
-        assert_eq!(rt; disk.content(Which::Data), content);
+        cycle(&rt, &mut disk, choices, taken);
+        expect(&rt, &disk, Which::Data, content);
     }
     Ok(())
 }
@@ -75,8 +75,8 @@ fn a_cut_may_come_back_as_any_bytes(rt: HostRuntime) -> Result<(), Fail> {
         sync(&mut disk, Which::Data)?;
         cut(&mut disk, Which::Data, 2)?;
         write(&mut disk, Which::Data, 2, b"Z")?;
-        assert_eq!(rt; cycle(&mut disk, choices), taken);
-        assert_eq!(rt; disk.content(Which::Data), content);
+        cycle(&rt, &mut disk, choices, taken);
+        expect(&rt, &disk, Which::Data, content);
     }
     Ok(())
 }
@@ -86,26 +86,28 @@ fn the_data_file_takes_its_choices_first(rt: HostRuntime) -> Result<(), Fail> {
     let mut disk = Memory::new(rt.alloc());
     write(&mut disk, Which::Journal, 0, b"j")?;
     write(&mut disk, Which::Data, 0, b"d")?;
-    assert_eq!(rt;
-        cycle(&mut disk, &[1, 0, 0, 0, 0x11, 1, 0, 0, 0, 0x22, 0x33]),
-        10
+    cycle(
+        &rt,
+        &mut disk,
+        &[1, 0, 0, 0, 0x11, 1, 0, 0, 0, 0x22, 0x33],
+        10,
     );
-    assert_eq!(rt; disk.content(Which::Data), b"\x11".as_slice());
-    assert_eq!(rt; disk.content(Which::Journal), b"\x22".as_slice());
+    expect(&rt, &disk, Which::Data, b"\x11");
+    expect(&rt, &disk, Which::Journal, b"\x22");
     Ok(())
 }
 
 #[test]
 fn what_was_left_is_kept_from_then_on(rt: HostRuntime) -> Result<(), Fail> {
     let mut disk = torn(rt.alloc())?;
-    cycle(&mut disk, &[0, 0, 0, 0, 0xA5, 0xFF]);
-    assert_eq!(rt; cycle(&mut disk, &[7, 7, 7]), 3);
-    assert_eq!(rt; cycle(&mut disk, &[7; 10]), 8);
-    assert_eq!(rt; disk.content(Which::Data), b"a\xA5\xFFd".as_slice());
+    cycle(&rt, &mut disk, &[0, 0, 0, 0, 0xA5, 0xFF], 6);
+    cycle(&rt, &mut disk, &[7, 7, 7], 3);
+    cycle(&rt, &mut disk, &[7; 10], 8);
+    expect(&rt, &disk, Which::Data, b"a\xA5\xFFd");
     // It is what the next write is torn against.
     write(&mut disk, Which::Data, 3, b"Z")?;
-    cycle(&mut disk, &[0, 0, 0, 0, 0x5A]);
-    assert_eq!(rt; disk.content(Which::Data), b"a\xA5\xFF\x5A".as_slice());
+    cycle(&rt, &mut disk, &[0, 0, 0, 0, 0x5A], 5);
+    expect(&rt, &disk, Which::Data, b"a\xA5\xFF\x5A");
     Ok(())
 }
 
@@ -115,9 +117,9 @@ fn a_failed_write_was_begun(rt: HostRuntime) -> Result<(), Fail> {
     sync(&mut disk, Which::Data)?;
     disk.fail_at(1);
     assert!(rt; write(&mut disk, Which::Data, 3, b"ZZ").is_err());
-    assert_eq!(rt; disk.content(Which::Data), b"aXYd".as_slice());
-    cycle(&mut disk, &[1, 0, 0, 0, 0xA5, 0xFF]);
-    assert_eq!(rt; disk.content(Which::Data), b"aXY\xA5\xFF".as_slice());
+    expect(&rt, &disk, Which::Data, b"aXYd");
+    cycle(&rt, &mut disk, &[1, 0, 0, 0, 0xA5, 0xFF], 6);
+    expect(&rt, &disk, Which::Data, b"aXY\xA5\xFF");
     Ok(())
 }
 
@@ -127,9 +129,9 @@ fn a_failed_cut_was_begun(rt: HostRuntime) -> Result<(), Fail> {
     sync(&mut disk, Which::Data)?;
     disk.fail_at(1);
     assert!(rt; cut(&mut disk, Which::Data, 1).is_err());
-    assert_eq!(rt; disk.content(Which::Data), b"aXYd".as_slice());
-    cycle(&mut disk, &[1, 0, 0, 0, 0xA5]);
-    assert_eq!(rt; disk.content(Which::Data), b"a\xA5".as_slice());
+    expect(&rt, &disk, Which::Data, b"aXYd");
+    cycle(&rt, &mut disk, &[1, 0, 0, 0, 0xA5], 5);
+    expect(&rt, &disk, Which::Data, b"a\xA5");
     Ok(())
 }
 
@@ -138,8 +140,8 @@ fn a_failed_sync_keeps_nothing_new_and_loses_nothing(rt: HostRuntime) -> Result<
     let mut disk = torn(rt.alloc())?;
     disk.fail_at(1);
     assert!(rt; sync(&mut disk, Which::Data).is_err());
-    assert_eq!(rt; disk.content(Which::Data), b"aXYd".as_slice());
-    cycle(&mut disk, &[]);
-    assert_eq!(rt; disk.content(Which::Data), b"a\0\0d".as_slice());
+    expect(&rt, &disk, Which::Data, b"aXYd");
+    cycle(&rt, &mut disk, &[], 0);
+    expect(&rt, &disk, Which::Data, b"a\0\0d");
     Ok(())
 }

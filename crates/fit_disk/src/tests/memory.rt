@@ -1,6 +1,6 @@
 // Reads, writes, cuts and syncs of the memory disk, and its scheduled and refused calls.
 
-use super::{cut, cycle, read, size, sync, write};
+use super::{cut, cycle, expect, read, size, sync, write};
 use crate::{DeviceError, Memory, Which};
 use std::test::Fail;
 
@@ -24,9 +24,9 @@ fn reads_what_was_written(rt: HostRuntime) -> Result<(), Fail> {
     write(&mut disk, Which::Data, 5, b"!")?;
     write(&mut disk, Which::Data, 6, b"")?;
     write(&mut disk, Which::Data, 0, b"A")?;
-    assert_eq!(rt; disk.content(Which::Data), b"AbXYZ!".as_slice());
+    expect(&rt, &disk, Which::Data, b"AbXYZ!");
     assert_eq!(rt; read(&mut disk, Which::Data, 3, &mut buffer)?, 3);
-    assert_eq!(rt; disk.content(Which::Journal), b"".as_slice());
+    expect(&rt, &disk, Which::Journal, b"");
     Ok(())
 }
 
@@ -38,14 +38,14 @@ fn cuts_and_syncs_change_no_other_byte(rt: HostRuntime) -> Result<(), Fail> {
     cut(&mut disk, Which::Journal, 6)?;
     sync(&mut disk, Which::Journal)?;
     cut(&mut disk, Which::Journal, 2)?;
-    assert_eq!(rt; disk.content(Which::Journal), b"ab".as_slice());
+    expect(&rt, &disk, Which::Journal, b"ab");
     write(&mut disk, Which::Journal, 2, b"Z")?;
     sync(&mut disk, Which::Journal)?;
     sync(&mut disk, Which::Data)?;
-    assert_eq!(rt; disk.content(Which::Journal), b"abZ".as_slice());
+    expect(&rt, &disk, Which::Journal, b"abZ");
     cut(&mut disk, Which::Journal, 0)?;
-    assert_eq!(rt; disk.content(Which::Journal), b"".as_slice());
-    assert_eq!(rt; disk.content(Which::Data), b"1".as_slice());
+    expect(&rt, &disk, Which::Journal, b"");
+    expect(&rt, &disk, Which::Data, b"1");
     assert!(rt; !disk.spent());
     Ok(())
 }
@@ -90,7 +90,7 @@ fn each_call_fails_once_the_power_is_gone(rt: HostRuntime) {
             let failed = call(&mut disk, number).is_err();
             assert_eq!(rt; failed, number >= scheduled, "call {number} of {scheduled}");
         }
-        cycle(&mut disk, &[]);
+        cycle(&rt, &mut disk, &[], 0);
         for number in 1..=12 {
             assert!(rt;
                 call(&mut disk, number).is_ok(),
@@ -117,10 +117,10 @@ fn a_schedule_replaces_the_pending_one(rt: HostRuntime) {
     disk.cut_at(9);
     assert!(rt; sync(&mut disk, Which::Data).is_err());
     // A power cut drops both kinds.
-    cycle(&mut disk, &[]);
+    cycle(&rt, &mut disk, &[], 0);
     disk.fail_at(1);
     disk.cut_at(2);
-    cycle(&mut disk, &[]);
+    cycle(&rt, &mut disk, &[], 0);
     for _ in 0..4 {
         assert!(rt; sync(&mut disk, Which::Data).is_ok());
     }
@@ -150,10 +150,10 @@ fn a_refused_growth_changes_nothing(rt: HostRuntime) -> Result<(), Fail> {
         }
     }
     assert_eq!(rt; disk.spent(), was_refused);
-    assert_eq!(rt; disk.content(Which::Data), b"abe".as_slice());
-    assert_eq!(rt; disk.content(Which::Journal), b"c".as_slice());
-    assert_eq!(rt; cycle(&mut disk, &[0, 0, 0, 0, 1, 0, 0, 0, 0xA5]), 9);
-    assert_eq!(rt; disk.content(Which::Data), b"abe".as_slice());
-    assert_eq!(rt; disk.content(Which::Journal), b"c\xA5".as_slice());
+    expect(&rt, &disk, Which::Data, b"abe");
+    expect(&rt, &disk, Which::Journal, b"c");
+    cycle(&rt, &mut disk, &[0, 0, 0, 0, 1, 0, 0, 0, 0xA5], 9);
+    expect(&rt, &disk, Which::Data, b"abe");
+    expect(&rt, &disk, Which::Journal, b"c\xA5");
     Ok(())
 }
