@@ -22,6 +22,8 @@ mod start;
 mod summary;
 mod sums;
 mod tally;
+#[cfg(test)]
+mod tests;
 mod told;
 mod told_in;
 mod totals;
