@@ -97,5 +97,7 @@ fn want_of_memory_is_told(rt: HostRuntime) -> Result<(), Fail> {
         opened => opened?,
     };
     assert_eq!(rt; files.size(Which::Data)?, 0);
+    drop(files);
+    fs::remove_dir_all(&rt, folder)?;
     Ok(())
 }
