@@ -24,11 +24,25 @@ fn refuses(rt: &HostRuntime, name: &str, bytes: &[u8], line: &str) -> Result<boo
 fn files_that_are_no_activity(rt: HostRuntime) -> Result<(), Fail> {
     assert!(rt; refuses(&rt, "check_no_message", &NO_MESSAGE, "fitrec: NoFileId\n")?);
     assert!(rt; refuses(&rt, "check_one_message", &ONE_MESSAGE, "fitrec: NoLap\n")?);
-    assert!(rt; refuses(&rt, "check_cut", &ONE_MESSAGE[..33], "fitrec: Truncated at 33\n")?);
+    assert!(rt;
+        refuses(
+            &rt,
+            "check_cut",
+            &ONE_MESSAGE[..33],
+            "fitrec: Truncated at 33\n"
+        )?
+    );
     // A file_id of type 5.
     let records = [0x40, 0, 0, 0, 0, 1, 0, 1, 0, 0, 5];
     let framed = framed(&rt, &records)?;
-    assert!(rt; refuses(&rt, "check_type", framed.as_slice(), "fitrec: NotActivity\n")?);
+    assert!(rt;
+        refuses(
+            &rt,
+            "check_type",
+            framed.as_slice(),
+            "fitrec: NotActivity\n"
+        )?
+    );
     Ok(())
 }
 
@@ -71,13 +85,28 @@ fn ride(rt: &HostRuntime, left_out: Option<u16>) -> Result<Vec<u8>, Fail> {
 fn a_ride_is_an_activity(rt: HostRuntime) -> Result<(), Fail> {
     let whole = ride(&rt, None)?;
     let ran = check_on(&rt, "check_ride", whole.as_slice())?;
-    let line = "ok records=0 laps=1 sessions=1 start=1000000000 elapsed_ms=0 timer_ms=0 distance_cm=-\n";
+    let line =
+        "ok records=0 laps=1 sessions=1 start=1000000000 elapsed_ms=0 timer_ms=0 distance_cm=-\n";
     assert_eq!(rt; ran.out.as_slice(), line.as_bytes());
     assert_eq!(rt; ran.err.as_slice(), [].as_slice());
     assert_eq!(rt; ran.status, 0);
     let without = ride(&rt, Some(18))?;
-    assert!(rt; refuses(&rt, "check_session", without.as_slice(), "fitrec: NoSession\n")?);
+    assert!(rt;
+        refuses(
+            &rt,
+            "check_session",
+            without.as_slice(),
+            "fitrec: NoSession\n"
+        )?
+    );
     let without = ride(&rt, Some(34))?;
-    assert!(rt; refuses(&rt, "check_activity", without.as_slice(), "fitrec: NoActivity\n")?);
+    assert!(rt;
+        refuses(
+            &rt,
+            "check_activity",
+            without.as_slice(),
+            "fitrec: NoActivity\n"
+        )?
+    );
     Ok(())
 }
