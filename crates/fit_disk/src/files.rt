@@ -89,8 +89,8 @@ impl Files {
         // The name of a file that was made is on the disk only once the folder is synced.
         let named = if folder.is_empty() { "." } else { folder };
         File::open(rt, named)?.sync_all()?;
-        settle(&data)?;
-        settle(&journal)?;
+        data.sync_all()?;
+        journal.sync_all()?;
         Ok(Files {
             data,
             journal,
@@ -209,16 +209,4 @@ fn open_or_make(rt: &HostRuntime, path: &str) -> io::Result<File> {
         .write(true)
         .create(true)
         .open(rt, path)
-}
-
-// Syncs a file, and drops the system's copies of its pages: after a sync that failed in an earlier process these may
-// differ from what is on the disk.
-fn settle(file: &File) -> io::Result<()> {
-    file.sync_all()?;
-    let advised = libc::posix_fadvise(file.as_raw_fd(), 0, 0, libc::POSIX_FADV_DONTNEED);
-    if advised == 0 {
-        Ok(())
-    } else {
-        Err(io::Error::from_raw_os_error(advised))
-    }
 }
