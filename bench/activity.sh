@@ -16,6 +16,7 @@ cp -r "$root/crates/fit_base" "$root/crates/fit_grammar" "$root/crates/fit_activ
 mkdir -p "$work/repo/crates/bench_activity/src"
 cp "$root/bench/activity/main.rt.in" "$work/repo/crates/bench_activity/src/main.rt"
 cp -r "$root/bench/activity/proofs" "$work/repo/crates/bench_activity/proofs"
+for file in $(find "$work/repo/crates/bench_activity/proofs" -name "*.antt.in"); do mv "$file" "${file%.in}"; done
 
 (cd "$work/repo/crates/bench_activity" && rt run) > "$work/log" 2>&1 || { cat "$work/log"; exit 1; }
 program=$work/repo/crates/bench_activity/out/bench_activity

@@ -6,13 +6,13 @@ use Rattle.std.specs.List.{filter_map, suffix_len}
 use Rattle.std.proofs.lemmas.List.{length_push, length-drop}
 use Rattle.std.proofs.lemmas.Option.{none-some}
 use Rattle.std.proofs.lemmas.List.Sums.{sum_by_push}
-use Rattle.fit_activity.specs.declared.entry.Sample.{Sample as AnySample}
-use Rattle.fit_activity.specs.declared.entry.Entry.{Entry}
-use Rattle.fit_activity.specs.declared.entry.Entry.TheVariants.{Sample, Lap, Pause, Resume, Stop}
-use Rattle.fit_activity.specs.declared.clock.Clock.{Clock}
-use Rattle.fit_activity.specs.declared.start.Start.{Start}
-use Rattle.fit_activity.specs.declared.tally.Tally.{Tally}
-use Rattle.fit_activity.specs.declared.sums.Sums.{Sums}
+use Rattle.fit_activity.specs.declared.recording.entry.Sample.{Sample as AnySample}
+use Rattle.fit_activity.specs.declared.recording.entry.Entry.{Entry}
+use Rattle.fit_activity.specs.declared.recording.entry.Entry.TheVariants.{Sample, Lap, Pause, Resume, Stop}
+use Rattle.fit_activity.specs.declared.totals.clock.Clock.{Clock}
+use Rattle.fit_activity.specs.declared.recording.start.Start.{Start}
+use Rattle.fit_activity.specs.declared.totals.tally.Tally.{Tally}
+use Rattle.fit_activity.specs.declared.totals.sums.Sums.{Sums}
 use Rattle.fit_activity.specs.Recording.{Recorded, Started, Added, EntryFits, SampleFits, StartFits, entry_time, time_of, is_lap, is_stop, start_of, last_given}
 use Rattle.fit_activity.specs.Timer.{switch_of, runs_now, timer}
 use Rattle.fit_activity.specs.Stretch.{distance_of, heart_rate_of, speed_of, power_of, known_distance, end_time, begins_stretch, begin_of, open_stretch, before_open, greatest}

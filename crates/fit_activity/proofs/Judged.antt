@@ -4,9 +4,9 @@ use Rattle.std.specs.Prelude.{unwrap_or, option_map, ◌==◌, ◌&&◌, ◌||�
 use Rattle.std.specs.Option.{option_or}
 use Rattle.std.proofs.lemmas.Bool.{or_parts, ltb-false, leb-false}
 use Rattle.std.proofs.lemmas.Option.{none-some}
-use Rattle.fit_activity.specs.declared.entry.Entry.{Entry}
-use Rattle.fit_activity.specs.declared.refusal.Refusal.{Refusal}
-use Rattle.fit_activity.specs.declared.refusal.Refusal.TheVariants.{Stopped, Time, TooLong, TimerStopped, TimerRunning, TooManyLaps, Value, Distance}
+use Rattle.fit_activity.specs.declared.recording.entry.Entry.{Entry}
+use Rattle.fit_activity.specs.declared.recording.refusal.Refusal.{Refusal}
+use Rattle.fit_activity.specs.declared.recording.refusal.Refusal.TheVariants.{Stopped, Time, TooLong, TimerStopped, TimerRunning, TooManyLaps, Value, Distance}
 use Rattle.fit_activity.specs.Recording.{Recorded, Started, Added, EntryFits, entry_time, is_lap, start_time}
 use Rattle.fit_activity.specs.Timer.{runs_now}
 use Rattle.fit_activity.specs.Stretch.{end_time, distance_of}

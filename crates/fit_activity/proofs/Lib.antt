@@ -11,3 +11,4 @@ pub mod Recognised
 pub mod Identified
 pub mod Counted
 pub mod Passed
+pub mod Examples

@@ -5,8 +5,8 @@ use Rattle.std.proofs.lemmas.List.Sums.{sum_by_push, sum_by-cons}
 use Rattle.std.proofs.lemmas.Bool.{ne_eqb}
 use Rattle.fit_base.specs.declared.base.BaseType.TheVariants.{Enum, Uint32}
 use Rattle.fit_grammar.specs.Format.Message.{Message}
-use Rattle.fit_activity.specs.declared.seen.Seen.{Seen}
-use Rattle.fit_activity.specs.declared.seen.SessionValues.{SessionValues}
+use Rattle.fit_activity.specs.declared.activity.seen.Seen.{Seen}
+use Rattle.fit_activity.specs.declared.activity.seen.SessionValues.{SessionValues}
 use Rattle.fit_activity.specs.Activity.{has_global, value_of, begins_with_file_id, is_activity_file, is_four, count_of}
 use Rattle.fit_activity.specs.Seen.{session_values, is_some_message, seen_of, seen_with}
 

@@ -8,8 +8,8 @@ use Rattle.std.proofs.lemmas.List.Sums.{sum_by-cons}
 use Rattle.fit_base.specs.Base.{row_of}
 use Rattle.fit_grammar.specs.declared.definition.FieldDefinition.{FieldDefinition}
 use Rattle.fit_grammar.specs.declared.definition.Definition.{Definition}
-use Rattle.fit_activity.specs.declared.told.Told.{Told}
-use Rattle.fit_activity.specs.declared.speech.SpokenMessage.{SpokenMessage}
+use Rattle.fit_activity.specs.declared.speaking.told.Told.{Told}
+use Rattle.fit_activity.specs.declared.speaking.speech.SpokenMessage.{SpokenMessage}
 use Rattle.fit_activity.specs.Told.{ToldFits, OptionFits, present, field_definition, field_content, content_length}
 use Rattle.fit_activity.specs.Speech.{CanPut, HasPut}
 use Rattle.fit_activity.proofs.Pushed.{length-filter_map-le}

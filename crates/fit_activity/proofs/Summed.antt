@@ -4,15 +4,15 @@ use Rattle.std.specs.Prelude.{sum, unwrap_or, option_map, IfSome, count_by}
 use Rattle.std.specs.List.{filter_map, AllByRecursion}
 use Rattle.std.proofs.Math.Nat.{div-le_of_le-mul, mul_comm}
 use Rattle.std.proofs.lemmas.Bool.{lt-ltb}
-use Rattle.fit_activity.specs.declared.summary.Stretch.{Stretch}
-use Rattle.fit_activity.specs.declared.summary.LapSummary.{LapSummary}
-use Rattle.fit_activity.specs.declared.summary.SessionSummary.{SessionSummary}
-use Rattle.fit_activity.specs.declared.summary.ActivitySummary.{ActivitySummary}
-use Rattle.fit_activity.specs.declared.start.Sport.{Sport}
-use Rattle.fit_activity.specs.declared.start.Sport.TheVariants.{Generic}
-use Rattle.fit_activity.specs.declared.clock.Clock.{Clock}
-use Rattle.fit_activity.specs.declared.tally.Tally.{Tally}
-use Rattle.fit_activity.specs.declared.sums.Sums.{Sums}
+use Rattle.fit_activity.specs.declared.totals.summary.Stretch.{Stretch}
+use Rattle.fit_activity.specs.declared.totals.summary.LapSummary.{LapSummary}
+use Rattle.fit_activity.specs.declared.totals.summary.SessionSummary.{SessionSummary}
+use Rattle.fit_activity.specs.declared.totals.summary.ActivitySummary.{ActivitySummary}
+use Rattle.fit_activity.specs.declared.recording.start.Sport.{Sport}
+use Rattle.fit_activity.specs.declared.recording.start.Sport.TheVariants.{Generic}
+use Rattle.fit_activity.specs.declared.totals.clock.Clock.{Clock}
+use Rattle.fit_activity.specs.declared.totals.tally.Tally.{Tally}
+use Rattle.fit_activity.specs.declared.totals.sums.Sums.{Sums}
 use Rattle.fit_activity.specs.Recording.{Recorded, is_lap, start_time, sport_of}
 use Rattle.fit_activity.specs.Timer.{timer}
 use Rattle.fit_activity.specs.Stretch.{heart_rate_of, speed_of, power_of, known_distance, end_time, greatest, average, speed_over, summary, open_stretch, open_from, before_open, lap_at, lap_of, session_of, activity_of}

@@ -1,16 +1,16 @@
 -- Why a start or an entry is refused: eight causes, each by the list before and the entry, and the first of them that holds.
 use Rattle.std.specs.Prelude.{◌≡◌, ℕ, ◌+◌, Bool, true, false, List, [], ◌∷◌, ◌++◌, Option, Some, None, unwrap_or, option_map, nat_lt, nat_le, ◌==◌, ◌&&◌, ◌||◌, not, count_by, find, if◌then◌else◌}
 use Rattle.std.specs.Option.{option_or}
-use Rattle.fit_activity.specs.declared.start.Start.{Start}
-use Rattle.fit_activity.specs.declared.entry.Sample.{Sample as AnySample}
-use Rattle.fit_activity.specs.declared.entry.Entry.{Entry}
-use Rattle.fit_activity.specs.declared.entry.Entry.TheVariants.{Sample, Pause, Resume}
-use Rattle.fit_activity.specs.declared.refusal.Refusal.{Refusal}
-use Rattle.fit_activity.specs.declared.refusal.Refusal.TheVariants.{Stopped, Time, TooLong, TimerStopped, TimerRunning, TooManyLaps, Value, Distance}
+use Rattle.fit_activity.specs.declared.recording.start.Start.{Start}
+use Rattle.fit_activity.specs.declared.recording.entry.Sample.{Sample as AnySample}
+use Rattle.fit_activity.specs.declared.recording.entry.Entry.{Entry}
+use Rattle.fit_activity.specs.declared.recording.entry.Entry.TheVariants.{Sample, Pause, Resume}
+use Rattle.fit_activity.specs.declared.recording.refusal.Refusal.{Refusal}
+use Rattle.fit_activity.specs.declared.recording.refusal.Refusal.TheVariants.{Stopped, Time, TooLong, TimerStopped, TimerRunning, TooManyLaps, Value, Distance}
 use Rattle.fit_activity.specs.Recording.{Recorded, Started, Added, StartFits, EntryFits, entry_time, is_lap, is_stop, start_time, last_given}
 use Rattle.fit_activity.specs.Timer.{runs_now}
 use Rattle.fit_activity.specs.Stretch.{end_time, known_distance, distance_of}
-use Rattle.fit_activity.specs.declared.told.Told.{Told}
+use Rattle.fit_activity.specs.declared.speaking.told.Told.{Told}
 use Rattle.fit_activity.specs.Told.{present, is_invalid}
 use Rattle.fit_activity.specs.Spoken.{sample_options}
 

@@ -5,8 +5,8 @@ use Rattle.fit_grammar.specs.Format.Message.{Message}
 use Rattle.fit_activity.specs.declared.activity.Summary.{Summary}
 use Rattle.fit_activity.specs.declared.activity.ActivityFault.{ActivityFault}
 use Rattle.fit_activity.specs.declared.activity.ActivityFault.TheVariants.{NoFileId, NotActivity, NoLap, NoSession, NoActivity}
-use Rattle.fit_activity.specs.declared.seen.Seen.{Seen}
-use Rattle.fit_activity.specs.declared.seen.SessionValues.{SessionValues}
+use Rattle.fit_activity.specs.declared.activity.seen.Seen.{Seen}
+use Rattle.fit_activity.specs.declared.activity.seen.SessionValues.{SessionValues}
 use Rattle.fit_activity.specs.Activity.{has_global, is_four, value_of, begins_with_file_id, is_activity_file, count_of, session_value}
 
 -- the values of a session that a summary has

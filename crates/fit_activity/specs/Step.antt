@@ -1,20 +1,20 @@
 -- Running totals with an entry more, on the numbers that they keep.
 use Rattle.std.specs.Prelude.{ℕ, ◌+◌, ◌-◌, ◌*◌, ◌/◌, ◌^◌, ◌<◌, Bool, true, false, max, Option, Some, None, unwrap_or, option_map, option_and_then, nat_lt, nat_le, not, ◌==◌, ◌&&◌, ◌||◌, if◌then◌else◌}
 use Rattle.std.specs.Option.{option_or}
-use Rattle.fit_activity.specs.declared.start.Start.{Start}
-use Rattle.fit_activity.specs.declared.entry.Sample.{Sample as AnySample}
-use Rattle.fit_activity.specs.declared.entry.Entry.{Entry}
-use Rattle.fit_activity.specs.declared.entry.Entry.TheVariants.{Sample, Lap, Pause, Resume, Stop}
-use Rattle.fit_activity.specs.declared.summary.Stretch.{Stretch}
-use Rattle.fit_activity.specs.declared.summary.LapSummary.{LapSummary}
-use Rattle.fit_activity.specs.declared.summary.SessionSummary.{SessionSummary}
-use Rattle.fit_activity.specs.declared.summary.ActivitySummary.{ActivitySummary}
-use Rattle.fit_activity.specs.declared.clock.Clock.{Clock}
-use Rattle.fit_activity.specs.declared.tally.Tally.{Tally}
-use Rattle.fit_activity.specs.declared.sums.Sums.{Sums}
+use Rattle.fit_activity.specs.declared.recording.start.Start.{Start}
+use Rattle.fit_activity.specs.declared.recording.entry.Sample.{Sample as AnySample}
+use Rattle.fit_activity.specs.declared.recording.entry.Entry.{Entry}
+use Rattle.fit_activity.specs.declared.recording.entry.Entry.TheVariants.{Sample, Lap, Pause, Resume, Stop}
+use Rattle.fit_activity.specs.declared.totals.summary.Stretch.{Stretch}
+use Rattle.fit_activity.specs.declared.totals.summary.LapSummary.{LapSummary}
+use Rattle.fit_activity.specs.declared.totals.summary.SessionSummary.{SessionSummary}
+use Rattle.fit_activity.specs.declared.totals.summary.ActivitySummary.{ActivitySummary}
+use Rattle.fit_activity.specs.declared.totals.clock.Clock.{Clock}
+use Rattle.fit_activity.specs.declared.totals.tally.Tally.{Tally}
+use Rattle.fit_activity.specs.declared.totals.sums.Sums.{Sums}
 use Rattle.fit_activity.specs.Totals.{Kept}
-use Rattle.fit_activity.specs.declared.refusal.Refusal.{Refusal}
-use Rattle.fit_activity.specs.declared.refusal.Refusal.TheVariants.{Stopped, Time, TooLong, TimerStopped, TimerRunning, TooManyLaps, Value, Distance}
+use Rattle.fit_activity.specs.declared.recording.refusal.Refusal.{Refusal}
+use Rattle.fit_activity.specs.declared.recording.refusal.Refusal.TheVariants.{Stopped, Time, TooLong, TimerStopped, TimerRunning, TooManyLaps, Value, Distance}
 use Rattle.fit_activity.specs.Recording.{Added, entry_time, is_lap}
 use Rattle.fit_activity.specs.Stretch.{distance_of, speed_over}
 use Rattle.fit_activity.specs.Refusal.{wants_timer, is_resume, is_less, invalid_field_of, invalid_field}

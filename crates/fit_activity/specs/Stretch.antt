@@ -1,11 +1,11 @@
 -- Stretches of a recording, and what they add up to. A stretch goes from the start or a lap to the next lap, or to the end.
 use Rattle.std.specs.Prelude.{ℕ, ◌+◌, ◌-◌, ◌*◌, ◌/◌, Bool, true, false, List, [], length, sum, max, count_by, Option, Some, None, unwrap_or, option_map, nat_lt, ◌==◌, if◌then◌else◌}
 use Rattle.std.specs.List.{filter_map, reduce, before_last, after_last}
-use Rattle.fit_activity.specs.declared.entry.Entry.TheVariants.{Sample, Lap}
-use Rattle.fit_activity.specs.declared.summary.Stretch.{Stretch}
-use Rattle.fit_activity.specs.declared.summary.LapSummary.{LapSummary}
-use Rattle.fit_activity.specs.declared.summary.SessionSummary.{SessionSummary}
-use Rattle.fit_activity.specs.declared.summary.ActivitySummary.{ActivitySummary}
+use Rattle.fit_activity.specs.declared.recording.entry.Entry.TheVariants.{Sample, Lap}
+use Rattle.fit_activity.specs.declared.totals.summary.Stretch.{Stretch}
+use Rattle.fit_activity.specs.declared.totals.summary.LapSummary.{LapSummary}
+use Rattle.fit_activity.specs.declared.totals.summary.SessionSummary.{SessionSummary}
+use Rattle.fit_activity.specs.declared.totals.summary.ActivitySummary.{ActivitySummary}
 use Rattle.fit_activity.specs.Recording.{Recorded, Started, Added, time_of, is_lap, last_given, start_time, sport_of}
 use Rattle.fit_activity.specs.Timer.{timer}
 

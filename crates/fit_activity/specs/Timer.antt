@@ -1,6 +1,6 @@
 -- The timer: started by a start or a resume, stopped by a pause or a stop. It counts whole seconds.
 use Rattle.std.specs.Prelude.{ℕ, zero, suc, ◌+◌, ◌-◌, Bool, true, false, List, Option, Some, None, unwrap_or, nat_le, if◌then◌else◌}
-use Rattle.fit_activity.specs.declared.entry.Entry.TheVariants.{Sample, Lap, Pause, Resume, Stop}
+use Rattle.fit_activity.specs.declared.recording.entry.Entry.TheVariants.{Sample, Lap, Pause, Resume, Stop}
 use Rattle.fit_activity.specs.Recording.{Recorded, Started, Added, time_of, last_given}
 
 -- whether it starts the timer, stops it, or leaves it as it is

@@ -10,7 +10,7 @@ use Rattle.fit_base.specs.Value.{Values, Numbers}
 use Rattle.fit_grammar.specs.declared.definition.FieldDefinition.{FieldDefinition}
 use Rattle.fit_grammar.specs.declared.definition.Definition.{Definition}
 use Rattle.fit_grammar.specs.Format.Message.{Message, MessageField}
-use Rattle.fit_activity.specs.declared.told.Told.{Told}
+use Rattle.fit_activity.specs.declared.speaking.told.Told.{Told}
 
 -- the field of this number in the profile, of this base type, whose bytes have this number
 abbrev pub told : ℕ → BaseType → ℕ → Told
@@ -76,7 +76,12 @@ field_definition field = record { number = field.number; size = (row_of field.ba
 
 abbrev pub definition_told : Telling → Definition
 definition_told telling =
-    record { local = telling.local; arch = Little; global = telling.global; fields = record { items = map field_definition telling.fields } }
+    record {
+      local = telling.local;
+      arch = Little;
+      global = telling.global;
+      fields = record { items = map field_definition telling.fields };
+    }
 
 -- the bytes of its content, low byte first
 abbrev pub field_content : Told → List ℕ

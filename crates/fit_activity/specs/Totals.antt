@@ -1,10 +1,10 @@
 -- What running totals are of a list: each number that they keep, by the definitions over the list.
 use Rattle.std.specs.Prelude.{◌≡◌, ℕ, ◌+◌, ◌≤◌, Bool, List, [], length, sum, count_by, Option, Some, unwrap_or}
 use Rattle.std.specs.List.{filter_map, AllByRecursion}
-use Rattle.fit_activity.specs.declared.clock.Clock.{Clock}
-use Rattle.fit_activity.specs.declared.tally.Tally.{Tally}
-use Rattle.fit_activity.specs.declared.sums.Sums.{Sums}
-use Rattle.fit_activity.specs.declared.start.Start.{Start}
+use Rattle.fit_activity.specs.declared.totals.clock.Clock.{Clock}
+use Rattle.fit_activity.specs.declared.totals.tally.Tally.{Tally}
+use Rattle.fit_activity.specs.declared.totals.sums.Sums.{Sums}
+use Rattle.fit_activity.specs.declared.recording.start.Start.{Start}
 use Rattle.fit_activity.specs.Recording.{Recorded, is_lap, start_of, time_of}
 use Rattle.fit_activity.specs.Timer.{runs_now, timer}
 use Rattle.fit_activity.specs.Stretch.{heart_rate_of, speed_of, power_of, known_distance, end_time, open_stretch, open_from, before_open, greatest}

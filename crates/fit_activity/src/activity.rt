@@ -5,6 +5,10 @@ ghost use Rattle.fit_grammar.specs.Format.Message.{messages_of};
 
 use fit_grammar::File;
 
+pub(crate) mod checking;
+pub(crate) mod field_value;
+pub(crate) mod seen;
+
 /// What an activity file says of itself.
 #[derive(Clone, Copy, Debug, PartialEq, Eq)]
 pub struct Summary {

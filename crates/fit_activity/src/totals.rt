@@ -3,13 +3,18 @@
 ghost use Rattle.std.specs.Prelude.{◌≡◌, ◌+◌, ◌*◌, ◌≤◌, ◌<◌, ◌^◌, ◌++◌, ◌∷◌, [], ℕ, List, None, length, IsTrue, if◌then◌else◌};
 ghost use Rattle.std.specs.Result.{result_err};
 
-use crate::clock::Clock;
-use crate::entry::{Entry, Sample};
-use crate::refusal::Refusal;
-use crate::rules::{in_range, invalid_field, start_in_range};
-use crate::start::Start;
-use crate::summary::{ActivitySummary, LapSummary, SessionSummary};
-use crate::sums::Sums;
+pub(crate) mod clock;
+pub(crate) mod summary;
+pub(crate) mod sums;
+pub(crate) mod tally;
+
+use crate::recording::entry::{Entry, Sample};
+use crate::recording::refusal::Refusal;
+use crate::recording::rules::{in_range, invalid_field, start_in_range};
+use crate::recording::start::Start;
+use crate::totals::clock::Clock;
+use crate::totals::summary::{ActivitySummary, LapSummary, SessionSummary};
+use crate::totals::sums::Sums;
 use std::marker::Model;
 
 /// What a recording adds up to so far, in one fixed state. Contracts say of which list of entries.

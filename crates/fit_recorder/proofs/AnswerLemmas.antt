@@ -2,7 +2,7 @@
 use Rattle.std.proofs.Common.{◌≡◌, ◌⊎◌, inl, inr, ℕ, ◌+◌, ◌<◌, ◌≤◌, Bool, true, false, List, Option, Some, None, Result, Ok, Err, sym, ◌∙◌, subst}
 use Rattle.std.specs.Prelude.{OnOk, OnErr, IfErr, IsTrue, ◌↔◌}
 use Rattle.std.proofs.lemmas.Bool.{cases_lt}
-use Rattle.fit_activity.specs.declared.entry.Entry.{Entry}
+use Rattle.fit_activity.specs.declared.recording.entry.Entry.{Entry}
 use Rattle.fit_activity.specs.Recording.{Recorded}
 use Rattle.fit_activity.specs.Refusal.{refusal_of, has_stopped}
 use Rattle.fit_recorder.specs.declared.fault.RecFault.{RecFault}

@@ -1,7 +1,7 @@
 use Rattle.std.proofs.Common.{ℕ, ◌+◌, ◌≤◌, List, [], ◌++◌, ◌∷◌, length, ap, sym, ◌∙◌, arith}
 use Rattle.std.specs.Result.{result_err}
 use Rattle.std.proofs.lemmas.List.{length_push}
-use Rattle.fit_activity.specs.declared.entry.Entry.{Entry}
+use Rattle.fit_activity.specs.declared.recording.entry.Entry.{Entry}
 use Rattle.fit_activity.specs.Recording.{Recorded, Added}
 use Rattle.fit_activity.specs.Totals.{Kept, AreTotals}
 use Rattle.fit_activity.proofs.tests.ride.Goals as goal

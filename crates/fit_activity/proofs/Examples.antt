@@ -1,0 +1,154 @@
+-- The definitions at known rides, whose values come from outside.
+use Rattle.std.proofs.Common.{◌≡◌, ℕ, List, [], ◌∷◌, ◌++◌, length, Option, Some, None, refl}
+use Rattle.fit_activity.specs.declared.recording.start.Sport.TheVariants.{Running}
+use Rattle.fit_activity.specs.declared.recording.start.Start.{Start}
+use Rattle.fit_activity.specs.declared.recording.entry.Sample.{Sample as AnySample}
+use Rattle.fit_activity.specs.declared.recording.entry.Entry.{Entry}
+use Rattle.fit_activity.specs.declared.recording.entry.Entry.TheVariants.{Sample, Lap, Pause, Resume, Stop}
+use Rattle.fit_activity.specs.declared.recording.refusal.Refusal.TheVariants.{Time, Distance, Value, TimerStopped, TimerRunning, TooLong}
+use Rattle.fit_activity.specs.Recording.{Recorded, Started, Added}
+use Rattle.fit_activity.specs.Stretch.{lap_at, lap_of, session_of, activity_of}
+use Rattle.fit_activity.specs.Refusal.{refusal_of}
+
+abbrev start : Recorded
+start = Started (record { time = 1000000000; serial = 7; sport = Running })
+
+abbrev sample_with : ℕ → Option ℕ → Option ℕ → Entry
+sample_with time rate distance =
+    Sample (record {
+      time = time;
+      lat = None;
+      long = None;
+      altitude = None;
+      heart_rate = rate;
+      cadence = None;
+      distance = distance;
+      speed = None;
+      power = None;
+      temperature = None;
+    })
+
+abbrev rate_at : ℕ → ℕ → Recorded
+rate_at time rate = Added (sample_with time (Some rate) None)
+
+abbrev distance_at : ℕ → ℕ → Recorded
+distance_at time distance = Added (sample_with time None (Some distance))
+
+-- two laps: 100 and 101 in the first, 110 at the second in which the second begins
+abbrev first_lap : List Recorded
+first_lap = start ∷ rate_at 1000000000 100 ∷ rate_at 1000000001 101 ∷ []
+
+abbrev two_laps : List Recorded
+two_laps = first_lap ++ Added (Lap 1000000002) ∷ rate_at 1000000002 110 ∷ []
+
+first-index : (lap_at first_lap 1000000002).index ≡ 0
+first-index = refl
+
+first-elapsed : (lap_at first_lap 1000000002).stretch.elapsed ≡ 2000
+first-elapsed = refl
+
+first-timer : (lap_at first_lap 1000000002).stretch.timer ≡ 2000
+first-timer = refl
+
+first-average : (lap_at first_lap 1000000002).stretch.average_heart_rate ≡ Some 100
+first-average = refl
+
+first-greatest : (lap_at first_lap 1000000002).stretch.greatest_heart_rate ≡ Some 101
+first-greatest = refl
+
+second-index : (lap_of two_laps).index ≡ 1
+second-index = refl
+
+second-start : (lap_of two_laps).stretch.start ≡ 1000000002
+second-start = refl
+
+second-timer : (lap_of two_laps).stretch.timer ≡ 0
+second-timer = refl
+
+second-average : (lap_of two_laps).stretch.average_heart_rate ≡ Some 110
+second-average = refl
+
+session-laps : (session_of two_laps).laps ≡ 2
+session-laps = refl
+
+session-average : (session_of two_laps).stretch.average_heart_rate ≡ Some 103
+session-average = refl
+
+session-greatest : (session_of two_laps).stretch.greatest_heart_rate ≡ Some 110
+session-greatest = refl
+
+session-timer : (session_of two_laps).stretch.timer ≡ 2000
+session-timer = refl
+
+-- a pause that ends in its own second counts as none
+abbrev turned : List Recorded
+turned = start ∷ Added (Pause 1000000005) ∷ Added (Resume 1000000005) ∷ []
+
+turned-first : (lap_at turned 1000000005).stretch.timer ≡ 5000
+turned-first = refl
+
+turned-second : (lap_of (turned ++ Added (Lap 1000000005) ∷ Added (Stop 1000000008) ∷ [])).stretch.timer ≡ 3000
+turned-second = refl
+
+-- a pause of two seconds, a lap at its first
+abbrev paused : List Recorded
+paused = start ∷ Added (Pause 1000000005) ∷ []
+
+paused-first : (lap_at paused 1000000005).stretch.timer ≡ 5000
+paused-first = refl
+
+abbrev resumed : List Recorded
+resumed = paused ++ Added (Lap 1000000005) ∷ Added (Resume 1000000007) ∷ Added (Stop 1000000008) ∷ []
+
+resumed-elapsed : (lap_of resumed).stretch.elapsed ≡ 3000
+resumed-elapsed = refl
+
+resumed-timer : (lap_of resumed).stretch.timer ≡ 1000
+resumed-timer = refl
+
+-- distances and average speeds
+abbrev far : List Recorded
+far = start ∷ distance_at 1000000000 0 ∷ distance_at 1000000010 12345 ∷ Added (Stop 1000000010) ∷ []
+
+far-distance : (session_of far).stretch.distance ≡ Some 12345
+far-distance = refl
+
+far-speed : (session_of far).stretch.average_speed ≡ Some 12345
+far-speed = refl
+
+near-speed : (session_of (start ∷ distance_at 1000000007 100 ∷ Added (Stop 1000000007) ∷ [])).stretch.average_speed ≡ Some 142
+near-speed = refl
+
+abbrev fast : List Recorded
+fast = start ∷ distance_at 1000000001 100000 ∷ Added (Stop 1000000001) ∷ []
+
+fast-distance : (session_of fast).stretch.distance ≡ Some 100000
+fast-distance = refl
+
+fast-speed : (session_of fast).stretch.average_speed ≡ None
+fast-speed = refl
+
+-- refusals
+abbrev known : List Recorded
+known = start ∷ distance_at 1000000010 500 ∷ []
+
+refused-time : refusal_of known (sample_with 1000000009 None None) ≡ Some Time
+refused-time = refl
+
+refused-distance : refusal_of known (sample_with 1000000010 None (Some 499)) ≡ Some Distance
+refused-distance = refl
+
+refused-value : refusal_of known (sample_with 1000000010 (Some 255) None) ≡ Some (Value 3)
+refused-value = refl
+
+refused-stopped : refusal_of (known ++ Added (Pause 1000000010) ∷ []) (sample_with 1000000010 (Some 90) None) ≡ Some TimerStopped
+refused-stopped = refl
+
+refused-running : refusal_of known (Resume 1000000012) ≡ Some TimerRunning
+refused-running = refl
+
+refused-long : refusal_of known (Lap 1004000001) ≡ Some TooLong
+refused-long = refl
+
+allowed-long : refusal_of known (Lap 1004000000) ≡ None
+allowed-long = refl

@@ -1,0 +1,11 @@
+use Rattle.std.proofs.Common.{subst}
+use Rattle.std.specs.List.{AllByRecursion}
+use Rattle.fit_activity.specs.Told.{OptionFits}
+use Rattle.fit_activity.specs.Spoken.{sample_options}
+use Rattle.fit_activity.proofs.Spelled.{present-fit}
+use Rattle.fit_activity.proofs.speaking.speech.Speech.say_sample.Goals as goal
+
+pub returns-clause-fits : goal.returns-clause-fits
+returns-clause-fits c =
+    let fit = subst (AllByRecursion OptionFits) c.sample_fields.ensures.fields c.sample_fields.ensures.fit in
+    (c.say_record.ensures.fits, present-fit (sample_options c.args.sample.now) fit)

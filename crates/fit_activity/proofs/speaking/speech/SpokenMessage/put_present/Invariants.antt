@@ -1,0 +1,10 @@
+use Rattle.std.proofs.Common.{length}
+use Rattle.fit_activity.specs.Told.{present}
+use Rattle.fit_activity.proofs.Spelled.{IsPutting}
+use Rattle.fit_activity.proofs.speaking.speech.SpokenMessage.put_present.Given as goal
+
+abbrev pub invariant-loop-rest : goal.invariant-loop-rest
+invariant-loop-rest l = IsPutting l.initial.self l.self (present l.initial.rest) (present l.rest)
+
+abbrev pub decreases-loop-rest : goal.decreases-loop-rest
+decreases-loop-rest l = length l.rest

@@ -1,0 +1,150 @@
+// What a pass over messages keeps of those that it has seen.
+
+ghost use Rattle.std.specs.Prelude.{◌≡◌, ◌+◌, ◌<◌, ◌^◌, []};
+ghost use Rattle.fit_activity.specs.Seen.{session_values as values_of_session};
+
+use crate::activity::field_value::{uint32_of, value_of};
+use crate::activity::{ActivityFault, Summary};
+use fit_base::BaseType;
+use fit_grammar::Message;
+
+// What the messages so far say.
+#[derive(Drop)]
+pub(crate) struct Seen {
+    // Whether there was a message, whether the first is a file_id, and whether one of an activity.
+    begun: bool,
+    file_id: bool,
+    activity_file: bool,
+    records: u32,
+    laps: u32,
+    sessions: u32,
+    activities: u32,
+    // The values of the first session.
+    session: SessionValues,
+}
+
+// The values of a session that a summary has.
+#[derive(Clone, Copy)]
+pub(crate) struct SessionValues {
+    start: Option<u32>,
+    elapsed_ms: Option<u32>,
+    timer_ms: Option<u32>,
+    distance_cm: Option<u32>,
+}
+
+impl Seen {
+    ghost use Rattle.fit_activity.specs.Seen.{seen_of, seen_with, first_seen, session_seen, counted, judged};
+
+    // No messages.
+    pub(crate) fn new() -> Seen
+        ensures { result ≡ seen_of [] }
+    {
+        Seen {
+            begun: false,
+            file_id: false,
+            activity_file: false,
+            records: 0,
+            laps: 0,
+            sessions: 0,
+            activities: 0,
+            session: SessionValues {
+                start: None,
+                elapsed_ms: None,
+                timer_ms: None,
+                distance_cm: None,
+            },
+        }
+    }
+
+    // A message more.
+    pub(crate) fn take(&mut self, message: &Message)
+        requires records { self.old.records + 1 < 2 ^ 32 }
+        requires laps { self.old.laps + 1 < 2 ^ 32 }
+        requires sessions { self.old.sessions + 1 < 2 ^ 32 }
+        requires activities { self.old.activities + 1 < 2 ^ 32 }
+        ensures { self.new ≡ seen_with self.old message.now.message }
+    {
+        self.see_first(message);
+        self.see_session(message);
+        self.count(message.global());
+    }
+
+    // What the first message says.
+    fn see_first(&mut self, message: &Message)
+        ensures { self.new ≡ first_seen self.old message.now.message }
+    {
+        if !self.begun {
+            self.begun = true;
+            self.file_id = message.global() == 0;
+            self.activity_file = value_of(message, 0, BaseType::Enum) == Some(4);
+        }
+    }
+
+    // What the first session says.
+    fn see_session(&mut self, message: &Message)
+        ensures { self.new ≡ session_seen self.old message.now.message }
+    {
+        if self.sessions == 0 && message.global() == 18 {
+            self.session = session_values(message);
+        }
+    }
+
+    // A message more of this global number.
+    fn count(&mut self, global: u16)
+        requires records { self.old.records + 1 < 2 ^ 32 }
+        requires laps { self.old.laps + 1 < 2 ^ 32 }
+        requires sessions { self.old.sessions + 1 < 2 ^ 32 }
+        requires activities { self.old.activities + 1 < 2 ^ 32 }
+        ensures { self.new ≡ counted self.old global }
+    {
+        match global {
+            18 => self.sessions += 1,
+            19 => self.laps += 1,
+            20 => self.records += 1,
+            34 => self.activities += 1,
+            _ => {}
+        }
+    }
+
+    // The first fault of the messages, else what they say.
+    pub(crate) fn verdict(&self) -> Result<Summary, ActivityFault>
+        ensures { result ≡ judged self.now }
+    {
+        if !self.file_id {
+            return Err(ActivityFault::NoFileId);
+        }
+        if !self.activity_file {
+            return Err(ActivityFault::NotActivity);
+        }
+        if self.laps == 0 {
+            return Err(ActivityFault::NoLap);
+        }
+        if self.sessions == 0 {
+            return Err(ActivityFault::NoSession);
+        }
+        if self.activities == 0 {
+            return Err(ActivityFault::NoActivity);
+        }
+        Ok(Summary {
+            records: self.records,
+            laps: self.laps,
+            sessions: self.sessions,
+            start: self.session.start,
+            elapsed_ms: self.session.elapsed_ms,
+            timer_ms: self.session.timer_ms,
+            distance_cm: self.session.distance_cm,
+        })
+    }
+}
+
+// The values of a session.
+fn session_values(message: &Message) -> SessionValues
+    ensures { result ≡ values_of_session message.now.message }
+{
+    SessionValues {
+        start: uint32_of(message, 2),
+        elapsed_ms: uint32_of(message, 7),
+        timer_ms: uint32_of(message, 8),
+        distance_cm: uint32_of(message, 9),
+    }
+}

@@ -1,0 +1,91 @@
+// What the samples of a stretch add up to.
+
+ghost use Rattle.std.specs.Prelude.{◌≡◌, ◌+◌, ◌≤◌, ◌<◌, ◌^◌};
+ghost use Rattle.fit_activity.specs.Stretch.{speed_over};
+ghost use Rattle.fit_activity.specs.Step.{sums_at, sums_with, SumsHaveRoom, stretch_by, in_one_byte as small};
+
+use crate::recording::entry::Sample;
+use crate::totals::summary::Stretch;
+use crate::totals::tally::{Tally, greater};
+
+// What the samples of a stretch add up to, and the last distance known where it begins (0 where none is), in cm.
+#[derive(Clone, Copy, Debug)]
+pub(crate) struct Sums {
+    known: u32,
+    speed: Option<u16>,
+    heart_rate: Tally,
+    power: Tally,
+}
+
+impl Sums {
+    // No samples, where this distance is known.
+    pub(crate) fn at(distance: Option<u32>) -> Sums
+        ensures { result ≡ sums_at distance }
+    {
+        Sums {
+            known: distance.unwrap_or(0),
+            speed: None,
+            heart_rate: Tally::NONE,
+            power: Tally::NONE,
+        }
+    }
+
+    // A sample more.
+    pub(crate) fn add(&mut self, sample: &Sample)
+        requires { SumsHaveRoom self.old }
+        ensures { self.new ≡ sums_with self.old sample.now }
+    {
+        self.speed = match sample.speed {
+            None => self.speed,
+            Some(speed) => greater(self.speed, speed),
+        };
+        self.heart_rate = self.heart_rate.with(sample.heart_rate.map(u16::from));
+        self.power = self.power.with(sample.power);
+    }
+
+    // The summary of the stretch from one second to another, in which the timer ran for so many, where this distance
+    // is known at its end.
+    pub(crate) fn stretch(&self, start: u32, end: u32, timer: u32, distance: Option<u32>) -> Stretch
+        requires in_order { start ≤ end }
+        requires short { end ≤ start + 4000000 }
+        requires timed { timer ≤ 4000000 }
+        ensures { result ≡ stretch_by self.now start end timer distance }
+    {
+        let distance = distance.map(|distance| distance.saturating_sub(self.known));
+        Stretch {
+            start,
+            end,
+            elapsed: 1000 * (end - start),
+            timer: 1000 * timer,
+            distance,
+            average_speed: average_speed(distance, timer),
+            greatest_speed: self.speed,
+            average_heart_rate: in_one_byte(self.heart_rate.average()),
+            greatest_heart_rate: in_one_byte(self.heart_rate.greatest),
+            average_power: self.power.average(),
+            greatest_power: self.power.greatest,
+        }
+    }
+}
+
+// The value, where it is that small.
+fn in_one_byte(value: Option<u16>) -> Option<u8>
+    ensures { result ≡ small value }
+{
+    u8::try_from(value?).ok()
+}
+
+// In mm/s, of a distance in cm and seconds. None where there is no distance or no second, and above 65534.
+fn average_speed(distance: Option<u32>, seconds: u32) -> Option<u16>
+    ensures { result ≡ speed_over distance seconds }
+{
+    let distance = distance?;
+    if seconds == 0 {
+        return None;
+    }
+    let speed = 10 * u64::from(distance) / u64::from(seconds);
+    if speed > 65534 {
+        return None;
+    }
+    Some(speed as u16)
+}
