@@ -59,7 +59,9 @@ def answers(fitrec, small):
     yield "no name", fitrec.run("show", ""), (1, "", "fitrec: cannot open \n")
     yield "a folder", fitrec.run("show", "."), (1, "", "fitrec: cannot read .\n")
     yield "a file that is named -", fitrec.run("show", "-"), (1, "", "fitrec: cannot open -\n")
-    yield "words that are no text", fitrec.run("show", b"\xff")[:2], (1, "")
+    yield "words that are no text", fitrec.run("show", b"\xff"), (1, "", "fitrec: the command line is not UTF-8\n")
+    yield "a file that is no activity", fitrec.run("check", name), (1, "", "fitrec: NoLap\n")
+    yield "a refused file is no activity either", fitrec.run("check", "cut.fit"), wanted(small[:-1])
 
 
 def wrong_words(fitrec):
@@ -67,7 +69,8 @@ def wrong_words(fitrec):
     cases = [
         ([], "subcommand"), (["show"], "<FILE>"), (["shown", "x"], "shown"), (["show", "x", "surplus"], "surplus"),
         (["show", "--other", "x"], "--other"), (["--other"], "--other"), (["--version"], "--version"),
-        (["help"], "show"), (["--help"], "show"), (["show", "--help"], "<FILE>"), (["help", "show"], "<FILE>")]
+        (["help"], "show"), (["--help"], "show"), (["show", "--help"], "<FILE>"), (["help", "show"], "<FILE>"),
+        (["check"], "<FILE>"), (["--help"], "check")]
     for words, named in cases:
         status, out, err = fitrec.run(*words)
         yield "wrong words: %s" % " ".join(words), (status, out, named in err), (2, "", True)
