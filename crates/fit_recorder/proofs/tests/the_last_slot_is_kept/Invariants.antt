@@ -5,4 +5,4 @@ use Rattle.fit_recorder.proofs.tests.the_last_slot_is_kept.Given as goal
 
 -- the recorder goes on
 abbrev pub invariant-loop : goal.invariant-loop
-invariant-loop l = GoesOn true memory_story l.recorder
+invariant-loop g l = GoesOn true memory_story l.recorder
