@@ -1,13 +1,11 @@
 -- The definitions at known rides, whose values come from outside.
-use Rattle.std.proofs.Common.{◌≡◌, ℕ, List, [], ◌∷◌, ◌++◌, length, Option, Some, None, refl}
+use Rattle.std.proofs.Common.{◌≡◌, ℕ, List, [], ◌∷◌, ◌++◌, Option, Some, None, refl}
 use Rattle.fit_activity.specs.declared.recording.start.Sport.TheVariants.{Running}
-use Rattle.fit_activity.specs.declared.recording.start.Start.{Start}
-use Rattle.fit_activity.specs.declared.recording.entry.Sample.{Sample as AnySample}
 use Rattle.fit_activity.specs.declared.recording.entry.Entry.{Entry}
 use Rattle.fit_activity.specs.declared.recording.entry.Entry.TheVariants.{Sample, Lap, Pause, Resume, Stop}
 use Rattle.fit_activity.specs.declared.recording.refusal.Refusal.TheVariants.{Time, Distance, Value, TimerStopped, TimerRunning, TooLong}
 use Rattle.fit_activity.specs.Recording.{Recorded, Started, Added}
-use Rattle.fit_activity.specs.Stretch.{lap_at, lap_of, session_of, activity_of}
+use Rattle.fit_activity.specs.Stretch.{lap_at, lap_of, session_of}
 use Rattle.fit_activity.specs.Refusal.{refusal_of}
 
 abbrev start : Recorded
