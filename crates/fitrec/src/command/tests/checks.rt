@@ -46,10 +46,10 @@ fn files_that_are_no_activity(rt: HostRuntime) -> Result<(), Fail> {
     Ok(())
 }
 
-// Adds the messages of a speech to a file, but those of one global number.
+// Adds the messages of a speech to a file, but those of one global number. A local number that no file has is left out too.
 fn put_all(file: &mut File, speech: &Speech, left_out: Option<u16>) -> Result<(), Fail> {
     for message in speech.messages() {
-        if Some(message.definition.global) != left_out {
+        if Some(message.definition.global) != left_out && message.definition.local < 16 {
             file.define(&message.definition)?;
             file.data(message.definition.local, None, message.content.as_slice())?;
         }
