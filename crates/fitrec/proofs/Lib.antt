@@ -1,5 +1,4 @@
 pub mod TextLemmas
 pub mod FieldLemmas
 pub mod ReadingLemmas
-pub mod CountLemmas
 pub mod LentLemmas

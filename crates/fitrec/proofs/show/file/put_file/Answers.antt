@@ -1,7 +1,7 @@
 use Rattle.std.proofs.Common.{refl, arith}
 use Rattle.fit_grammar.proofs.Encoder.Output.{then_writes, stops_before, writes_same}
 use Rattle.fitrec.proofs.FieldLemmas.{file_parts}
-use Rattle.fitrec.proofs.CountLemmas.{few_messages}
+use Rattle.fit_activity.proofs.Counted.{few_messages}
 use Rattle.fitrec.proofs.show.file.put_file.Goals as goal
 
 pub returns-in_err-put_header : goal.returns-in_err-put_header
