@@ -270,6 +270,6 @@ after-entry totals list (Stop time) fits keeps later allowed runs are =
 pub AreTotals-push : (totals : Kept) (list : List Recorded) (e : Entry) → EntryFits e → KeepsTime totals.clock → refusal_by totals e ≡ None
     → AreTotals totals list → AreTotals (totals_after totals e) (list ++ Added e ∷ [])
 AreTotals-push totals list e fits keeps none are =
-    let passed = passes totals e none in
-    let allowed = allowed-push list e are.allowed fits (sym (refusal-kept totals list e are) ∙ none) in
-    after-entry totals list e fits keeps passed.later allowed passed.runs are
+    let allows = sym (refusal-kept totals list e are) ∙ none in
+    let passed = passes list e allows in
+    after-entry totals list e fits keeps (omega (arith, passed.later, are.clock.last)) (allowed-push list e are.allowed fits allows) (are.stopped ∙ passed.runs) are

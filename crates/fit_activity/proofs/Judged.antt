@@ -1,8 +1,9 @@
 -- The refusal of an entry by the numbers kept is its refusal by the list.
-use Rattle.std.proofs.Common.{◌≡◌, ℕ, ◌+◌, ◌≤◌, ◌<◌, Bool, true, false, not, nat_lt, nat_le, List, [], ◌∷◌, ◌++◌, Option, Some, None, refl, sym, ap, ◌∙◌, append-nil, append_assoc}
-use Rattle.std.specs.Prelude.{unwrap_or, option_map, ◌==◌, ◌&&◌, ◌||◌, count_by, if◌then◌else◌}
+use Rattle.std.proofs.Common.{◌≡◌, ℕ, ◌+◌, ◌≤◌, Bool, true, false, not, nat_lt, nat_le, List, [], ◌∷◌, ◌++◌, Option, Some, None, refl, sym, ap, ◌∙◌, append-nil, append_assoc}
+use Rattle.std.specs.Prelude.{Result, Ok, Err, unwrap_or, option_map, ◌↔◌, ◌==◌, ◌&&◌, ◌||◌, count_by, if◌then◌else◌}
+use Rattle.std.specs.Result.{is_err, result_err}
 use Rattle.std.specs.Option.{option_or}
-use Rattle.std.proofs.lemmas.Bool.{or_parts, ltb-false, leb-false}
+use Rattle.std.proofs.lemmas.Bool.{or_parts, ltb-false, true≢false}
 use Rattle.std.proofs.lemmas.Option.{none-some}
 use Rattle.fit_activity.specs.declared.recording.entry.Entry.{Entry}
 use Rattle.fit_activity.specs.declared.recording.refusal.Refusal.{Refusal}
@@ -37,29 +38,38 @@ refusal-kept totals list e are =
     ∙ ap (λ (n : ℕ). refusal_from (has_stopped list) (end_time list) (start_time list) (runs_now list) n totals.distance e) are.laps
     ∙ ap (λ o. refusal_from (has_stopped list) (end_time list) (start_time list) (runs_now list) (count_by is_lap list) o e) are.distance
 
--- what an entry that is not refused keeps, by the numbers kept
-pub record Passes (totals : Kept) (e : Entry) : Type 0 where
-  pub runs : totals.stopped ≡ false
-  pub later : totals.clock.end ≤ entry_time e
-  pub in_time : entry_time e ≤ totals.clock.start + 4000000
-  pub lap_left : is_lap (Added e) ≡ true → totals.laps < 999
+-- a check is an error where it has a refusal
+pub is_err-none : {X E : Type 0} (r : Result X E) → (is_err r ≡ false) ↔ (result_err r ≡ None)
+is_err-none (Ok x) = (λ is. refl, λ is. refl)
+is_err-none (Err e) = (λ is. absurd (true≢false is), λ is. absurd (none-some e (sym is)))
 
-cond-none : (b : Bool) (refusal : Refusal) (other : Option Refusal) → (if b then Some refusal else other) ≡ None → (b ≡ false) × (other ≡ None)
-cond-none true refusal other none = absurd (none-some refusal (sym none))
-cond-none false refusal other none = (refl, none)
+-- what an entry that is not refused keeps
+pub record Passes (list : List Recorded) (e : Entry) : Type 0 where
+  pub runs : has_stopped list ≡ false
+  pub later : end_time list ≤ entry_time e
+  pub in_time : entry_time e ≤ start_time list + 4000000
+  pub valid : invalid_field e ≡ None
 
-pub passes : (totals : Kept) (e : Entry) → refusal_by totals e ≡ None → Passes totals e
-passes totals e none =
-    let going = cond-none totals.stopped Stopped _ none in
-    let timely = cond-none (nat_lt (entry_time e) totals.clock.end || (entry_time e == 0xFFFFFFFF)) Time _ going.1 in
-    let soon = cond-none (nat_lt (totals.clock.start + 4000000) (entry_time e)) TooLong _ timely.1 in
-    let moving = cond-none (wants_timer e && not totals.clock.running) TimerStopped _ soon.1 in
-    let standing = cond-none (is_resume e && totals.clock.running) TimerRunning _ moving.1 in
-    let few = cond-none (is_lap (Added e) && nat_le 999 totals.laps) TooManyLaps _ standing.1 in record {
+pub cond-none : {X : Type 0} (b : Bool) (x : X) (other : Option X) → (if b then Some x else other) ≡ None → (b ≡ false) × (other ≡ None)
+cond-none true x other none = absurd (none-some x (sym none))
+cond-none false x other none = (refl, none)
+
+pub map-none : {X Y : Type 0} (f : X → Y) (o : Option X) (other : Option Y) → option_or (option_map f o) other ≡ None → o ≡ None
+map-none f None other none = refl
+map-none f (Some x) other none = absurd (none-some (f x) (sym none))
+
+pub passes : (list : List Recorded) (e : Entry) → refusal_of list e ≡ None → Passes list e
+passes list e none =
+    let going = cond-none (has_stopped list) Stopped _ none in
+    let timely = cond-none (nat_lt (entry_time e) (end_time list) || (entry_time e == 0xFFFFFFFF)) Time _ going.1 in
+    let soon = cond-none (nat_lt (start_time list + 4000000) (entry_time e)) TooLong _ timely.1 in
+    let moving = cond-none (wants_timer e && not (runs_now list)) TimerStopped _ soon.1 in
+    let standing = cond-none (is_resume e && runs_now list) TimerRunning _ moving.1 in
+    let few = cond-none (is_lap (Added e) && nat_le 999 (count_by is_lap list)) TooManyLaps _ standing.1 in record {
       runs = going.0;
-      later = ltb-false (entry_time e) totals.clock.end (or_parts _ _ timely.0).0;
-      in_time = ltb-false (totals.clock.start + 4000000) (entry_time e) soon.0;
-      lap_left = λ lap. leb-false 999 totals.laps (sym (ap (λ b. b && nat_le 999 totals.laps) lap) ∙ few.0);
+      later = ltb-false (entry_time e) (end_time list) (or_parts _ _ timely.0).0;
+      in_time = ltb-false (start_time list + 4000000) (entry_time e) soon.0;
+      valid = map-none Value (invalid_field e) _ few.1;
     }
 
 -- an allowed list with an entry more that is not refused

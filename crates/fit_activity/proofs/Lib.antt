@@ -9,6 +9,9 @@ pub mod Heeded
 pub mod OneOf
 pub mod Recognised
 pub mod Identified
+pub mod Retold
 pub mod Counted
+pub mod Bounded
+pub mod Finished
 pub mod Passed
 pub mod Examples

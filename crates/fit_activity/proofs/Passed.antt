@@ -1,7 +1,7 @@
 -- What is kept of messages, with one more.
-use Rattle.std.proofs.Common.{◌≡◌, ℕ, ◌+◌, ◌≤◌, ◌<◌, ◌^◌, Bool, true, false, cond, nat_eq, List, [], ◌∷◌, ◌++◌, length, Option, Some, refl, sym, ap, ◌∙◌, arith, length-append}
+use Rattle.std.proofs.Common.{◌≡◌, ℕ, ◌+◌, ◌<◌, ◌^◌, Bool, true, false, cond, nat_eq, List, [], ◌∷◌, ◌++◌, length, Option, Some, refl, sym, ap, ◌∙◌, arith, length-append}
 use Rattle.std.specs.Prelude.{find, count_by, option_and_then, ◌==◌, ◌&&◌}
-use Rattle.std.proofs.lemmas.List.Sums.{sum_by_push, sum_by-cons}
+use Rattle.std.proofs.lemmas.List.Sums.{sum_by_push, sum_by-cons, count_by-le-length}
 use Rattle.std.proofs.lemmas.Bool.{ne_eqb}
 use Rattle.fit_base.specs.declared.base.BaseType.TheVariants.{Enum, Uint32}
 use Rattle.fit_grammar.specs.Format.Message.{Message}
@@ -29,7 +29,7 @@ find-push p (x ∷ messages) m =
     ∙ ap (λ (n : ℕ). cond (nat_eq n 0 && p m) (Some m) (find p (x ∷ messages))) (sym (sum_by-cons (λ y. cond (p y) 1 0) x messages))
 
 -- the values of a session, if there is one
-abbrev values_by : Option Message → SessionValues
+abbrev pub values_by : Option Message → SessionValues
 values_by o =
     record {
       start = option_and_then (value_of Uint32 2) o;
@@ -55,10 +55,10 @@ some-push : (messages : List Message) (m : Message) → true ≡ is_some_message
 some-push [] m = refl
 some-push (x ∷ messages) m = refl
 
-count-push : (global : ℕ) (messages : List Message) (m : Message) → count_of global messages + cond (m.global == global) 1 0 ≡ count_of global (messages ++ m ∷ [])
+pub count-push : (global : ℕ) (messages : List Message) (m : Message) → count_of global messages + cond (m.global == global) 1 0 ≡ count_of global (messages ++ m ∷ [])
 count-push global messages m = sym (sum_by_push (λ x. cond (has_global global x) 1 0) messages m)
 
-abbrev seen_from : Bool → Bool → Bool → ℕ → ℕ → ℕ → ℕ → SessionValues → Seen
+abbrev pub seen_from : Bool → Bool → Bool → ℕ → ℕ → ℕ → ℕ → SessionValues → Seen
 seen_from begun file_id activity_file records laps sessions activities session =
     record {
       begun = begun;
@@ -91,17 +91,9 @@ seen-push messages m =
     ∙ ap (λ (n : ℕ). seen_from (is_some_message all) (begins_with_file_id all) (is_activity_file all) (count_of 20 all) (count_of 19 all) (count_of 18 all) n v) (count-push 34 messages m)
     ∙ ap (λ w. seen_from (is_some_message all) (begins_with_file_id all) (is_activity_file all) (count_of 20 all) (count_of 19 all) (count_of 18 all) (count_of 34 all) w) session
 
--- of a kind there are no more than all
-pub count-le : (global : ℕ) (messages : List Message) → count_of global messages ≤ length messages
-count-le global [] = omega arith
-count-le global (m ∷ messages) =
-    let whole = sum_by-cons (λ x. cond (has_global global x) 1 0) m messages in
-    let one : (b : Bool) → cond {A = ℕ} b 1 0 ≤ 1 = λ b. elim b as (λ v. cond {A = ℕ} v 1 0 ≤ 1) [ true ↦ omega arith | false ↦ omega arith ] in
-    omega (arith, whole, one (has_global global m), count-le global messages)
-
 -- where there is a message more among fewer than 2^32
 pub count-room : (global : ℕ) (done : List Message) (m : Message) (rest all : List Message) → all ≡ done ++ m ∷ rest → length all < 2 ^ 32
     → count_of global done + 1 < 2 ^ 32
 count-room global done m rest all joined few =
     let whole = ap length joined ∙ length-append done (m ∷ rest) in
-    omega (arith, whole, few, count-le global done)
+    omega (arith, whole, few, count_by-le-length (has_global global) done)

@@ -12,3 +12,5 @@ pub mod Heard
 pub mod Activity
 pub mod Reader
 pub mod Seen
+pub mod Replay
+pub mod Finished

@@ -4,7 +4,9 @@
 
 mod activity;
 mod hearing;
+pub mod laws;
 mod recording;
+mod replay;
 mod speaking;
 #[cfg(test)]
 mod tests;
@@ -16,6 +18,7 @@ pub use hearing::{entry_of, file_id_of, sport_of};
 pub use recording::entry::{Entry, Sample};
 pub use recording::refusal::Refusal;
 pub use recording::start::{Sport, Start};
+pub use replay::{NotNext, Replay};
 pub use speaking::speech::{Speech, SpokenMessage};
 pub use speaking::{speak, speak_closing, speak_start};
 pub use totals::Totals;

@@ -10,6 +10,7 @@ use std::process::Abort;
 mod activities;
 mod messages;
 mod refusals;
+mod replays;
 mod summaries;
 
 // 2021-09-08T01:46:40Z.
@@ -21,33 +22,17 @@ const START: Start = Start {
     sport: Sport::Running,
 };
 
-// A sample with nothing but its time.
-fn sample(time: u32) -> Sample {
-    Sample {
-        time,
-        lat: None,
-        long: None,
-        altitude: None,
-        heart_rate: None,
-        cadence: None,
-        distance: None,
-        speed: None,
-        power: None,
-        temperature: None,
-    }
-}
-
 fn with_heart_rate(time: u32, rate: u8) -> Entry {
     Entry::Sample(Sample {
         heart_rate: Some(rate),
-        ..sample(time)
+        ..Sample::new(time)
     })
 }
 
 fn with_distance(time: u32, distance: u32) -> Entry {
     Entry::Sample(Sample {
         distance: Some(distance),
-        ..sample(time)
+        ..Sample::new(time)
     })
 }
 

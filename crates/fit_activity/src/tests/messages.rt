@@ -1,8 +1,9 @@
 // What rides say, as bytes and as messages that are read again.
 
-use super::{START, T, ride, sample, say, with_distance, with_heart_rate};
+use super::{START, T, ride, say, with_distance, with_heart_rate};
 use crate::{
-    Entry, Sample, Speech, Sport, Start, entry_of, file_id_of, speak_closing, speak_start, sport_of,
+    Entry, Sample, Speech, SpokenMessage, Sport, Start, entry_of, file_id_of, speak_closing,
+    speak_start, sport_of,
 };
 use fit_grammar::{File, Frame, Message, PutFault};
 use std::alloc::Global;
@@ -20,7 +21,11 @@ pub(super) fn empty_file(alloc: Global) -> File {
 
 // Adds what was said, each message with its definition.
 pub(super) fn put(file: &mut File, speech: &Speech) -> Result<(), PutFault> {
-    for message in speech.messages() {
+    put_messages(file, speech.messages())
+}
+
+pub(super) fn put_messages(file: &mut File, messages: &[SpokenMessage]) -> Result<(), PutFault> {
+    for message in messages {
         if message.definition.local < 16 {
             file.define(&message.definition)?;
             file.data(message.definition.local, None, &message.content)?;
@@ -240,7 +245,7 @@ fn says_a_sample(rt: HostRuntime) -> Result<(), Fail> {
         [253, 0, 1, 2, 3, 4, 5, 6, 7, 13].as_slice()
     );
 
-    say(&rt, &[], Entry::Sample(sample(T)), &mut speech);
+    say(&rt, &[], Entry::Sample(Sample::new(T)), &mut speech);
     assert_eq!(rt; speech.messages().len(), 1);
     if speech.messages().len() > 0 {
         speech.set_local(3);
@@ -280,12 +285,12 @@ fn reads_entries_again(rt: HostRuntime) -> Result<(), Fail> {
     let some = Sample {
         lat: Some(7),
         power: Some(250),
-        ..sample(T + 2)
+        ..Sample::new(T + 2)
     };
     let entries = [
         Entry::Sample(full),
         Entry::Sample(some),
-        Entry::Sample(sample(T + 2)),
+        Entry::Sample(Sample::new(T + 2)),
         with_distance(T + 2, 9),
         Entry::Lap(T + 3),
         Entry::Pause(T + 4),

@@ -1,6 +1,6 @@
 // Why entries are refused: each cause alone, at its bound, and beside each later one.
 
-use super::{T, refusal, ride, sample, with_distance, with_heart_rate};
+use super::{T, refusal, ride, with_distance, with_heart_rate};
 use crate::{Entry, Refusal, Sample};
 use std::test::Fail;
 
@@ -8,7 +8,7 @@ use std::test::Fail;
 fn refuses_as_known(rt: HostRuntime) {
     let far = [with_distance(T + 10, 500)];
     assert_eq!(rt;
-        refusal(&rt, &far, Entry::Sample(sample(T + 9))),
+        refusal(&rt, &far, Entry::Sample(Sample::new(T + 9))),
         Some(Refusal::Time)
     );
     assert_eq!(rt;
@@ -75,7 +75,7 @@ fn refuses_times(rt: HostRuntime) {
 fn refuses_invalid_values(rt: HostRuntime) {
     let mut worst = Sample {
         temperature: Some(0x7F),
-        ..sample(T)
+        ..Sample::new(T)
     };
     assert_eq!(rt;
         refusal(&rt, &[], Entry::Sample(worst)),
@@ -144,7 +144,7 @@ fn allows_extreme_values(rt: HostRuntime) {
         long: Some(-1),
         distance: Some(0),
         temperature: Some(-128),
-        ..sample(T)
+        ..Sample::new(T)
     };
     assert_eq!(rt; refusal(&rt, &[], Entry::Sample(least)), None);
     assert_eq!(rt;
@@ -159,7 +159,7 @@ fn answers_the_first_cause(rt: HostRuntime) {
     let bad = Sample {
         distance: Some(1),
         power: Some(0xFFFF),
-        ..sample(T + 4_000_001)
+        ..Sample::new(T + 4_000_001)
     };
     let stopped = [with_distance(T + 10, 500), Entry::Stop(T + 10)];
     assert_eq!(rt;

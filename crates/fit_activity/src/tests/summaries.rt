@@ -2,7 +2,7 @@
 
 ghost use Rattle.std.specs.Prelude.{◌<◌, ◌^◌, length};
 
-use super::{START, T, ride, sample, with_distance, with_heart_rate};
+use super::{START, T, ride, with_distance, with_heart_rate};
 use crate::{Entry, Refusal, Sample, Sport, Start};
 use std::process::Abort;
 
@@ -139,18 +139,18 @@ fn adds_up_speed_and_power(rt: HostRuntime) {
         Entry::Sample(Sample {
             speed: Some(9000),
             power: Some(400),
-            ..sample(T)
+            ..Sample::new(T)
         }),
         Entry::Sample(Sample {
             speed: Some(8000),
             power: Some(101),
-            ..sample(T + 1)
+            ..Sample::new(T + 1)
         }),
         Entry::Lap(T + 1),
         Entry::Sample(Sample {
             speed: Some(7000),
             power: Some(100),
-            ..sample(T + 2)
+            ..Sample::new(T + 2)
         }),
         Entry::Pause(T + 4),
     ];

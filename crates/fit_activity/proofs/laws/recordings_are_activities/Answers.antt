@@ -1,0 +1,5 @@
+use Rattle.fit_activity.proofs.Finished.{finished}
+use Rattle.fit_activity.proofs.laws.recordings_are_activities.Goals as goal
+
+pub returns : goal.returns
+returns c = finished
