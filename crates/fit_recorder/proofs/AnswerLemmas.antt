@@ -3,20 +3,47 @@ use Rattle.std.proofs.Common.{◌≡◌, ◌⊎◌, inl, inr, ℕ, ◌+◌, ◌<
 use Rattle.std.specs.Prelude.{OnOk, OnErr, IfErr, IsTrue, ◌↔◌}
 use Rattle.std.proofs.lemmas.Bool.{cases_lt}
 use Rattle.fit_activity.specs.declared.recording.entry.Entry.{Entry}
+use Rattle.fit_activity.specs.declared.recording.entry.Entry.TheVariants.{Stop}
 use Rattle.fit_activity.specs.Recording.{Recorded}
+use Rattle.fit_activity.specs.Totals.{AreTotals, Kept}
 use Rattle.fit_activity.specs.Refusal.{refusal_of, has_stopped}
 use Rattle.fit_recorder.specs.declared.fault.RecFault.{RecFault}
 use Rattle.fit_recorder.specs.declared.fault.RecFault.TheVariants.{Device}
-use Rattle.fit_recorder.specs.Answers.{HandAnswers, CommitAnswers}
+use Rattle.fit_recorder.proofs.RecorderLemmas.{going_on}
+use Rattle.fit_disk.specs.Story.{Story}
+use Rattle.fit_recorder.specs.Standing.{Memory, IsAt}
+use Rattle.fit_recorder.specs.Answers.{HandAnswers, CommitAnswers, StopAnswers}
 
 -- a recorder in which no call failed stands somewhere
 pub not_failed : {P : Type 0} (failed : Bool) → failed ≡ false → (failed ≡ true) ⊎ P → P
 not_failed failed is (inl other) = let clash : false ≡ true = sym is ∙ other in absurd cc
 not_failed failed is (inr at) = at
 
+-- and one whose list has no stop stands where its calls go on
+pub not_ended : {P : Type 0} (totals : Kept) → ((list : List Recorded) → AreTotals totals list → has_stopped list ≡ false)
+    → ((list : List Recorded) × (AreTotals totals list × (has_stopped list ≡ true))) ⊎ P → P
+not_ended totals going (inl ended) = let clash : true ≡ false = sym ended.1.1 ∙ going ended.0 ended.1.0 in absurd cc
+not_ended totals going (inr at) = at
+
+open_before : (totals : Kept) (list : List Recorded) (e : Entry) → AreTotals totals list → refusal_of list e ≡ None → has_stopped list ≡ false
+open_before totals list e are none = sym are.stopped ∙ going_on totals list e are none
+
+-- nor has one in which an entry is not refused
+pub not_refused : (honest : Bool) (memory : Memory) (story : Story) (failed : Bool) (e : Entry) → failed ≡ false → ((list : List Recorded) → AreTotals memory.totals list → None ≡ refusal_of list e)
+    → (failed ≡ true) ⊎ (((list : List Recorded) × (AreTotals memory.totals list × (has_stopped list ≡ true))) ⊎ ((list : List Recorded) × (committed : List Recorded) × IsAt honest memory story list committed))
+    → (list : List Recorded) × (committed : List Recorded) × IsAt honest memory story list committed × (refusal_of list e ≡ None) × (has_stopped list ≡ false)
+not_refused honest memory story failed e is none goes =
+    let at = not_ended memory.totals (λ list totals. open_before memory.totals list e totals (sym (none list totals))) (not_failed failed is goes) in
+    let not = sym (none at.0 at.2.totals) in
+    (at.0, at.1, at.2, not, open_before memory.totals at.0 e at.2.totals not)
+
 pub hand_answers : (list : List Recorded) (len : ℕ) (e : Entry) (result : Result (Unit {0}) RecFault) → refusal_of list e ≡ None → len + 96 ≤ 16776704 → IfErr result (λ fault. fault ≡ Device) → HandAnswers list len e result
 hand_answers list len e (Ok done) none room device = (none, room)
 hand_answers list len e (Err fault) none room device = subst (λ fault. HandAnswers list len e (Err fault)) (sym device) (none, room)
+
+pub stop_answers : (list : List Recorded) (time : ℕ) (result : Result (Unit {0}) RecFault) → refusal_of list (Stop time) ≡ None → IfErr result (λ fault. fault ≡ Device) → StopAnswers list time result
+stop_answers list time (Ok done) none device = none
+stop_answers list time (Err fault) none device = subst (λ fault. StopAnswers list time (Err fault)) (sym device) none
 
 pub commit_answers : (list : List Recorded) (gates : ℕ) (result : Result (Unit {0}) RecFault) → has_stopped list ≡ false → gates < 4095 → IfErr result (λ fault. fault ≡ Device) → CommitAnswers list gates result
 commit_answers list gates (Ok done) going room device = (going, room)

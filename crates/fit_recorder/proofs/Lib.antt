@@ -4,6 +4,13 @@ pub mod BeginLemmas
 pub mod FinishLemmas
 pub mod SpellLemmas
 pub mod WriteLemmas
+pub mod BodyStanding
 pub mod RecorderLemmas
 pub mod AnswerLemmas
 pub mod StartLemmas
+pub mod ClosingLemmas
+pub mod SettleLemmas
+pub mod BodyLemmas
+pub mod RecoverLemmas
+pub mod LawLemmas
+pub mod EraseLemmas

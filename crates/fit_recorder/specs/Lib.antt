@@ -11,3 +11,8 @@ pub mod Store
 pub mod Spelled
 pub mod Frame
 pub mod Begun
+pub mod Finished
+pub mod Settled
+pub mod BodyRead
+pub mod Recovering
+pub mod Erasing

@@ -1,13 +1,37 @@
-//! The recorder.
+//! The recorder: a ride as it is recorded over a disk, and the recovery of what was committed when the power went.
+//!
+//! `Recorder::start` begins a ride on a disk whose data file is empty. `hand` takes an entry, `commit` makes all that was
+//! handed in safe, and `stop` ends the ride and leaves a finished FIT file. Where a call answers `Device` the recorder does
+//! nothing more; the disk, from `into_disk` or opened anew, goes to `recover`, which makes the data file the finished file of
+//! what was committed, at the latest when the power went. `erase` empties it for another ride:
+//!
+//!     let mut recorder = Recorder::start(disk, Start { time, serial: 7, sport: Sport::Running })?;
+//!     recorder.hand(&Entry::Lap(time + 60))?;
+//!     recorder.commit()?;
+//!     let mut disk = recorder.into_disk();
+//!     disk.cycle(&[]); // The power goes, and comes back.
+//!     let summary = recover(&mut disk)?;
+//!     assert_eq!(rt; summary.laps, 2);
+//!
+//! (The test `the_example_of_the_crate`.) What is promised over every disk that keeps what it synced is said in the words of
+//! `specs/`: `Body`, `Begun`, `Kept` and `Finished` have what files stand for, `Recording`, `Starting` and `Answers` what a
+//! recorder does, `Recovering` and `Erasing` the rest. `laws` has what follows from the definitions alone.
 #![tactic(auto)]
 
+mod body;
+mod closing;
+mod erasing;
 mod fault;
 mod header;
+pub mod laws;
 mod recorder;
+mod recovery;
 mod spelling;
 mod store;
 #[cfg(test)]
 mod tests;
 
+pub use erasing::erase;
 pub use fault::RecFault;
 pub use recorder::Recorder;
+pub use recovery::recover;
