@@ -12,8 +12,9 @@ use Rattle.fit_grammar.specs.declared.file.frame.Frame.{Frame}
 use Rattle.fit_grammar.specs.Format.Message.{Message, MessageField, messages_of}
 use Rattle.fit_grammar.specs.Format.Records.{data_size}
 use Rattle.fit_grammar.specs.Format.File.{FileValue}
+use Rattle.fitrec.specs.Date.{dates_of, date_in}
 use Rattle.fitrec.specs.Profile.{FieldNames, names_of_fields}
-use Rattle.fitrec.specs.Text.{hex_text, string_text, byte_text, numbers_text, IsNumber, some_text, values_text, named, field_name, field_text, header_text, message_name, message_text, messages_text, text_of}
+use Rattle.fitrec.specs.Text.{hex_text, string_text, byte_text, numbers_text, IsNumber, some_text, values_text, named, field_name, shown_text, field_text, header_text, message_name, message_text, messages_text, text_of}
 use Rattle.fitrec.proofs.TextLemmas.{hex_none, numbers_bytes, some_numbers}
 
 size_some : (type : BaseType) → 0 < (row_of type).size
@@ -109,9 +110,9 @@ no_name o word n number none e = rw (← none, e) refl
 
 -- the type that a base type byte has
 -- the parts of a field's text, in their order
-pub field_parts : (names : FieldNames) (field : MessageField) →
-    codes " " ++ (field_name names field.number ++ (codes "=" ++ values_text (base_type field.base) field.values)) ≡ field_text names field
-field_parts names field = simp append_assoc
+pub field_parts : (names : FieldNames) (dates : List ℕ) (field : MessageField) →
+    codes " " ++ (field_name names field.number ++ (codes "=" ++ shown_text (date_in dates field) field)) ≡ field_text names dates field
+field_parts names dates field = simp append_assoc
 
 -- the parts of a header's line
 pub header_parts : (frame : Frame) (size a b c d e : ℕ) → a ≡ frame.header_size → b ≡ frame.protocol / 16 → c ≡ frame.protocol % 16 →
@@ -121,21 +122,22 @@ pub header_parts : (frame : Frame) (size a b c d e : ℕ) → a ≡ frame.header
 header_parts frame size a b c d e is_a is_b is_c is_d is_e = rw (is_a, is_b, is_c, is_d, is_e) (simp append_assoc)
 
 -- the parts of a message's line
-pub message_parts : (number : ℕ) (message : Message) (global : ℕ) (names : FieldNames) (fields : List MessageField)
-    → global ≡ message.global →
-    names ≡ names_of_fields global → fields ≡ message.fields →
-    (decimal number ++ codes " " ++ message_name global) ++ (flat_map (field_text names) fields ++ codes "\n") ≡ message_text number message
-message_parts number message global names fields is_global are_names are_fields = rw (are_names, is_global, are_fields) (simp append_assoc)
+pub message_parts : (utc : Bool) (number : ℕ) (message : Message) (global : ℕ) (names : FieldNames) (dates : List ℕ)
+    (fields : List MessageField) → global ≡ message.global →
+    names ≡ names_of_fields global → dates ≡ dates_of utc global → fields ≡ message.fields →
+    (decimal number ++ codes " " ++ message_name global) ++ (flat_map (field_text names dates) fields ++ codes "\n") ≡ message_text utc number message
+message_parts utc number message global names dates fields is_global are_names are_dates are_fields =
+    rw (are_names, are_dates, is_global, are_fields) (simp append_assoc)
 
 regrouped : (a b c d e : List ℕ) → a ++ (b ++ ((c ++ d) ++ e)) ≡ a ++ b ++ c ++ d ++ e
 regrouped a b c d e = simp append_assoc
 
 -- the parts of a file's text
-pub file_parts : (v : FileValue) (frame : Frame) (size count : ℕ) → frame ≡ v.frame → size ≡ data_size v.items →
+pub file_parts : (utc : Bool) (v : FileValue) (frame : Frame) (size count : ℕ) → frame ≡ v.frame → size ≡ data_size v.items →
     count ≡ length (messages_of v.items) →
-    header_text frame size ++ (messages_text (messages_of v.items) ++ ((codes "messages " ++ decimal count) ++ codes "\n")) ≡ text_of v
+    header_text frame size ++ (messages_text utc (messages_of v.items) ++ ((codes "messages " ++ decimal count) ++ codes "\n")) ≡ text_of utc v
 unfolding text_of
-file_parts v frame size count is_frame is_size is_count =
+file_parts utc v frame size count is_frame is_size is_count =
     rw (is_frame, is_size, is_count)
-    (regrouped (header_text v.frame (data_size v.items)) (messages_text (messages_of v.items)) (codes "messages ")
+    (regrouped (header_text v.frame (data_size v.items)) (messages_text utc (messages_of v.items)) (codes "messages ")
     (decimal (length (messages_of v.items))) (codes "\n"))

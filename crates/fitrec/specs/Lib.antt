@@ -1,5 +1,11 @@
 pub mod Profile
+pub mod Date
 pub mod Text
 pub mod Showing
 pub mod Checking
 pub mod Reading
+pub mod Replaying
+pub mod ScriptWords
+pub mod ScriptSample
+pub mod Script
+pub mod ScriptFault

@@ -39,3 +39,7 @@ IsFileFault name faults.TooLarge = Unit {0}
 IsFileFault name faults.NoMemory = Unit {0}
 IsFileFault name (faults.File fault) = ⊥
 IsFileFault name (faults.Activity fault) = ⊥
+IsFileFault name (faults.Script fault) = ⊥
+IsFileFault name (faults.OnlySimulate line) = ⊥
+IsFileFault name (faults.Recorder fault) = ⊥
+IsFileFault name (faults.Refused count) = ⊥

@@ -1,5 +1,5 @@
 -- What becomes of bytes that are to be shown.
-use Rattle.std.specs.Prelude.{◌≡◌, ℕ, List, ◌∷◌, Option, option_map, Result, Ok, Err, codes}
+use Rattle.std.specs.Prelude.{◌≡◌, ℕ, Bool, List, ◌∷◌, Option, option_map, Result, Ok, Err, codes}
 use Rattle.std.specs.Io.KnownBytes.{Appends}
 use Rattle.fit_grammar.specs.Format.File.{FileValue, FileOf}
 use Rattle.fit_grammar.specs.Format.Refusal.{IsFaultOf}
@@ -14,10 +14,10 @@ IsOutputFault faults.NoMemory = Unit {0}
 IsOutputFault _ = ⊥
 
 -- the bytes are a file, and all of its text was written, or the output failed; or they are none, and nothing was written
-abbrev pub ShowsBytes : {T : Type 0} → Option (List ℕ) → Option (List ℕ) → List ℕ → Result T Fault → Type 0
-ShowsBytes old new bytes (Ok done) = (v : FileValue) × FileOf bytes v × Appends old new (text_of v)
-ShowsBytes old new bytes (Err (faults.File fault)) = IsFaultOf bytes fault × (new ≡ old)
-ShowsBytes old new bytes (Err fault) = ((v : FileValue) × FileOf bytes v) × IsOutputFault fault
+abbrev pub ShowsBytes : {T : Type 0} → Bool → Option (List ℕ) → Option (List ℕ) → List ℕ → Result T Fault → Type 0
+ShowsBytes utc old new bytes (Ok done) = (v : FileValue) × FileOf bytes v × Appends old new (text_of utc v)
+ShowsBytes utc old new bytes (Err (faults.File fault)) = IsFaultOf bytes fault × (new ≡ old)
+ShowsBytes utc old new bytes (Err fault) = ((v : FileValue) × FileOf bytes v) × IsOutputFault fault
 
 -- the bytes of a writer behind the name of its loan
 abbrev pub named_bytes : ℕ → Option (List ℕ) → Option (List ℕ)

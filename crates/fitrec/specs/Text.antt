@@ -13,6 +13,7 @@ use Rattle.fit_grammar.specs.declared.file.frame.Frame.{Frame}
 use Rattle.fit_grammar.specs.Format.Records.{data_size}
 use Rattle.fit_grammar.specs.Format.Message.{Message, MessageField, messages_of}
 use Rattle.fit_grammar.specs.Format.File.{FileValue}
+use Rattle.fitrec.specs.Date.{dates_of, date_in, date_text}
 use Rattle.fitrec.specs.Profile.{FieldNames, message_named, names_of_fields, field_named}
 
 -- ---- values
@@ -92,15 +93,21 @@ message_name number = named (message_named number) (codes "message_") number
 abbrev pub field_name : FieldNames → ℕ → List ℕ
 field_name names number = named (field_named names number) (codes "field_") number
 
-abbrev pub field_text : FieldNames → MessageField → List ℕ
-field_text names field =
-    codes " " ++ field_name names field.number ++ codes "=" ++ values_text (base_type field.base) field.values
+-- a date, or what a field holds
+abbrev pub shown_text : Option ℕ → MessageField → List ℕ
+shown_text (Some time) field = date_text time
+shown_text None field = values_text (base_type field.base) field.values
+
+-- a field, where those of some numbers are shown as dates
+abbrev pub field_text : FieldNames → List ℕ → MessageField → List ℕ
+field_text names dates field =
+    codes " " ++ field_name names field.number ++ codes "=" ++ shown_text (date_in dates field) field
 
 -- the line of a message, behind its number
-abbrev pub message_text : ℕ → Message → List ℕ
-message_text number message =
+abbrev pub message_text : Bool → ℕ → Message → List ℕ
+message_text utc number message =
     decimal number ++ codes " " ++ message_name message.global
-    ++ flat_map (field_text (names_of_fields message.global)) message.fields ++ codes "\n"
+    ++ flat_map (field_text (names_of_fields message.global) (dates_of utc message.global)) message.fields ++ codes "\n"
 
 -- ---- files
 
@@ -112,10 +119,11 @@ header_text frame size =
     ++ codes " data " ++ decimal size ++ codes "\n"
 
 -- the lines of messages, which are numbered from 0
-abbrev pub messages_text : List Message → List ℕ
-messages_text messages = flat_map (λ row. message_text row.0 row.1) (enumerate_from 0 messages)
+abbrev pub messages_text : Bool → List Message → List ℕ
+messages_text utc messages = flat_map (λ row. message_text utc row.0 row.1) (enumerate_from 0 messages)
 
-unfoldable pub text_of : FileValue → List ℕ
-text_of v =
-    header_text v.frame (data_size v.items) ++ messages_text (messages_of v.items)
+-- with times as dates in UTC, or as they are
+unfoldable pub text_of : Bool → FileValue → List ℕ
+text_of utc v =
+    header_text v.frame (data_size v.items) ++ messages_text utc (messages_of v.items)
     ++ codes "messages " ++ decimal (length (messages_of v.items)) ++ codes "\n"

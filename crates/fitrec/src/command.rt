@@ -1,30 +1,38 @@
 // The program as one call: words in, text out, and the exit status.
 //
 // Each subcommand has a file of its own. They share `words`, which reads the command line, `input`, which opens and reads
-// a file, and `status`, which prints a fault.
+// a file, `folder`, which opens the files of a recording, `print`, and `status`, which prints a fault. `replay` runs the
+// events of a script over a `ride`.
 
 ghost use Rattle.std.specs.Prelude.{◌≤◌};
 
+mod answer;
 mod check;
+mod folder;
 mod input;
 mod lent;
+mod print;
+mod repair;
+mod replay;
+mod ride;
 mod show;
 mod words;
 
 use crate::fault::Fault;
 use check::check_file;
 use clap::error::ErrorKind;
+use repair::repair_folder;
+use replay::replay_script;
 use show::show_file;
 use std::convert::AsStr;
 use std::io::Write;
-use std::rt::Files;
 use words::{Request, read_words};
 
 /// Does what the words behind the program's name ask for. What it shows goes to `out`, and one line on
 /// why it did not go well to `err`. It answers the exit status: 0, or 1 after a fault, or 2 where the
 /// words are no command.
-pub fn command<R: Files + AllocGlobal, S: AsStr, O: Write, E: Write>(
-    rt: &R,
+pub fn command<S: AsStr, O: Write, E: Write>(
+    rt: &HostRuntime,
     words: &[S],
     out: &mut O,
     err: &mut E,
@@ -32,8 +40,12 @@ pub fn command<R: Files + AllocGlobal, S: AsStr, O: Write, E: Write>(
     ensures { result ≤ 2 }
 {
     match read_words(rt.alloc(), words) {
-        Ok(Request::Show { file }) => status(show_file(rt, file, out), err),
+        Ok(Request::Show { file, utc }) => status(show_file(rt, file, utc, out), err),
         Ok(Request::Check { file }) => status(check_file(rt, file, out), err),
+        Ok(Request::Replay { script, folder }) => {
+            status(replay_script(rt, script, folder, out), err)
+        }
+        Ok(Request::Repair { folder }) => status(repair_folder(rt, folder, out), err),
         Err(refusal) => match refusal.kind() {
             ErrorKind::OutOfMemory => status(Err(Fault::NoMemory), err),
             _ => {

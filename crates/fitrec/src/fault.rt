@@ -1,7 +1,9 @@
 // Why the program ends without having done what it was asked for.
 
+use crate::script::ScriptFault;
 use fit_activity::ActivityFault;
 use fit_grammar::FileFault;
+use fit_recorder::RecFault;
 use thiserror::Error;
 
 /// A fault of the program. Its text is what stands behind `fitrec: ` on standard error.
@@ -28,6 +30,18 @@ pub enum Fault<'a> {
     /// The file is no activity.
     #[error("{0:?}")]
     Activity(ActivityFault),
+    /// A line of the script is none.
+    #[error("line {}: {:?}", .0.line, .0.kind)]
+    Script(ScriptFault),
+    /// The event of this line is only simulated.
+    #[error("line {0}: OnlySimulate")]
+    OnlySimulate(usize),
+    /// The recording was not recovered.
+    #[error("{0:?}")]
+    Recorder(RecFault),
+    /// So many events of a script were not ok.
+    #[error("{0} refused")]
+    Refused(usize),
 }
 
 #[cfg(test)]

@@ -1,6 +1,7 @@
 // What a file says, as text.
 
 mod bytes;
+mod date;
 mod field;
 mod file;
 mod header;

@@ -1,10 +1,9 @@
 // The subcommand `check`: whether a file is an activity, and what it says of itself.
 
-ghost use Rattle.std.specs.Prelude.{IfErr};
-ghost use Rattle.fitrec.specs.Showing.{IsOutputFault};
 ghost use Rattle.fitrec.specs.Checking.{ChecksBytes};
 
 use crate::command::input::read_file;
+use crate::command::print::print;
 use crate::fault::Fault;
 use crate::summary::SummaryLine;
 use fit_activity::check_activity;
@@ -32,17 +31,7 @@ fn check_bytes<O: Write>(alloc: Global, bytes: &[u8], out: &mut O) -> Result<(),
         Err(fault) => return Err(Fault::File(fault)),
     };
     match check_activity(&file) {
-        Ok(summary) => print(SummaryLine(summary), out),
+        Ok(summary) => print(&SummaryLine(summary), out),
         Err(fault) => Err(Fault::Activity(fault)),
     }
-}
-
-// Prints the line, to the last byte.
-fn print<O: Write>(line: SummaryLine, out: &mut O) -> Result<(), Fault<'static>>
-    ensures { IfErr result IsOutputFault }
-{
-    if writeln!(out, "{line}").is_err() || out.flush().is_err() {
-        return Err(Fault::Write("-"));
-    }
-    Ok(())
 }

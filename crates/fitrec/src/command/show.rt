@@ -14,35 +14,46 @@ use std::alloc::Global;
 use std::io::{BufWriter, Write};
 use std::rt::Files;
 
-/// Shows the file of this name.
+/// Shows the file of this name, under `utc` with times as dates.
 pub fn show_file<'a, R: Files + AllocGlobal, O: Write>(
     rt: &R,
     name: &'a str,
+    utc: bool,
     out: &mut O,
 ) -> Result<(), Fault<'a>> {
     let bytes = read_file(rt, name)?;
-    show_bytes(rt.alloc(), bytes.as_slice(), out)
+    show_bytes(rt.alloc(), bytes.as_slice(), utc, out)
 }
 
 // Shows the file that these bytes are. They are read whole before anything is written.
-fn show_bytes<O: Write>(alloc: Global, bytes: &[u8], out: &mut O) -> Result<(), Fault<'static>>
-    ensures { ShowsBytes (O.contents out.old) (O.contents out.new) bytes.now result }
+fn show_bytes<O: Write>(
+    alloc: Global,
+    bytes: &[u8],
+    utc: bool,
+    out: &mut O,
+) -> Result<(), Fault<'static>>
+    ensures { ShowsBytes utc (O.contents out.old) (O.contents out.new) bytes.now result }
 {
     match decode_file(alloc, bytes) {
-        Ok(file) => show_buffered(alloc, &file, out),
+        Ok(file) => show_buffered(alloc, &file, utc, out),
         Err(fault) => Err(Fault::File(fault)),
     }
 }
 
 // Shows a file through one buffer, to the last byte.
-fn show_buffered<O: Write>(alloc: Global, file: &File, out: &mut O) -> Result<(), Fault<'static>>
-    ensures all { OnOk result (Appends (O.contents out.old) (O.contents out.new) (text_of file.now)) }
+fn show_buffered<O: Write>(
+    alloc: Global,
+    file: &File,
+    utc: bool,
+    out: &mut O,
+) -> Result<(), Fault<'static>>
+    ensures all { OnOk result (Appends (O.contents out.old) (O.contents out.new) (text_of utc file.now)) }
     ensures fault { IfErr result IsOutputFault }
 {
     let Ok(mut buffered) = BufWriter::new(alloc, Lent::new(out)) else {
         return Err(Fault::NoMemory);
     };
-    let Ok(()) = show(file, &mut buffered) else {
+    let Ok(()) = show(file, utc, &mut buffered) else {
         return Err(Fault::Write("-"));
     };
     let Ok(lent) = buffered.into_inner() else {

@@ -4,6 +4,7 @@ mod checks;
 mod files;
 mod output;
 mod refusals;
+mod rides;
 
 use super::command;
 use fit_base::Crc;

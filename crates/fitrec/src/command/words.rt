@@ -1,46 +1,93 @@
 // The command line.
 
 use clap::error::ErrorKind;
-use clap::{Arg, ArgAction, Command};
+use clap::{Arg, ArgAction, ArgMatches, Command};
 use std::alloc::Global;
 use std::convert::AsStr;
 
 /// What a command line asks for.
 pub enum Request<'a> {
-    Show { file: &'a str },
+    Show { file: &'a str, utc: bool },
     Check { file: &'a str },
+    Replay { script: &'a str, folder: &'a str },
+    Repair { folder: &'a str },
 }
 
 /// Reads the words behind the program's name.
 pub fn read_words<'a, S: AsStr>(alloc: Global, words: &'a [S]) -> Result<Request<'a>, clap::Error> {
     let show = Command::new(alloc, "show")
         .about("Shows every message of a FIT file, a line each")
+        .arg(utc_option(alloc))?
         .arg(file_argument(alloc))?;
     let check = Command::new(alloc, "check")
         .about("Says whether a FIT file is an activity, and sums it up in one line")
         .arg(file_argument(alloc))?;
+    let replay = Command::new(alloc, "replay")
+        .about("Records a ride into a folder, as a script tells it")
+        .arg(argument(alloc, "SCRIPT", "The path of a script"))?
+        .arg(folder_argument(alloc))?;
+    let repair = Command::new(alloc, "repair")
+        .about("Makes the recording of a folder whole again, and sums it up in one line")
+        .arg(folder_argument(alloc))?;
     let mut fitrec = Command::new(alloc, "fitrec")
         .no_binary_name(true)
-        .about("Reads the FIT files of sports watches and bicycle computers")
+        .about(
+            "Records rides as FIT files, and reads the FIT files of sports watches and bicycle computers",
+        )
         .subcommand_required(true)
         .subcommand(show)?
-        .subcommand(check)?;
+        .subcommand(check)?
+        .subcommand(replay)?
+        .subcommand(repair)?;
     let matches = fitrec.try_get_matches_from_mut(words)?;
     if let Some((name, of_name)) = matches.subcommand() {
-        if let Some(file) = of_name.get_str("FILE") {
-            return Ok(match name {
-                "check" => Request::Check { file },
-                _ => Request::Show { file },
-            });
+        if let Some(request) = request_of(name, of_name) {
+            return Ok(request);
         }
     }
     Err(fitrec.error(ErrorKind::MissingSubcommand, "no command")?)
 }
 
-// The one argument of a subcommand over a file.
+// What a subcommand of this name asks for.
+fn request_of<'a>(name: &str, matches: &ArgMatches<'a>) -> Option<Request<'a>> {
+    match name {
+        "show" => Some(Request::Show {
+            file: matches.get_str("FILE")?,
+            utc: matches.get_flag("utc"),
+        }),
+        "check" => Some(Request::Check {
+            file: matches.get_str("FILE")?,
+        }),
+        "replay" => Some(Request::Replay {
+            script: matches.get_str("SCRIPT")?,
+            folder: matches.get_str("FOLDER")?,
+        }),
+        "repair" => Some(Request::Repair {
+            folder: matches.get_str("FOLDER")?,
+        }),
+        _ => None,
+    }
+}
+
+fn utc_option<'a>(alloc: Global) -> Arg<'a> {
+    Arg::new(alloc, "utc")
+        .long("utc")
+        .help("Shows times as dates in UTC")
+        .action(ArgAction::SetTrue)
+}
+
 fn file_argument<'a>(alloc: Global) -> Arg<'a> {
-    Arg::new(alloc, "FILE")
+    argument(alloc, "FILE", "The path of a FIT file")
+}
+
+fn folder_argument<'a>(alloc: Global) -> Arg<'a> {
+    argument(alloc, "FOLDER", "The path of the folder of a recording")
+}
+
+// A word that has to be there.
+fn argument<'a>(alloc: Global, name: &'a str, help: &'a str) -> Arg<'a> {
+    Arg::new(alloc, name)
         .required(true)
-        .help("The path of a FIT file")
+        .help(help)
         .action(ArgAction::Set)
 }

@@ -1,9 +1,15 @@
 use super::Fault;
+use crate::script::{ScriptFault, ScriptFaultKind};
 use fit_grammar::{FaultKind, FileFault};
+use fit_recorder::RecFault;
 use std::test::Fail;
 
 fn of_file(kind: FaultKind, place: usize) -> Fault<'static> {
     Fault::File(FileFault { kind, place })
+}
+
+fn of_line(kind: ScriptFaultKind, line: usize) -> Fault<'static> {
+    Fault::Script(ScriptFault { kind, line })
 }
 
 #[test]
@@ -32,6 +38,16 @@ fn texts_of_faults(rt: HostRuntime) -> Result<(), Fail> {
         (of_file(FaultKind::TrailingBytes, 34), "TrailingBytes at 34"),
         (of_file(FaultKind::Memory, 26), "Memory at 26"),
         (of_file(FaultKind::Developer, 12), "Developer at 12"),
+        (of_line(ScriptFaultKind::BadNumber, 1), "line 1: BadNumber"),
+        (of_line(ScriptFaultKind::Memory, 12), "line 12: Memory"),
+        (Fault::OnlySimulate(3), "line 3: OnlySimulate"),
+        (
+            Fault::Recorder(RecFault::NothingRecorded),
+            "NothingRecorded",
+        ),
+        (Fault::Recorder(RecFault::Damaged), "Damaged"),
+        (Fault::Recorder(RecFault::Device), "Device"),
+        (Fault::Refused(7), "7 refused"),
     ];
     for (fault, text) in &cases {
         let said = format!(in rt.alloc(); "{fault}")?;

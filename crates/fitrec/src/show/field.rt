@@ -4,11 +4,14 @@ ghost use Rattle.fit_base.specs.Base.{base_type};
 ghost use Rattle.std.specs.Prelude.{◌≡◌, ◌≢◌};
 ghost use Rattle.fit_base.specs.Value.{count_of, values_of};
 ghost use Rattle.fit_grammar.specs.Calls.Output.{WritesText};
+ghost use Rattle.fit_grammar.specs.Format.Message.{MessageField};
+ghost use Rattle.fitrec.specs.Date.{date_in};
 ghost use Rattle.fitrec.specs.Profile.{field_rows};
-ghost use Rattle.fitrec.specs.Text.{values_text, field_text, field_name};
+ghost use Rattle.fitrec.specs.Text.{values_text, shown_text, field_text, field_name};
 
 use crate::profile::{self, FieldName};
 use crate::show::bytes::{put_byte_field, put_hex, put_string};
+use crate::show::date::{date_in, put_date};
 use crate::show::number::put_numbers;
 use crate::writing::put_number;
 use fit_base::{BaseType, FieldValue};
@@ -16,20 +19,21 @@ use fit_grammar::{WriteFailed, put};
 use std::io::Write;
 
 /// A space, the name of the field and what it holds, as ` heart_rate=100`. Its name is one of these or
-/// one that every message has, else `field_` and its number.
+/// one that every message has, else `field_` and its number. Fields of some numbers are shown as dates.
 pub fn put_field<W: Write>(
     out: &mut W,
     names: &[FieldName],
+    dates: &[u8],
     number: u8,
     value: &FieldValue<'_>,
 ) -> Result<(), WriteFailed>
     ensures { WritesText (W.contents out.old) (W.contents out.new) result
-        (field_text (field_rows names.now) (record { number = number; base = value.now.base; values = values_of value.now })) }
+        (field_text (field_rows names.now) dates.now (record { number = number; base = value.now.base; values = values_of value.now })) }
 {
     put(out, b" ")?;
     put_field_name(out, names, number)?;
     put(out, b"=")?;
-    put_value(out, value)
+    put_shown(out, dates, number, value)
 }
 
 fn put_field_name<W: Write>(out: &mut W, names: &[FieldName], number: u8) -> Result<(), WriteFailed>
@@ -41,6 +45,22 @@ fn put_field_name<W: Write>(out: &mut W, names: &[FieldName], number: u8) -> Res
             put(out, b"field_")?;
             put_number(out, u64::from(number))
         }
+    }
+}
+
+// A date, where a field of this number is shown as one, or what it holds.
+fn put_shown<W: Write>(
+    out: &mut W,
+    dates: &[u8],
+    number: u8,
+    value: &FieldValue<'_>,
+) -> Result<(), WriteFailed>
+    ensures { WritesText (W.contents out.old) (W.contents out.new) result (let field : MessageField = record
+        { number = number; base = value.now.base; values = values_of value.now } in shown_text (date_in dates.now field) field) }
+{
+    match date_in(dates, number, value) {
+        Some(time) => put_date(out, time),
+        None => put_value(out, value),
     }
 }
 

@@ -1,3 +1,4 @@
+use super::date::dates_of;
 use super::field::put_field;
 use crate::profile::{field_name, fields_of, message_name};
 use fit_base::{Arch, FieldValue};
@@ -7,7 +8,7 @@ use std::test::Fail;
 fn text_of(rt: &HostRuntime, base: u8, arch: Arch, bytes: &[u8]) -> Result<Vec<u8>, Fail> {
     let mut out = Vec::new(rt.alloc());
     let value = FieldValue::new(base, arch, bytes);
-    put_field(&mut out, fields_of(20), 99, &value)?;
+    put_field(&mut out, fields_of(20), &[], 99, &value)?;
     Ok(out)
 }
 
@@ -60,6 +61,101 @@ fn shows_values(rt: HostRuntime) -> Result<(), Fail> {
     }
     let out = text_of(&rt, 0x86, Arch::Big, &[0, 0, 1, 2])?;
     assert_eq!(rt; out.as_slice(), b" field_99=258".as_slice());
+    Ok(())
+}
+
+// The text of a field of a message, with times as dates or as they are.
+fn dated(
+    rt: &HostRuntime,
+    utc: bool,
+    global: u16,
+    number: u8,
+    value: &FieldValue<'_>,
+) -> Result<Vec<u8>, Fail> {
+    let mut out = Vec::new(rt.alloc());
+    put_field(
+        &mut out,
+        fields_of(global),
+        dates_of(utc, global),
+        number,
+        value,
+    )?;
+    Ok(out)
+}
+
+#[test]
+fn shows_dates(rt: HostRuntime) -> Result<(), Fail> {
+    let times: [(u32, &str); 13] = [
+        (1_000_000_000, "2021-09-08T01:46:40Z"),
+        (0x1000_0000, "1998-07-03T21:24:16Z"),
+        (0x0FFF_FFFF, "268435455"),
+        (0, "0"),
+        (315_619_199, "1999-12-31T23:59:59Z"),
+        (315_619_200, "2000-01-01T00:00:00Z"),
+        (320_803_199, "2000-02-29T23:59:59Z"),
+        (320_803_200, "2000-03-01T00:00:00Z"),
+        (347_198_400, "2000-12-31T12:00:00Z"),
+        (3_476_476_799, "2100-02-28T23:59:59Z"),
+        (3_476_476_800, "2100-03-01T00:00:00Z"),
+        (0xFFFF_FFFE, "2126-02-06T06:28:14Z"),
+        (0xFFFF_FFFF, "-"),
+    ];
+    for (time, text) in times {
+        let little = time.to_le_bytes();
+        let big = time.to_be_bytes();
+        let whole = format!(in rt.alloc(); " timestamp={text}")?;
+        let out = dated(
+            &rt,
+            true,
+            1000,
+            253,
+            &FieldValue::new(0x86, Arch::Little, &little),
+        )?;
+        assert_eq!(rt; out.as_slice(), whole.as_bytes(), "{time}");
+        let out = dated(&rt, true, 20, 253, &FieldValue::new(0x86, Arch::Big, &big))?;
+        assert_eq!(rt; out.as_slice(), whole.as_bytes(), "{time}");
+    }
+    Ok(())
+}
+
+// Which fields are dates, and what they have to hold.
+#[test]
+fn shows_other_numbers_as_they_are(rt: HostRuntime) -> Result<(), Fail> {
+    const TIME: [u8; 4] = [0, 0xCA, 0x9A, 0x3B];
+    let cases: [(bool, u16, u8, u8, &[u8], &str); 13] = [
+        (
+            true,
+            0,
+            4,
+            0x86,
+            &TIME,
+            " time_created=2021-09-08T01:46:40Z",
+        ),
+        (true, 18, 2, 0x86, &TIME, " start_time=2021-09-08T01:46:40Z"),
+        (true, 19, 2, 0x86, &TIME, " start_time=2021-09-08T01:46:40Z"),
+        (false, 0, 4, 0x86, &TIME, " time_created=1000000000"),
+        (false, 20, 253, 0x86, &TIME, " timestamp=1000000000"),
+        (true, 0, 2, 0x86, &TIME, " product=1000000000"),
+        (true, 19, 4, 0x86, &TIME, " field_4=1000000000"),
+        (true, 20, 5, 0x86, &TIME, " distance=1000000000"),
+        (true, 0, 3, 0x86, &TIME, " serial_number=1000000000"),
+        (true, 20, 253, 0x8C, &TIME, " timestamp=1000000000"),
+        (true, 20, 253, 0x85, &TIME, " timestamp=1000000000"),
+        (
+            true,
+            20,
+            253,
+            0x86,
+            &[0, 0xCA, 0x9A, 0x3B, 0, 0xCA, 0x9A, 0x3B],
+            " timestamp=1000000000,1000000000",
+        ),
+        (true, 20, 253, 0x86, &[], " timestamp="),
+    ];
+    for (utc, global, number, base, bytes, text) in cases {
+        let value = FieldValue::new(base, Arch::Little, bytes);
+        let out = dated(&rt, utc, global, number, &value)?;
+        assert_eq!(rt; out.as_slice(), text.as_bytes(), "{text}");
+    }
     Ok(())
 }
 

@@ -1,6 +1,7 @@
 // Files that are shown.
 
-use super::{NO_MESSAGE, ONE_MESSAGE, ONE_MESSAGE_TEXT, framed, run_on};
+use super::{NO_MESSAGE, ONE_MESSAGE, ONE_MESSAGE_TEXT, framed, path_of, run, run_on};
+use std::fs;
 use std::test::Fail;
 
 #[test]
@@ -15,6 +16,24 @@ fn shows_files(rt: HostRuntime) -> Result<(), Fail> {
         ran.out.as_slice(),
         b"header 14 protocol 1.0 profile 100 data 0\nmessages 0\n".as_slice()
     );
+    Ok(())
+}
+
+// The option stands before the file or behind it.
+#[test]
+fn shows_dates(rt: HostRuntime) -> Result<(), Fail> {
+    let path = path_of(&rt, "dates")?;
+    let file = path.as_str();
+    fs::write(&rt, file, &ONE_MESSAGE)?;
+    let text =
+        "header 14 protocol 1.0 profile 100 data 18\n0 file_id type=4 time_created=2021-09-08T01:46:40Z\nmessages 1\n";
+    for words in [["show", "--utc", file], ["show", file, "--utc"]] {
+        let ran = run(&rt, &words);
+        assert_eq!(rt; ran.status, 0);
+        assert_eq!(rt; ran.out.as_slice(), text.as_bytes());
+        assert_eq!(rt; ran.err.len(), 0);
+    }
+    fs::remove_file(&rt, file)?;
     Ok(())
 }
 

@@ -9,17 +9,17 @@ use std::test::Fail;
 
 // A writer that takes some bytes of a call, and refuses one call or all from it on.
 #[derive(Drop)]
-struct Failing {
-    held: Vec<u8>,
+pub struct Failing {
+    pub held: Vec<u8>,
     step: usize,
     // How many calls come before the refused one.
     calls: usize,
     recovers: bool,
-    flushes: bool,
+    pub flushes: bool,
 }
 
 impl Failing {
-    fn new(alloc: Global, step: usize, calls: usize) -> Failing {
+    pub fn new(alloc: Global, step: usize, calls: usize) -> Failing {
         Failing {
             held: Vec::new(alloc),
             step,

@@ -103,13 +103,26 @@ fn refuses_a_file_that_is_too_large(rt: HostRuntime) -> Result<(), Fail> {
 
 #[test]
 fn refuses_other_words(rt: HostRuntime) {
-    let lines: [&[&str]; 10] = [
+    let lines: [&[&str]; 23] = [
         &[],
         &["show"],
         &["shown", "x"],
         &["show", "x", "y"],
         &["show", "--no", "x"],
         &["--utc", "show", "x"],
+        &["show", "--utc"],
+        &["show", "--utc", "x", "y"],
+        &["show", "--utc", "--utc", "x"],
+        &["show", "--utc", "x", "--utc"],
+        &["show", "--utc=x", "x"],
+        &["show", "--utc=true", "x"],
+        &["check", "--utc", "x"],
+        &["replay"],
+        &["replay", "x"],
+        &["replay", "x", "y", "z"],
+        &["repair"],
+        &["repair", "x", "y"],
+        &["repair", "--utc", "x"],
         &["--help"],
         &["help"],
         &["show", "--help"],

@@ -1,4 +1,4 @@
-use Rattle.std.proofs.Common.{◌≡◌, ◌∙◌, ap, rules}
+use Rattle.std.proofs.Common.{◌∙◌, ap, rules}
 use Rattle.fitrec.proofs.LentLemmas.{of_empty_buffer, comes_back}
 use Rattle.fitrec.proofs.command.show.show_buffered.Goals as goal
 

@@ -8,7 +8,7 @@ use Rattle.fitrec.proofs.show.field.put_field.Goals as goal
 pub returns-in_err-put : goal.returns-in_err-put
 returns-in_err-put g c =
     let field : MessageField = record { number = c.args.number; base = c.args.value.now.base; values = values_of c.args.value.now } in
-    writes_same (stops_before c.from_residual.ensures.0 c.in_err-put.ensures _) (field_parts (field_rows c.args.names.now) field)
+    writes_same (stops_before c.from_residual.ensures.0 c.in_err-put.ensures _) (field_parts (field_rows c.args.names.now) c.args.dates.now field)
 
 pub returns-in_err-put_field_name : goal.returns-in_err-put_field_name
 returns-in_err-put_field_name g c =
@@ -16,7 +16,7 @@ returns-in_err-put_field_name g c =
     writes_same
     (then_writes c.in_ok-put.ensures
     (stops_before c.from_residual-in_err-put_field_name.ensures.0 c.in_err-put_field_name.ensures _))
-    (field_parts (field_rows c.args.names.now) field)
+    (field_parts (field_rows c.args.names.now) c.args.dates.now field)
 
 pub returns-in_err-put-2 : goal.returns-in_err-put-2
 returns-in_err-put-2 g c =
@@ -25,12 +25,12 @@ returns-in_err-put-2 g c =
     (then_writes c.in_ok-put.ensures
     (then_writes c.in_ok-put_field_name.ensures
     (stops_before c.from_residual-in_err-put-2.ensures.0 c.in_err-put-2.ensures _)))
-    (field_parts (field_rows c.args.names.now) field)
+    (field_parts (field_rows c.args.names.now) c.args.dates.now field)
 
 pub returns : goal.returns
 returns g c =
     let field : MessageField = record { number = c.args.number; base = c.args.value.now.base; values = values_of c.args.value.now } in
     writes_same
     (then_writes c.in_ok-put.ensures
-    (then_writes c.in_ok-put_field_name.ensures (then_writes c.in_ok-put-2.ensures c.put_value.ensures)))
-    (field_parts (field_rows c.args.names.now) field)
+    (then_writes c.in_ok-put_field_name.ensures (then_writes c.in_ok-put-2.ensures c.put_shown.ensures)))
+    (field_parts (field_rows c.args.names.now) c.args.dates.now field)

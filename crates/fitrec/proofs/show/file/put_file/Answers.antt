@@ -7,7 +7,7 @@ use Rattle.fitrec.proofs.show.file.put_file.Goals as goal
 pub returns-in_err-put_header : goal.returns-in_err-put_header
 returns-in_err-put_header g c =
     writes_same (stops_before c.from_residual.ensures.0 c.in_err-put_header.ensures _)
-    (file_parts c.args.file.now _ _ _ c.frame.ensures.frame c.data_size.ensures refl)
+    (file_parts c.args.utc c.args.file.now _ _ _ c.frame.ensures.frame c.data_size.ensures refl)
 
 pub put_messages-requires : goal.put_messages-requires
 put_messages-requires g c =
@@ -18,7 +18,7 @@ pub returns-in_err-count : goal.returns-in_err-count
 returns-in_err-count g c =
     writes_same
     (then_writes c.in_ok-put_header.ensures (stops_before c.from_residual-in_err-count.ensures.0 c.in_err-count.ensures.text _))
-    (file_parts c.args.file.now _ _ _ c.frame.ensures.frame c.data_size.ensures refl)
+    (file_parts c.args.utc c.args.file.now _ _ _ c.frame.ensures.frame c.data_size.ensures refl)
 
 pub returns-in_err-put_labelled : goal.returns-in_err-put_labelled
 returns-in_err-put_labelled g c =
@@ -26,11 +26,11 @@ returns-in_err-put_labelled g c =
     (then_writes c.in_ok-put_header.ensures
     (then_writes c.in_ok-count.ensures.text
     (stops_before c.from_residual-in_err-put_labelled.ensures.0 c.in_err-put_labelled.ensures _)))
-    (file_parts c.args.file.now _ _ _ c.frame.ensures.frame c.data_size.ensures c.in_ok-count.ensures.count)
+    (file_parts c.args.utc c.args.file.now _ _ _ c.frame.ensures.frame c.data_size.ensures c.in_ok-count.ensures.count)
 
 pub returns : goal.returns
 returns g c =
     writes_same
     (then_writes c.in_ok-put_header.ensures
     (then_writes c.in_ok-count.ensures.text (then_writes c.in_ok-put_labelled.ensures c.put.ensures)))
-    (file_parts c.args.file.now _ _ _ c.frame.ensures.frame c.data_size.ensures c.in_ok-count.ensures.count)
+    (file_parts c.args.utc c.args.file.now _ _ _ c.frame.ensures.frame c.data_size.ensures c.in_ok-count.ensures.count)

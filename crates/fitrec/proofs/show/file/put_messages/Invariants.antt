@@ -7,6 +7,6 @@ use Rattle.fitrec.proofs.show.file.put_messages.Given as goal
 
 abbrev pub invariant-loop-message : goal.invariant-loop-message
 invariant-loop-message g l =
-    Leaves (g.W.Write.contents l.initial.out) (g.W.Write.contents l.out) (messages_text (messages_of l.file.items))
-    (flat_map (λ row. message_text row.0 row.1) (enumerate_from l.number l.message-iterator))
+    Leaves (g.W.Write.contents l.initial.out) (g.W.Write.contents l.out) (messages_text l.utc (messages_of l.file.items))
+    (flat_map (λ row. message_text l.utc row.0 row.1) (enumerate_from l.number l.message-iterator))
     × (l.number + length l.message-iterator ≡ length (messages_of l.file.items))

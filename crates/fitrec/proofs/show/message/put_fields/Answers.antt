@@ -8,9 +8,9 @@ use Rattle.fitrec.proofs.show.message.put_fields.Goals as goal
 pub loop-field-preserved : goal.loop-field-preserved
 loop-field-preserved g c =
     leaves_less _ c.loop-field.invariant c.in_ok-put_field.ensures
-    (ap (flat_map (field_text (field_rows c.args.names.now))) c.in-Some.ensures.steps)
+    (ap (flat_map (field_text (field_rows c.args.names.now) c.args.dates.now)) c.in-Some.ensures.steps)
 
 pub returns-in_err-put_field : goal.returns-in_err-put_field
 returns-in_err-put_field g c =
     leaves_off _ c.from_residual.ensures.0 c.loop-field.invariant c.in_err-put_field.ensures
-    (ap (flat_map (field_text (field_rows c.args.names.now))) c.in-Some.ensures.steps)
+    (ap (flat_map (field_text (field_rows c.args.names.now) c.args.dates.now)) c.in-Some.ensures.steps)

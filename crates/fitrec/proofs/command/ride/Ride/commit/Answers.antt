@@ -1,0 +1,11 @@
+use Rattle.fit_recorder.specs.Answers.{CommitAnswers}
+use Rattle.fit_recorder.specs.Recording.{open_slots}
+use Rattle.fitrec.proofs.RideLemmas.{answers_of_call}
+use Rattle.fitrec.proofs.command.ride.Ride.commit.Goals as goal
+
+pub returns-in-Riding-clause-answers : goal.returns-in-Riding-clause-answers
+returns-in-Riding-clause-answers c list handed =
+    let known = rw c.in-Riding.is at handed in
+    rw c.in-Riding.is
+    (answers_of_call (CommitAnswers list (open_slots c.in-Riding.recorder)) c.commit.result c.into.result c.into.ensures
+    (c.commit.ensures.answers list known.0 known.1))

@@ -1,0 +1,11 @@
+use Rattle.fit_recorder.specs.Answers.{HandAnswers}
+use Rattle.fit_recorder.specs.Recording.{data_len}
+use Rattle.fitrec.proofs.RideLemmas.{answers_of_call}
+use Rattle.fitrec.proofs.command.ride.Ride.hand.Goals as goal
+
+pub returns-in-Riding-clause-answers : goal.returns-in-Riding-clause-answers
+returns-in-Riding-clause-answers c list handed =
+    let known = rw c.in-Riding.is at handed in
+    rw c.in-Riding.is
+    (answers_of_call (HandAnswers list (data_len c.in-Riding.recorder) c.args.entry.now) c.hand.result c.into.result c.into.ensures
+    (c.hand.ensures.answers list known.0 known.1))

@@ -1,0 +1,25 @@
+// The folder of a recording.
+
+ghost use Rattle.std.specs.Prelude.{◌≡◌};
+ghost use Rattle.fitrec.specs.Replaying.{fault_of_open};
+
+use crate::fault::Fault;
+use fit_disk::{Files, OpenFault};
+
+/// The files of this folder, made where they are missing.
+pub fn open_folder<'a>(rt: &HostRuntime, name: &'a str) -> Result<Files, Fault<'a>> {
+    match Files::open(rt, name) {
+        Ok(files) => Ok(files),
+        Err(fault) => Err(fault_of(name, fault)),
+    }
+}
+
+// What the program says of a folder of this name that is not opened.
+fn fault_of<'a>(name: &'a str, fault: OpenFault) -> Fault<'a>
+    ensures { result ≡ fault_of_open name.entry fault }
+{
+    match fault {
+        OpenFault::Open => Fault::Open(name),
+        OpenFault::Memory => Fault::NoMemory,
+    }
+}

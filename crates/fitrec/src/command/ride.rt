@@ -1,0 +1,126 @@
+// A recording that is played: a recorder runs over its files, or none does.
+
+ghost use Rattle.std.specs.Prelude.{◌≡◌, ◌≢◌, ◌↔◌, false};
+
+use crate::command::answer::Answer;
+use fit_activity::{Entry, Start};
+use fit_disk::Files;
+use fit_recorder::{Recorder, erase, recover};
+
+/// The recording of a folder.
+#[derive(Drop)]
+pub enum Ride {
+    /// No recorder runs.
+    Idle(Files),
+    /// A recorder runs over the files.
+    Riding(Recorder<Files>),
+}
+
+impl Ride {
+    ghost use Rattle.std.specs.Prelude.{List};
+    ghost use Rattle.fit_activity.specs.Recording.{Recorded, Added, is_stop};
+    ghost use Rattle.fit_recorder.specs.declared.fault.RecFault.TheVariants.{Device};
+    ghost use Rattle.fit_recorder.specs.Answers.{HandAnswers, CommitAnswers, StopAnswers};
+    ghost use Rattle.fitrec.specs.declared.command.answer.Answer.TheVariants.{Done, Refused, NoRecorder};
+    ghost use Rattle.fitrec.specs.Replaying.{Answers, AnswersStart, CanGoOn, Handed, is_ok, is_riding, said_len, slots_of};
+
+    /// Begins a recording, behind the end of the recorder that runs. None runs where it is refused.
+    pub fn start(self, start: Start) -> (Ride, Answer)
+        ensures goes_on { CanGoOn result.0 }
+        ensures answers { AnswersStart start result.1 }
+        ensures riding { is_riding result.0 ≡ is_ok result.1 }
+    {
+        match Recorder::start(self.into_files(), start) {
+            Ok(recorder) => (Ride::Riding(recorder), Answer::Done),
+            Err((files, fault)) => (Ride::Idle(files), Answer::Refused(fault)),
+        }
+    }
+
+    /// Hands in an entry that is no stop.
+    pub fn hand(&mut self, entry: &Entry) -> Answer
+        requires goes_on { CanGoOn self.old }
+        requires no_stop { is_stop (Added entry.now) ≡ false }
+        ensures goes_on { CanGoOn self.new }
+        ensures answers { (list : List Recorded) → Handed self.old list
+            → Answers (HandAnswers list (said_len self.old) entry.now) result }
+        ensures none { (result ≡ NoRecorder) ↔ (is_riding self.old ≡ false) }
+        ensures riding { is_riding self.new ≡ is_riding self.old }
+    {
+        match self {
+            Ride::Idle(_) => Answer::NoRecorder,
+            Ride::Riding(recorder) => recorder.hand(entry).into(),
+        }
+    }
+
+    /// Makes safe what was handed in.
+    pub fn commit(&mut self) -> Answer
+        requires { CanGoOn self.old }
+        ensures goes_on { CanGoOn self.new }
+        ensures answers { (list : List Recorded) → Handed self.old list
+            → Answers (CommitAnswers list (slots_of self.old)) result }
+        ensures none { (result ≡ NoRecorder) ↔ (is_riding self.old ≡ false) }
+        ensures riding { is_riding self.new ≡ is_riding self.old }
+    {
+        match self {
+            Ride::Idle(_) => Answer::NoRecorder,
+            Ride::Riding(recorder) => recorder.commit().into(),
+        }
+    }
+
+    /// Ends the recording with a stop at this time. From an ok on no recorder runs, and else the one that ran.
+    pub fn stop(self, time: u32) -> (Ride, Answer)
+        requires { CanGoOn self }
+        ensures goes_on { CanGoOn result.0 }
+        ensures answers { (list : List Recorded) → Handed self list → Answers (StopAnswers list time) result.1 }
+        ensures none { (result.1 ≡ NoRecorder) ↔ (is_riding self ≡ false) }
+        ensures ended { result.1 ≡ Done → is_riding result.0 ≡ false }
+        ensures kept { result.1 ≢ Done → is_riding result.0 ≡ is_riding self }
+    {
+        match self {
+            Ride::Idle(files) => (Ride::Idle(files), Answer::NoRecorder),
+            Ride::Riding(mut recorder) => match recorder.stop(time) {
+                Ok(()) => (Ride::Idle(recorder.into_disk()), Answer::Done),
+                Err(fault) => (Ride::Riding(recorder), Answer::Refused(fault)),
+            },
+        }
+    }
+
+    /// Ends the recorder that runs, if one does.
+    pub fn restart(self) -> (Ride, Answer)
+        ensures ok { result.1 ≡ Done }
+        ensures ended { is_riding result.0 ≡ false }
+    {
+        (Ride::Idle(self.into_files()), Answer::Done)
+    }
+
+    /// Recovers the recording, behind the end of the recorder that runs.
+    pub fn recover(self) -> (Ride, Answer)
+        ensures some { result.1 ≢ NoRecorder }
+        ensures ended { is_riding result.0 ≡ false }
+    {
+        let mut files = self.into_files();
+        let answer = match recover(&mut files) {
+            Ok(summary) => Answer::Recovered(summary),
+            Err(fault) => Answer::Refused(fault),
+        };
+        (Ride::Idle(files), answer)
+    }
+
+    /// Erases the recording, behind the end of the recorder that runs.
+    pub fn erase(self) -> (Ride, Answer)
+        ensures answers { result.1 ≢ Done → result.1 ≡ Refused Device }
+        ensures ended { is_riding result.0 ≡ false }
+    {
+        let mut files = self.into_files();
+        let answer = erase(&mut files).into();
+        (Ride::Idle(files), answer)
+    }
+
+    // The files, behind the end of the recorder that runs. What was not committed is not promised.
+    fn into_files(self) -> Files {
+        match self {
+            Ride::Idle(files) => files,
+            Ride::Riding(recorder) => recorder.into_disk(),
+        }
+    }
+}
