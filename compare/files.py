@@ -26,7 +26,7 @@ def definition(pick):
         value = BASE_TYPES.get(base, ("", 1, 0))[1]
         size = pick.choice([value, value, 0, 2 * value, 3 * value, pick.randrange(10)])
         field = pick.choice([253, 254, 3, 4, 13, 73, pick.randrange(12), pick.randrange(256)])
-        if field == 253 and pick.random() < 0.7:
+        if field in (253, 2, 4) and pick.random() < 0.7:
             base, size = 0x86, 4
         fields.append((field, size, base))
     # reserved bits and bytes may be anything, and now and then developer fields are announced
@@ -89,24 +89,25 @@ def changes(data):
                 yield data[:at] + bytes([byte]) + data[at + 1:]
 
 
-def judge(program, folder, number, data):
+def judge(program, folder, number, data, utc):
     """What the second reader makes of a file, and where the program says something else, both."""
     path = pathlib.Path(folder) / ("%d.fit" % number)
     path.write_bytes(data)
-    ran = subprocess.run([program, "show", path], capture_output=True, text=True)
+    ran = subprocess.run([program, "show", *["--utc"] * utc, path], capture_output=True, text=True)
     path.unlink()
-    said, want = (ran.returncode, ran.stdout, ran.stderr), wanted(data)
-    kind = re.sub("[( ].*", "", want[2].strip().removeprefix("fitrec: ")) or "shown"
+    said, want = (ran.returncode, ran.stdout, ran.stderr), wanted(data, utc)
+    kind = re.sub("[( ].*", "", want[2].strip().removeprefix("fitrec: ")) or ("shown with dates" if utc else "shown")
     return kind, None if said == want else (data.hex(), want, said)
 
 
 def check(program, small, files, seed):
     """Yields a name and a difference, or None, for each file. The small file is one that is shown."""
     pick = random.Random(seed)
-    inputs = list(changes(small))
+    inputs = [(data, False) for data in changes(small)]
     for _ in range(files):
         data = made(pick)
-        inputs.append(data if pick.random() < 0.5 else damaged(pick, data))
+        data = data if pick.random() < 0.5 else damaged(pick, data)
+        inputs += [(data, False), (data, True)]
     with tempfile.TemporaryDirectory() as folder, concurrent.futures.ThreadPoolExecutor(os.cpu_count()) as pool:
-        for kind, difference in pool.map(lambda row: judge(program, folder, *row), enumerate(inputs)):
+        for kind, difference in pool.map(lambda row: judge(program, folder, row[0], *row[1]), enumerate(inputs)):
             yield "made files: " + kind, difference

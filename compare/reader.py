@@ -2,6 +2,8 @@
 
 It was written from the description of the format (docs/FORMAT.md) and shares nothing with the program."""
 
+import datetime
+
 # Base type byte: name, size of a value, invalid value.
 BASE_TYPES = {
     0x00: ("enum", 1, 0xFF),
@@ -40,6 +42,11 @@ MESSAGES = {
     21: ("event", {0: "event", 1: "event_type"}),
     34: ("activity", {0: "total_timer_time", 1: "num_sessions", 2: "type", 3: "event", 4: "event_type"}),
 }
+
+# Which fields of a message are dates with --utc, beside timestamps.
+DATES = {0: {4}, 18: {2}, 19: {2}}
+
+EPOCH = datetime.datetime(1989, 12, 31)
 
 
 class Refused(Exception):
@@ -90,6 +97,13 @@ def value_text(base, big, data):
     return ",".join(texts)
 
 
+def date_text(time):
+    """A time as a date; None where it is none of the calendar."""
+    if not 0x10000000 <= time < 0xFFFFFFFF:
+        return None
+    return (EPOCH + datetime.timedelta(seconds=time)).strftime("%Y-%m-%dT%H:%M:%SZ")
+
+
 def read_header(data):
     """The size of the header and of the records."""
     if not data:
@@ -121,8 +135,8 @@ def whole(data, at, end, size):
     wait(data, at + size)
 
 
-def show(data):
-    """The text of a file."""
+def show(data, utc=False):
+    """The text of a file, with times as dates or as they are."""
     header, size = read_header(data)
     at, end = header, header + size
     definitions, before, lines = {}, 0, []
@@ -153,11 +167,12 @@ def show(data):
             while before % 32 != first & 31:
                 before += 1
             before %= 1 << 32
-            shown.append((253, str(before) if before != 0xFFFFFFFF else "-"))
+            shown.append((253, utc and date_text(before) or value_text(0x86, True, before.to_bytes(4, "big"))))
         for field, length, base in fields:
             content = data[at:at + length]
             at += length
-            shown.append((field, value_text(base, big, content)))
+            is_date = utc and (length, base) == (4, 0x86) and field in {253} | DATES.get(message, set())
+            shown.append((field, is_date and date_text(number(content, big)) or value_text(base, big, content)))
             if stated is None and (field, length, base) == (253, 4, 0x86) and content != b"\xFF" * 4:
                 stated = number(content, big)
         if stated is not None and not compressed:
@@ -176,9 +191,9 @@ def show(data):
     return head + "".join(lines) + "messages %d\n" % len(lines)
 
 
-def wanted(data):
+def wanted(data, utc=False):
     """The status of `fitrec show`, its standard output and its standard error, over a file of these bytes."""
     try:
-        return 0, show(data), ""
+        return 0, show(data, utc), ""
     except Refused as refused:
         return 1, "", "fitrec: %s\n" % refused

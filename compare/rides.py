@@ -1,6 +1,10 @@
-"""Rides that are replayed, stopped or cut off, and repaired, held against the second reader and against gpsbabel where it is there."""
+"""Rides that are replayed, stopped or cut off, and repaired, held against the second reader and against gpsbabel where it is there;
+and replays whose disk is full, whose output is closed and whose memory is little."""
 
+import contextlib
 import pathlib
+import re
+import resource
 import shutil
 import subprocess
 import tempfile
@@ -12,8 +16,8 @@ SUMMARY = "ok records=7 laps=2 sessions=1 start=1000000000 elapsed_ms=600000 tim
 COMMITTED = "ok records=5 laps=2 sessions=1 start=1000000000 elapsed_ms=380000 timer_ms=345000 distance_cm=101322\n"
 
 
-def run(*words):
-    done = subprocess.run(words, capture_output=True, text=True)
+def run(*words, **how):
+    done = subprocess.run(words, capture_output=True, text=True, **how)
     return done.returncode, done.stdout, done.stderr
 
 
@@ -28,7 +32,109 @@ def records_of(file):
         return len(table.read().splitlines()) - 1
 
 
+def script_of(samples, every):
+    """A ride of so many samples, one a second, with a commit behind every so many."""
+    lines = ["start 1000000000 7 cycling"]
+    for second in range(samples):
+        lines.append(f"sample {1000000000 + second} hr={100 + second % 80} dist={second * 700}")
+        if second % every == every - 1:
+            lines.append("commit")
+    return "\n".join(lines) + "\n"
+
+
+def committed(answers):
+    """Whether a start was answered ok, how many samples were, and how many of them before the last commit that was."""
+    kept = handed = 0
+    started = False
+    for answer in answers:
+        word = answer.split()[1]
+        if word == "start:":
+            started = answer.endswith(" ok")
+        if word == "sample:" and answer.endswith(" ok"):
+            handed += 1
+        if word == "commit:" and answer.endswith(" ok"):
+            kept = handed
+    return started, kept, handed
+
+
+@contextlib.contextmanager
+def small_disk(folder):
+    """A disk of 64 KiB in this folder; False where none can be mounted."""
+    mounted = run("mount", "-t", "tmpfs", "-o", "size=64k", "fitrec", folder)[0] == 0
+    try:
+        yield mounted
+    finally:
+        if mounted:
+            run("umount", folder)
+
+
+def on_a_full_disk(fitrec):
+    """A disk that gets full: the recorder fails once, and with room again what was answered as committed is kept."""
+    with tempfile.TemporaryDirectory() as folder, tempfile.NamedTemporaryFile("w") as script, small_disk(folder) as mounted:
+        if not mounted:
+            print("skipped: a full disk, since none can be mounted here")
+            return
+        script.write(script_of(20000, 100))
+        script.flush()
+        status, out, _ = run(fitrec, "replay", script.name, folder)
+        answers = out.splitlines()
+        _, kept, handed = committed(answers)
+        faults = [answer.split()[2] for answer in answers if not answer.endswith(" ok")]
+        yield "full disk: one call fails, and each behind it is refused", differs(
+            (status, faults[0], set(faults[1:]), kept > 0), (1, "Device", {"Failed"}, True))
+        run("mount", "-o", "remount,size=1m", folder)
+        status, line, err = run(fitrec, "repair", folder)
+        records = re.match(r"ok records=(\d+) ", line)
+        yield "full disk: repaired", None if records and kept <= int(records[1]) <= handed else (line, err, kept, handed)
+
+
+def with_closed_output(fitrec):
+    """Output that is closed in the middle: no further event is run, and what was answered is kept."""
+    with tempfile.TemporaryDirectory() as folder, tempfile.NamedTemporaryFile("w") as script:
+        script.write(script_of(20000, 10))
+        script.flush()
+        words = [fitrec, "replay", script.name, folder]
+        with subprocess.Popen(words, stdout=subprocess.PIPE, stderr=subprocess.PIPE, text=True) as running:
+            answers = [running.stdout.readline() for _ in range(1000)]
+            running.stdout.close()
+            said = running.stderr.read()
+        yield "closed output: told", differs((running.returncode, said), (1, "fitrec: cannot write -\n"))
+        kept = committed(map(str.rstrip, answers))[1]
+        records = re.match(r"ok records=(\d+) ", run(fitrec, "repair", folder)[1])
+        yield "closed output: kept", None if records and kept <= int(records[1]) < 20000 else (records, kept)
+
+
+def with_little_memory(fitrec):
+    """With more and more memory: nothing is recorded and one line says why, until all is."""
+    told = set()
+    with tempfile.TemporaryDirectory() as folder, tempfile.NamedTemporaryFile("w") as script:
+        script.write(script_of(5000, 5000))
+        script.flush()
+        file = pathlib.Path(folder) / "activity.fit"
+        for limit in range(1 << 20, 1 << 26, 1 << 15):
+            status, out, err = run(fitrec, "replay", script.name, folder,
+                                   preexec_fn=lambda: resource.setrlimit(resource.RLIMIT_AS, (limit, limit)))
+            if status == 0:
+                break
+            # Where there is no memory for the program itself, it does not start.
+            if status == 1:
+                line = re.fullmatch(r"fitrec: (NoMemory|line \d+: Memory)\n|Error: Kind\(OutOfMemory\)\n", err)
+                recorded = out != "" or file.exists() and file.stat().st_size > 0
+                told.add(line and (line[1] or "start").split()[0])
+                if recorded or not line:
+                    yield f"memory of {limit} bytes: nothing is recorded", (out, err)
+        yield "little memory: told", None if {"NoMemory", "line"} <= told and None not in told else told
+        yield "little memory: enough", differs((status, out.count(" ok\n"), err), (0, 5002, ""))
+
+
 def check(fitrec):
+    yield from rides(fitrec)
+    yield from on_a_full_disk(fitrec)
+    yield from with_closed_output(fitrec)
+    yield from with_little_memory(fitrec)
+
+
+def rides(fitrec):
     script = EXAMPLE.read_text()
     commands = [(number, line.split()[0]) for number, line in enumerate(script.splitlines(), 1) if line[0] != "#"]
     with tempfile.TemporaryDirectory() as folder:

@@ -1,6 +1,6 @@
 // A recording that is played: a recorder runs over its files, or none does.
 
-ghost use Rattle.std.specs.Prelude.{◌≡◌, ◌≢◌, ◌↔◌, false};
+ghost use Rattle.std.specs.Prelude.{◌≡◌, ◌≢◌, ◌↔◌, ◌+◌, ◌++◌, ◌∷◌, [], false};
 
 use crate::command::answer::Answer;
 use fit_activity::{Entry, Start};
@@ -43,6 +43,7 @@ impl Ride {
         ensures goes_on { CanGoOn self.new }
         ensures answers { (list : List Recorded) → Handed self.old list
             → Answers (HandAnswers list (said_len self.old) entry.now) result }
+        ensures handed { (list : List Recorded) → Handed self.old list → result ≡ Done → Handed self.new (list ++ Added entry.now ∷ []) }
         ensures none { (result ≡ NoRecorder) ↔ (is_riding self.old ≡ false) }
         ensures riding { is_riding self.new ≡ is_riding self.old }
     {
@@ -58,6 +59,8 @@ impl Ride {
         ensures goes_on { CanGoOn self.new }
         ensures answers { (list : List Recorded) → Handed self.old list
             → Answers (CommitAnswers list (slots_of self.old)) result }
+        ensures handed { (list : List Recorded) → Handed self.old list → result ≡ Done → Handed self.new list }
+        ensures made { result ≡ Done → slots_of self.new ≡ slots_of self.old + 1 }
         ensures none { (result ≡ NoRecorder) ↔ (is_riding self.old ≡ false) }
         ensures riding { is_riding self.new ≡ is_riding self.old }
     {

@@ -1,6 +1,6 @@
 use Rattle.fit_recorder.specs.Answers.{HandAnswers}
 use Rattle.fit_recorder.specs.Recording.{data_len}
-use Rattle.fitrec.proofs.RideLemmas.{answers_of_call}
+use Rattle.fitrec.proofs.RideLemmas.{answers_of_call, done_of_call}
 use Rattle.fitrec.proofs.command.ride.Ride.hand.Goals as goal
 
 pub returns-in-Riding-clause-answers : goal.returns-in-Riding-clause-answers
@@ -9,3 +9,9 @@ returns-in-Riding-clause-answers c list handed =
     rw c.in-Riding.is
     (answers_of_call (HandAnswers list (data_len c.in-Riding.recorder) c.args.entry.now) c.hand.result c.into.result c.into.ensures
     (c.hand.ensures.answers list known.0 known.1))
+
+pub returns-in-Riding-clause-handed : goal.returns-in-Riding-clause-handed
+returns-in-Riding-clause-handed c list handed done =
+    let known = rw c.in-Riding.is at handed in
+    (done_of_call c.hand.result c.into.result _ c.into.ensures (c.hand.ensures.handed list known.0) done,
+    done_of_call c.hand.result c.into.result _ c.into.ensures c.hand.ensures.going done)

@@ -1,0 +1,57 @@
+#!/bin/sh
+# How fast `fitrec replay` runs a script of 100 MB: 1,890,000 samples of four fields, of which a recording takes the first
+# 1,677,652 before it is full, and a commit. How fast it reads one, by the same script with a last line that is none; the peak
+# memory of both; and how fast `fitrec repair` then saves the ride. All lies in a temporary folder.
+set -eu
+
+root=$(cd "$(dirname "$0")/.." && pwd)
+work=$(mktemp -d)
+trap 'rm -rf "$work"' EXIT
+trap 'exit 1' HUP INT TERM
+
+# The launcher answers 2 to no words, once the program is there.
+status=0
+"$root/fitrec" > "$work/log" 2>&1 || status=$?
+[ "$status" -eq 2 ] || { cat "$work/log"; exit 1; }
+
+python3 - "$root/crates/fitrec/out/fitrec" "$work" <<'PY'
+import pathlib, resource, subprocess, sys, time
+
+SAMPLES, START = 1_890_000, 1_000_000_000
+# A start has 72 bytes, the definition of these samples 21 and each of them 10; a recording is full behind 16,776,608.
+TAKEN = (16_776_608 - 72 - 21) // 10 + 1
+program, work = sys.argv[1], pathlib.Path(sys.argv[2])
+
+script = work / "script"
+with open(script, "w") as file:
+    file.write(f"start {START} 7 cycling\n")
+    for at in range(SAMPLES):
+        file.write(f"sample {START + at} hr={100 + at % 80} cad={100 + at % 9} power={1000 + at % 500} temp=-{10 + at % 90}\n")
+    file.write("commit\n")
+wrong = work / "wrong"
+wrong.write_bytes(script.read_bytes() + b"lap\n")
+
+# The least time on the clock of three runs, the peak of memory of all runs so far, and the folder of the last.
+def least(path, status, err):
+    spent = []
+    for run in range(3):
+        folder = work / f"{path.name}_{run}"
+        folder.mkdir()
+        begun = time.monotonic()
+        done = subprocess.run([program, "replay", path, folder], stdout=subprocess.DEVNULL, stderr=subprocess.PIPE, text=True)
+        spent.append(time.monotonic() - begun)
+        if (done.returncode, done.stderr) != (status, err):
+            sys.exit(f"{path}: {done.returncode} {done.stderr}")
+    return min(spent), resource.getrusage(resource.RUSAGE_CHILDREN).ru_maxrss * 1024, folder
+
+size, events = script.stat().st_size, SAMPLES + 2
+print(f"a script of {size / 1e6:.1f} MB with {events} events")
+for name, path, status, err in (("read", wrong, 1, f"fitrec: line {events + 1}: MissingWord\n"), ("replayed", script, 1, f"fitrec: {SAMPLES - TAKEN} refused\n")):
+    spent, peak, folder = least(path, status, err)
+    print(f"{name:9}{size / 1e6 / spent:6.1f} MB/s {events / spent:9.0f} events/s {spent:6.2f} s {peak / 1e6:6.1f} MB, {peak / size:.2f} of the script")
+begun = time.monotonic()
+done = subprocess.run([program, "repair", folder], capture_output=True, text=True)
+if not done.stdout.startswith(f"ok records={TAKEN} "):
+    sys.exit(f"repair: {done.stdout}{done.stderr}")
+print(f"repaired {TAKEN / (time.monotonic() - begun):9.0f} records/s")
+PY
