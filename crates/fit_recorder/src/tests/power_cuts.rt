@@ -101,15 +101,15 @@ fn go_on(recorder: &mut Recorder<Memory>) -> Way
 }
 
 // What befalls a call of the device.
-#[derive(Clone, Copy)]
-enum Trouble {
+#[derive(Clone, Copy, Debug)]
+pub(super) enum Trouble {
     Cut,
     Failure,
 }
 
 impl Trouble {
     // Lets it befall the k-th call from now.
-    fn befall(self, disk: &mut Memory, k: u32)
+    pub(super) fn befall(self, disk: &mut Memory, k: u32)
         requires { 1 ≤ k }
     {
         match self {

@@ -3,8 +3,8 @@
 ghost use Rattle.std.specs.Prelude.{◌≡◌, ◌<◌, ◌≤◌, ◌^◌, length};
 
 use super::{
-    RUN, START_RECORDS, TIME, begun, copy_of, entries_told, heart_rate, holding, play, ride,
-    short_ride, start_cut_at, value_in,
+    RUN, SHORT_RIDE, START_RECORDS, TIME, begun, committed, copy_of, entries_told, heart_rate,
+    holding, play, ride, short_ride, start_cut_at, value_in,
 };
 use crate::{RecFault, recover};
 use fit_activity::{Entry, Sample, Summary, check_activity};
@@ -13,16 +13,6 @@ use fit_grammar::{File, decode_file};
 use std::alloc::Global;
 use std::process::Abort;
 use std::test::Fail;
-
-// The disk behind the short ride, which was committed, and a power cut.
-fn committed(rt: &HostRuntime) -> Result<Memory, RecFault> {
-    let mut recorder = begun(rt)?;
-    play(&mut recorder, &short_ride())?;
-    recorder.commit()?;
-    let mut disk = recorder.into_disk();
-    disk.cycle(&[]);
-    Ok(disk)
-}
 
 // A field's number, and its one valid value.
 type Told = (u8, Option<u64>);
@@ -46,18 +36,9 @@ fn told_at(rt: &HostRuntime, file: &File, place: usize) -> Result<(Option<u16>, 
 #[test]
 fn what_is_committed_is_recovered(rt: HostRuntime) -> Result<(), Fail> {
     let mut disk = committed(&rt)?;
-    let summary = Summary {
-        records: 3,
-        laps: 2,
-        sessions: 1,
-        start: Some(1_000_000_000),
-        elapsed_ms: Some(2000),
-        timer_ms: Some(2000),
-        distance_cm: None,
-    };
-    assert_eq!(rt; recover(&mut disk), Ok(summary));
+    assert_eq!(rt; recover(&mut disk), Ok(SHORT_RIDE));
     let file = decode_file(rt.alloc(), disk.content(Which::Data))?;
-    assert_eq!(rt; check_activity(&file), Ok(summary));
+    assert_eq!(rt; check_activity(&file), Ok(SHORT_RIDE));
     assert_eq!(rt; entries_told(&file, &short_ride()), Some(4));
     Ok(())
 }

@@ -4,9 +4,11 @@ ghost use Rattle.std.specs.Prelude.{◌≤◌, true};
 ghost use Rattle.fit_disk.specs.Memory.{memory_story};
 ghost use Rattle.fit_recorder.specs.Recording.{GoesOn};
 
-use super::{RUN, START_RECORDS, TIME, begun, heart_rate, play, ride, short_ride, value_in};
+use super::{
+    RUN, SHORT_RIDE, START_RECORDS, TIME, begun, heart_rate, play, ride, short_ride, value_in,
+};
 use crate::{RecFault, Recorder};
-use fit_activity::{Entry, Refusal, Sample, Summary, check_activity, entry_of};
+use fit_activity::{Entry, Refusal, Sample, check_activity, entry_of};
 use fit_disk::{Memory, Which};
 use fit_grammar::{File, Message, decode_file};
 use std::process::Abort;
@@ -67,16 +69,7 @@ fn a_stop_closes_the_file(rt: HostRuntime) -> Result<(), Fail> {
     assert_eq!(rt; written.get(..12), Some(header.as_slice()));
     assert_eq!(rt; written.get(14..86), Some(START_RECORDS.as_slice()));
     let file = decode_file(rt.alloc(), written)?;
-    let summary = Summary {
-        records: 3,
-        laps: 2,
-        sessions: 1,
-        start: Some(1_000_000_000),
-        elapsed_ms: Some(2000),
-        timer_ms: Some(2000),
-        distance_cm: None,
-    };
-    assert_eq!(rt; check_activity(&file), Ok(summary));
+    assert_eq!(rt; check_activity(&file), Ok(SHORT_RIDE));
     assert_eq!(rt; lap_values(&file, 0, 15, 16), Some((Some(100), Some(101))));
     assert_eq!(rt; lap_values(&file, 1, 15, 16), Some((Some(110), Some(110))));
     Ok(())
