@@ -71,13 +71,13 @@ by_entry register byte below =
     ∙ sym (shifts-xor 8 register byte)
     ∙ sym (crc_from-byte register byte below)
 
--- the register before a block of eight, by its two bytes
-register_before : (register : ℕ) → shifts 64 register ≡ bit_xor (shifts 56 (register / 256)) (shifts 64 (register % 256))
+-- the register before a block of sixteen, by its two bytes
+register_before : (register : ℕ) → shifts 128 register ≡ bit_xor (shifts 120 (register / 256)) (shifts 128 (register % 256))
 register_before register =
-    ap (shifts 64) (sym (split_at 8 register))
-    ∙ shifts-xor 64 (register / 256 * 256) (register % 256)
-    ∙ ap (λ (r : ℕ). bit_xor r (shifts 64 (register % 256)))
-    (shifts-add 8 56 (register / 256 * 256) ∙ ap (shifts 56) (shifts-high 8 (register / 256)))
+    ap (shifts 128) (sym (split_at 8 register))
+    ∙ shifts-xor 128 (register / 256 * 256) (register % 256)
+    ∙ ap (λ (r : ℕ). bit_xor r (shifts 128 (register % 256)))
+    (shifts-add 8 120 (register / 256 * 256) ∙ ap (shifts 120) (shifts-high 8 (register / 256)))
 
 -- the bytes of a list from a place on, the first by itself
 crc-from : (bytes : List ℕ) (i : ℕ) → ((k : ℕ) → get_or bytes k 0 < 256) → i < length bytes
@@ -102,8 +102,8 @@ joined high low a b rest =
 abbrev pub entry_of : ℕ → ℕ → ℕ
 entry_of k byte = crc (byte ∷ replicate k 0)
 
--- a byte of eight by its entry, where k bytes follow it
-next_entry : (block : List ℕ) (i k : ℕ) → length block ≡ 8 → ((k : ℕ) → get_or block k 0 < 256) → i + suc k ≡ 8
+-- a byte of sixteen by its entry, where k bytes follow it
+next_entry : (block : List ℕ) (i k : ℕ) → length block ≡ 16 → ((k : ℕ) → get_or block k 0 < 256) → i + suc k ≡ 16
     → crc (drop i block) ≡ bit_xor (entry_of k (get_or block i 0)) (crc (drop (suc i) block))
 next_entry block i k len all place =
     let left : 8 * (length block - i) ≡ 8 * suc k = omega arith in
@@ -111,27 +111,56 @@ next_entry block i k len all place =
     ∙ ap (λ (n : ℕ). bit_xor (shifts n (get_or block i 0)) (crc (drop (suc i) block))) left
     ∙ ap (λ (r : ℕ). bit_xor r (crc (drop (suc i) block))) (sym (crc-zeros (get_or block i 0) k (all i)))
 
--- the last six of eight
-last_entries : (block : List ℕ) → length block ≡ 8 → ((k : ℕ) → get_or block k 0 < 256) → crc (drop 2 block)
-    ≡ bit_xor (entry_of 5 (get_or block 2 0)) (bit_xor (entry_of 4 (get_or block 3 0))
-    (bit_xor (entry_of 3 (get_or block 4 0)) (bit_xor (entry_of 2 (get_or block 5 0))
-    (bit_xor (entry_of 1 (get_or block 6 0)) (entry_of 0 (get_or block 7 0))))))
-last_entries block len all =
-    let few : length block ≤ 8 = omega arith in
-    let none : drop 8 block ≡ [] = drop_of_length-le block few in
-    next_entry block 2 5 len all refl
-    ∙ ap (bit_xor (entry_of 5 (get_or block 2 0))) (next_entry block 3 4 len all refl
-    ∙ ap (bit_xor (entry_of 4 (get_or block 3 0))) (next_entry block 4 3 len all refl
-    ∙ ap (bit_xor (entry_of 3 (get_or block 4 0))) (next_entry block 5 2 len all refl
-    ∙ ap (bit_xor (entry_of 2 (get_or block 5 0))) (next_entry block 6 1 len all refl
-    ∙ ap (bit_xor (entry_of 1 (get_or block 6 0))) (next_entry block 7 0 len all refl
-    ∙ ap (bit_xor (entry_of 0 (get_or block 7 0))) (ap crc none ∙ crc_from-nil 0)
-    ∙ xor_zero_r (entry_of 0 (get_or block 7 0)))))))
+-- the entries before it were put together
+one_more : (block : List ℕ) (before i k : ℕ) → length block ≡ 16 → ((k : ℕ) → get_or block k 0 < 256) → i + suc k ≡ 16
+    → bit_xor (bit_xor before (entry_of k (get_or block i 0))) (crc (drop (suc i) block)) ≡ bit_xor before (crc (drop i block))
+one_more block before i k len all place =
+    xor_assoc before (entry_of k (get_or block i 0)) (crc (drop (suc i) block))
+    ∙ ap (bit_xor before) (sym (next_entry block i k len all place))
 
--- the order in which eight are put together is free
-flattened : (p q a b c d e f : ℕ) → bit_xor (bit_xor (bit_xor (bit_xor (bit_xor (bit_xor (bit_xor p q) a) b) c) d) e) f ≡ bit_xor
-    (bit_xor p q) (bit_xor a (bit_xor b (bit_xor c (bit_xor d (bit_xor e f)))))
-flattened p q a b c d e f = simp xor_assoc
+-- the last fourteen of sixteen, put together from the left
+abbrev pub last_of : List ℕ → ℕ
+last_of block =
+    bit_xor (bit_xor (bit_xor (bit_xor (bit_xor (bit_xor (bit_xor (bit_xor (bit_xor (bit_xor (bit_xor (bit_xor (bit_xor
+    (entry_of 13 (get_or block 2 0)) (entry_of 12 (get_or block 3 0))) (entry_of 11 (get_or block 4 0)))
+    (entry_of 10 (get_or block 5 0))) (entry_of 9 (get_or block 6 0))) (entry_of 8 (get_or block 7 0)))
+    (entry_of 7 (get_or block 8 0))) (entry_of 6 (get_or block 9 0))) (entry_of 5 (get_or block 10 0)))
+    (entry_of 4 (get_or block 11 0))) (entry_of 3 (get_or block 12 0))) (entry_of 2 (get_or block 13 0)))
+    (entry_of 1 (get_or block 14 0))) (entry_of 0 (get_or block 15 0))
+
+last_entries : (block : List ℕ) → length block ≡ 16 → ((k : ℕ) → get_or block k 0 < 256) → last_of block ≡ crc (drop 2 block)
+last_entries block len all =
+    let few : length block ≤ 16 = omega arith in
+    let none : drop 16 block ≡ [] = drop_of_length-le block few in
+    let e2 = entry_of 13 (get_or block 2 0) in
+    let e3 = bit_xor e2 (entry_of 12 (get_or block 3 0)) in
+    let e4 = bit_xor e3 (entry_of 11 (get_or block 4 0)) in
+    let e5 = bit_xor e4 (entry_of 10 (get_or block 5 0)) in
+    let e6 = bit_xor e5 (entry_of 9 (get_or block 6 0)) in
+    let e7 = bit_xor e6 (entry_of 8 (get_or block 7 0)) in
+    let e8 = bit_xor e7 (entry_of 7 (get_or block 8 0)) in
+    let e9 = bit_xor e8 (entry_of 6 (get_or block 9 0)) in
+    let e10 = bit_xor e9 (entry_of 5 (get_or block 10 0)) in
+    let e11 = bit_xor e10 (entry_of 4 (get_or block 11 0)) in
+    let e12 = bit_xor e11 (entry_of 3 (get_or block 12 0)) in
+    let e13 = bit_xor e12 (entry_of 2 (get_or block 13 0)) in
+    let e14 = bit_xor e13 (entry_of 1 (get_or block 14 0)) in
+    let e15 = bit_xor e14 (entry_of 0 (get_or block 15 0)) in
+    sym (ap (bit_xor e15) (ap crc none ∙ crc_from-nil 0) ∙ xor_zero_r e15)
+    ∙ one_more block e14 15 0 len all refl
+    ∙ one_more block e13 14 1 len all refl
+    ∙ one_more block e12 13 2 len all refl
+    ∙ one_more block e11 12 3 len all refl
+    ∙ one_more block e10 11 4 len all refl
+    ∙ one_more block e9 10 5 len all refl
+    ∙ one_more block e8 9 6 len all refl
+    ∙ one_more block e7 8 7 len all refl
+    ∙ one_more block e6 7 8 len all refl
+    ∙ one_more block e5 6 9 len all refl
+    ∙ one_more block e4 5 10 len all refl
+    ∙ one_more block e3 4 11 len all refl
+    ∙ one_more block e2 3 12 len all refl
+    ∙ sym (next_entry block 2 13 len all refl)
 
 -- a byte of the register before goes in with a byte of the block
 mixed_entry : (k part byte : ℕ) → part < 256 → byte < 256
@@ -141,30 +170,30 @@ mixed_entry k part byte part_below below =
     ∙ shifts-xor (8 * suc k) part byte
     ∙ ap (bit_xor (shifts (8 * suc k) part)) (sym (crc-zeros byte k below))
 
--- a block of eight, by its entries
-pub by_entries : (register : ℕ) (block : List ℕ) → register < 65536 → length block ≡ 8
-    → ((k : ℕ) → get_or block k 0 < 256) → bit_xor
-    (bit_xor (bit_xor (bit_xor (bit_xor (bit_xor (bit_xor (entry_of 7 (bit_xor (register % 256) (get_or block 0 0)))
-    (entry_of 6 (bit_xor (register / 256) (get_or block 1 0)))) (entry_of 5 (get_or block 2 0)))
-    (entry_of 4 (get_or block 3 0))) (entry_of 3 (get_or block 4 0))) (entry_of 2 (get_or block 5 0)))
-    (entry_of 1 (get_or block 6 0))) (entry_of 0 (get_or block 7 0)) ≡ crc_from register block
+-- the two that wait for the register come last, and may come first
+two_first : (rest p q : ℕ) → bit_xor (bit_xor rest p) q ≡ bit_xor (bit_xor p q) rest
+two_first rest p q = xor_assoc rest p q ∙ xor_comm rest (bit_xor p q)
+
+-- a block of sixteen, by its entries
+pub by_entries : (register : ℕ) (block : List ℕ) → register < 65536 → length block ≡ 16
+    → ((k : ℕ) → get_or block k 0 < 256)
+    → bit_xor (bit_xor (last_of block) (entry_of 15 (bit_xor (register % 256) (get_or block 0 0))))
+    (entry_of 14 (bit_xor (register / 256) (get_or block 1 0))) ≡ crc_from register block
 by_entries register block fits len all =
     let low : register % 256 < 256 = mod-lt register (omega arith) in
     let high : register / 256 < 256 = omega arith in
-    let whole : 8 * length block ≡ 64 = omega arith in
-    let first = mixed_entry 7 (register % 256) (get_or block 0 0) low (all 0) in
-    let second = mixed_entry 6 (register / 256) (get_or block 1 0) high (all 1) in
-    flattened (entry_of 7 (bit_xor (register % 256) (get_or block 0 0)))
-    (entry_of 6 (bit_xor (register / 256) (get_or block 1 0))) (entry_of 5 (get_or block 2 0))
-    (entry_of 4 (get_or block 3 0)) (entry_of 3 (get_or block 4 0)) (entry_of 2 (get_or block 5 0))
-    (entry_of 1 (get_or block 6 0)) (entry_of 0 (get_or block 7 0))
-    ∙ ap (bit_xor (bit_xor (entry_of 7 (bit_xor (register % 256) (get_or block 0 0)))
-    (entry_of 6 (bit_xor (register / 256) (get_or block 1 0))))) (sym (last_entries block len all))
+    let whole : 8 * length block ≡ 128 = omega arith in
+    let first = mixed_entry 15 (register % 256) (get_or block 0 0) low (all 0) in
+    let second = mixed_entry 14 (register / 256) (get_or block 1 0) high (all 1) in
+    two_first (last_of block) (entry_of 15 (bit_xor (register % 256) (get_or block 0 0)))
+    (entry_of 14 (bit_xor (register / 256) (get_or block 1 0)))
+    ∙ ap (bit_xor (bit_xor (entry_of 15 (bit_xor (register % 256) (get_or block 0 0)))
+    (entry_of 14 (bit_xor (register / 256) (get_or block 1 0))))) (last_entries block len all)
     ∙ ap₂ (λ (p q : ℕ). bit_xor (bit_xor p q) (crc (drop 2 block))) first second
-    ∙ sym (joined (shifts 56 (register / 256)) (shifts 64 (register % 256)) (entry_of 7 (get_or block 0 0))
-    (entry_of 6 (get_or block 1 0)) (crc (drop 2 block)))
+    ∙ sym (joined (shifts 120 (register / 256)) (shifts 128 (register % 256)) (entry_of 15 (get_or block 0 0))
+    (entry_of 14 (get_or block 1 0)) (crc (drop 2 block)))
     ∙ ap₂ bit_xor (sym (register_before register)) (sym
-    (next_entry block 0 7 len all refl ∙ ap (bit_xor (entry_of 7 (get_or block 0 0))) (next_entry block 1 6 len all refl)))
+    (next_entry block 0 15 len all refl ∙ ap (bit_xor (entry_of 15 (get_or block 0 0))) (next_entry block 1 14 len all refl)))
     ∙ ap (λ (n : ℕ). bit_xor (shifts n register) (crc block)) (sym whole)
     ∙ sym (crc_from-xor register 0 block all)
     ∙ ap (λ (r : ℕ). crc_from r block) (xor_zero_r register)

@@ -12,7 +12,7 @@ unfolding shifts shift tap
 first_table none = refl
 
 -- and each table is the one before it after eight bits more
-next_table : (none : List ℕ) (k : ℕ) → k < 7 → get_or AFTER (suc k) none ≡ map (shifts 8) (get_or AFTER k none)
+next_table : (none : List ℕ) (k : ℕ) → k < 15 → get_or AFTER (suc k) none ≡ map (shifts 8) (get_or AFTER k none)
 unfolding shifts shift tap
 next_table none zero below = refl
 next_table none (suc zero) below = refl
@@ -21,9 +21,17 @@ next_table none (suc (suc (suc zero))) below = refl
 next_table none (suc (suc (suc (suc zero)))) below = refl
 next_table none (suc (suc (suc (suc (suc zero))))) below = refl
 next_table none (suc (suc (suc (suc (suc (suc zero)))))) below = refl
-next_table none (suc (suc (suc (suc (suc (suc (suc k))))))) below = absurd (omega arith)
+next_table none (suc (suc (suc (suc (suc (suc (suc zero))))))) below = refl
+next_table none (suc (suc (suc (suc (suc (suc (suc (suc zero)))))))) below = refl
+next_table none (suc (suc (suc (suc (suc (suc (suc (suc (suc zero))))))))) below = refl
+next_table none (suc (suc (suc (suc (suc (suc (suc (suc (suc (suc zero)))))))))) below = refl
+next_table none (suc (suc (suc (suc (suc (suc (suc (suc (suc (suc (suc zero))))))))))) below = refl
+next_table none (suc (suc (suc (suc (suc (suc (suc (suc (suc (suc (suc (suc zero)))))))))))) below = refl
+next_table none (suc (suc (suc (suc (suc (suc (suc (suc (suc (suc (suc (suc (suc zero))))))))))))) below = refl
+next_table none (suc (suc (suc (suc (suc (suc (suc (suc (suc (suc (suc (suc (suc (suc zero)))))))))))))) below = refl
+next_table none (suc (suc (suc (suc (suc (suc (suc (suc (suc (suc (suc (suc (suc (suc (suc k))))))))))))))) below = absurd (omega arith)
 
-length-table : (none : List ℕ) (k : ℕ) → k < 8 → length (get_or AFTER k none) ≡ 256
+length-table : (none : List ℕ) (k : ℕ) → k < 16 → length (get_or AFTER k none) ≡ 256
 length-table none zero below = refl
 length-table none (suc zero) below = refl
 length-table none (suc (suc zero)) below = refl
@@ -32,9 +40,17 @@ length-table none (suc (suc (suc (suc zero)))) below = refl
 length-table none (suc (suc (suc (suc (suc zero))))) below = refl
 length-table none (suc (suc (suc (suc (suc (suc zero)))))) below = refl
 length-table none (suc (suc (suc (suc (suc (suc (suc zero))))))) below = refl
-length-table none (suc (suc (suc (suc (suc (suc (suc (suc k)))))))) below = absurd (omega arith)
+length-table none (suc (suc (suc (suc (suc (suc (suc (suc zero)))))))) below = refl
+length-table none (suc (suc (suc (suc (suc (suc (suc (suc (suc zero))))))))) below = refl
+length-table none (suc (suc (suc (suc (suc (suc (suc (suc (suc (suc zero)))))))))) below = refl
+length-table none (suc (suc (suc (suc (suc (suc (suc (suc (suc (suc (suc zero))))))))))) below = refl
+length-table none (suc (suc (suc (suc (suc (suc (suc (suc (suc (suc (suc (suc zero)))))))))))) below = refl
+length-table none (suc (suc (suc (suc (suc (suc (suc (suc (suc (suc (suc (suc (suc zero))))))))))))) below = refl
+length-table none (suc (suc (suc (suc (suc (suc (suc (suc (suc (suc (suc (suc (suc (suc zero)))))))))))))) below = refl
+length-table none (suc (suc (suc (suc (suc (suc (suc (suc (suc (suc (suc (suc (suc (suc (suc zero))))))))))))))) below = refl
+length-table none (suc (suc (suc (suc (suc (suc (suc (suc (suc (suc (suc (suc (suc (suc (suc (suc k)))))))))))))))) below = absurd (omega arith)
 
-pub get_or-AFTER : (none : List ℕ) (k i : ℕ) → k < 8 → i < 256 → get_or (get_or AFTER k none) i 0 ≡ shifts (8 * suc k) i
+pub get_or-AFTER : (none : List ℕ) (k i : ℕ) → k < 16 → i < 256 → get_or (get_or AFTER k none) i 0 ≡ shifts (8 * suc k) i
 get_or-AFTER none zero i below in_table =
     ap (λ xs. get_or xs i 0) (first_table none) ∙ get_or-map-range_with_len (shifts 8) 0 256 i i 0 in_table (omega arith)
 get_or-AFTER none (suc k) i below in_table =

@@ -54,15 +54,15 @@ impl Crc {
     }
 }
 
-// Eight bytes at a time, and then the rest one by one.
+// Sixteen bytes at a time, and then the rest one by one.
 fn after_bytes(mut register: u16, bytes: &[u8]) -> u16
     ensures { result ≡ crc_from register bytes.now }
 {
-    let blocks = bytes.len() / 8;
+    let blocks = bytes.len() / 16;
     for k in 0..blocks {
-        register = after_block(register, &bytes[8 * k..8 * k + 8]);
+        register = after_block(register, &bytes[16 * k..16 * k + 16]);
     }
-    after_few(register, &bytes[8 * blocks..])
+    after_few(register, &bytes[16 * blocks..])
 }
 
 fn after_few(mut register: u16, bytes: &[u8]) -> u16
@@ -80,25 +80,34 @@ fn after_byte(register: u16, byte: u8) -> u16
     (register >> 8) ^ entry(0, low_byte(register) ^ byte)
 }
 
-// The register goes into the first two bytes, and then each byte has its own way to the end.
+// The register goes into the first two bytes, and then each byte has its own way to the end. These two come last,
+// since only they wait for the register.
 fn after_block(register: u16, block: &[u8]) -> u16
-    requires { length block.now ≡ 8 }
+    requires { length block.now ≡ 16 }
     ensures { result ≡ crc_from register block.now }
 {
-    entry(7, low_byte(register) ^ block[0])
-        ^ entry(6, high_byte(register) ^ block[1])
-        ^ entry(5, block[2])
-        ^ entry(4, block[3])
-        ^ entry(3, block[4])
-        ^ entry(2, block[5])
-        ^ entry(1, block[6])
-        ^ entry(0, block[7])
+    entry(13, block[2])
+        ^ entry(12, block[3])
+        ^ entry(11, block[4])
+        ^ entry(10, block[5])
+        ^ entry(9, block[6])
+        ^ entry(8, block[7])
+        ^ entry(7, block[8])
+        ^ entry(6, block[9])
+        ^ entry(5, block[10])
+        ^ entry(4, block[11])
+        ^ entry(3, block[12])
+        ^ entry(2, block[13])
+        ^ entry(1, block[14])
+        ^ entry(0, block[15])
+        ^ entry(15, low_byte(register) ^ block[0])
+        ^ entry(14, high_byte(register) ^ block[1])
 }
 
 // The register after this byte and this many zero bytes, from a register of zero.
 #[inline]
 fn entry(zeros: usize, byte: u8) -> u16
-    requires { zeros < 8 }
+    requires { zeros < 16 }
     ensures { result ≡ crc (byte ∷ replicate zeros 0) }
 {
     AFTER[zeros][byte as usize]

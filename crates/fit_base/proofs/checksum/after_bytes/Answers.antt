@@ -9,22 +9,22 @@ loop-k-init c = refl
 
 pub loop-k-preserved : goal.loop-k-preserved
 loop-k-preserved c =
-    let eight : 8 * c.loop-k.k + 8 - 8 * c.loop-k.k ≡ 8 = omega arith in
-    let next : 8 * c.loop-k.k + 8 ≡ 8 * (c.loop-k.k + 1) = omega arith in
+    let sixteen : 16 * c.loop-k.k + 16 - 16 * c.loop-k.k ≡ 16 = omega arith in
+    let next : 16 * c.loop-k.k + 16 ≡ 16 * (c.loop-k.k + 1) = omega arith in
     c.after_block-register.ensures
-    ∙ ap (λ (n : ℕ). crc_from c.loop-k.register (take n (drop (8 * c.loop-k.k) c.args.bytes.now))) eight
-    ∙ ap (λ (r : ℕ). crc_from r (take 8 (drop (8 * c.loop-k.k) c.args.bytes.now))) c.loop-k.invariant
-    ∙ crc_from-take c.args.register c.args.bytes.now (8 * c.loop-k.k) 8
+    ∙ ap (λ (n : ℕ). crc_from c.loop-k.register (take n (drop (16 * c.loop-k.k) c.args.bytes.now))) sixteen
+    ∙ ap (λ (r : ℕ). crc_from r (take 16 (drop (16 * c.loop-k.k) c.args.bytes.now))) c.loop-k.invariant
+    ∙ crc_from-take c.args.register c.args.bytes.now (16 * c.loop-k.k) 16
     ∙ ap (λ (n : ℕ). crc_from c.args.register (take n c.args.bytes.now)) next
 
 pub returns : goal.returns
 returns c =
-    let blocks : c.loop-k.k ≡ length c.args.bytes.now / 8 = omega arith in
-    let rest : length (drop (8 * (length c.args.bytes.now / 8)) c.args.bytes.now)
-    ≤ length c.args.bytes.now - 8 * (length c.args.bytes.now / 8) =
-    omega (arith, length-drop (8 * (length c.args.bytes.now / 8)) c.args.bytes.now) in
+    let blocks : c.loop-k.k ≡ length c.args.bytes.now / 16 = omega arith in
+    let rest : length (drop (16 * (length c.args.bytes.now / 16)) c.args.bytes.now)
+    ≤ length c.args.bytes.now - 16 * (length c.args.bytes.now / 16) =
+    omega (arith, length-drop (16 * (length c.args.bytes.now / 16)) c.args.bytes.now) in
     c.after_few.ensures
     ∙ ap (crc_from c.loop-k.register) (take_all _ _ rest)
-    ∙ ap (λ (r : ℕ). crc_from r (drop (8 * (length c.args.bytes.now / 8)) c.args.bytes.now))
-    (c.loop-k.invariant ∙ ap (λ (k : ℕ). crc_from c.args.register (take (8 * k) c.args.bytes.now)) blocks)
-    ∙ crc_from-drop c.args.register c.args.bytes.now (8 * (length c.args.bytes.now / 8))
+    ∙ ap (λ (r : ℕ). crc_from r (drop (16 * (length c.args.bytes.now / 16)) c.args.bytes.now))
+    (c.loop-k.invariant ∙ ap (λ (k : ℕ). crc_from c.args.register (take (16 * k) c.args.bytes.now)) blocks)
+    ∙ crc_from-drop c.args.register c.args.bytes.now (16 * (length c.args.bytes.now / 16))
