@@ -1,6 +1,7 @@
 -- What only private functions and proofs need. No public clause rests on a word of these.
 pub mod FirstByte
 pub mod DefinitionBytes
+pub mod SizedDefinition
 pub mod KeptDefinition
 pub mod LatestDefinitions
 pub mod ByLookup

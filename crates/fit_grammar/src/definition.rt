@@ -4,7 +4,7 @@ ghost use Rattle.std.specs.Prelude.{◌≡◌, ◌<◌};
 
 pub(crate) mod kept;
 pub(crate) mod latest;
-mod lent;
+pub(crate) mod lent;
 mod table;
 
 use arrayvec::ArrayVec;

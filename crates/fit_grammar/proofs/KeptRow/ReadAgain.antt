@@ -9,7 +9,7 @@ use Rattle.fit_grammar.specs.Format.Encoding.{encoded_item, encoded_items, HasEn
 use Rattle.fit_grammar.specs.Private.DefinitionBytes.{definition_at, AreDefinition}
 use Rattle.fit_grammar.specs.Calls.Step.{ItemAtFront, definition_length_of, length_by}
 use Rattle.fit_grammar.specs.Private.ByLookup.{behind, AllDefinedBy}
-use Rattle.fit_grammar.specs.Private.KeptDefinition.{IsWritten}
+use Rattle.fit_grammar.specs.Private.KeptDefinition.{IsWrittenAt}
 use Rattle.fit_grammar.specs.Calls.Possible.{AllCanFollow}
 use Rattle.fit_grammar.specs.Private.ItemRow.{item_by, item_at, items_at, items_under, items_in}
 use Rattle.fit_grammar.proofs.OneItem.Spelling.{definition_one, definition_first, definition_count, definition_length, data_first}
@@ -127,7 +127,7 @@ items_in-push records item written follow =
 -- the bytes of a definition in front of others
 pub written_front : (d : Definition) (bytes rest : List ℕ) (len : ℕ) → d.local < 16
     → bytes ≡ encoded_item (Defines d) ++ rest → len ≡ 6 + 3 * length d.fields.items
-    → IsWritten (record { bytes = bytes; len = len }) × (definition_at (take len bytes) ≡ d)
+    → IsWrittenAt bytes len × (definition_at (take len bytes) ≡ d)
 written_front d bytes rest len small joined len_is =
     let own = encoded_item (Defines d) in
     let whole : length own ≡ len = omega (arith, encoded_item-length (Defines d), len_is) in

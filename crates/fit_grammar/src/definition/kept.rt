@@ -5,6 +5,7 @@ ghost use Rattle.fit_grammar.specs.Format.Item.{Defines};
 ghost use Rattle.fit_grammar.specs.Format.Encoding.{encoded_item};
 ghost use Rattle.fit_grammar.specs.Calls.Possible.{DefinitionFits};
 
+use crate::definition::lent::SizedBytes;
 use crate::definition::{Definition, DefinitionMessage};
 use crate::item::writing::{LONGEST_DEFINITION, write_definition};
 use std::marker::Model;
@@ -14,6 +15,8 @@ use std::marker::Model;
 pub(crate) struct WrittenDefinition {
     bytes: [u8; LONGEST_DEFINITION],
     len: usize,
+    // How many bytes of content a data message has.
+    content_size: usize,
 }
 
 impl Model for WrittenDefinition {
@@ -37,7 +40,12 @@ impl WrittenDefinition {
         let mut bytes = [0; LONGEST_DEFINITION];
         let len = 6 + 3 * d.fields.len();
         write_definition(d, &mut bytes);
-        WrittenDefinition { bytes, len }
+        let content_size = DefinitionMessage::new(&bytes[..len]).content_size();
+        WrittenDefinition {
+            bytes,
+            len,
+            content_size,
+        }
     }
 
     // Its bytes.
@@ -51,6 +59,9 @@ impl WrittenDefinition {
     pub(crate) fn lend(&self) -> DefinitionMessage<'_>
         ensures { result ≡ self.now }
     {
-        DefinitionMessage::new(&self.bytes[..self.len])
+        DefinitionMessage::of(SizedBytes {
+            bytes: &self.bytes[..self.len],
+            content_size: self.content_size,
+        })
     }
 }

@@ -4,13 +4,14 @@ ghost use Rattle.std.specs.Prelude.{◌≡◌, ◌≢◌, ◌<◌, ℕ};
 ghost use Rattle.fit_grammar.specs.Calls.Table.{definition_in};
 
 use crate::definition::DefinitionMessage;
+use crate::definition::lent::SizedBytes;
 use std::marker::Model;
 
 // For each of the sixteen local numbers the bytes of its latest definition, or none. Contracts see the
 // definitions.
 #[derive(Drop)]
 pub(crate) struct Latest<'a> {
-    slots: [Option<&'a [u8]>; 16],
+    slots: [Option<SizedBytes<'a>>; 16],
 }
 
 impl<'a> Model for Latest<'a> {
@@ -47,7 +48,7 @@ impl<'a> Latest<'a> {
         ensures { result ≡ definition_in self.now local }
     {
         match self.slots.get(local as usize) {
-            Some(Some(bytes)) => Some(DefinitionMessage::new(bytes)),
+            Some(Some(sized)) => Some(DefinitionMessage::of(*sized)),
             _ => None,
         }
     }

@@ -1,75 +1,97 @@
 // Definition messages as they stand in a file.
 
-ghost use Rattle.std.specs.Prelude.{◌≡◌, ◌≤◌, ◌*◌, length};
+ghost use Rattle.std.specs.Prelude.{◌≡◌, ◌≤◌, ◌*◌, length, sum_by};
 ghost use Rattle.fit_base.specs.Number.{number};
 ghost use Rattle.fit_grammar.specs.Format.Item.{arch_of, content_size};
 ghost use Rattle.fit_grammar.specs.Private.DefinitionBytes.{fields_in, definition_at, AreDefinition};
+ghost use Rattle.fit_grammar.specs.Private.SizedDefinition.{AreSized};
 
 use crate::definition::{Definition, FieldDefinition};
 use arrayvec::ArrayVec;
 use fit_base::{Arch, number_of};
 use std::marker::Model;
 
+// The bytes of a definition, and how many bytes of content a data message has under it.
+#[derive(Clone, Copy)]
+pub(crate) struct SizedBytes<'a> {
+    pub(crate) bytes: &'a [u8],
+    pub(crate) content_size: usize,
+}
+
 /// A definition message, lent in the bytes that spell it. Contracts see the definition.
 #[derive(Drop)]
 pub struct DefinitionMessage<'a> {
-    bytes: &'a [u8],
+    // Added up once, where the definition was read.
+    sized: SizedBytes<'a>,
 }
 
 impl<'a> Model for DefinitionMessage<'a> {
     ghost use Rattle.fit_grammar.specs.declared.definition.Definition.{Definition};
-    ghost use Rattle.fit_grammar.specs.Private.DefinitionBytes.{definition_at, AreDefinition};
+    ghost use Rattle.fit_grammar.specs.Private.DefinitionBytes.{definition_at};
+    ghost use Rattle.fit_grammar.specs.Private.SizedDefinition.{AreSized};
 
     ghost Value = { Definition };
 
-    ghost view = { λ m. definition_at m.bytes.now };
+    ghost view = { λ m. definition_at m.sized.bytes.now };
 
-    ghost invariant = { λ m. AreDefinition m.bytes.now };
+    ghost invariant = { λ m. AreSized m.sized };
 }
 
 impl<'a> DefinitionMessage<'a> {
-    // The definition of these bytes.
+    // The definition of these bytes, the sizes of whose fields are added up.
     pub(crate) fn new(bytes: &'a [u8]) -> Self
         requires { AreDefinition bytes.now }
         ensures { result ≡ definition_at bytes.now }
     {
-        DefinitionMessage { bytes }
+        let content_size = sum_of_sizes(fields_behind(bytes));
+        DefinitionMessage::of(SizedBytes {
+            bytes,
+            content_size,
+        })
+    }
+
+    // The same, where the sizes were added up before.
+    pub(crate) fn of(sized: SizedBytes<'a>) -> Self
+        requires { AreSized sized }
+        ensures { result ≡ definition_at sized.entry.bytes.now }
+    {
+        DefinitionMessage { sized }
     }
 
     // The same, lent again.
     pub(crate) fn lent(&self) -> DefinitionMessage<'a>
         ensures { result ≡ self.now }
     {
-        DefinitionMessage { bytes: self.bytes }
+        DefinitionMessage { sized: self.sized }
     }
 
     // Its bytes.
-    pub(crate) fn bytes(&self) -> &'a [u8]
-        ensures bytes { definition_at result.now ≡ self.now }
-        ensures definition { AreDefinition result.now }
+    pub(crate) fn bytes(&self) -> SizedBytes<'a>
+        ensures bytes { definition_at result.bytes.now ≡ self.now }
+        ensures sized { AreSized result }
     {
-        self.bytes
+        self.sized
     }
 
     /// The local message number, 0 to 15.
     pub fn local(&self) -> u8
         ensures { result ≡ self.now.local }
     {
-        self.bytes[0] % 16
+        self.sized.bytes[0] % 16
     }
 
     /// The architecture of the definition's and the data messages' numbers.
     pub fn arch(&self) -> Arch
         ensures { result ≡ self.now.arch }
     {
-        read_arch(self.bytes[2])
+        read_arch(self.sized.bytes[2])
     }
 
     /// The global message number of the profile.
     pub fn global(&self) -> u16
         ensures { result ≡ self.now.global }
     {
-        number_of(self.arch(), &self.bytes[3..5]) as u16
+        number_of(self.arch(), &self.sized.bytes[3..5]) as u16
     }
 
     // The bytes of the fields, three each.
@@ -77,8 +99,7 @@ impl<'a> DefinitionMessage<'a> {
         ensures fields { fields_in result.now ≡ self.now.fields.items }
         ensures bound { length result.now ≤ 765 }
     {
-        let size = fields_size(self.bytes[5]);
-        &self.bytes[6..6 + size]
+        fields_behind(self.sized.bytes)
     }
 
     /// How many bytes of content a data message has under this definition.
@@ -86,13 +107,7 @@ impl<'a> DefinitionMessage<'a> {
         ensures size { result ≡ content_size self.now }
         ensures bound { result ≤ 65025 }
     {
-        let mut size = 0;
-        let mut fields = self.fields();
-        while let [_, own, _, others @ ..] = fields {
-            size += *own as usize;
-            fields = others;
-        }
-        size
+        self.sized.content_size
     }
 
     /// Reads all of the definition.
@@ -106,6 +121,31 @@ impl<'a> DefinitionMessage<'a> {
             fields: read_fields(self.fields()),
         }
     }
+}
+
+// The bytes of the fields, behind the first six of a definition.
+fn fields_behind(bytes: &[u8]) -> &[u8]
+    requires { AreDefinition bytes.now }
+    ensures fields { fields_in result.now ≡ (definition_at bytes.now).fields.items }
+    ensures bound { length result.now ≤ 765 }
+{
+    let size = fields_size(bytes[5]);
+    &bytes[6..6 + size]
+}
+
+// The sizes of the fields that these bytes spell, added up.
+fn sum_of_sizes(bytes: &[u8]) -> usize
+    requires { length bytes.now ≤ 765 }
+    ensures sum { result ≡ sum_by (λ field. field.size) (fields_in bytes.now) }
+    ensures bound { result ≤ 65025 }
+{
+    let mut size = 0;
+    let mut rest = bytes;
+    while let [_, own, _, others @ ..] = rest {
+        size += *own as usize;
+        rest = others;
+    }
+    size
 }
 
 // How many bytes so many fields have.
