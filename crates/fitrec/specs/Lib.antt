@@ -1,6 +1,7 @@
 pub mod Profile
 pub mod Date
 pub mod Text
+pub mod Pen
 pub mod Showing
 pub mod Checking
 pub mod Reading

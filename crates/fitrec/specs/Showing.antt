@@ -1,5 +1,5 @@
 -- What becomes of bytes that are to be shown.
-use Rattle.std.specs.Prelude.{◌≡◌, ℕ, Bool, List, ◌∷◌, Option, option_map, Result, Ok, Err, codes}
+use Rattle.std.specs.Prelude.{◌≡◌, ℕ, Bool, List, Option, Result, Ok, Err, codes}
 use Rattle.std.specs.Io.KnownBytes.{Appends}
 use Rattle.fit_grammar.specs.Format.File.{FileValue, FileOf}
 use Rattle.fit_grammar.specs.Format.Refusal.{IsFaultOf}
@@ -7,10 +7,9 @@ use Rattle.fitrec.specs.declared.fault.Fault.{Fault}
 use Rattle.fitrec.specs.declared.fault.Fault.TheVariants as faults
 use Rattle.fitrec.specs.Text.{text_of}
 
--- what a file meets on its way out: no memory for the buffer, or standard output that fails
+-- what a file meets on its way out: standard output that fails
 abbrev pub IsOutputFault : Fault → Type 0
 IsOutputFault (faults.Write name) = name.now ≡ codes "-"
-IsOutputFault faults.NoMemory = Unit {0}
 IsOutputFault _ = ⊥
 
 -- the bytes are a file, and all of its text was written, or the output failed; or they are none, and nothing was written
@@ -18,7 +17,3 @@ abbrev pub ShowsBytes : {T : Type 0} → Bool → Option (List ℕ) → Option (
 ShowsBytes utc old new bytes (Ok done) = (v : FileValue) × FileOf bytes v × Appends old new (text_of utc v)
 ShowsBytes utc old new bytes (Err (faults.File fault)) = IsFaultOf bytes fault × (new ≡ old)
 ShowsBytes utc old new bytes (Err fault) = ((v : FileValue) × FileOf bytes v) × IsOutputFault fault
-
--- the bytes of a writer behind the name of its loan
-abbrev pub named_bytes : ℕ → Option (List ℕ) → Option (List ℕ)
-named_bytes name held = option_map (λ bytes. name ∷ bytes) held

@@ -10,7 +10,6 @@ mod answer;
 mod check;
 mod folder;
 mod input;
-mod lent;
 mod print;
 mod repair;
 mod replay;

@@ -6,12 +6,11 @@ ghost use Rattle.fitrec.specs.Showing.{ShowsBytes, IsOutputFault};
 ghost use Rattle.fitrec.specs.Text.{text_of};
 
 use crate::command::input::read_file;
-use crate::command::lent::Lent;
 use crate::fault::Fault;
 use crate::show::show;
 use fit_grammar::{File, decode_file};
 use std::alloc::Global;
-use std::io::{BufWriter, Write};
+use std::io::Write;
 use std::rt::Files;
 
 /// Shows the file of this name, under `utc` with times as dates.
@@ -35,31 +34,19 @@ fn show_bytes<O: Write>(
     ensures { ShowsBytes utc (O.contents out.old) (O.contents out.new) bytes.now result }
 {
     match decode_file(alloc, bytes) {
-        Ok(file) => show_buffered(alloc, &file, utc, out),
+        Ok(file) => show_flushed(&file, utc, out),
         Err(fault) => Err(Fault::File(fault)),
     }
 }
 
-// Shows a file through one buffer, to the last byte.
-fn show_buffered<O: Write>(
-    alloc: Global,
-    file: &File,
-    utc: bool,
-    out: &mut O,
-) -> Result<(), Fault<'static>>
+// Shows a file, to the last byte.
+fn show_flushed<O: Write>(file: &File, utc: bool, out: &mut O) -> Result<(), Fault<'static>>
     ensures all { OnOk result (Appends (O.contents out.old) (O.contents out.new) (text_of utc file.now)) }
     ensures fault { IfErr result IsOutputFault }
 {
-    let Ok(mut buffered) = BufWriter::new(alloc, Lent::new(out)) else {
-        return Err(Fault::NoMemory);
-    };
-    let Ok(()) = show(file, utc, &mut buffered) else {
+    let Ok(()) = show(file, utc, out) else {
         return Err(Fault::Write("-"));
     };
-    let Ok(lent) = buffered.into_inner() else {
-        return Err(Fault::Write("-"));
-    };
-    let Lent { out } = lent;
     match out.flush() {
         Ok(()) => Ok(()),
         Err(_) => Err(Fault::Write("-")),

@@ -3,59 +3,60 @@
 ghost use Rattle.std.specs.Prelude.{◌≡◌, ◌<◌, ◌==◌, true};
 ghost use Rattle.std.specs.Fmt.{digit_glyph};
 ghost use Rattle.std.specs.List.{flat_map, list_all};
-ghost use Rattle.fit_grammar.specs.Calls.Output.{WritesText};
+ghost use Rattle.fitrec.specs.Pen.{Puts};
 ghost use Rattle.fitrec.specs.Text.{hex_byte, hex_text, is_plain, escaped, string_text, byte_text};
 
+use crate::writing::Pen;
 use fit_base::FieldValue;
-use fit_grammar::{WriteFailed, put};
+use fit_grammar::WriteFailed;
 use std::io::Write;
 
 /// `0x` and two digits a byte; of no byte nothing.
-pub fn put_hex<W: Write>(out: &mut W, bytes: &[u8]) -> Result<(), WriteFailed>
-    ensures { WritesText (W.contents out.old) (W.contents out.new) result (hex_text bytes.now) }
+pub fn put_hex<W: Write>(pen: &mut Pen<'_, W>, bytes: &[u8]) -> Result<(), WriteFailed>
+    ensures { Puts pen.old pen.new result (hex_text bytes.now) }
 {
     if bytes.is_empty() {
         return Ok(());
     }
-    put(out, b"0x")?;
-    put_digits(out, bytes)
+    pen.put(b"0x")?;
+    put_digits(pen, bytes)
 }
 
-fn put_digits<W: Write>(out: &mut W, bytes: &[u8]) -> Result<(), WriteFailed>
-    ensures { WritesText (W.contents out.old) (W.contents out.new) result (flat_map hex_byte bytes.now) }
+fn put_digits<W: Write>(pen: &mut Pen<'_, W>, bytes: &[u8]) -> Result<(), WriteFailed>
+    ensures { Puts pen.old pen.new result (flat_map hex_byte bytes.now) }
 {
     for byte in bytes {
-        put(out, &hex_byte(*byte))?;
+        pen.put(&hex_byte(*byte))?;
     }
     Ok(())
 }
 
 /// A string between quotation marks, up to its first zero byte.
-pub fn put_string<W: Write>(out: &mut W, field: &FieldValue<'_>) -> Result<(), WriteFailed>
-    ensures { WritesText (W.contents out.old) (W.contents out.new) result (string_text field.now.bytes) }
+pub fn put_string<W: Write>(pen: &mut Pen<'_, W>, field: &FieldValue<'_>) -> Result<(), WriteFailed>
+    ensures { Puts pen.old pen.new result (string_text field.now.bytes) }
 {
-    put(out, b"\"")?;
-    put_all_escaped(out, field.text_bytes())?;
-    put(out, b"\"")
+    pen.put(b"\"")?;
+    put_all_escaped(pen, field.text_bytes())?;
+    pen.put(b"\"")
 }
 
-fn put_all_escaped<W: Write>(out: &mut W, bytes: &[u8]) -> Result<(), WriteFailed>
-    ensures { WritesText (W.contents out.old) (W.contents out.new) result (flat_map escaped bytes.now) }
+fn put_all_escaped<W: Write>(pen: &mut Pen<'_, W>, bytes: &[u8]) -> Result<(), WriteFailed>
+    ensures { Puts pen.old pen.new result (flat_map escaped bytes.now) }
 {
     for byte in bytes {
-        put_escaped(out, *byte)?;
+        put_escaped(pen, *byte)?;
     }
     Ok(())
 }
 
-fn put_escaped<W: Write>(out: &mut W, byte: u8) -> Result<(), WriteFailed>
-    ensures { WritesText (W.contents out.old) (W.contents out.new) result (escaped byte) }
+fn put_escaped<W: Write>(pen: &mut Pen<'_, W>, byte: u8) -> Result<(), WriteFailed>
+    ensures { Puts pen.old pen.new result (escaped byte) }
 {
     if is_plain(byte) {
-        return put(out, &[byte]);
+        return pen.put(&[byte]);
     }
-    put(out, b"\\x")?;
-    put(out, &hex_byte(byte))
+    pen.put(b"\\x")?;
+    pen.put(&hex_byte(byte))
 }
 
 fn is_plain(byte: u8) -> bool
@@ -65,13 +66,13 @@ fn is_plain(byte: u8) -> bool
 }
 
 /// The bytes of a field of type byte: `-` where all of them are FF.
-pub fn put_byte_field<W: Write>(out: &mut W, bytes: &[u8]) -> Result<(), WriteFailed>
-    ensures { WritesText (W.contents out.old) (W.contents out.new) result (byte_text bytes.now) }
+pub fn put_byte_field<W: Write>(pen: &mut Pen<'_, W>, bytes: &[u8]) -> Result<(), WriteFailed>
+    ensures { Puts pen.old pen.new result (byte_text bytes.now) }
 {
     if all_invalid(bytes) {
-        put(out, b"-")
+        pen.put(b"-")
     } else {
-        put_hex(out, bytes)
+        put_hex(pen, bytes)
     }
 }
 

@@ -2,11 +2,12 @@
 
 ghost use Rattle.std.specs.Prelude.{◌≡◌};
 ghost use Rattle.fit_base.specs.Value.{values_of};
-ghost use Rattle.fit_grammar.specs.Calls.Output.{WritesText};
+ghost use Rattle.fitrec.specs.Pen.{Puts};
 ghost use Rattle.fitrec.specs.Date.{dates_of, date_in, date_text};
 
+use crate::writing::Pen;
 use fit_base::{BaseType, FieldValue};
-use fit_grammar::{WriteFailed, put};
+use fit_grammar::WriteFailed;
 use jiff::Timestamp;
 use jiff::fmt::temporal::DateTimePrinter;
 use std::io::Write;
@@ -54,13 +55,13 @@ pub fn date_in(dates: &[u8], number: u8, value: &FieldValue<'_>) -> Option<u32>
 }
 
 /// A time as a date in UTC, as `2021-09-08T01:46:40Z`.
-pub fn put_date<W: Write>(out: &mut W, time: u32) -> Result<(), WriteFailed>
-    ensures { WritesText (W.contents out.old) (W.contents out.new) result (date_text time) }
+pub fn put_date<W: Write>(pen: &mut Pen<'_, W>, time: u32) -> Result<(), WriteFailed>
+    ensures { Puts pen.old pen.new result (date_text time) }
 {
     match Timestamp::from_second(i64::from(time) + FIT_EPOCH) {
         Ok(instant) => {
             let text = DateTimePrinter::new().timestamp_text(instant.to_plain());
-            put(out, text.as_str().as_bytes())
+            pen.put(text.as_str().as_bytes())
         }
         Err(_) => unreachable!(),
     }

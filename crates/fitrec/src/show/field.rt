@@ -3,7 +3,7 @@
 ghost use Rattle.fit_base.specs.Base.{base_type};
 ghost use Rattle.std.specs.Prelude.{◌≡◌, ◌≢◌};
 ghost use Rattle.fit_base.specs.Value.{count_of, values_of};
-ghost use Rattle.fit_grammar.specs.Calls.Output.{WritesText};
+ghost use Rattle.fitrec.specs.Pen.{Puts};
 ghost use Rattle.fit_grammar.specs.Format.Message.{MessageField};
 ghost use Rattle.fitrec.specs.Date.{date_in};
 ghost use Rattle.fitrec.specs.Profile.{field_rows};
@@ -13,85 +13,89 @@ use crate::profile::{self, FieldName};
 use crate::show::bytes::{put_byte_field, put_hex, put_string};
 use crate::show::date::{date_in, put_date};
 use crate::show::number::put_numbers;
-use crate::writing::put_number;
+use crate::writing::Pen;
 use fit_base::{BaseType, FieldValue};
-use fit_grammar::{WriteFailed, put};
+use fit_grammar::WriteFailed;
 use std::io::Write;
 
 /// A space, the name of the field and what it holds, as ` heart_rate=100`. Its name is one of these or
 /// one that every message has, else `field_` and its number. Fields of some numbers are shown as dates.
 pub fn put_field<W: Write>(
-    out: &mut W,
+    pen: &mut Pen<'_, W>,
     names: &[FieldName],
     dates: &[u8],
     number: u8,
     value: &FieldValue<'_>,
 ) -> Result<(), WriteFailed>
-    ensures { WritesText (W.contents out.old) (W.contents out.new) result
+    ensures { Puts pen.old pen.new result
         (field_text (field_rows names.now) dates.now (record { number = number; base = value.now.base; values = values_of value.now })) }
 {
-    put(out, b" ")?;
-    put_field_name(out, names, number)?;
-    put(out, b"=")?;
-    put_shown(out, dates, number, value)
+    pen.put(b" ")?;
+    put_field_name(pen, names, number)?;
+    pen.put(b"=")?;
+    put_shown(pen, dates, number, value)
 }
 
-fn put_field_name<W: Write>(out: &mut W, names: &[FieldName], number: u8) -> Result<(), WriteFailed>
-    ensures { WritesText (W.contents out.old) (W.contents out.new) result (field_name (field_rows names.now) number) }
+fn put_field_name<W: Write>(
+    pen: &mut Pen<'_, W>,
+    names: &[FieldName],
+    number: u8,
+) -> Result<(), WriteFailed>
+    ensures { Puts pen.old pen.new result (field_name (field_rows names.now) number) }
 {
     match profile::field_name(names, number) {
-        Some(name) => put(out, name.as_bytes()),
+        Some(name) => pen.put(name.as_bytes()),
         None => {
-            put(out, b"field_")?;
-            put_number(out, u64::from(number))
+            pen.put(b"field_")?;
+            pen.put_number(u64::from(number))
         }
     }
 }
 
 // A date, where a field of this number is shown as one, or what it holds.
 fn put_shown<W: Write>(
-    out: &mut W,
+    pen: &mut Pen<'_, W>,
     dates: &[u8],
     number: u8,
     value: &FieldValue<'_>,
 ) -> Result<(), WriteFailed>
-    ensures { WritesText (W.contents out.old) (W.contents out.new) result (let field : MessageField = record
+    ensures { Puts pen.old pen.new result (let field : MessageField = record
         { number = number; base = value.now.base; values = values_of value.now } in shown_text (date_in dates.now field) field) }
 {
     match date_in(dates, number, value) {
-        Some(time) => put_date(out, time),
-        None => put_value(out, value),
+        Some(time) => put_date(pen, time),
+        None => put_value(pen, value),
     }
 }
 
 /// What a field holds.
-fn put_value<W: Write>(out: &mut W, value: &FieldValue<'_>) -> Result<(), WriteFailed>
-    ensures { WritesText (W.contents out.old) (W.contents out.new) result
+fn put_value<W: Write>(pen: &mut Pen<'_, W>, value: &FieldValue<'_>) -> Result<(), WriteFailed>
+    ensures { Puts pen.old pen.new result
         (values_text (base_type value.now.base) (values_of value.now)) }
 {
     if value.count() == 0 {
-        return put_hex(out, value.raw());
+        return put_hex(pen, value.raw());
     }
     match value.base_type() {
-        Some(base) => put_some(out, base, value),
+        Some(base) => put_some(pen, base, value),
         None => unreachable!(),
     }
 }
 
 // One value or more of this type.
 fn put_some<W: Write>(
-    out: &mut W,
+    pen: &mut Pen<'_, W>,
     base: BaseType,
     value: &FieldValue<'_>,
 ) -> Result<(), WriteFailed>
     requires known { base_type value.now.base ≡ Some base }
     requires some { count_of value.now ≢ 0 }
-    ensures { WritesText (W.contents out.old) (W.contents out.new) result
+    ensures { Puts pen.old pen.new result
         (values_text (base_type value.now.base) (values_of value.now)) }
 {
     match base {
-        BaseType::String => put_string(out, value),
-        BaseType::Byte => put_byte_field(out, value.raw()),
-        _ => put_numbers(out, base, value),
+        BaseType::String => put_string(pen, value),
+        BaseType::Byte => put_byte_field(pen, value.raw()),
+        _ => put_numbers(pen, base, value),
     }
 }

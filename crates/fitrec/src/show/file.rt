@@ -1,13 +1,15 @@
 // A whole file.
 
-ghost use Rattle.std.specs.Prelude.{◌≡◌, ◌<◌, ◌^◌, length, IfOk};
+ghost use Rattle.std.specs.Prelude.{◌≡◌, ◌<◌, ◌^◌, [], length, IfOk};
 ghost use Rattle.fit_grammar.specs.Format.Message.{messages_of};
 ghost use Rattle.fit_grammar.specs.Calls.Output.{WritesText};
+ghost use Rattle.fitrec.specs.Pen.{Puts};
 ghost use Rattle.fitrec.specs.Text.{messages_text, text_of};
 
 use crate::show::header::{put_header, put_labelled};
 use crate::show::message::put_message;
-use fit_grammar::{File, WriteFailed, put};
+use crate::writing::Pen;
+use fit_grammar::{File, WriteFailed};
 use std::io::Write;
 
 /// Why a file was not shown.
@@ -26,7 +28,8 @@ impl ShowFault {
     }
 }
 
-/// Writes the text of a file, in one pass and with no allocation. Under `utc` times are dates in UTC.
+/// Writes the text of a file, in one pass and with no allocation, through a buffer of its own. Under `utc` times are dates
+/// in UTC.
 pub fn show<W: Write>(file: &File, utc: bool, out: &mut W) -> Result<(), ShowFault>
     ensures { WritesText (W.contents out.old) (W.contents out.new) result (text_of utc file.now) }
 {
@@ -39,21 +42,39 @@ pub fn show<W: Write>(file: &File, utc: bool, out: &mut W) -> Result<(), ShowFau
 fn put_file<W: Write>(out: &mut W, utc: bool, file: &File) -> Result<(), WriteFailed>
     ensures { WritesText (W.contents out.old) (W.contents out.new) result (text_of utc file.now) }
 {
-    put_header(out, file.frame(), file.data_size())?;
-    let count = put_messages(out, utc, file)?;
-    put_labelled(out, b"messages ", count)?;
-    put(out, b"\n")
+    let mut pen = Pen::new(out);
+    let done = put_all(&mut pen, utc, file);
+    let _ = pen.into_writer();
+    done
+}
+
+// All of the text, to the last byte.
+fn put_all<W: Write>(pen: &mut Pen<'_, W>, utc: bool, file: &File) -> Result<(), WriteFailed>
+    ensures text { Puts pen.old pen.new result (text_of utc file.now) }
+    ensures none { IfOk result (λ _. pen.new.waiting ≡ []) }
+{
+    put_lines(pen, utc, file)?;
+    pen.hand_over()
+}
+
+fn put_lines<W: Write>(pen: &mut Pen<'_, W>, utc: bool, file: &File) -> Result<(), WriteFailed>
+    ensures { Puts pen.old pen.new result (text_of utc file.now) }
+{
+    put_header(pen, file.frame(), file.data_size())?;
+    let count = put_messages(pen, utc, file)?;
+    put_labelled(pen, b"messages ", count)?;
+    pen.put(b"\n")
 }
 
 // The lines of the messages, and how many they are.
-fn put_messages<W: Write>(out: &mut W, utc: bool, file: &File) -> Result<u64, WriteFailed>
+fn put_messages<W: Write>(pen: &mut Pen<'_, W>, utc: bool, file: &File) -> Result<u64, WriteFailed>
     requires { length (messages_of file.now.items) < 2 ^ 32 }
-    ensures text { WritesText (W.contents out.old) (W.contents out.new) result (messages_text utc (messages_of file.now.items)) }
+    ensures text { Puts pen.old pen.new result (messages_text utc (messages_of file.now.items)) }
     ensures count { IfOk result (λ count. count ≡ length (messages_of file.now.items)) }
 {
     let mut number = 0;
     for message in file.messages() {
-        put_message(out, utc, number, &message)?;
+        put_message(pen, utc, number, &message)?;
         number += 1;
     }
     Ok(number)

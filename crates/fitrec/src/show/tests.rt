@@ -1,14 +1,17 @@
 use super::date::dates_of;
 use super::field::put_field;
 use crate::profile::{field_name, fields_of, message_name};
+use crate::writing::Pen;
 use fit_base::{Arch, FieldValue};
 use std::test::Fail;
 
 // The text of field 99 of a message 20.
 fn text_of(rt: &HostRuntime, base: u8, arch: Arch, bytes: &[u8]) -> Result<Vec<u8>, Fail> {
     let mut out = Vec::new(rt.alloc());
+    let mut pen = Pen::new(&mut out);
     let value = FieldValue::new(base, arch, bytes);
-    put_field(&mut out, fields_of(20), &[], 99, &value)?;
+    put_field(&mut pen, fields_of(20), &[], 99, &value)?;
+    pen.hand_over()?;
     Ok(out)
 }
 
@@ -73,13 +76,15 @@ fn dated(
     value: &FieldValue<'_>,
 ) -> Result<Vec<u8>, Fail> {
     let mut out = Vec::new(rt.alloc());
+    let mut pen = Pen::new(&mut out);
     put_field(
-        &mut out,
+        &mut pen,
         fields_of(global),
         dates_of(utc, global),
         number,
         value,
     )?;
+    pen.hand_over()?;
     Ok(out)
 }
 

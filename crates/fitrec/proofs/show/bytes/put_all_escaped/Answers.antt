@@ -1,6 +1,6 @@
 use Rattle.std.proofs.Common.{refl, arith}
 use Rattle.fitrec.specs.Text.{escaped}
-use Rattle.fit_grammar.proofs.Encoder.Output.{leaves_all, each_next, each_off, each_done}
+use Rattle.fitrec.proofs.PenLemmas.{leaves_all, each_next, each_off, each_done}
 use Rattle.fitrec.proofs.show.bytes.put_all_escaped.Goals as goal
 
 pub loop-byte-init : goal.loop-byte-init

@@ -1,24 +1,24 @@
 use Rattle.std.proofs.Common.{ap}
 use Rattle.std.specs.List.{flat_map}
 use Rattle.fitrec.specs.Text.{escaped}
-use Rattle.fit_grammar.proofs.Encoder.Output.{then_writes, stops_before, writes_same}
+use Rattle.fitrec.proofs.PenLemmas.{puts_then, puts_stop, puts_same}
 use Rattle.fitrec.proofs.TextLemmas.{string_parts}
 use Rattle.fitrec.proofs.show.bytes.put_string.Goals as goal
 
 pub returns-in_err-put : goal.returns-in_err-put
-returns-in_err-put g c = writes_same (stops_before c.from_residual.ensures.0 c.in_err-put.ensures _) (string_parts _)
+returns-in_err-put g c = puts_same (puts_stop c.from_residual.ensures.0 c.in_err-put.ensures _) (string_parts _)
 
 pub returns-in_err-put_all_escaped : goal.returns-in_err-put_all_escaped
 returns-in_err-put_all_escaped g c =
-    writes_same
-    (then_writes c.in_ok-put.ensures
-    (stops_before c.from_residual-in_err-put_all_escaped.ensures.0
-    (writes_same c.in_err-put_all_escaped.ensures (ap (flat_map escaped) c.text_bytes.ensures)) _))
+    puts_same
+    (puts_then c.in_ok-put.ensures
+    (puts_stop c.from_residual-in_err-put_all_escaped.ensures.0
+    (puts_same c.in_err-put_all_escaped.ensures (ap (flat_map escaped) c.text_bytes.ensures)) _))
     (string_parts _)
 
 pub returns : goal.returns
 returns g c =
-    writes_same
-    (then_writes c.in_ok-put.ensures
-    (then_writes (writes_same c.in_ok-put_all_escaped.ensures (ap (flat_map escaped) c.text_bytes.ensures)) c.put-2.ensures))
+    puts_same
+    (puts_then c.in_ok-put.ensures
+    (puts_then (puts_same c.in_ok-put_all_escaped.ensures (ap (flat_map escaped) c.text_bytes.ensures)) c.put-2.ensures))
     (string_parts _)

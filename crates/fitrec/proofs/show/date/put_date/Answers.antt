@@ -1,7 +1,7 @@
 use Rattle.std.proofs.Common.{◌≡◌, ◌*◌, ◌∙◌, pos, ◌+ℤ◌, FitsSigned, w64, ap, arith}
 use Rattle.std.proofs.lemmas.Int.{to_z-of_z}
 use Rattle.jiff.proofs.SpanFacts.{signed_arith}
-use Rattle.fit_grammar.proofs.Encoder.Output.{writes_same}
+use Rattle.fitrec.proofs.PenLemmas.{puts_same}
 use Rattle.fitrec.specs.Date.{unix_second}
 use Rattle.fitrec.proofs.DateLemmas.{printed}
 use Rattle.fitrec.proofs.show.date.put_date.Goals as goal
@@ -13,6 +13,6 @@ returns g c =
     let sum_fits : FitsSigned w64 (pos c.args.time +ℤ pos 631065600) = omega (arith, signed_arith) in
     let given = rw c.from.ensures at c.in-Ok.ensures.value in
     let nanos : c.in-Ok.instant.nanosecond ≡ pos (unix_second c.args.time * 1_000_000_000) = simp to_z-of_z at given in
-    writes_same c.put.ensures
+    puts_same c.put.ensures
     (c.as_bytes.ensures.value ∙ c.as_str.ensures.value
     ∙ printed _ shown.0 _ c.args.time c.new.ensures (shown.1 ∙ ap (λ instant. instant.nanosecond) c.to_plain.ensures ∙ nanos) (omega arith) shown.2)

@@ -1,21 +1,21 @@
 use Rattle.std.proofs.Common.{ap, ◌∙◌, Some}
 use Rattle.fitrec.specs.Text.{byte_text}
-use Rattle.fit_grammar.proofs.Encoder.Output.{writes_same}
+use Rattle.fitrec.proofs.PenLemmas.{puts_same}
 use Rattle.fitrec.proofs.FieldLemmas.{string_values, byte_values, number_values, is_number}
 use Rattle.fitrec.proofs.show.field.put_some.Goals as goal
 
 pub returns-in-String : goal.returns-in-String
 returns-in-String g c =
-    writes_same c.put_string.ensures
+    puts_same c.put_string.ensures
     (string_values c.args.value.now (c.requires.known ∙ ap Some c.in-String.is) c.requires.some)
 
 pub returns-in-Byte : goal.returns-in-Byte
 returns-in-Byte g c =
-    writes_same c.put_byte_field.ensures
+    puts_same c.put_byte_field.ensures
     (ap byte_text c.raw.ensures ∙ byte_values c.args.value.now (c.requires.known ∙ ap Some c.in-Byte.is) c.requires.some)
 
 pub returns-in_default : goal.returns-in_default
 returns-in_default g c =
-    writes_same c.put_numbers.ensures
+    puts_same c.put_numbers.ensures
     (number_values c.args.value.now c.args.base c.requires.known
     (is_number _ c.in_default.not-String c.in_default.not-Byte) c.requires.some)

@@ -1,36 +1,10 @@
-use Rattle.std.proofs.Common.{refl, arith}
-use Rattle.fit_grammar.proofs.Encoder.Output.{then_writes, stops_before, writes_same}
-use Rattle.fitrec.proofs.FieldLemmas.{file_parts}
-use Rattle.fit_activity.proofs.Counted.{few_messages}
+use Rattle.std.proofs.Common.{◌≡◌, ap, ◌∙◌, rules}
+use Rattle.fitrec.proofs.PenLemmas.{puts_written, writes_held}
 use Rattle.fitrec.proofs.show.file.put_file.Goals as goal
-
-pub returns-in_err-put_header : goal.returns-in_err-put_header
-returns-in_err-put_header g c =
-    writes_same (stops_before c.from_residual.ensures.0 c.in_err-put_header.ensures _)
-    (file_parts c.args.utc c.args.file.now _ _ _ c.frame.ensures.frame c.data_size.ensures refl)
-
-pub put_messages-requires : goal.put_messages-requires
-put_messages-requires g c =
-    let few = few_messages c.args.file.now.items in
-    omega (arith, few, c.data_size.ensures)
-
-pub returns-in_err-count : goal.returns-in_err-count
-returns-in_err-count g c =
-    writes_same
-    (then_writes c.in_ok-put_header.ensures (stops_before c.from_residual-in_err-count.ensures.0 c.in_err-count.ensures.text _))
-    (file_parts c.args.utc c.args.file.now _ _ _ c.frame.ensures.frame c.data_size.ensures refl)
-
-pub returns-in_err-put_labelled : goal.returns-in_err-put_labelled
-returns-in_err-put_labelled g c =
-    writes_same
-    (then_writes c.in_ok-put_header.ensures
-    (then_writes c.in_ok-count.ensures.text
-    (stops_before c.from_residual-in_err-put_labelled.ensures.0 c.in_err-put_labelled.ensures _)))
-    (file_parts c.args.utc c.args.file.now _ _ _ c.frame.ensures.frame c.data_size.ensures c.in_ok-count.ensures.count)
 
 pub returns : goal.returns
 returns g c =
-    writes_same
-    (then_writes c.in_ok-put_header.ensures
-    (then_writes c.in_ok-count.ensures.text (then_writes c.in_ok-put_labelled.ensures c.put.ensures)))
-    (file_parts c.args.utc c.args.file.now _ _ _ c.frame.ensures.frame c.data_size.ensures c.in_ok-count.ensures.count)
+    let name : c.into_writer.result.ghost_name ≡ c.new-pen.result.name = c.into_writer.ensures.name ∙ c.put_all-done.ensures.text.same in
+    let start = ap (λ w. w.held) c.new-pen.ensures in
+    let all = puts_written _ _ _ _ (ap (λ w. w.waiting) c.new-pen.ensures) c.put_all-done.ensures.none c.put_all-done.ensures.text in
+    writes_held (rw (start, ← c.into_writer.ensures.held) at all) (ap g.W.Write.contents (search rules))

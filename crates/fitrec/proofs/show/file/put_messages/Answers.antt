@@ -1,8 +1,15 @@
-use Rattle.std.proofs.Common.{length, ap, arith}
+use Rattle.std.proofs.Common.{◌≡◌, length, ap, ◌∙◌, arith}
 use Rattle.std.specs.List.{flat_map, enumerate_from}
+use Rattle.fit_grammar.specs.Format.Message.{messages_of}
 use Rattle.fitrec.specs.Text.{message_text}
-use Rattle.fit_grammar.proofs.Encoder.Output.{leaves_less, leaves_off}
+use Rattle.fitrec.proofs.PenLemmas.{leaves_all, leaves_less, leaves_off}
 use Rattle.fitrec.proofs.show.file.put_messages.Goals as goal
+
+pub loop-message-init : goal.loop-message-init
+loop-message-init g c =
+    let all : c.into_iter-message-iterator.result ≡ messages_of c.args.file.now.items =
+    c.into_iter-message-iterator.ensures.into_iter_gives ∙ c.messages-message-items.ensures in
+    (rw all (leaves_all _ _), omega (arith, ap length all))
 
 pub loop-message-preserved : goal.loop-message-preserved
 loop-message-preserved g c =

@@ -2,8 +2,11 @@ use Rattle.std.proofs.Common.{ap}
 use Rattle.std.specs.List.{flat_map}
 use Rattle.fitrec.specs.Profile.{field_rows}
 use Rattle.fitrec.specs.Text.{field_text}
-use Rattle.fit_grammar.proofs.Encoder.Output.{leaves_less, leaves_off}
+use Rattle.fitrec.proofs.PenLemmas.{leaves_all, leaves_less, leaves_off}
 use Rattle.fitrec.proofs.show.message.put_fields.Goals as goal
+
+pub loop-field-init : goal.loop-field-init
+loop-field-init g c = rw c.into_iter-field-iterator.ensures.into_iter_gives (leaves_all _ _)
 
 pub loop-field-preserved : goal.loop-field-preserved
 loop-field-preserved g c =

@@ -1,0 +1,35 @@
+-- What a pen does with text: some was handed over to its writer, and some waits.
+use Rattle.std.specs.Prelude.{◌≡◌, ℕ, ◌+◌, List, ◌++◌, length, take, Option, Result, OnOk, OnErr}
+use Rattle.std.specs.Io.KnownBytes.{Appends}
+use Rattle.fit_grammar.specs.Calls.Output.{AppendsBeginning}
+
+-- ---- a pen
+
+-- the name of the loan of the writer, what it holds where that is known, and the text that waits
+pub record Written : Type 0 where
+  pub name : ℕ
+  pub held : Option (List ℕ)
+  pub waiting : List ℕ
+
+-- of what waited and the text behind it some was handed over, and the rest waits
+pub record Continues (old new : Written) (text : List ℕ) : Type 0 where
+  pub handed : List ℕ
+  pub split : old.waiting ++ text ≡ handed ++ new.waiting
+  pub appended : Appends old.held new.held handed
+
+-- the text was put at Ok; at Err a beginning of what waited and the text behind it was handed over
+pub record Puts {T E : Type 0} (old new : Written) (result : Result T E) (text : List ℕ) : Type 0 where
+  pub same : new.name ≡ old.name
+  pub all : OnOk result (Continues old new text)
+  pub beginning : OnErr result (AppendsBeginning old.held new.held (old.waiting ++ text))
+
+-- the text waits behind what waited
+pub record Adds (old new : Written) (text : List ℕ) : Type 0 where
+  pub waits : new ≡ record old { waiting = old.waiting ++ text }
+
+-- ---- a place in its buffer
+
+-- up to the end stands what stood before the place, and then the text; behind it anything
+pub record Places (old new : List ℕ) (at : ℕ) (text : List ℕ) (end : ℕ) : Type 0 where
+  pub bytes : take end new ≡ take at old ++ text
+  pub moved : end ≡ at + length text
