@@ -5,6 +5,7 @@ pub mod Body
 pub mod Starting
 pub mod Standing
 pub mod Recording
+pub mod OnMemory
 pub mod FaultCode
 pub mod Answers
 pub mod Store
