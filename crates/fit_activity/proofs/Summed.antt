@@ -15,7 +15,7 @@ use Rattle.fit_activity.specs.declared.totals.tally.Tally.{Tally}
 use Rattle.fit_activity.specs.declared.totals.sums.Sums.{Sums}
 use Rattle.fit_activity.specs.Recording.{Recorded, is_lap, start_time, sport_of}
 use Rattle.fit_activity.specs.Timer.{timer}
-use Rattle.fit_activity.specs.Stretch.{heart_rate_of, speed_of, power_of, known_distance, end_time, greatest, average, speed_over, summary, open_stretch, open_from, before_open, lap_at, lap_of, session_of, activity_of}
+use Rattle.fit_activity.specs.Stretch.{heart_rate_of, power_of, known_distance, end_time, greatest, average, summary, open_stretch, open_from, before_open, lap_at, lap_of, session_of, activity_of}
 use Rattle.fit_activity.specs.Totals.{Kept, KeepsTime, IsTally, AreSums, AreTotals}
 use Rattle.fit_activity.specs.Step.{in_two_bytes, in_one_byte, average_of, stretch_by, clock_until, more_seconds, lap_by, session_by, activity_by}
 use Rattle.fit_activity.proofs.Pushed.{sum-bounded, greatest-bounded}
@@ -50,43 +50,18 @@ average-kept tally bound values small is =
 most-within : (bound : ℕ) (values : List ℕ) → AllByRecursion (λ value. value ≤ bound) values → IfSome (greatest values) (λ n. n ≤ bound)
 most-within bound values all = greatest-bounded bound values all
 
--- a stretch by the parts that hang on its samples
-abbrev stretch_from : List Recorded → ℕ → ℕ → ℕ → Option ℕ → Option ℕ → Option ℕ → Option ℕ → Option ℕ → Stretch
-stretch_from list from to known speed rate rate_most power power_most =
-    let distance = option_map (λ d. d - known) (known_distance list) in
-    record {
-      start = from;
-      end = to;
-      elapsed = 1000 * (to - from);
-      timer = 1000 * timer list from to;
-      distance = distance;
-      average_speed = speed_over distance (timer list from to);
-      greatest_speed = speed;
-      average_heart_rate = rate;
-      greatest_heart_rate = rate_most;
-      average_power = power;
-      greatest_power = power_most;
-    }
-
 pub stretch-kept : (sums : Sums) (list before inside : List Recorded) (from to : ℕ) → AreSums sums before inside
     → stretch_by sums from to (timer list from to) (known_distance list) ≡ summary list before inside from to
 stretch-kept sums list before inside from to are =
-    let speeds = greatest (filter_map speed_of inside) in
     let rates = filter_map heart_rate_of inside in
     let powers = filter_map power_of inside in
+    let distance = ap (λ n. option_map (λ d. d - n) (known_distance list)) are.known in
+    let speed = are.speed in
     let rate = ap in_one_byte (average-kept sums.heart_rate 255 rates (omega arith) are.heart_rate) ∙ in_one-small (average rates) (average-within 255 rates are.heart_rate.bounded) in
     let rate_most = ap in_one_byte are.heart_rate.most ∙ in_one-small (greatest rates) (most-within 255 rates are.heart_rate.bounded) in
     let power = average-kept sums.power 65535 powers (omega arith) are.power in
-    let r = in_one_byte (average_of sums.heart_rate) in
-    let m = in_one_byte sums.heart_rate.greatest in
-    let p = average_of sums.power in
-    let q = sums.power.greatest in
-    ap (λ (n : ℕ). stretch_from list from to n sums.speed r m p q) are.known
-    ∙ ap (λ o. stretch_from list from to (unwrap_or (known_distance before) 0) o r m p q) are.speed
-    ∙ ap (λ o. stretch_from list from to (unwrap_or (known_distance before) 0) speeds o m p q) rate
-    ∙ ap (λ o. stretch_from list from to (unwrap_or (known_distance before) 0) speeds (average rates) o p q) rate_most
-    ∙ ap (λ o. stretch_from list from to (unwrap_or (known_distance before) 0) speeds (average rates) (greatest rates) o q) power
-    ∙ ap (λ o. stretch_from list from to (unwrap_or (known_distance before) 0) speeds (average rates) (greatest rates) (average powers) o) are.power.most
+    let power_most = are.power.most in
+    cc
 
 abbrev lap_with : ℕ → Stretch → LapSummary
 lap_with laps stretch = record { index = laps; stretch = stretch }
