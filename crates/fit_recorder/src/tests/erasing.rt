@@ -4,7 +4,7 @@ ghost use Rattle.std.specs.Prelude.{◌≤◌};
 
 use super::power_cuts::Trouble;
 use super::{
-    SHORT_RIDE, TIME, begun_on, committed, copy_of, entries_told, heart_rate, play, ride,
+    ALONE, SHORT_RIDE, TIME, begun_on, committed, copy_of, entries_told, heart_rate, play, ride,
     short_ride, start_cut_at,
 };
 use crate::{RecFault, erase, recover};
@@ -35,12 +35,9 @@ fn rides_anew(rt: &impl Abort, alloc: Global, disk: Memory) -> Result<(), Fail> 
     let file = decode_file(alloc, disk.content(Which::Data))?;
     let summary = Summary {
         records: 1,
-        laps: 1,
-        sessions: 1,
-        start: Some(1_000_000_000),
         elapsed_ms: Some(9000),
         timer_ms: Some(9000),
-        distance_cm: None,
+        ..ALONE
     };
     assert_eq!(rt; check_activity(&file), Ok(summary));
     assert_eq!(rt; entries_told(&file, &entries), Some(2));

@@ -3,8 +3,8 @@
 ghost use Rattle.std.specs.Prelude.{◌≡◌, ◌<◌, ◌≤◌, ◌^◌, length};
 
 use super::{
-    RUN, SHORT_RIDE, START_RECORDS, TIME, begun, committed, copy_of, entries_told, heart_rate,
-    holding, play, ride, short_ride, start_cut_at, value_in,
+    ALONE, RUN, SHORT_RIDE, START_RECORDS, TIME, begun, committed, copy_of, entries_told,
+    heart_rate, holding, play, ride, short_ride, start_cut_at, value_in,
 };
 use crate::{RecFault, recover};
 use fit_activity::{Entry, Sample, Summary, check_activity};
@@ -131,17 +131,6 @@ fn a_recovered_file_tells_what_it_adds_up_to(rt: HostRuntime) -> Result<(), Fail
     assert_eq!(rt; (global, told.as_slice()), (Some(34), activity.as_slice()));
     Ok(())
 }
-
-// What a recovery says of a start alone.
-const ALONE: Summary = Summary {
-    records: 0,
-    laps: 1,
-    sessions: 1,
-    start: Some(1_000_000_000),
-    elapsed_ms: Some(0),
-    timer_ms: Some(0),
-    distance_cm: None,
-};
 
 // The header of the finished file of a start alone.
 const ALONE_HEADER: [u8; 14] = [
@@ -284,11 +273,9 @@ fn another_spelling_is_recovered_as_it_stands(rt: HostRuntime) -> Result<(), Fai
     let summary = Summary {
         records: 2,
         laps: 2,
-        sessions: 1,
-        start: Some(1_000_000_000),
         elapsed_ms: Some(10_000),
         timer_ms: Some(8000),
-        distance_cm: None,
+        ..ALONE
     };
     assert_eq!(rt; recover(&mut disk), Ok(summary));
     let written = disk.content(Which::Data);
@@ -391,6 +378,52 @@ fn an_item_above_96_bytes_is_damaged(rt: HostRuntime) -> Result<(), Fail> {
     assert!(rt; !is_damaged_by(&rt, &definition[..96])?);
     definition[5] = 31;
     assert!(rt; is_damaged_by(&rt, &definition)?);
+    Ok(())
+}
+
+// Records of so many bytes: the start, samples with a power of 300, of 7 bytes each, and definitions of 96 bytes that
+// nothing uses.
+fn filled(rt: &HostRuntime, len: usize) -> Result<Vec<u8>, Fail> {
+    let sample = [0x00, 0x00, 0xCA, 0x9A, 0x3B, 0x2C, 0x01];
+    let mut unused = [0; 96];
+    unused[0] = 0x43;
+    unused[3] = 0x14;
+    unused[5] = 30;
+    let mut records = START_RECORDS.to_vec(rt.alloc())?;
+    records.extend_from_slice(&[0x40, 0, 0, 0x14, 0, 2, 0xFD, 4, 0x86, 7, 2, 0x84])?;
+    for _ in 0..96 {
+        if len.saturating_sub(records.len()) % 96 != 0 {
+            records.extend_from_slice(&sample)?;
+        }
+    }
+    for _ in 0..len.saturating_sub(records.len()) / 96 {
+        records.extend_from_slice(&unused)?;
+    }
+    Ok(records)
+}
+
+#[test]
+fn a_body_has_room_for_its_end(rt: HostRuntime) -> Result<(), Fail> {
+    let records = filled(&rt, 16_776_704)?;
+    assert_eq!(rt; records.len(), 16_776_704);
+    assert!(rt; !is_damaged(&rt, &records, 16_776_704)?);
+    let records = filled(&rt, 16_776_705)?;
+    assert_eq!(rt; records.len(), 16_776_705);
+    assert!(rt; is_damaged(&rt, &records, 16_776_705)?);
+    Ok(())
+}
+
+#[test]
+fn a_stopped_body_has_a_most(rt: HostRuntime) -> Result<(), Fail> {
+    let stop = [0x06, 0x00, 0xCA, 0x9A, 0x3B, 0x00, 0x04];
+    let mut records = filled(&rt, 16_777_216 - 7)?;
+    records.extend_from_slice(&stop)?;
+    assert_eq!(rt; records.len(), 16_777_216);
+    assert!(rt; !is_damaged(&rt, &records, 16_777_216)?);
+    let mut records = filled(&rt, 16_777_217 - 7)?;
+    records.extend_from_slice(&stop)?;
+    assert_eq!(rt; records.len(), 16_777_217);
+    assert!(rt; is_damaged(&rt, &records, 16_777_217)?);
     Ok(())
 }
 
