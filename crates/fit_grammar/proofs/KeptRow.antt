@@ -1,7 +1,8 @@
--- A file in memory, behind `File` and `Messages`: its items read again from the row of bytes that it keeps.
+-- A file in memory, behind `File` and `Items`: its items read again from the row of bytes that it keeps.
 pub mod InForce
 pub mod ByLookup
 pub mod Following
 pub mod ReadAgain
 pub mod Left
+pub mod Lent
 pub mod Kept

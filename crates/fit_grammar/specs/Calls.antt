@@ -3,6 +3,7 @@ pub mod Table
 pub mod Step
 pub mod LentMessage
 pub mod LentField
+pub mod LentItem
 pub mod Adding
 pub mod Possible
 pub mod Output

@@ -7,6 +7,6 @@ pub mod LatestDefinitions
 pub mod ByLookup
 pub mod ItemRow
 pub mod KeptFile
-pub mod MessagesLeft
+pub mod ItemsLeft
 pub mod Decoding
 pub mod CheckedOutput

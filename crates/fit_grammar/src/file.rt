@@ -1,11 +1,12 @@
 // A file in memory.
 
-ghost use Rattle.std.specs.Prelude.{◌≡◌, ◌<◌, ◌+◌, [], ◌↔◌, ◌⊎◌, length, Ok, Err, OnOk, OnErr, IfErr, IsErrOf, IsTrue, ◌^◌};
+ghost use Rattle.std.specs.Prelude.{◌≡◌, ◌<◌, ◌+◌, [], ◌↔◌, ◌⊎◌, length, map, Ok, Err, OnOk, OnErr, IfErr, IsErrOf, IsTrue, ◌^◌};
 ghost use Rattle.fit_grammar.specs.Format.Records.{in_force, IsDefined, data_size};
 ghost use Rattle.fit_grammar.specs.Format.Encoding.{HasEncoding, encoded_items};
 ghost use Rattle.fit_grammar.specs.Format.Item.{Defines, Data, content_size};
 ghost use Rattle.fit_grammar.specs.Format.Message.{messages_of};
 ghost use Rattle.fit_grammar.specs.Calls.Possible.{CanBeFile};
+ghost use Rattle.fit_grammar.specs.Calls.LentItem.{items_lent, item_lent, messages_in, AllUnder};
 ghost use Rattle.fit_grammar.specs.Calls.Step.{least_length_of};
 ghost use Rattle.fit_grammar.specs.Format.File.{IsFrame};
 ghost use Rattle.fit_grammar.specs.Calls.Adding.{with_item, IsTooLong, IsUndefined, HasWrongLength, CanHold, IsOffset};
@@ -18,7 +19,7 @@ mod frame;
 use crate::definition::kept::WrittenDefinition;
 use crate::definition::{Definition, Table};
 use crate::item::writing::data_byte;
-use crate::item::{ItemFault, least_length};
+use crate::item::{ItemFault, Items, least_length};
 use crate::message::Messages;
 pub use decode::decode_file;
 pub use encode::{encode_file, header_front};
@@ -106,7 +107,21 @@ impl File {
     pub fn messages(&self) -> Messages<'_>
         ensures { result ≡ messages_of self.now.items }
     {
-        Messages::new(&self.records)
+        Messages::new(self.items())
+    }
+
+    /// The items in order, each with what it takes to read it where it stands: a data message with its definition
+    /// in force and the time of its compressed timestamp, which counts as in `messages`.
+    pub fn items(&self) -> Items<'_>
+        ensures items { result ≡ items_lent self.now.items }
+        // They are the items of the file.
+        ensures same { map item_lent result ≡ self.now.items }
+        // Each data message has the last definition of its local number before it.
+        ensures under { AllUnder (in_force []) result }
+        // They say the messages of the file.
+        ensures messages { messages_in result ≡ messages_of self.now.items }
+    {
+        Items::new(&self.records)
     }
 
     /// Adds a definition, which is in force for its local number from here on.

@@ -10,11 +10,13 @@ ghost use Rattle.fit_grammar.specs.Private.FirstByte.{local_of};
 
 mod data_message;
 pub(crate) mod first_byte;
+mod row;
 pub(crate) mod writing;
 
 use crate::definition::{DefinitionMessage, Table};
 pub use data_message::DataMessage;
 use first_byte::{Head, first_local, read_head};
+pub use row::{FileItem, Items};
 pub use writing::{write_data, write_definition};
 
 /// An item of a file's records. It holds a few words, and no definition.

@@ -37,7 +37,8 @@ pub use file::{
     header_front,
 };
 pub use item::{
-    DataMessage, Item, ItemFault, Step, least_length, next_item, write_data, write_definition,
+    DataMessage, FileItem, Item, ItemFault, Items, Step, least_length, next_item, write_data,
+    write_definition,
 };
 pub use message::{Field, Fields, Message, Messages, message_of};
 pub use to_writer::{WriteFailed, put};

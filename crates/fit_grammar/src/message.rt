@@ -1,8 +1,8 @@
 // Messages: data messages read under their definitions and with their times.
 
 ghost use Rattle.std.specs.Prelude.{◌≡◌};
+ghost use Rattle.fit_grammar.specs.Format.Message.{message_under};
 ghost use Rattle.fit_grammar.specs.Calls.LentMessage.{message_lent};
-ghost use Rattle.fit_grammar.specs.declared.item.Item.TheVariants as items;
 
 mod fields;
 mod row;
@@ -13,7 +13,7 @@ use crate::item::{DataMessage, Item};
 pub use fields::{Field, Fields};
 pub use row::Messages;
 use std::marker::Model;
-use time::{next_time, stated_time};
+use time::{compressed_time, stated_time};
 
 /// A message, lent from its data message. Contracts see what it says, whatever architecture and header it
 /// was written under, and beside it the time of a compressed timestamp.
@@ -79,16 +79,17 @@ pub fn message_of<'a>(item: &Item<'a>, before: u32) -> Option<Message<'a>>
 {
     match item {
         Item::Definition(_) => None,
-        Item::Data(data) => Some(message_in(data, before)),
+        Item::Data(data) => Some(message_in(data, compressed_time(before, data.offset))),
     }
 }
 
-// The message of a data message, where the time before it is this.
-pub(crate) fn message_in<'a>(m: &DataMessage<'a>, before: u32) -> Message<'a>
-    ensures { Some result ≡ message_lent (items.Data m.now) before }
+// The message of a data message, where this is the time of its compressed timestamp, if it has one.
+pub(crate) fn message_in<'a>(m: &DataMessage<'a>, time: Option<u32>) -> Message<'a>
+    ensures compressed { result.compressed ≡ time }
+    ensures message { result.message ≡ message_under m.now.definition time m.now.content.now }
 {
-    let time = match m.offset {
-        Some(offset) => Some(next_time(before, offset).to_le_bytes()),
+    let time = match time {
+        Some(time) => Some(time.to_le_bytes()),
         None => None,
     };
     Message {

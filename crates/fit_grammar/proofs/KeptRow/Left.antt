@@ -12,7 +12,8 @@ use Rattle.fit_grammar.specs.Format.Item.{Item, Defines}
 use Rattle.fit_grammar.specs.Format.Encoding.{encoded_item, encoded_items, HasEncoding}
 use Rattle.fit_grammar.specs.Format.Records.{IsDefinedBy}
 use Rattle.fit_grammar.specs.Calls.Step.{item_of, ItemAtFront, StepSays, IsStepItem, IsStep}
-use Rattle.fit_grammar.specs.Private.ByLookup.{behind, AllDefinedBy}
+use Rattle.fit_grammar.specs.Calls.Table.{behind}
+use Rattle.fit_grammar.specs.Private.ByLookup.{AllDefinedBy}
 use Rattle.fit_grammar.specs.Private.ItemRow.{items_under, AreWritten, IsLentBy, IsFirst}
 use Rattle.fit_grammar.proofs.OneItem.Spelling.{spelling_one, spelling_not_empty}
 use Rattle.fit_grammar.proofs.Encoder.Encoding.{encoded_spells}

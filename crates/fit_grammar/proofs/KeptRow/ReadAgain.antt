@@ -8,7 +8,8 @@ use Rattle.fit_grammar.specs.Format.Records.{in_force, IsDefinedBy}
 use Rattle.fit_grammar.specs.Format.Encoding.{encoded_item, encoded_items, HasEncoding}
 use Rattle.fit_grammar.specs.Private.DefinitionBytes.{definition_at, AreDefinition}
 use Rattle.fit_grammar.specs.Calls.Step.{ItemAtFront, definition_length_of, length_by}
-use Rattle.fit_grammar.specs.Private.ByLookup.{behind, AllDefinedBy}
+use Rattle.fit_grammar.specs.Calls.Table.{behind}
+use Rattle.fit_grammar.specs.Private.ByLookup.{AllDefinedBy}
 use Rattle.fit_grammar.specs.Private.KeptDefinition.{IsWrittenAt}
 use Rattle.fit_grammar.specs.Calls.Possible.{AllCanFollow}
 use Rattle.fit_grammar.specs.Private.ItemRow.{item_by, item_at, items_at, items_under, items_in}

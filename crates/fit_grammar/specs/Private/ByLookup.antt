@@ -1,15 +1,12 @@
--- Items and messages under a lookup of the definitions in force, in the place of the items before them.
+-- Items, as they are and as they are lent, under a lookup of the definitions in force, in the place of the items before them.
 use Rattle.std.specs.Prelude.{ℕ, List, [], ◌∷◌, ◌++◌, Option, Some, None, unwrap_or, option_map, option_and_then, option_to_list}
-use Rattle.std.specs.Option.{option_or}
 use Rattle.fit_grammar.specs.declared.definition.Definition.{Definition}
 use Rattle.fit_grammar.specs.Format.Item.{Item, Defines, Data}
-use Rattle.fit_grammar.specs.Format.Records.{definition_by, IsDefinedBy}
+use Rattle.fit_grammar.specs.Format.Records.{IsDefinedBy}
 use Rattle.fit_grammar.specs.Format.Encoding.{HasEncoding}
+use Rattle.fit_grammar.specs.Calls.Table.{behind}
+use Rattle.fit_grammar.specs.Calls.LentItem.{LentItem, DefinesHere, DataHere, data_under}
 use Rattle.fit_grammar.specs.Format.Message.{Message, message_under, compressed_time, next_time, time_stated}
-
--- the definitions in force behind an item
-abbrev pub behind : Item → (ℕ → Option Definition) → ℕ → Option Definition
-behind item definition_for local = option_or (definition_by item local) (definition_for local)
 
 -- the message of an item, whose last time is given; a definition has none
 abbrev pub message_by : (ℕ → Option Definition) → ℕ → Item → Option Message
@@ -24,12 +21,18 @@ time_by definition_for time (Data local (Some offset) content) = Some (next_time
 time_by definition_for time (Data local None content) =
     option_and_then (λ m. time_stated m.fields) (message_by definition_for time (Data local None content))
 
--- the messages of items, from the time before them on
-abbrev pub messages_by : (ℕ → Option Definition) → ℕ → List Item → List Message
-messages_by definition_for time [] = []
-messages_by definition_for time (item ∷ items) =
-    option_to_list (message_by definition_for time item)
-    ++ messages_by (behind item definition_for) (unwrap_or (time_by definition_for time item) time) items
+-- the item as it is lent
+abbrev pub lent_by : (ℕ → Option Definition) → ℕ → Item → Option LentItem
+lent_by definition_for time (Defines d) = Some (DefinesHere d)
+lent_by definition_for time (Data local offset content) =
+    option_map (λ d. DataHere (data_under d local offset (compressed_time time offset) content)) (definition_for local)
+
+-- the items, from the time before them on
+abbrev pub lent_items_by : (ℕ → Option Definition) → ℕ → List Item → List LentItem
+lent_items_by definition_for time [] = []
+lent_items_by definition_for time (item ∷ items) =
+    option_to_list (lent_by definition_for time item)
+    ++ lent_items_by (behind item definition_for) (unwrap_or (time_by definition_for time item) time) items
 
 -- each of the items has a spelling and is defined in its place
 abbrev pub AllDefinedBy : (ℕ → Option Definition) → List Item → Type 0

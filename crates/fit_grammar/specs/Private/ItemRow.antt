@@ -8,7 +8,8 @@ use Rattle.fit_grammar.specs.Format.Records.{in_force}
 use Rattle.fit_grammar.specs.Format.Encoding.{encoded_items}
 use Rattle.fit_grammar.specs.Private.DefinitionBytes.{definition_at}
 use Rattle.fit_grammar.specs.Calls.Step.{definition_length_of, item_of}
-use Rattle.fit_grammar.specs.Private.ByLookup.{behind, AllDefinedBy}
+use Rattle.fit_grammar.specs.Calls.Table.{behind}
+use Rattle.fit_grammar.specs.Private.ByLookup.{AllDefinedBy}
 
 -- the item that bytes begin with, by their head; developer fields are in none
 abbrev pub item_by : (ℕ → Option Definition) → Head → List ℕ → Item

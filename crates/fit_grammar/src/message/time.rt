@@ -2,17 +2,27 @@
 
 ghost use Rattle.std.specs.Prelude.{◌≡◌};
 ghost use Rattle.fit_base.specs.Value.{values_of};
-ghost use Rattle.fit_grammar.specs.Format.Message.{next_time as next_time_of, stated_by, time_stated, time_in as time_of_values};
+ghost use Rattle.fit_grammar.specs.Format.Message.{next_time as next_time_of, compressed_time as compressed_time_of, stated_by, time_stated, time_in as time_of_values};
 ghost use Rattle.fit_grammar.specs.Calls.LentField.{field_view};
 
 use crate::message::{Field, Fields};
 use fit_base::{FieldValue, number_of};
 
 // The least time that is not below the one before and leaves the offset modulo 32, wrapped at 2^32.
-pub(crate) fn next_time(before: u32, offset: u8) -> u32
+fn next_time(before: u32, offset: u8) -> u32
     ensures { result ≡ next_time_of before offset }
 {
     before.wrapping_add((u32::from(offset) + 32 - before % 32) % 32)
+}
+
+// The time of a compressed timestamp, if there is one.
+pub(crate) fn compressed_time(before: u32, offset: Option<u8>) -> Option<u32>
+    ensures { result ≡ compressed_time_of before offset }
+{
+    match offset {
+        Some(offset) => Some(next_time(before, offset)),
+        None => None,
+    }
 }
 
 // The time that the first field with one states.

@@ -2,7 +2,7 @@ use Rattle.std.proofs.Common.{ℕ, List, sym, ap, subst, ◌∙◌}
 use Rattle.fit_grammar.specs.Private.ItemRow.{IsFirst}
 use Rattle.fit_grammar.specs.Calls.Table.{definition_in}
 use Rattle.fit_grammar.proofs.KeptRow.Left.{step_found, first_is}
-use Rattle.fit_grammar.proofs.message.row.first_item.Goals as goal
+use Rattle.fit_grammar.proofs.item.row.first_item.Goals as goal
 
 pub unreachable-requires : goal.unreachable-requires
 unreachable-requires c =

@@ -4,9 +4,9 @@ use Rattle.fit_grammar.specs.declared.definition.Definition.{Definition}
 use Rattle.fit_grammar.specs.Format.Records.{in_force}
 use Rattle.fit_grammar.specs.Private.ItemRow.{items_in, items_under, AreWritten}
 use Rattle.fit_grammar.specs.Calls.Table.{definition_in}
-use Rattle.fit_grammar.specs.Private.ByLookup.{messages_by}
-use Rattle.fit_grammar.proofs.KeptRow.ByLookup.{messages_same, all_defined}
-use Rattle.fit_grammar.proofs.message.row.Messages.new.Goals as goal
+use Rattle.fit_grammar.specs.Private.ByLookup.{lent_items_by}
+use Rattle.fit_grammar.proofs.KeptRow.ByLookup.{lent_items_same, all_defined}
+use Rattle.fit_grammar.proofs.item.row.Items.new.Goals as goal
 
 pub invariant_of-result : goal.invariant_of-result
 invariant_of-result c =
@@ -20,4 +20,4 @@ pub returns : goal.returns
 returns c =
     let records = c.args.records.now in
     let none : definition_in c.new.result ≡ in_force [] = fun_ext (λ l. c.new.ensures l) in
-    ap (λ (f : ℕ → Option Definition). messages_by f 0 (items_under f records)) none ∙ messages_same [] 0 (items_in records)
+    ap (λ (f : ℕ → Option Definition). lent_items_by f 0 (items_under f records)) none ∙ lent_items_same [] 0 (items_in records)
