@@ -1,6 +1,7 @@
 -- What becomes of bytes that are to be shown.
 use Rattle.std.specs.Prelude.{◌≡◌, ℕ, Bool, List, Option, Result, Ok, Err, codes}
 use Rattle.std.specs.Io.KnownBytes.{Appends}
+use Rattle.fit_grammar.specs.Calls.Output.{AppendsBeginning}
 use Rattle.fit_grammar.specs.Format.File.{FileValue, FileOf}
 use Rattle.fit_grammar.specs.Format.Refusal.{IsFaultOf}
 use Rattle.fitrec.specs.declared.fault.Fault.{Fault}
@@ -12,8 +13,9 @@ abbrev pub IsOutputFault : Fault → Type 0
 IsOutputFault (faults.Write name) = name.now ≡ codes "-"
 IsOutputFault _ = ⊥
 
--- the bytes are a file, and all of its text was written, or the output failed; or they are none, and nothing was written
+-- the bytes are a file, and all of its text was written, or a beginning of it and the output failed; or they are none, and
+-- nothing was written
 abbrev pub ShowsBytes : {T : Type 0} → Bool → Option (List ℕ) → Option (List ℕ) → List ℕ → Result T Fault → Type 0
 ShowsBytes utc old new bytes (Ok done) = (v : FileValue) × FileOf bytes v × Appends old new (text_of utc v)
 ShowsBytes utc old new bytes (Err (faults.File fault)) = IsFaultOf bytes fault × (new ≡ old)
-ShowsBytes utc old new bytes (Err fault) = ((v : FileValue) × FileOf bytes v) × IsOutputFault fault
+ShowsBytes utc old new bytes (Err fault) = ((v : FileValue) × FileOf bytes v × AppendsBeginning old new (text_of utc v)) × IsOutputFault fault

@@ -1,7 +1,7 @@
 // The subcommand `show`: the text of a file.
 
-ghost use Rattle.std.specs.Prelude.{OnOk, IfErr};
-ghost use Rattle.std.specs.Io.KnownBytes.{Appends};
+ghost use Rattle.std.specs.Prelude.{IfErr};
+ghost use Rattle.fit_grammar.specs.Calls.Output.{WritesText};
 ghost use Rattle.fitrec.specs.Showing.{ShowsBytes, IsOutputFault};
 ghost use Rattle.fitrec.specs.Text.{text_of};
 
@@ -41,7 +41,7 @@ fn show_bytes<O: Write>(
 
 // Shows a file, to the last byte.
 fn show_flushed<O: Write>(file: &File, utc: bool, out: &mut O) -> Result<(), Fault<'static>>
-    ensures all { OnOk result (Appends (O.contents out.old) (O.contents out.new) (text_of utc file.now)) }
+    ensures text { WritesText (O.contents out.old) (O.contents out.new) result (text_of utc file.now) }
     ensures fault { IfErr result IsOutputFault }
 {
     let Ok(()) = show(file, utc, out) else {
