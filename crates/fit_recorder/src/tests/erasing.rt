@@ -67,6 +67,20 @@ fn a_start_that_was_cut_off_is_erased(rt: HostRuntime) -> Result<(), Fail> {
     Ok(())
 }
 
+#[test]
+fn an_erasing_done_again_does_not_bring_the_ride_back(rt: HostRuntime) -> Result<(), Fail> {
+    let mut disk = committed(&rt)?;
+    disk.fail_at(7);
+    assert_eq!(rt; erase(&mut disk), Err(RecFault::Device));
+    // The mark is gone, so the fifth call is the sync of the journal.
+    disk.cut_at(5);
+    assert_eq!(rt; erase(&mut disk), Err(RecFault::Device));
+    disk.cycle(&[0, 0, 0, 0, 0, 0, 0, 0, 0x46]);
+    assert_eq!(rt; disk.content(Which::Data).len(), 203);
+    assert_eq!(rt; recover(&mut disk), Err(RecFault::NothingRecorded));
+    Ok(())
+}
+
 // An erasing that does not come to its end.
 #[derive(Clone, Copy, Debug)]
 struct Attempt {
