@@ -6,7 +6,8 @@
 //! data message, with its time and its `Fields`. `write_definition` and `write_data` write items.
 //!
 //! `decode_file` reads a whole file into a `File`, or refuses it for what its shortest bad beginning shows. A `File` is
-//! also built item by item. Its messages are lent one after another, and `encode_file` writes it:
+//! also built item by item. Its messages are lent one after another, or its items where they stand (`FileItem`), and
+//! `encode_file` writes it:
 //!
 //!     let frame = Frame { header_size: 14, protocol: 0x10, profile: 100 };
 //!     let mut file = File::new(alloc, frame);
