@@ -12,9 +12,10 @@ returns-in-Riding-clause-answers c list handed =
 
 pub returns-in-Riding-clause-handed : goal.returns-in-Riding-clause-handed
 returns-in-Riding-clause-handed c list handed done =
-    let known = rw c.in-Riding.is at handed in
-    (done_of_call c.commit.result c.into.result _ c.into.ensures (c.commit.ensures.handed list known.0) done,
-    done_of_call c.commit.result c.into.result _ c.into.ensures c.commit.ensures.going done)
+    let known = rw c.in-Riding.is at handed in (
+      done_of_call c.commit.result c.into.result _ c.into.ensures (c.commit.ensures.handed list known.0) done,
+      done_of_call c.commit.result c.into.result _ c.into.ensures c.commit.ensures.going done,
+    )
 
 pub returns-in-Riding-clause-made : goal.returns-in-Riding-clause-made
 returns-in-Riding-clause-made c done =

@@ -12,6 +12,7 @@ returns-in-Riding-clause-answers c list handed =
 
 pub returns-in-Riding-clause-handed : goal.returns-in-Riding-clause-handed
 returns-in-Riding-clause-handed c list handed done =
-    let known = rw c.in-Riding.is at handed in
-    (done_of_call c.hand.result c.into.result _ c.into.ensures (c.hand.ensures.handed list known.0) done,
-    done_of_call c.hand.result c.into.result _ c.into.ensures c.hand.ensures.going done)
+    let known = rw c.in-Riding.is at handed in (
+      done_of_call c.hand.result c.into.result _ c.into.ensures (c.hand.ensures.handed list known.0) done,
+      done_of_call c.hand.result c.into.result _ c.into.ensures c.hand.ensures.going done,
+    )
