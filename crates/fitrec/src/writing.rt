@@ -9,6 +9,7 @@ mod decimal;
 
 use decimal::place_number;
 use fit_grammar::{WriteFailed, put};
+use std::fmt;
 use std::io::Write;
 use std::marker::Model;
 
@@ -65,6 +66,14 @@ impl<'a, W: Write> Pen<'a, W> {
         let text = &self.bytes[..self.len];
         self.len = 0;
         put(self.out, text)
+    }
+
+    /// Hands over all that waits, to the last byte.
+    pub fn flush(&mut self) -> Result<(), WriteFailed>
+        ensures { IfOk result (λ _. self.new.waiting ≡ []) }
+    {
+        self.hand_over()?;
+        self.out.flush().map_err(|_| WriteFailed)
     }
 
     /// Makes room for 64 bytes.
@@ -145,5 +154,11 @@ impl<'a, W: Write> Pen<'a, W> {
         }
         self.add_number(number.unsigned_abs());
         Ok(())
+    }
+}
+
+impl<W: Write> fmt::Write for Pen<'_, W> {
+    fn write_str(&mut self, text: &str) -> fmt::Result {
+        self.put(text.as_bytes()).map_err(|_| fmt::Error)
     }
 }

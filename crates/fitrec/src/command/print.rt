@@ -4,14 +4,15 @@ ghost use Rattle.std.specs.Prelude.{IfErr};
 ghost use Rattle.fitrec.specs.Showing.{IsOutputFault};
 
 use crate::fault::Fault;
-use std::fmt::Display;
-use std::io::Write;
+use crate::writing::Pen;
+use std::fmt::{Display, Write};
+use std::io;
 
 /// Prints a line, to the last byte.
-pub fn print<L: Display, O: Write>(line: &L, out: &mut O) -> Result<(), Fault<'static>>
+pub fn print<L: Display, O: io::Write>(line: &L, pen: &mut Pen<'_, O>) -> Result<(), Fault<'static>>
     ensures { IfErr result IsOutputFault }
 {
-    if writeln!(out, "{line}").is_err() || out.flush().is_err() {
+    if writeln!(pen, "{line}").is_err() || pen.flush().is_err() {
         return Err(Fault::Write("-"));
     }
     Ok(())

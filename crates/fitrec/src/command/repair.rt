@@ -4,6 +4,7 @@ use crate::command::folder::open_folder;
 use crate::command::print::print;
 use crate::fault::Fault;
 use crate::summary::SummaryLine;
+use crate::writing::Pen;
 use fit_recorder::recover;
 use std::io::Write;
 
@@ -15,7 +16,7 @@ pub fn repair_folder<'a, O: Write>(
 ) -> Result<(), Fault<'a>> {
     let mut files = open_folder(rt, name)?;
     match recover(&mut files) {
-        Ok(summary) => print(&SummaryLine(summary), out),
+        Ok(summary) => print(&SummaryLine(summary), &mut Pen::new(out)),
         Err(fault) => Err(Fault::Recorder(fault)),
     }
 }

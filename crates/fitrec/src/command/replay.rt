@@ -13,6 +13,7 @@ use crate::command::print::print;
 use crate::command::ride::Ride;
 use crate::fault::Fault;
 use crate::script::{Command, Event, parse_script};
+use crate::writing::Pen;
 use fit_activity::Entry;
 use fit_disk::Files;
 use std::alloc::Global;
@@ -81,12 +82,13 @@ fn play<O: Write>(files: Files, events: &[Event], out: &mut O) -> Result<usize, 
     ensures most { IfOk result (λ refused. refused ≤ length events.now) }
     ensures fault { IfErr result IsOutputFault }
 {
+    let mut pen = Pen::new(out);
     let mut ride = Ride::Idle(files);
     let mut refused = 0;
     for event in events {
         let (next, answer) = run(ride, &event.command);
         ride = next;
-        print(&Answered { event, answer }, out)?;
+        print(&Answered { event, answer }, &mut pen)?;
         if !answer.is_ok() {
             refused += 1;
         }

@@ -264,10 +264,8 @@ fn keeps(rt: &HostRuntime, out: &mut Failing, records: u32) -> Result<bool, Fail
 fn a_replay_ends_where_its_output_fails(rt: HostRuntime) -> Result<(), Fail> {
     // An event whose line fails was run.
     for (answered, kept) in [(0, 0), (1, 0), (2, 1), (3, 1), (4, 2)] {
-        for calls in 0..6 {
-            let mut out = Failing::new(rt.alloc(), usize::MAX, 6 * answered + calls);
-            assert!(rt; keeps(&rt, &mut out, kept)?, "{answered} {calls}");
-        }
+        let mut out = Failing::new(rt.alloc(), usize::MAX, answered);
+        assert!(rt; keeps(&rt, &mut out, kept)?, "{answered}");
     }
     let mut out = Failing::new(rt.alloc(), usize::MAX, usize::MAX);
     out.flushes = false;
