@@ -1,4 +1,6 @@
 pub mod PenLemmas
+pub mod NameLemmas
+pub mod PlanLemmas
 pub mod TextLemmas
 pub mod FieldLemmas
 pub mod ReadingLemmas

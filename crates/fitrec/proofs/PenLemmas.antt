@@ -1,8 +1,11 @@
 -- How texts that a pen puts one after another join, what a loop that puts keeps, and what a pen's writer holds in the end: for
 -- `writing` and all that shows a file.
-use Rattle.std.proofs.Common.{◌≡◌, ℕ, ◌+◌, ◌<◌, ◌≤◌, List, [], ◌++◌, length, get_or, take, drop, Option, Result, Ok, Err, OnOk, refl, sym, ap, ◌∙◌, append_assoc, append-nil, length-append, subst, arith}
+use Rattle.std.proofs.Common.{◌≡◌, ℕ, ◌+◌, ◌<◌, ◌≤◌, List, [], ◌++◌, length, get_or, take, drop, Option, Result, Ok, Err, OnOk, refl, sym, ap, ◌∙◌, append_assoc, append-nil, length-append, length-take-le, take-take, subst, arith}
 use Rattle.std.proofs.KnownBytes.{Appends-trans, Appends-nil}
 use Rattle.std.proofs.lemmas.List.{at_drop_more, at_drop_all}
+use Rattle.std.proofs.lemmas.Slice.{take-put_mid}
+use Rattle.std.proofs.Math.Seq.{take-append-add}
+use borrow.Rule.Slice.PartMut.{put_mid}
 use Rattle.std.specs.Io.KnownBytes.{Appends}
 use Rattle.std.specs.List.{flat_map}
 use Rattle.std.specs.Result.{IsErr}
@@ -191,3 +194,19 @@ places_then {old = old} {a = a} {b = b} {at = at} h k = record {
 -- a text is another one
 pub places_same : {old new a b : List ℕ} {at end : ℕ} → Places old new at a end → a ≡ b → Places old new at b end
 places_same {old = old} {new = new} {at = at} {end = end} h e = let P : List ℕ → Type 0 = λ t. Places old new at t end in subst P e h
+
+abbrev waits_by : ℕ → Option (List ℕ) → List ℕ → Written
+waits_by name held waiting = record { name = name; held = held; waiting = waiting }
+
+-- a label was placed whole, and as much as is its text counts
+pub label_added : (name : ℕ) (held : Option (List ℕ)) (bytes placed label : List ℕ) (at k n : ℕ) → placed ≡ label → at + 32 ≤ length bytes →
+    length label ≡ 32 → n ≤ 32 →
+    Adds (record { name = name; held = held; waiting = take at bytes })
+    (record { name = name; held = held; waiting = take (at + n) (put_mid at k bytes placed) }) (take n label)
+label_added name held bytes placed label at k n same room long few =
+    let whole : take (at + 32) (put_mid at k bytes placed) ≡ take at bytes ++ label =
+    take-put_mid at k bytes placed (at + 32) (omega (arith, ap length same)) (omega arith) ∙ ap (λ t. take at bytes ++ t) same in
+    let front : length (take at bytes) ≡ at = length-take-le at bytes (omega arith) in
+    let seam : take (at + n) (take at bytes ++ label) ≡ take at bytes ++ take n label = rw front at (take-append-add (take at bytes) label n) in
+    let text = sym (take-take (at + n) (at + 32) (put_mid at k bytes placed) (omega arith)) ∙ ap (take (at + n)) whole ∙ seam in
+    record { waits = ap (waits_by name held) text }

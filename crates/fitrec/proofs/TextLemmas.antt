@@ -47,7 +47,7 @@ byte_valid bytes e = rw e refl
 
 -- ---- numbers
 
-whole_signed : (type : BaseType) (n : ℕ) → has_sign type ≡ true → signed_decimal (twos_complement (row_of type).size n) ≡ whole_text type n
+pub whole_signed : (type : BaseType) (n : ℕ) → has_sign type ≡ true → signed_decimal (twos_complement (row_of type).size n) ≡ whole_text type n
 unfolding whole_text
 whole_signed type n e = rw e refl
 

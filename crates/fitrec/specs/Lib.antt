@@ -2,6 +2,7 @@ pub mod Profile
 pub mod Date
 pub mod Text
 pub mod Pen
+pub mod Plan
 pub mod Showing
 pub mod Checking
 pub mod Reading

@@ -1,5 +1,5 @@
 -- The names of messages and fields, by the table in src/profile.rt.
-use Rattle.std.specs.Prelude.{ℕ, List, [], ◌∷◌, map, Option, Some, None, ◌==◌, if◌then◌else◌}
+use Rattle.std.specs.Prelude.{ℕ, Bool, true, ◌&&◌, nat_le, List, [], ◌∷◌, length, map, Option, Some, None, ◌==◌, if◌then◌else◌}
 use Rattle.std.specs.Option.{option_or}
 use Rattle.std.specs.Borrow.{Bor}
 use Rattle.fitrec.specs.declared.profile.TheConstants.{MESSAGES, COMMON_FIELDS}
@@ -49,3 +49,12 @@ names_of_fields number = fields_in messages number
 -- the name that a field has in every message, or among these
 abbrev pub field_named : FieldNames → ℕ → Option (List ℕ)
 field_named fields number = option_or (name_in common_fields number) (name_in fields number)
+
+-- each name is short enough for the labels of the shown text: at most 30 bytes
+abbrev pub are_short : FieldNames → Bool
+are_short [] = true
+are_short (row ∷ rows) = nat_le (length row.1) 30 && are_short rows
+
+abbrev pub all_short : MessageNames → Bool
+all_short [] = true
+all_short (row ∷ rows) = nat_le (length row.1) 30 && are_short row.2 && all_short rows

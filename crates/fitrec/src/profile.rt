@@ -1,7 +1,7 @@
 // The names of messages and fields: one table, which the definition of the shown text reads as well.
 
-ghost use Rattle.std.specs.Prelude.{◌≡◌, option_map};
-ghost use Rattle.fitrec.specs.Profile.{message_named, names_of_fields, field_named, name_in, message_in, fields_in, field_rows, message_rows};
+ghost use Rattle.std.specs.Prelude.{◌≡◌, ◌≤◌, length, option_map, true, IfSome};
+ghost use Rattle.fitrec.specs.Profile.{message_named, names_of_fields, field_named, name_in, message_in, fields_in, field_rows, message_rows, are_short};
 
 /// A field's number and its name.
 pub type FieldName = (u8, &'static str);
@@ -102,7 +102,9 @@ pub const MESSAGES: &[MessageName] = &[
 /// The name of the message with this global number, if it has one.
 #[tactic(auto, unfolding(crate::specs::Profile::messages))]
 pub fn message_name(number: u16) -> Option<&'static str>
-    ensures { option_map (λ name. name.now) result ≡ message_named number }
+    ensures named { option_map (λ name. name.now) result ≡ message_named number }
+    // No line of the table is too long for the shown text.
+    ensures short { IfSome result (λ name. length name.now ≤ 30) }
 {
     message_name_in(MESSAGES, number)
 }
@@ -110,7 +112,8 @@ pub fn message_name(number: u16) -> Option<&'static str>
 /// The names of the fields of the message with this global number, none where it has no name itself.
 #[tactic(auto, unfolding(crate::specs::Profile::messages))]
 pub fn fields_of(number: u16) -> &'static [FieldName]
-    ensures { field_rows result.now ≡ names_of_fields number }
+    ensures names { field_rows result.now ≡ names_of_fields number }
+    ensures short { are_short (field_rows result.now) ≡ true }
 {
     fields_in(MESSAGES, number)
 }
@@ -118,7 +121,8 @@ pub fn fields_of(number: u16) -> &'static [FieldName]
 /// The name that a field has in every message, or among these.
 #[tactic(auto, unfolding(crate::specs::Profile::common_fields))]
 pub fn field_name(fields: &[FieldName], number: u8) -> Option<&'static str>
-    ensures { option_map (λ name. name.now) result ≡ field_named (field_rows fields.now) number }
+    ensures named { option_map (λ name. name.now) result ≡ field_named (field_rows fields.now) number }
+    ensures short { are_short (field_rows fields.now) ≡ true → IfSome result (λ name. length name.now ≤ 30) }
 {
     match field_name_in(COMMON_FIELDS, number) {
         Some(name) => Some(name),

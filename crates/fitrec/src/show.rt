@@ -1,12 +1,14 @@
 // What a file says, as text.
 
 mod bytes;
+mod column;
 mod date;
 mod field;
 mod file;
 mod header;
 mod message;
 mod number;
+mod plan;
 
 pub use file::show;
 

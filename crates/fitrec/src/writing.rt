@@ -6,9 +6,11 @@ ghost use Rattle.fitrec.specs.declared.writing.TheConstants.{SIZE, ROOM};
 ghost use Rattle.fitrec.specs.Pen.{Written, Puts, Adds};
 
 mod decimal;
+mod label;
 
 use decimal::place_number;
 use fit_grammar::{WriteFailed, put};
+pub use label::{LABEL, Label};
 use std::fmt;
 use std::io::Write;
 use std::marker::Model;
@@ -99,6 +101,19 @@ impl<'a, W: Write> Pen<'a, W> {
         self.len = end;
     }
 
+    /// A label, where there is room for the longest.
+    #[inline]
+    pub fn add_label(&mut self, label: &Label)
+        requires { length self.old.waiting + 32 ≤ SIZE }
+        ensures label { Adds self.old self.new label.now }
+        ensures short { length label.now ≤ 32 }
+    {
+        // A copy of a known length is one or two moves. What stands behind the label is written over later.
+        let whole = label.bytes;
+        self.bytes[self.len..self.len + LABEL].copy_from_slice(&whole);
+        self.len += label.len;
+    }
+
     /// A number in decimal, for which there is room.
     #[inline]
     pub fn add_number(&mut self, number: u64)
@@ -162,3 +177,6 @@ impl<W: Write> fmt::Write for Pen<'_, W> {
         self.put(text.as_bytes()).map_err(|_| fmt::Error)
     }
 }
+
+#[cfg(test)]
+mod tests;

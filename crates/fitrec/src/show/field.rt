@@ -52,8 +52,8 @@ fn put_field_name<W: Write>(
     }
 }
 
-// A date, where a field of this number is shown as one, or what it holds.
-fn put_shown<W: Write>(
+/// A date, where a field of this number is shown as one, or what it holds.
+pub fn put_shown<W: Write>(
     pen: &mut Pen<'_, W>,
     dates: &[u8],
     number: u8,

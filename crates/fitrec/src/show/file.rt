@@ -1,6 +1,6 @@
 // A whole file.
 
-ghost use Rattle.std.specs.Prelude.{◌≡◌, ◌<◌, ◌^◌, [], length, IfOk};
+ghost use Rattle.std.specs.Prelude.{◌≡◌, ◌<◌, ◌^◌, ◌%◌, [], length, IfOk};
 ghost use Rattle.fit_grammar.specs.Format.Message.{messages_of};
 ghost use Rattle.fit_grammar.specs.Calls.Output.{WritesText};
 ghost use Rattle.fitrec.specs.Pen.{Puts};
@@ -8,8 +8,9 @@ ghost use Rattle.fitrec.specs.Text.{messages_text, text_of};
 
 use crate::show::header::{put_header, put_labelled};
 use crate::show::message::put_message;
+use crate::show::plan::Plan;
 use crate::writing::Pen;
-use fit_grammar::{File, WriteFailed};
+use fit_grammar::{File, FileItem, WriteFailed};
 use std::io::Write;
 
 /// Why a file was not shown.
@@ -72,10 +73,34 @@ fn put_messages<W: Write>(pen: &mut Pen<'_, W>, utc: bool, file: &File) -> Resul
     ensures text { Puts pen.old pen.new result (messages_text utc (messages_of file.now.items)) }
     ensures count { IfOk result (λ count. count ≡ length (messages_of file.now.items)) }
 {
+    let mut plans = [
+        Plan::new(utc),
+        Plan::new(utc),
+        Plan::new(utc),
+        Plan::new(utc),
+    ];
     let mut number = 0;
-    for message in file.messages() {
-        put_message(pen, utc, number, &message)?;
-        number += 1;
+    for item in file.items() {
+        match item {
+            FileItem::Definition(definition) => {
+                let plan = &mut plans[slot_of(definition.local())];
+                plan.forget();
+                continue;
+            }
+            FileItem::Data(message, time) => {
+                let plan = &mut plans[slot_of(message.local)];
+                plan.settle(message.local, &message.definition);
+                put_message(pen, plan, number, &message, time)?;
+                number += 1;
+            }
+        }
     }
     Ok(number)
+}
+
+// The place of the plan for this local number: several of them share one.
+fn slot_of(local: u8) -> usize
+    ensures { result ≡ local % 4 }
+{
+    usize::from(local % 4)
 }

@@ -1,72 +1,66 @@
 // The line of a message.
 
-ghost use Rattle.std.specs.Prelude.{◌++◌, decimal, codes};
-ghost use Rattle.fitrec.specs.Pen.{Puts};
+ghost use Rattle.std.specs.Prelude.{◌≡◌, length, option_map};
 ghost use Rattle.std.specs.List.{flat_map};
+ghost use Rattle.fit_grammar.specs.Format.Message.{message_under, time_fields};
+ghost use Rattle.fitrec.specs.Pen.{Puts};
+ghost use Rattle.fitrec.specs.Plan.{IsPlanOf};
 ghost use Rattle.fitrec.specs.Profile.{field_rows};
-ghost use Rattle.fitrec.specs.Text.{field_text, message_name, message_text};
+ghost use Rattle.fitrec.specs.Text.{field_text, message_text};
 
-use crate::profile::{self, FieldName};
-use crate::show::date::dates_of;
+use crate::profile::FieldName;
+use crate::show::column::put_columns;
 use crate::show::field::put_field;
+use crate::show::plan::Plan;
 use crate::writing::Pen;
-use fit_grammar::{Fields, Message, WriteFailed};
+use fit_base::{Arch, BaseType, FieldValue};
+use fit_grammar::{DataMessage, WriteFailed};
 use std::io::Write;
 
-/// The line of a message: its number, its name and its fields, with times as dates or as they are.
+// The field that holds the time of a compressed timestamp.
+const TIMESTAMP: u8 = 253;
+
+/// The line of a message: its number, its name, the time of its compressed timestamp, if it has one, and its fields.
 pub fn put_message<W: Write>(
     pen: &mut Pen<'_, W>,
-    utc: bool,
+    plan: &Plan,
     number: u64,
-    message: &Message<'_>,
+    message: &DataMessage<'_>,
+    time: Option<u32>,
 ) -> Result<(), WriteFailed>
-    ensures { Puts pen.old pen.new result (message_text utc number message.now.message) }
+    requires { IsPlanOf message.now.definition plan.now }
+    ensures { Puts pen.old pen.new result
+        (message_text plan.now.utc number (message_under message.now.definition time message.now.content.now)) }
 {
-    let global = message.global();
-    put_start(pen, number, global)?;
-    put_fields(
+    pen.room()?;
+    pen.add_number(number);
+    pen.add_label(&plan.name);
+    put_time(pen, plan.names, plan.dates, time)?;
+    put_columns(
         pen,
-        profile::fields_of(global),
-        dates_of(utc, global),
-        message.fields(),
+        plan.dates,
+        plan.arch,
+        plan.columns.as_slice(),
+        message.content,
     )?;
     pen.put(b"\n")
 }
 
-// The fields of a message, whose names are among these. Those of some numbers are shown as dates.
-fn put_fields<W: Write>(
+// The time of a compressed timestamp, if there is one.
+fn put_time<W: Write>(
     pen: &mut Pen<'_, W>,
     names: &[FieldName],
     dates: &[u8],
-    fields: Fields<'_>,
+    time: Option<u32>,
 ) -> Result<(), WriteFailed>
-    ensures { Puts pen.old pen.new result
-        (flat_map (field_text (field_rows names.now) dates.now) fields.entry) }
+    ensures { Puts pen.old pen.new result (flat_map (field_text (field_rows names.now) dates.now) (time_fields time)) }
 {
-    for field in fields {
-        put_field(pen, names, dates, field.number, &field.value)?;
-    }
-    Ok(())
-}
-
-// The number of a message and its name.
-fn put_start<W: Write>(pen: &mut Pen<'_, W>, number: u64, global: u16) -> Result<(), WriteFailed>
-    ensures { Puts pen.old pen.new result
-        (decimal number ++ codes " " ++ message_name global) }
-{
-    pen.put_number(number)?;
-    pen.put(b" ")?;
-    put_message_name(pen, global)
-}
-
-fn put_message_name<W: Write>(pen: &mut Pen<'_, W>, global: u16) -> Result<(), WriteFailed>
-    ensures { Puts pen.old pen.new result (message_name global) }
-{
-    match profile::message_name(global) {
-        Some(name) => pen.put(name.as_bytes()),
-        None => {
-            pen.put(b"message_")?;
-            pen.put_number(u64::from(global))
+    match time {
+        None => Ok(()),
+        Some(time) => {
+            let bytes = time.to_le_bytes();
+            let value = FieldValue::new(BaseType::Uint32.code(), Arch::Little, &bytes);
+            put_field(pen, names, dates, TIMESTAMP, &value)
         }
     }
 }

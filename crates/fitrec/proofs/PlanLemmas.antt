@@ -1,0 +1,371 @@
+-- What a plan shows is what the text of a message says: for `show/plan` and `show/column`.
+use Rattle.std.proofs.lemmas.List.{get_or-set_same, get_or-set_other}
+use Rattle.fit_grammar.specs.Format.Item.{Defines}
+use Rattle.fit_grammar.specs.Calls.Table.{behind}
+use Rattle.std.proofs.Common.{set, eq-zero-or-pos, zero, ◌⊎◌, ◌≡◌, ◌≢◌, ℕ, suc, ◌+◌, ◌-◌, ◌*◌, ◌/◌, ◌%◌, ◌^◌, ◌<◌, ◌≤◌, ◌==◌, Bool, true, false, List, [], ◌∷◌, ◌++◌, length, get_or, take, drop, sum_by, append_assoc, pos, ◌-ℤ◌, refl, sym, ap, ◌∙◌, inl, inr, append-nil, eq-eqb, nat_lt, ltb, codes, decimal, Option, Some, None, arith, rules, subst, if◌then◌else◌}
+use Rattle.std.proofs.lemmas.Bool.{lt-ltb}
+use Rattle.std.proofs.lemmas.Grind.{flat_map-append}
+use Rattle.std.proofs.lemmas.List.{take_all}
+use Rattle.std.specs.Fmt.{signed_decimal}
+use Rattle.std.specs.List.{list_any, flat_map}
+use Rattle.fit_base.specs.declared.order.Arch.{Arch}
+use Rattle.fit_base.specs.declared.base.BaseType.{BaseType}
+use Rattle.fit_base.specs.declared.base.BaseType.TheVariants.{Sint8, Sint16, Uint16, Sint32, Uint32, Float32, Float64, Uint16z, Uint32z}
+use Rattle.std.specs.Int.{to_le_bytes, w32}
+use Rattle.std.proofs.lemmas.List.Sums.{sum_by-cons}
+use Rattle.fit_base.specs.declared.order.Arch.TheVariants.{Little}
+use Rattle.fit_base.specs.Number.{number, low_first}
+use Rattle.fit_base.specs.Base.{row_of, base_type, has_sign}
+use Rattle.fit_base.specs.Value.{Field, values_of, Numbers, IsValueSize, raw_by, size_by, value_size, count_of, numbers}
+use Rattle.fitrec.specs.declared.show.plan.Kind.{Kind}
+use Rattle.fitrec.specs.declared.show.plan.Kind.TheVariants.{Unsigned, Signed, Other}
+use Rattle.fitrec.specs.declared.show.plan.Column.{Column}
+use Rattle.fitrec.specs.declared.show.plan.Plan.{Plan}
+use Rattle.fit_grammar.specs.declared.definition.Definition.{Definition}
+use Rattle.fit_grammar.specs.declared.definition.FieldDefinition.{FieldDefinition}
+use Rattle.fit_grammar.specs.Format.Message.{MessageField, fields_of, time_fields, message_under}
+use Rattle.fit_grammar.specs.Format.Item.{content_size}
+use Rattle.fitrec.specs.Date.{dates_of}
+use Rattle.fitrec.specs.Profile.{FieldNames, field_rows, names_of_fields}
+use Rattle.fitrec.specs.Plan.{field_at, shown_at, whole_of, ShowsWhole, IsKind, IsWholeOf, IsKindOf, column_text, columns_text, IsColumn, AreColumns, HaveKinds, IsPlanOf, ArePlansFor, ShowDates}
+use Rattle.fitrec.specs.Text.{IsNumber, plain_text, number_text, numbers_text, message_name, field_name, field_text, message_text}
+use Rattle.fitrec.proofs.FieldLemmas.{number_values}
+use Rattle.fitrec.proofs.TextLemmas.{plain_whole, plain_signed, whole_unsigned, whole_signed}
+
+-- ---- one number of a type
+
+without_sign : (type : BaseType) (n : ℕ) → has_sign type ≡ false → type ≢ Float32 → type ≢ Float64 → decimal n ≡ plain_text type n
+without_sign type n e no_32 no_64 = whole_unsigned type n e ∙ plain_whole type n no_32 no_64
+
+unsigned_shows : (type : BaseType) (invalid n : ℕ) → invalid ≡ (row_of type).invalid → has_sign type ≡ false → type ≢ Float32 →
+    type ≢ Float64 → whole_of (Unsigned invalid) n ≡ number_text type n
+unfolding number_text
+unsigned_shows type invalid n is e no_32 no_64 =
+    rw is (ap (λ t. if n == (row_of type).invalid then codes "-" else t) (without_sign type n e no_32 no_64))
+
+-- a type without a sign that is no float
+pub unsigned_kind : (type : BaseType) (invalid : ℕ) → invalid ≡ (row_of type).invalid → IsNumber type → has_sign type ≡ false →
+    type ≢ Float32 → type ≢ Float64 → IsWholeOf type (Unsigned invalid)
+unsigned_kind type invalid is numbers e no_32 no_64 =
+    record { numbers = numbers; shows = λ n fits. unsigned_shows type invalid n is e no_32 no_64 }
+
+-- a number past the half is below zero
+below_zero : (m n : ℕ) → n < suc m → 45 ∷ decimal (suc m - n) ≡ signed_decimal (pos n -ℤ pos (suc m))
+below_zero m n h =
+    let t : ltb n (suc m) ≡ true = lt-ltb n (suc m) h in
+    let e : suc m - n ≡ suc (suc m - suc n) = omega arith in
+    rw t (ap (λ k. 45 ∷ decimal k) e)
+
+by_sign : (b : Bool) (m n : ℕ) → n < suc m →
+    (if b then decimal n else 45 ∷ decimal (suc m - n)) ≡ signed_decimal (if b then pos n else pos n -ℤ pos (suc m))
+by_sign true m n h = refl
+by_sign false m n h = below_zero m n h
+
+signed_shows : (type : BaseType) (n : ℕ) → has_sign type ≡ true → n < 256 ^ (row_of type).size →
+    whole_of (Signed (row_of type).invalid) n ≡ number_text type n
+unfolding number_text
+signed_shows Sint8 n e h =
+    ap (λ t. if n == 127 then codes "-" else t) (by_sign (nat_lt n 128) 255 n h ∙ whole_signed Sint8 n refl ∙ plain_signed Sint8 n refl)
+signed_shows Sint16 n e h =
+    ap (λ t. if n == 32767 then codes "-" else t)
+    (by_sign (nat_lt n 32768) 65535 n h ∙ whole_signed Sint16 n refl ∙ plain_signed Sint16 n refl)
+signed_shows Sint32 n e h =
+    ap (λ t. if n == 2147483647 then codes "-" else t)
+    (by_sign (nat_lt n 2147483648) 4294967295 n h ∙ whole_signed Sint32 n refl ∙ plain_signed Sint32 n refl)
+signed_shows type n e h = cc
+
+signed_limit : (type : BaseType) → has_sign type ≡ true → 256 ^ (row_of type).size ≡ 2 * (row_of type).invalid + 2
+signed_limit Sint8 e = refl
+signed_limit Sint16 e = refl
+signed_limit Sint32 e = refl
+signed_limit type e = cc
+
+-- a type with a sign
+pub signed_kind : (type : BaseType) (invalid : ℕ) → invalid ≡ (row_of type).invalid → IsNumber type → has_sign type ≡ true →
+    IsWholeOf type (Signed invalid) × (256 ^ (row_of type).size ≡ 2 * invalid + 2)
+signed_kind type invalid is numbers e =
+    rw is (record { numbers = numbers; shows = λ n fits. signed_shows type n e fits }, signed_limit type e)
+
+-- ---- a field of one value
+
+one_count : (type : BaseType) (n : ℕ) → n ≡ (row_of type).size → (n % (row_of type).size ≡ 0) × (n / (row_of type).size ≡ 1)
+one_count Float64 n e = (omega arith, omega arith)
+one_count _ n e = (omega arith, omega arith)
+
+value_size_of : (type : BaseType) → IsValueSize (row_of type).size
+value_size_of Sint16 = inr (inl refl)
+value_size_of Uint16 = inr (inl refl)
+value_size_of Uint16z = inr (inl refl)
+value_size_of Sint32 = inr (inr (inl refl))
+value_size_of Uint32 = inr (inr (inl refl))
+value_size_of Uint32z = inr (inr (inl refl))
+value_size_of Float32 = inr (inr (inl refl))
+value_size_of Float64 = inr (inr (inr refl))
+value_size_of _ = inl refl
+
+abbrev count_by : Option BaseType → List ℕ → ℕ
+count_by o bytes = if raw_by o (length bytes) then 0 else length bytes / size_by o
+
+one_of_type : (type : BaseType) (bytes : List ℕ) → length bytes ≡ (row_of type).size → count_by (Some type) bytes ≡ 1
+one_of_type type bytes e =
+    let counted = one_count type (length bytes) e in
+    let rest : (length bytes % (row_of type).size == 0) ≡ true = eq-eqb _ _ counted.0 in
+    rw (rest, counted.1) refl
+
+one_number : (type : BaseType) (arch : Arch) (bytes : List ℕ) → length bytes ≡ (row_of type).size →
+    numbers arch (size_by (Some type)) (count_by (Some type) bytes) bytes ≡ number arch bytes ∷ []
+one_number type arch bytes e =
+    rw (one_of_type type bytes e) (ap (λ t. number arch t ∷ []) (take_all (row_of type).size bytes (omega (arith, e))))
+
+one_text : (type : BaseType) (n : ℕ) → number_text type n ≡ numbers_text type (n ∷ [])
+unfolding numbers_text
+one_text type n = sym (append-nil (number_text type n))
+
+-- a field with one value, which is no date, shows it
+one_shown : (dates : List ℕ) (n base : ℕ) (arch : Arch) (bytes : List ℕ) (type : BaseType) →
+    list_any (λ date. date == n) dates ≡ false → base_type base ≡ Some type → IsNumber type → length bytes ≡ (row_of type).size →
+    number_text type (number arch bytes) ≡ shown_at dates n base arch bytes
+one_shown dates n base arch bytes type no_date known is e =
+    let field : Field = record { base = base; arch = arch; bytes = bytes } in
+    let P : Option BaseType → List ℕ = λ o. numbers arch (size_by o) (count_by o bytes) bytes in
+    let one : numbers arch (value_size field) (count_of field) bytes ≡ number arch bytes ∷ [] = ap P known ∙ one_number type arch bytes e in
+    let some : count_of field ≡ 1 = ap (λ o. count_by o bytes) known ∙ one_of_type type bytes e in
+    rw no_date
+    (one_text type (number arch bytes) ∙ ap (numbers_text type) (sym one) ∙ number_values field type known is (λ none. omega (arith, some, none)))
+
+-- the fields of a type of whole numbers, of the size of one
+pub shows_whole : (dates : List ℕ) (n base size : ℕ) (type : BaseType) (kind : Kind) →
+    list_any (λ date. date == n) dates ≡ false → base_type base ≡ Some type → size ≡ (row_of type).size → IsWholeOf type kind →
+    ShowsWhole dates n base size kind
+shows_whole dates n base size type kind no_date known e h =
+    rw e (record {
+      sized = value_size_of type;
+      shows = λ arch bytes one fits. h.shows (number arch bytes) fits ∙ one_shown dates n base arch bytes type no_date known h.numbers one;
+    })
+
+-- the kind of a field by that of its type
+pub kind_shows : (dates : List ℕ) (n base size : ℕ) (type : BaseType) (kind : Kind) →
+    list_any (λ date. date == n) dates ≡ false → base_type base ≡ Some type → size ≡ (row_of type).size → IsKindOf type kind →
+    IsKind dates n base size kind
+kind_shows dates n base size type (Unsigned invalid) no_date known e h = shows_whole dates n base size type (Unsigned invalid) no_date known e h
+kind_shows dates n base size type (Signed invalid) no_date known e h =
+    (shows_whole dates n base size type (Signed invalid) no_date known e h.0, ap (λ s. 256 ^ s) e ∙ h.1)
+kind_shows dates n base size type Other no_date known e h = tt
+
+-- ---- columns
+
+pub columns_length : (names : FieldNames) (dates : List ℕ) (fields : List FieldDefinition) (columns : List Column) →
+    AreColumns names dates fields columns → length columns ≡ length fields
+columns_length names dates [] [] h = refl
+columns_length names dates [] (column ∷ columns) h = absurd h
+columns_length names dates (field ∷ fields) [] h = absurd h
+columns_length names dates (field ∷ fields) (column ∷ columns) h = ap (λ n. suc n) (columns_length names dates fields columns h.1)
+
+-- the fields that are left, behind those that have columns
+pub left_over : (done fields : List FieldDefinition) (all : List FieldDefinition) → all ≡ done ++ fields → length fields < 1 → all ≡ done
+left_over done [] all e lt = e ∙ append-nil done
+left_over done (field ∷ fields) all e lt = absurd (omega arith)
+
+-- the next of them
+pub next_field : (done fields : List FieldDefinition) (all : List FieldDefinition) (d : FieldDefinition) → all ≡ done ++ fields →
+    1 ≤ length fields → all ≡ (done ++ get_or fields 0 d ∷ []) ++ take (length fields - 1) (drop 1 fields)
+next_field done [] all d e lt = absurd (omega arith)
+next_field done (field ∷ fields) all d e lt =
+    let rest : take (length (field ∷ fields) - 1) fields ≡ fields = take_all _ fields (omega arith) in
+    rw (rest, append_assoc) e
+
+-- the column of a field more
+pub columns_more : (names : FieldNames) (dates : List ℕ) (fields : List FieldDefinition) (columns : List Column) (field : FieldDefinition)
+    (column : Column) → AreColumns names dates fields columns → IsColumn names dates field column →
+    AreColumns names dates (fields ++ field ∷ []) (columns ++ column ∷ [])
+columns_more names dates [] [] field column h k = (k, tt)
+columns_more names dates [] (c ∷ columns) field column h k = absurd h
+columns_more names dates (f ∷ fields) [] field column h k = absurd h
+columns_more names dates (f ∷ fields) (c ∷ columns) field column h k =
+    (h.0, columns_more names dates fields columns field column h.1 k)
+
+-- the text of columns is that of their fields
+column_shows : (names : FieldNames) (dates : List ℕ) (arch : Arch) (field : FieldDefinition) (column : Column) (bytes : List ℕ) →
+    IsColumn names dates field column →
+    column_text dates arch column bytes ≡ field_text names dates (field_at field.number field.base arch bytes)
+column_shows names dates arch field column bytes h =
+    ap (λ t. t ++ shown_at dates column.number column.base arch bytes) h.label
+    ∙ ap (λ n. codes " " ++ field_name names field.number ++ codes "=" ++ shown_at dates n column.base arch bytes) h.number
+    ∙ ap (λ b. codes " " ++ field_name names field.number ++ codes "=" ++ shown_at dates field.number b arch bytes) h.base
+
+pub columns_show : (names : FieldNames) (dates : List ℕ) (arch : Arch) (fields : List FieldDefinition) (columns : List Column)
+    (content : List ℕ) → AreColumns names dates fields columns →
+    columns_text dates arch columns content ≡ flat_map (field_text names dates) (fields_of arch fields content)
+columns_show names dates arch [] [] content h = refl
+columns_show names dates arch [] (column ∷ columns) content h = absurd h
+columns_show names dates arch (field ∷ fields) [] content h = absurd h
+columns_show names dates arch (field ∷ fields) (column ∷ columns) content h =
+    let size : column.size ≡ field.size = h.0.size in
+    rw (
+      size,
+      column_shows names dates arch field column (take field.size content) h.0,
+      columns_show names dates arch fields columns (drop field.size content) h.1,
+    ) refl
+
+pub columns_kinds : (names : FieldNames) (dates : List ℕ) (fields : List FieldDefinition) (columns : List Column) →
+    AreColumns names dates fields columns → HaveKinds dates columns
+columns_kinds names dates [] [] h = tt
+columns_kinds names dates [] (column ∷ columns) h = absurd h
+columns_kinds names dates (field ∷ fields) [] h = absurd h
+columns_kinds names dates (field ∷ fields) (column ∷ columns) h = (h.0.kind, columns_kinds names dates fields columns h.1)
+
+pub columns_size : (names : FieldNames) (dates : List ℕ) (fields : List FieldDefinition) (columns : List Column) →
+    AreColumns names dates fields columns → sum_by (λ c. c.size) columns ≡ sum_by (λ f. f.size) fields
+columns_size names dates [] [] h = refl
+columns_size names dates [] (column ∷ columns) h = absurd h
+columns_size names dates (field ∷ fields) [] h = absurd h
+columns_size names dates (field ∷ fields) (column ∷ columns) h =
+    let rest = columns_size names dates fields columns h.1 in
+    omega (arith, rest, h.0.size, sum_by-cons (λ (c : Column). c.size) column columns, sum_by-cons (λ (f : FieldDefinition). f.size) field fields)
+
+-- ---- the first of several columns, and the others
+
+abbrev others : List Column → List Column
+others columns = take (length columns - 1) (drop 1 columns)
+
+pub first_size : (columns : List Column) (column : Column) → 1 ≤ length columns → column ≡ get_or columns 0 column →
+    sum_by (λ c. c.size) columns ≡ column.size + sum_by (λ c. c.size) (others columns)
+first_size [] column some is = absurd (omega arith)
+first_size (c ∷ columns) column some is =
+    let rest : others (c ∷ columns) ≡ columns = take_all _ columns (omega arith) in
+    rw (is, rest) (sum_by-cons (λ (c : Column). c.size) c columns)
+
+pub other_kinds : (dates : List ℕ) (columns : List Column) → 1 ≤ length columns → HaveKinds dates columns → HaveKinds dates (others columns)
+other_kinds dates [] some h = absurd (omega arith)
+other_kinds dates (c ∷ columns) some h =
+    let rest : others (c ∷ columns) ≡ columns = take_all _ columns (omega arith) in rw rest h.1
+
+pub first_text : (dates : List ℕ) (arch : Arch) (columns : List Column) (column : Column) (content bytes behind : List ℕ) (n : ℕ) →
+    1 ≤ length columns → column ≡ get_or columns 0 column → bytes ≡ take n content → behind ≡ drop n content → n ≡ column.size →
+    columns_text dates arch columns content ≡ column_text dates arch column bytes ++ columns_text dates arch (others columns) behind
+first_text dates arch [] column content bytes behind n some is front back size = absurd (omega arith)
+first_text dates arch (c ∷ columns) column content bytes behind n some is front back size =
+    let rest : others (c ∷ columns) ≡ columns = take_all _ columns (omega arith) in rw (front, back, size, is, rest) refl
+
+pub no_column : (dates : List ℕ) (arch : Arch) (columns : List Column) (content : List ℕ) → length columns < 1 →
+    columns_text dates arch columns content ≡ []
+no_column dates arch [] content none = refl
+no_column dates arch (column ∷ columns) content none = absurd (omega arith)
+
+-- ---- the line of a message
+
+line_parts : (number name times fields : List ℕ) →
+    (number ++ (codes " " ++ name)) ++ (times ++ (fields ++ codes "\n")) ≡ number ++ codes " " ++ name ++ (times ++ fields) ++ codes "\n"
+line_parts number name times fields = simp append_assoc
+
+-- the parts of the line, in their order
+pub plan_text : (number : ℕ) (d : Definition) (time : Option ℕ) (content : List ℕ) (plan : Plan) → IsPlanOf d plan →
+    (decimal number ++ plan.name)
+    ++ (flat_map (field_text (field_rows plan.names.now) plan.dates.now) (time_fields time)
+    ++ (columns_text plan.dates.now plan.arch plan.columns.items content ++ codes "\n"))
+    ≡ message_text plan.utc number (message_under d time content)
+plan_text number d time content plan h =
+    let names = names_of_fields d.global in
+    let dates = dates_of plan.utc d.global in
+    let texts = flat_map-append (field_text names dates) (time_fields time) (fields_of d.arch d.fields.items content) in
+    rw (h.names, h.dates, h.arch, h.name, columns_show names dates d.arch d.fields.items plan.columns.items content h.columns)
+    (line_parts (decimal number) (message_name d.global) _ _
+    ∙ ap (λ t. decimal number ++ codes " " ++ message_name d.global ++ t ++ codes "\n") (sym texts))
+
+pub plan_kinds : (d : Definition) (plan : Plan) → IsPlanOf d plan → HaveKinds plan.dates.now plan.columns.items
+plan_kinds d plan h = rw h.dates (columns_kinds (names_of_fields d.global) (dates_of plan.utc d.global) d.fields.items plan.columns.items h.columns)
+
+pub plan_size : (d : Definition) (plan : Plan) → IsPlanOf d plan → sum_by (λ c. c.size) plan.columns.items ≡ content_size d
+plan_size d plan h = columns_size (names_of_fields d.global) (dates_of plan.utc d.global) d.fields.items plan.columns.items h.columns
+
+-- the field of a compressed timestamp
+pub time_shown : (F : MessageField → List ℕ) (value : Field) (base time : ℕ) (bytes : List ℕ) →
+    value ≡ record { base = base; arch = Little; bytes = bytes } → bytes ≡ to_le_bytes w32 time → base ≡ 0x86 → time < 2 ^ 32 →
+    F (record { number = 253; base = value.base; values = values_of value }) ≡ flat_map F (time_fields (Some time))
+time_shown F value base time bytes is are known fits =
+    let all : low_first (to_le_bytes w32 time) ≡ time = omega arith in
+    rw (is, are, known) (ap (λ n. F (record { number = 253; base = 0x86; values = Numbers (n ∷ []) })) all ∙ sym (append-nil _))
+
+-- ---- plans, each at the place of its local number
+
+same_or_not : (a b : ℕ) → (a ≡ b) ⊎ (a ≢ b)
+same_or_not a b =
+    elim (eq-zero-or-pos ((a - b) + (b - a))) [
+      | inl none ↦ inl (omega arith)
+      | inr some ↦ inr (λ e. omega (arith, some, e))
+    ]
+
+one_of_four : {X : Type 0} (F : Plan → X) (x : X) (a b c d plan : Plan) (i : ℕ) → i < 4 → F a ≡ x → F b ≡ x → F c ≡ x → F d ≡ x →
+    plan ≡ get_or (a ∷ b ∷ c ∷ d ∷ []) i plan → F plan ≡ x
+one_of_four F x a b c d plan zero lt ha hb hc hd same = ap F same ∙ ha
+one_of_four F x a b c d plan (suc zero) lt ha hb hc hd same = ap F same ∙ hb
+one_of_four F x a b c d plan (suc (suc zero)) lt ha hb hc hd same = ap F same ∙ hc
+one_of_four F x a b c d plan (suc (suc (suc zero))) lt ha hb hc hd same = ap F same ∙ hd
+one_of_four F x a b c d plan (suc (suc (suc (suc i)))) lt ha hb hc hd same = absurd (omega arith)
+
+pub new_plans : (definition_for : ℕ → Option Definition) (a b c d : Plan) → a.local ≡ None → b.local ≡ None → c.local ≡ None → d.local ≡ None →
+    ArePlansFor definition_for (a ∷ b ∷ c ∷ d ∷ [])
+new_plans definition_for a b c d ha hb hc hd local definition plan same is there =
+    let none : plan.local ≡ None = one_of_four (λ p. p.local) None a b c d plan (local % 4) (omega arith) ha hb hc hd same in
+    cc
+
+pub new_dates : (utc : Bool) (a b c d : Plan) → a.utc ≡ utc → b.utc ≡ utc → c.utc ≡ utc → d.utc ≡ utc → ShowDates utc (a ∷ b ∷ c ∷ d ∷ [])
+new_dates utc a b c d ha hb hc hd i plan lt same = one_of_four (λ p. p.utc) utc a b c d plan i lt ha hb hc hd same
+
+-- a definition makes the plan at its place one of none
+pub plans_forget : (definition_for : ℕ → Option Definition) (d : Definition) (plans : List Plan) (k : ℕ) (changed : Plan) →
+    length plans ≡ 4 → k ≡ d.local % 4 → changed.local ≡ None → ArePlansFor definition_for plans →
+    ArePlansFor (behind (Defines d) definition_for) (set plans k changed)
+plans_forget definition_for d plans k changed many place none h local definition plan same is there =
+    elim (same_or_not (local % 4) k) [
+      | inl here ↦
+          let inside : k < length plans = omega arith in
+          let at : plan ≡ changed = same ∙ ap (λ i. get_or (set plans k changed) i plan) here ∙ get_or-set_same plans k changed plan inside in
+          let gone : plan.local ≡ None = ap (λ p. p.local) at ∙ none in
+          cc
+      | inr other ↦
+          let apart : d.local ≢ local = λ e. other (ap (λ l. l % 4) (sym e) ∙ sym place) in
+          let no : (d.local == local) ≡ false = search rules in
+          h local definition plan (same ∙ get_or-set_other plans k (local % 4) changed plan other) is (rw no at there)
+    ]
+
+-- a plan that was settled
+pub plans_settle : (definition_for : ℕ → Option Definition) (own : ℕ) (d : Definition) (plans : List Plan) (k : ℕ) (changed : Plan) →
+    length plans ≡ 4 → k ≡ own % 4 → changed.local ≡ Some own → definition_for own ≡ Some d → IsPlanOf d changed →
+    ArePlansFor definition_for plans → ArePlansFor definition_for (set plans k changed)
+plans_settle definition_for own d plans k changed many place has found good h local definition plan same is there =
+    elim (same_or_not (local % 4) k) [
+      | inl here ↦
+          let inside : k < length plans = omega arith in
+          let at : plan ≡ changed = same ∙ ap (λ i. get_or (set plans k changed) i plan) here ∙ get_or-set_same plans k changed plan inside in
+          let held : plan.local ≡ Some own = ap (λ p. p.local) at ∙ has in
+          let number : own ≡ local = cc in
+          let one : Some d ≡ Some definition = sym found ∙ ap definition_for number ∙ there in
+          let equal : d ≡ definition = cc in
+          let P : Definition → Type 0 = λ x. IsPlanOf x plan in
+          let Q : Plan → Type 0 = λ p. IsPlanOf d p in
+          subst P equal (subst Q (sym at) good)
+      | inr other ↦ h local definition plan (same ∙ get_or-set_other plans k (local % 4) changed plan other) is there
+    ]
+
+pub dates_set : (utc : Bool) (plans : List Plan) (k : ℕ) (changed : Plan) → length plans ≡ 4 → k < 4 → changed.utc ≡ utc → ShowDates utc plans →
+    ShowDates utc (set plans k changed)
+dates_set utc plans k changed many lt is h i plan inside same =
+    elim (same_or_not i k) [
+      | inl here ↦
+          let within : k < length plans = omega arith in
+          ap (λ p. p.utc) (same ∙ ap (λ j. get_or (set plans k changed) j plan) here ∙ get_or-set_same plans k changed plan within) ∙ is
+      | inr other ↦ h i plan inside (same ∙ get_or-set_other plans k i changed plan other)
+    ]
+
+pub dates_at : (utc : Bool) (plans : List Plan) (k : ℕ) (plan : Plan) → k < 4 → plan ≡ get_or plans k plan → ShowDates utc plans →
+    (get_or plans k plan).utc ≡ utc
+dates_at utc plans k plan lt is h = ap (λ p. p.utc) (sym is) ∙ h k plan lt is
+
+-- the plan at the place of a local number
+pub plan_at : (definition_for : ℕ → Option Definition) (local : ℕ) (d : Definition) (plans : List Plan) (k : ℕ) (plan : Plan) →
+    k ≡ local % 4 → plan ≡ get_or plans k plan → definition_for local ≡ Some d → ArePlansFor definition_for plans →
+    (get_or plans k plan).local ≡ Some local → IsPlanOf d (get_or plans k plan)
+plan_at definition_for local d plans k plan place is there h has =
+    let P : Plan → Type 0 = λ p. IsPlanOf d p in
+    subst P is (h local d plan (is ∙ ap (λ i. get_or plans i plan) place) (ap (λ p. p.local) is ∙ has) there)
