@@ -2,19 +2,18 @@
 use Rattle.std.proofs.Common.{◌≡◌, ℕ, zero, suc, ◌*◌, ◌/◌, ◌%◌, ◌<◌, ◌==◌, Bool, true, false, List, [], ◌++◌, length, refl, sym, ap, ◌∙◌, append_assoc, eq-eqb, codes, decimal, Option, Some, None, arith, if◌then◌else◌}
 use Rattle.std.proofs.lemmas.Bool.{eqb-true}
 use Rattle.std.proofs.lemmas.List.{nil_from_length}
-use Rattle.std.specs.List.{flat_map}
 use Rattle.fit_base.specs.declared.order.Arch.{Arch}
 use Rattle.fit_base.specs.declared.base.BaseType.{BaseType}
 use Rattle.fit_base.specs.declared.base.BaseType.TheVariants.{Enum, String, Byte}
 use Rattle.fit_base.specs.Base.{row_of, base_type}
 use Rattle.fit_base.specs.Value.{Field, Values, Numbers, Raw, raw_by, size_by, value_size, count_of, values_of, numbers}
 use Rattle.fit_grammar.specs.declared.file.frame.Frame.{Frame}
-use Rattle.fit_grammar.specs.Format.Message.{Message, MessageField, messages_of}
+use Rattle.fit_grammar.specs.Format.Message.{MessageField, messages_of}
 use Rattle.fit_grammar.specs.Format.Records.{data_size}
 use Rattle.fit_grammar.specs.Format.File.{FileValue}
-use Rattle.fitrec.specs.Date.{dates_of, date_in}
-use Rattle.fitrec.specs.Profile.{FieldNames, names_of_fields}
-use Rattle.fitrec.specs.Text.{hex_text, string_text, byte_text, numbers_text, IsNumber, some_text, values_text, named, field_name, shown_text, field_text, header_text, message_name, message_text, messages_text, text_of}
+use Rattle.fitrec.specs.Date.{date_in}
+use Rattle.fitrec.specs.Profile.{FieldNames}
+use Rattle.fitrec.specs.Text.{hex_text, string_text, byte_text, numbers_text, IsNumber, some_text, values_text, named, field_name, shown_text, field_text, header_text, messages_text, text_of}
 use Rattle.fitrec.proofs.TextLemmas.{hex_none, numbers_bytes, some_numbers}
 
 size_some : (type : BaseType) → 0 < (row_of type).size
@@ -108,7 +107,6 @@ is_number type no_string no_byte = tt
 pub no_name : (o : Option (List ℕ)) (word : List ℕ) (n number : ℕ) → None ≡ o → n ≡ number → word ++ decimal n ≡ named o word number
 no_name o word n number none e = rw (← none, e) refl
 
--- the type that a base type byte has
 -- the parts of a field's text, in their order
 pub field_parts : (names : FieldNames) (dates : List ℕ) (field : MessageField) →
     codes " " ++ (field_name names field.number ++ (codes "=" ++ shown_text (date_in dates field) field)) ≡ field_text names dates field
@@ -120,14 +118,6 @@ pub header_parts : (frame : Frame) (size a b c d e : ℕ) → a ≡ frame.header
     (codes "header " ++ decimal a) ++ ((codes " protocol " ++ decimal b) ++ ((codes "." ++ decimal c)
     ++ ((codes " profile " ++ decimal d) ++ ((codes " data " ++ decimal e) ++ codes "\n")))) ≡ header_text frame size
 header_parts frame size a b c d e is_a is_b is_c is_d is_e = rw (is_a, is_b, is_c, is_d, is_e) (simp append_assoc)
-
--- the parts of a message's line
-pub message_parts : (utc : Bool) (number : ℕ) (message : Message) (global : ℕ) (names : FieldNames) (dates : List ℕ)
-    (fields : List MessageField) → global ≡ message.global →
-    names ≡ names_of_fields global → dates ≡ dates_of utc global → fields ≡ message.fields →
-    (decimal number ++ codes " " ++ message_name global) ++ (flat_map (field_text names dates) fields ++ codes "\n") ≡ message_text utc number message
-message_parts utc number message global names dates fields is_global are_names are_dates are_fields =
-    rw (are_names, are_dates, is_global, are_fields) (simp append_assoc)
 
 regrouped : (a b c d e : List ℕ) → a ++ (b ++ ((c ++ d) ++ e)) ≡ a ++ b ++ c ++ d ++ e
 regrouped a b c d e = simp append_assoc
