@@ -31,24 +31,31 @@ with open(script, "w") as file:
 wrong = work / "wrong"
 wrong.write_bytes(script.read_bytes() + b"lap\n")
 
-# The least time on the clock of three runs, the peak of memory of all runs so far, and the folder of the last.
+# What the processor spent on all runs so far, and their peak of memory.
+def used():
+    usage = resource.getrusage(resource.RUSAGE_CHILDREN)
+    return usage.ru_utime + usage.ru_stime, usage.ru_maxrss * 1024
+
+# The least time of three runs, on the clock and of the processor, the peak of memory so far, and the folder of the last.
 def least(path, status, err):
-    spent = []
+    spent, busy = [], []
     for run in range(3):
         folder = work / f"{path.name}_{run}"
         folder.mkdir()
-        begun = time.monotonic()
+        before, begun = used()[0], time.monotonic()
         done = subprocess.run([program, "replay", path, folder], stdout=subprocess.DEVNULL, stderr=subprocess.PIPE, text=True)
         spent.append(time.monotonic() - begun)
+        busy.append(used()[0] - before)
         if (done.returncode, done.stderr) != (status, err):
             sys.exit(f"{path}: {done.returncode} {done.stderr}")
-    return min(spent), resource.getrusage(resource.RUSAGE_CHILDREN).ru_maxrss * 1024, folder
+    return min(spent), min(busy), used()[1], folder
 
 size, events = script.stat().st_size, SAMPLES + 2
 print(f"a script of {size / 1e6:.1f} MB with {events} events")
 for name, path, status, err in (("read", wrong, 1, f"fitrec: line {events + 1}: MissingWord\n"), ("replayed", script, 1, f"fitrec: {SAMPLES - TAKEN} refused\n")):
-    spent, peak, folder = least(path, status, err)
-    print(f"{name:9}{size / 1e6 / spent:6.1f} MB/s {events / spent:9.0f} events/s {spent:6.2f} s {peak / 1e6:6.1f} MB, {peak / size:.2f} of the script")
+    spent, busy, peak, folder = least(path, status, err)
+    print(f"{name:9}{size / 1e6 / spent:6.1f} MB/s {events / spent:9.0f} events/s {spent:6.2f} s, {busy:5.2f} s busy "
+          f"{peak / 1e6:6.1f} MB, {peak / size:.2f} of the script")
 begun = time.monotonic()
 done = subprocess.run([program, "repair", folder], capture_output=True, text=True)
 if not done.stdout.startswith(f"ok records={TAKEN} "):
