@@ -1,4 +1,4 @@
--- The shown text of a field, a message and a file, by their parts: for `show/field`, `show/message` and `show/file`.
+-- The shown text of a field and a file, by their parts: for `show/field` and `show/file`.
 use Rattle.std.proofs.Common.{◌≡◌, ℕ, zero, suc, ◌*◌, ◌/◌, ◌%◌, ◌<◌, ◌==◌, Bool, true, false, List, [], ◌++◌, length, refl, sym, ap, ◌∙◌, append_assoc, eq-eqb, codes, decimal, Option, Some, None, arith, if◌then◌else◌}
 use Rattle.std.proofs.lemmas.Bool.{eqb-true}
 use Rattle.std.proofs.lemmas.List.{nil_from_length}
@@ -8,12 +8,10 @@ use Rattle.fit_base.specs.declared.base.BaseType.TheVariants.{Enum, String, Byte
 use Rattle.fit_base.specs.Base.{row_of, base_type}
 use Rattle.fit_base.specs.Value.{Field, Values, Numbers, Raw, raw_by, size_by, value_size, count_of, values_of, numbers}
 use Rattle.fit_grammar.specs.declared.file.frame.Frame.{Frame}
-use Rattle.fit_grammar.specs.Format.Message.{MessageField, messages_of}
+use Rattle.fit_grammar.specs.Format.Message.{messages_of}
 use Rattle.fit_grammar.specs.Format.Records.{data_size}
 use Rattle.fit_grammar.specs.Format.File.{FileValue}
-use Rattle.fitrec.specs.Date.{date_in}
-use Rattle.fitrec.specs.Profile.{FieldNames}
-use Rattle.fitrec.specs.Text.{hex_text, string_text, byte_text, numbers_text, IsNumber, some_text, values_text, named, field_name, shown_text, field_text, header_text, messages_text, text_of}
+use Rattle.fitrec.specs.Text.{hex_text, string_text, byte_text, numbers_text, IsNumber, some_text, values_text, header_text, messages_text, text_of}
 use Rattle.fitrec.proofs.TextLemmas.{hex_none, numbers_bytes, some_numbers}
 
 size_some : (type : BaseType) → 0 < (row_of type).size
@@ -102,15 +100,6 @@ pub is_number : (type : BaseType) → (type ≡ String → ⊥) → (type ≡ By
 is_number String no_string no_byte = no_string refl
 is_number Byte no_string no_byte = no_byte refl
 is_number type no_string no_byte = tt
-
--- the word and the number in the place of a name
-pub no_name : (o : Option (List ℕ)) (word : List ℕ) (n number : ℕ) → None ≡ o → n ≡ number → word ++ decimal n ≡ named o word number
-no_name o word n number none e = rw (← none, e) refl
-
--- the parts of a field's text, in their order
-pub field_parts : (names : FieldNames) (dates : List ℕ) (field : MessageField) →
-    codes " " ++ (field_name names field.number ++ (codes "=" ++ shown_text (date_in dates field) field)) ≡ field_text names dates field
-field_parts names dates field = simp append_assoc
 
 -- the parts of a header's line
 pub header_parts : (frame : Frame) (size a b c d e : ℕ) → a ≡ frame.header_size → b ≡ frame.protocol / 16 → c ≡ frame.protocol % 16 →

@@ -1,4 +1,6 @@
 pub mod PenLemmas
+pub mod PrintLemmas
+pub mod DecimalLemmas
 pub mod NameLemmas
 pub mod PlanLemmas
 pub mod TextLemmas
@@ -7,3 +9,4 @@ pub mod ReadingLemmas
 pub mod ScriptLemmas
 pub mod DateLemmas
 pub mod RideLemmas
+pub mod ReplayLemmas

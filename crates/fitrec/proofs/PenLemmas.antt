@@ -14,10 +14,10 @@ use Rattle.fitrec.specs.Pen.{Written, Continues, Puts, Adds, Places}
 
 -- ---- one text behind another
 
-continues_none : (o : Written) → Continues o o []
+pub continues_none : (o : Written) → Continues o o []
 continues_none o = record { handed = []; split = append-nil o.waiting; appended = Appends-nil o.held }
 
-continues_then : (o m n : Written) (a b : List ℕ) → Continues o m a → Continues m n b → Continues o n (a ++ b)
+pub continues_then : (o m n : Written) (a b : List ℕ) → Continues o m a → Continues m n b → Continues o n (a ++ b)
 continues_then o m n a b h k = record {
   handed = h.handed ++ k.handed;
   split = sym (append_assoc o.waiting a b) ∙ ap (λ t. t ++ b) h.split ∙ append_assoc h.handed m.waiting b
@@ -71,6 +71,15 @@ puts_same {o = o} {n = n} {r = r} h e = let P : List ℕ → Type 0 = λ t. Puts
 -- nothing was put yet of no text
 pub puts_none : {T E : Type 0} (o : Written) (x : T) → Puts {E = E} o o (Ok x) []
 puts_none o x = record { same = refl; all = continues_none o; beginning = tt }
+
+-- nothing was put of no text, whatever came of it
+pub puts_nothing : {T E : Type 0} (o : Written) (r : Result T E) → Puts o o r []
+puts_nothing o (Ok x) = puts_none o x
+puts_nothing o (Err e) = record {
+  same = refl;
+  all = tt;
+  beginning = record { part = []; rest = o.waiting; split = append-nil o.waiting; appended = Appends-nil o.held };
+}
 
 -- the text waits behind what waited
 pub puts_waiting : {T E : Type 0} {o n : Written} {text : List ℕ} (x : T) → Adds o n text → Puts {E = E} o n (Ok x) text
@@ -198,15 +207,24 @@ places_same {old = old} {new = new} {at = at} {end = end} h e = let P : List ℕ
 abbrev waits_by : ℕ → Option (List ℕ) → List ℕ → Written
 waits_by name held waiting = record { name = name; held = held; waiting = waiting }
 
--- a label was placed whole, and as much as is its text counts
+-- a text was placed whole, and a part of it counts
+pub part_placed : (bytes placed : List ℕ) (at k n : ℕ) → at + length placed ≤ length bytes → n ≤ length placed →
+    take (at + n) (put_mid at k bytes placed) ≡ take at bytes ++ take n placed
+part_placed bytes placed at k n room part =
+    let front : length (take at bytes) ≡ at = length-take-le at bytes (omega arith) in
+    let whole : take (at + length placed) (put_mid at k bytes placed) ≡ take at bytes ++ placed =
+    take-put_mid at k bytes placed (at + length placed) refl (omega arith) in
+    let seam : take (at + n) (take at bytes ++ placed) ≡ take at bytes ++ take n placed = rw front at (take-append-add (take at bytes) placed n) in
+    sym (take-take (at + n) (at + length placed) (put_mid at k bytes placed) (omega arith)) ∙ ap (take (at + n)) whole ∙ seam
+
+-- as much of a label counts as is its text
 pub label_added : (name : ℕ) (held : Option (List ℕ)) (bytes placed label : List ℕ) (at k n : ℕ) → placed ≡ label → at + 32 ≤ length bytes →
     length label ≡ 32 → n ≤ 32 →
     Adds (record { name = name; held = held; waiting = take at bytes })
     (record { name = name; held = held; waiting = take (at + n) (put_mid at k bytes placed) }) (take n label)
 label_added name held bytes placed label at k n same room long few =
-    let whole : take (at + 32) (put_mid at k bytes placed) ≡ take at bytes ++ label =
-    take-put_mid at k bytes placed (at + 32) (omega (arith, ap length same)) (omega arith) ∙ ap (λ t. take at bytes ++ t) same in
-    let front : length (take at bytes) ≡ at = length-take-le at bytes (omega arith) in
-    let seam : take (at + n) (take at bytes ++ label) ≡ take at bytes ++ take n label = rw front at (take-append-add (take at bytes) label n) in
-    let text = sym (take-take (at + n) (at + 32) (put_mid at k bytes placed) (omega arith)) ∙ ap (take (at + n)) whole ∙ seam in
-    record { waits = ap (waits_by name held) text }
+    let whole : length placed ≡ 32 = ap length same ∙ long in
+    record {
+      waits = ap (waits_by name held)
+          (part_placed bytes placed at k n (omega (arith, whole)) (omega (arith, whole)) ∙ ap (λ t. take at bytes ++ take n t) same);
+    }

@@ -1,8 +1,12 @@
--- What a plan shows is what the text of a message says: for `show/plan` and `show/column`.
-use Rattle.std.proofs.lemmas.List.{get_or-set_same, get_or-set_other}
+-- What a plan shows is what the text of a message says: for `show/plan`, `show/plans`, `show/column` and `show/message`.
+use Rattle.std.proofs.lemmas.List.{get_or-set_same, get_or-set_other, get_or_past, drop-append-le, take-append-le, length-drop}
+use Rattle.std.specs.Array.{AllOfLen}
+use Rattle.arrayvec.specs.ArrayVec.{ArrayVec}
+use Rattle.std.specs.Prelude.{slice_range}
+use Rattle.std.proofs.lemmas.Bool.{cases_lt}
 use Rattle.fit_grammar.specs.Format.Item.{Defines}
 use Rattle.fit_grammar.specs.Calls.Table.{behind}
-use Rattle.std.proofs.Common.{set, eq-zero-or-pos, zero, ◌⊎◌, ◌≡◌, ◌≢◌, ℕ, suc, ◌+◌, ◌-◌, ◌*◌, ◌/◌, ◌%◌, ◌^◌, ◌<◌, ◌≤◌, ◌==◌, Bool, true, false, List, [], ◌∷◌, ◌++◌, length, get_or, take, drop, sum_by, append_assoc, pos, ◌-ℤ◌, refl, sym, ap, ◌∙◌, inl, inr, append-nil, eq-eqb, nat_lt, ltb, codes, decimal, Option, Some, None, arith, rules, subst, if◌then◌else◌}
+use Rattle.std.proofs.Common.{set, eq-zero-or-pos, ◌⊎◌, ◌≡◌, ◌≢◌, ℕ, suc, ◌+◌, ◌-◌, ◌*◌, ◌/◌, ◌%◌, ◌^◌, ◌<◌, ◌≤◌, ◌==◌, Bool, true, false, List, [], ◌∷◌, ◌++◌, length, get_or, take, drop, sum_by, append_assoc, pos, ◌-ℤ◌, refl, sym, ap, ◌∙◌, inl, inr, append-nil, eq-eqb, nat_lt, ltb, codes, decimal, Option, Some, None, IfSome, IsSome, length-append, length-set, arith, rules, if◌then◌else◌}
 use Rattle.std.proofs.lemmas.Bool.{lt-ltb}
 use Rattle.std.proofs.lemmas.Grind.{flat_map-append}
 use Rattle.std.proofs.lemmas.List.{take_all}
@@ -16,18 +20,19 @@ use Rattle.std.proofs.lemmas.List.Sums.{sum_by-cons}
 use Rattle.fit_base.specs.declared.order.Arch.TheVariants.{Little}
 use Rattle.fit_base.specs.Number.{number, low_first}
 use Rattle.fit_base.specs.Base.{row_of, base_type, has_sign}
-use Rattle.fit_base.specs.Value.{Field, values_of, Numbers, IsValueSize, raw_by, size_by, value_size, count_of, numbers}
+use Rattle.fit_base.specs.Value.{Field, IsValueSize, raw_by, size_by, value_size, count_of, numbers}
 use Rattle.fitrec.specs.declared.show.plan.Kind.{Kind}
 use Rattle.fitrec.specs.declared.show.plan.Kind.TheVariants.{Unsigned, Signed, Other}
 use Rattle.fitrec.specs.declared.show.plan.Column.{Column}
 use Rattle.fitrec.specs.declared.show.plan.Plan.{Plan}
+use Rattle.fitrec.specs.declared.show.plans.Plans.{Plans}
 use Rattle.fit_grammar.specs.declared.definition.Definition.{Definition}
 use Rattle.fit_grammar.specs.declared.definition.FieldDefinition.{FieldDefinition}
-use Rattle.fit_grammar.specs.Format.Message.{MessageField, fields_of, time_fields, message_under}
+use Rattle.fit_grammar.specs.Format.Message.{fields_of, time_field, time_fields, message_under}
 use Rattle.fit_grammar.specs.Format.Item.{content_size}
 use Rattle.fitrec.specs.Date.{dates_of}
-use Rattle.fitrec.specs.Profile.{FieldNames, field_rows, names_of_fields}
-use Rattle.fitrec.specs.Plan.{field_at, shown_at, whole_of, ShowsWhole, IsKind, IsWholeOf, IsKindOf, column_text, columns_text, IsColumn, AreColumns, HaveKinds, IsPlanOf, ArePlansFor, ShowDates}
+use Rattle.fitrec.specs.Profile.{FieldNames, names_of_fields}
+use Rattle.fitrec.specs.Plan.{field_at, shown_at, whole_of, ShowsWhole, IsKind, IsWholeOf, IsKindOf, time_definition, time_text, column_text, columns_text, IsColumn, AreColumns, HaveKinds, IsPlanOf, IsPlanIn, IsPlanAt, ArePlansFor}
 use Rattle.fitrec.specs.Text.{IsNumber, plain_text, number_text, numbers_text, message_name, field_name, field_text, message_text}
 use Rattle.fitrec.proofs.FieldLemmas.{number_values}
 use Rattle.fitrec.proofs.TextLemmas.{plain_whole, plain_signed, whole_unsigned, whole_signed}
@@ -193,6 +198,15 @@ column_shows names dates arch field column bytes h =
     ∙ ap (λ n. codes " " ++ field_name names field.number ++ codes "=" ++ shown_at dates n column.base arch bytes) h.number
     ∙ ap (λ b. codes " " ++ field_name names field.number ++ codes "=" ++ shown_at dates field.number b arch bytes) h.base
 
+-- the text of a time is that of its field
+time_shown : (names : FieldNames) (dates : List ℕ) (column : Column) (time : Option ℕ) → IfSome time (λ time. time < 2 ^ 32) →
+    IsColumn names dates time_definition column → time_text dates column time ≡ flat_map (field_text names dates) (time_fields time)
+time_shown names dates column None fits h = refl
+time_shown names dates column (Some time) fits h =
+    let all : low_first (to_le_bytes w32 time) ≡ time = omega (arith, fits) in
+    column_shows names dates Little time_definition column (to_le_bytes w32 time) h
+    ∙ ap (λ n. field_text names dates (time_field n)) all ∙ sym (append-nil _)
+
 pub columns_show : (names : FieldNames) (dates : List ℕ) (arch : Arch) (fields : List FieldDefinition) (columns : List Column)
     (content : List ℕ) → AreColumns names dates fields columns →
     columns_text dates arch columns content ≡ flat_map (field_text names dates) (fields_of arch fields content)
@@ -259,32 +273,43 @@ line_parts : (number name times fields : List ℕ) →
 line_parts number name times fields = simp append_assoc
 
 -- the parts of the line, in their order
-pub plan_text : (number : ℕ) (d : Definition) (time : Option ℕ) (content : List ℕ) (plan : Plan) → IsPlanOf d plan →
+pub plan_text : (number : ℕ) (d : Definition) (time : Option ℕ) (content : List ℕ) (plan : Plan) (columns : List Column) →
+    (dates : List ℕ) → dates ≡ dates_of plan.utc plan.global → IfSome time (λ time. time < 2 ^ 32) → IsPlanOf d plan columns →
     (decimal number ++ plan.name)
-    ++ (flat_map (field_text (field_rows plan.names.now) plan.dates.now) (time_fields time)
-    ++ (columns_text plan.dates.now plan.arch plan.columns.items content ++ codes "\n"))
+    ++ (time_text dates plan.time time ++ (columns_text dates plan.arch columns content ++ codes "\n"))
     ≡ message_text plan.utc number (message_under d time content)
-plan_text number d time content plan h =
+plan_text number d time content plan columns dates is fits h =
     let names = names_of_fields d.global in
-    let dates = dates_of plan.utc d.global in
-    let texts = flat_map-append (field_text names dates) (time_fields time) (fields_of d.arch d.fields.items content) in
-    rw (h.names, h.dates, h.arch, h.name, columns_show names dates d.arch d.fields.items plan.columns.items content h.columns)
+    let shown = dates_of plan.utc d.global in
+    let texts = flat_map-append (field_text names shown) (time_fields time) (fields_of d.arch d.fields.items content) in
+    rw (is, h.global, h.arch, h.name, time_shown names shown plan.time time fits h.time, columns_show names shown d.arch d.fields.items columns content h.fields)
     (line_parts (decimal number) (message_name d.global) _ _
     ∙ ap (λ t. decimal number ++ codes " " ++ message_name d.global ++ t ++ codes "\n") (sym texts))
 
-pub plan_kinds : (d : Definition) (plan : Plan) → IsPlanOf d plan → HaveKinds plan.dates.now plan.columns.items
-plan_kinds d plan h = rw h.dates (columns_kinds (names_of_fields d.global) (dates_of plan.utc d.global) d.fields.items plan.columns.items h.columns)
+pub plan_kinds : (d : Definition) (plan : Plan) (columns : List Column) (dates : List ℕ) → dates ≡ dates_of plan.utc plan.global →
+    IsPlanOf d plan columns → HaveKinds dates columns
+plan_kinds d plan columns dates is h =
+    rw (is, h.global) (columns_kinds (names_of_fields d.global) (dates_of plan.utc d.global) d.fields.items columns h.fields)
 
-pub plan_size : (d : Definition) (plan : Plan) → IsPlanOf d plan → sum_by (λ c. c.size) plan.columns.items ≡ content_size d
-plan_size d plan h = columns_size (names_of_fields d.global) (dates_of plan.utc d.global) d.fields.items plan.columns.items h.columns
+pub plan_size : (d : Definition) (plan : Plan) (columns : List Column) → IsPlanOf d plan columns →
+    sum_by (λ c. c.size) columns ≡ content_size d
+plan_size d plan columns h =
+    columns_size (names_of_fields d.global) (dates_of plan.utc d.global) d.fields.items columns h.fields
 
--- the field of a compressed timestamp
-pub time_shown : (F : MessageField → List ℕ) (value : Field) (base time : ℕ) (bytes : List ℕ) →
-    value ≡ record { base = base; arch = Little; bytes = bytes } → bytes ≡ to_le_bytes w32 time → base ≡ 0x86 → time < 2 ^ 32 →
-    F (record { number = 253; base = value.base; values = values_of value }) ≡ flat_map F (time_fields (Some time))
-time_shown F value base time bytes is are known fits =
-    let all : low_first (to_le_bytes w32 time) ≡ time = omega arith in
-    rw (is, are, known) (ap (λ n. F (record { number = 253; base = 0x86; values = Numbers (n ∷ []) })) all ∙ sym (append-nil _))
+-- ---- columns in the row of all
+
+-- a plan stays where more columns come behind its own
+plan_in_more : (row more : List Column) (utc : Bool) (d : Definition) (plan : Plan) → IsPlanIn row utc d plan → IsPlanIn (row ++ more) utc d plan
+plan_in_more row more utc d plan h =
+    let same : slice_range (row ++ more) plan.first plan.end ≡ slice_range row plan.first plan.end =
+    ap (λ t. take (plan.end - plan.first) t) (drop-append-le plan.first row more (omega (arith, h.order, h.inside)))
+    ∙ take-append-le (plan.end - plan.first) (drop plan.first row) more (omega (arith, h.order, h.inside, length-drop plan.first row)) in
+    record {
+      dated = h.dated;
+      order = h.order;
+      inside = omega (arith, h.inside, length-append row more);
+      is = rw same h.is;
+    }
 
 -- ---- plans, each at the place of its local number
 
@@ -295,77 +320,72 @@ same_or_not a b =
       | inr some ↦ inr (λ e. omega (arith, some, e))
     ]
 
-one_of_four : {X : Type 0} (F : Plan → X) (x : X) (a b c d plan : Plan) (i : ℕ) → i < 4 → F a ≡ x → F b ≡ x → F c ≡ x → F d ≡ x →
-    plan ≡ get_or (a ∷ b ∷ c ∷ d ∷ []) i plan → F plan ≡ x
-one_of_four F x a b c d plan zero lt ha hb hc hd same = ap F same ∙ ha
-one_of_four F x a b c d plan (suc zero) lt ha hb hc hd same = ap F same ∙ hb
-one_of_four F x a b c d plan (suc (suc zero)) lt ha hb hc hd same = ap F same ∙ hc
-one_of_four F x a b c d plan (suc (suc (suc zero))) lt ha hb hc hd same = ap F same ∙ hd
-one_of_four F x a b c d plan (suc (suc (suc (suc i)))) lt ha hb hc hd same = absurd (omega arith)
+-- none of sixteen
+pub none_there : (slots : List (Option Plan)) (local : ℕ) → AllOfLen (λ slot. slot ≡ None) slots 16 → get_or slots local None ≡ None
+none_there slots local h =
+    elim (cases_lt local 16) [
+      | inl lt ↦ h.at local None lt
+      | inr ge ↦ get_or_past slots local None (omega (arith, ge, h.long))
+    ]
 
-pub new_plans : (definition_for : ℕ → Option Definition) (a b c d : Plan) → a.local ≡ None → b.local ≡ None → c.local ≡ None → d.local ≡ None →
-    ArePlansFor definition_for (a ∷ b ∷ c ∷ d ∷ [])
-new_plans definition_for a b c d ha hb hc hd local definition plan same is there =
-    let none : plan.local ≡ None = one_of_four (λ p. p.local) None a b c d plan (local % 4) (omega arith) ha hb hc hd same in
-    cc
+pub plans_none : (definition_for : ℕ → Option Definition) (plans : Plans) → ((local : ℕ) → get_or plans.slots local None ≡ None) →
+    ArePlansFor definition_for plans
+plans_none definition_for plans none local d plan there has = let gone = none local in cc
 
-pub new_dates : (utc : Bool) (a b c d : Plan) → a.utc ≡ utc → b.utc ≡ utc → c.utc ≡ utc → d.utc ≡ utc → ShowDates utc (a ∷ b ∷ c ∷ d ∷ [])
-new_dates utc a b c d ha hb hc hd i plan lt same = one_of_four (λ p. p.utc) utc a b c d plan i lt ha hb hc hd same
+-- a plan at a place that was set is the one that was put there
+set_there : (slots : List (Option Plan)) (k : ℕ) (slot : Option Plan) (plan : Plan) → get_or (set slots k slot) k None ≡ Some plan → slot ≡ Some plan
+set_there slots k slot plan there =
+    elim (cases_lt k (length slots)) [
+      | inl lt ↦ sym (get_or-set_same slots k slot None lt) ∙ there
+      | inr ge ↦ let gone = get_or_past (set slots k slot) k None (omega (arith, ge, length-set slots k slot)) in cc
+    ]
 
--- a definition makes the plan at its place one of none
-pub plans_forget : (definition_for : ℕ → Option Definition) (d : Definition) (plans : List Plan) (k : ℕ) (changed : Plan) →
-    length plans ≡ 4 → k ≡ d.local % 4 → changed.local ≡ None → ArePlansFor definition_for plans →
-    ArePlansFor (behind (Defines d) definition_for) (set plans k changed)
-plans_forget definition_for d plans k changed many place none h local definition plan same is there =
-    elim (same_or_not (local % 4) k) [
+-- behind a definition its local number has no plan
+pub plans_forget : (definition_for : ℕ → Option Definition) (d : Definition) (plans : Plans) (k : ℕ) → k ≡ d.local →
+    ArePlansFor definition_for plans → ArePlansFor (behind (Defines d) definition_for) (record plans { slots = set plans.slots k None })
+plans_forget definition_for d plans k place h local definition plan there has =
+    elim (same_or_not local k) [
       | inl here ↦
-          let inside : k < length plans = omega arith in
-          let at : plan ≡ changed = same ∙ ap (λ i. get_or (set plans k changed) i plan) here ∙ get_or-set_same plans k changed plan inside in
-          let gone : plan.local ≡ None = ap (λ p. p.local) at ∙ none in
+          let gone : None ≡ Some plan =
+          set_there plans.slots k None plan (ap (λ i. get_or (set plans.slots k None) i None) (sym here) ∙ there) in
           cc
       | inr other ↦
-          let apart : d.local ≢ local = λ e. other (ap (λ l. l % 4) (sym e) ∙ sym place) in
+          let apart : d.local ≢ local = λ e. other (sym e ∙ sym place) in
           let no : (d.local == local) ≡ false = search rules in
-          h local definition plan (same ∙ get_or-set_other plans k (local % 4) changed plan other) is (rw no at there)
+          h local definition plan (sym (get_or-set_other plans.slots k local None None other) ∙ there) (rw no at has)
     ]
 
--- a plan that was settled
-pub plans_settle : (definition_for : ℕ → Option Definition) (own : ℕ) (d : Definition) (plans : List Plan) (k : ℕ) (changed : Plan) →
-    length plans ≡ 4 → k ≡ own % 4 → changed.local ≡ Some own → definition_for own ≡ Some d → IsPlanOf d changed →
-    ArePlansFor definition_for plans → ArePlansFor definition_for (set plans k changed)
-plans_settle definition_for own d plans k changed many place has found good h local definition plan same is there =
-    elim (same_or_not (local % 4) k) [
+-- a plan that was made, whose columns came behind the others
+pub plans_set : (definition_for : ℕ → Option Definition) (own : ℕ) (d : Definition) (plans : Plans) (columns : ArrayVec Column) (plan : Plan)
+    (k : ℕ) (more : List Column) → k ≡ own → definition_for own ≡ Some d → IsPlanIn columns.items plans.utc d plan →
+    columns.items ≡ plans.columns.items ++ more → ArePlansFor definition_for plans →
+    ArePlansFor definition_for (record plans { slots = set plans.slots k (Some plan); columns = columns })
+plans_set definition_for own d plans columns plan k more place found good row h local definition other there has =
+    elim (same_or_not local k) [
       | inl here ↦
-          let inside : k < length plans = omega arith in
-          let at : plan ≡ changed = same ∙ ap (λ i. get_or (set plans k changed) i plan) here ∙ get_or-set_same plans k changed plan inside in
-          let held : plan.local ≡ Some own = ap (λ p. p.local) at ∙ has in
-          let number : own ≡ local = cc in
-          let one : Some d ≡ Some definition = sym found ∙ ap definition_for number ∙ there in
-          let equal : d ≡ definition = cc in
-          let P : Definition → Type 0 = λ x. IsPlanOf x plan in
-          let Q : Plan → Type 0 = λ p. IsPlanOf d p in
-          subst P equal (subst Q (sym at) good)
-      | inr other ↦ h local definition plan (same ∙ get_or-set_other plans k (local % 4) changed plan other) is there
+          let one : Some plan ≡ Some other =
+          set_there plans.slots k (Some plan) other (ap (λ i. get_or (set plans.slots k (Some plan)) i None) (sym here) ∙ there) in
+          let same : Some d ≡ Some definition = sym found ∙ ap definition_for (sym place ∙ sym here) ∙ has in
+          let is_plan : plan ≡ other = cc in
+          let is_definition : d ≡ definition = cc in
+          rw (← is_plan, ← is_definition) good
+      | inr apart ↦
+          let kept = sym (get_or-set_other plans.slots k local (Some plan) None apart) ∙ there in
+          rw row (plan_in_more plans.columns.items more plans.utc definition other (h local definition other kept has))
     ]
 
-pub dates_set : (utc : Bool) (plans : List Plan) (k : ℕ) (changed : Plan) → length plans ≡ 4 → k < 4 → changed.utc ≡ utc → ShowDates utc plans →
-    ShowDates utc (set plans k changed)
-dates_set utc plans k changed many lt is h i plan inside same =
-    elim (same_or_not i k) [
-      | inl here ↦
-          let within : k < length plans = omega arith in
-          ap (λ p. p.utc) (same ∙ ap (λ j. get_or (set plans k changed) j plan) here ∙ get_or-set_same plans k changed plan within) ∙ is
-      | inr other ↦ h i plan inside (same ∙ get_or-set_other plans k i changed plan other)
-    ]
+-- the plan of a local number that has one
+plan_by : (definition_for : ℕ → Option Definition) (plans : Plans) (local : ℕ) (d : Definition) (o : Option Plan) →
+    get_or plans.slots local None ≡ o → IsSome o → definition_for local ≡ Some d → ArePlansFor definition_for plans → IsPlanAt plans local d
+plan_by definition_for plans local d None there bad has h = cc
+plan_by definition_for plans local d (Some plan) there some has h = record { plan = plan; there = there; is = h local d plan there has }
 
-pub dates_at : (utc : Bool) (plans : List Plan) (k : ℕ) (plan : Plan) → k < 4 → plan ≡ get_or plans k plan → ShowDates utc plans →
-    (get_or plans k plan).utc ≡ utc
-dates_at utc plans k plan lt is h = ap (λ p. p.utc) (sym is) ∙ h k plan lt is
+pub plan_at : (definition_for : ℕ → Option Definition) (plans : Plans) (local : ℕ) (d : Definition) → IsSome (get_or plans.slots local None) →
+    definition_for local ≡ Some d → ArePlansFor definition_for plans → IsPlanAt plans local d
+plan_at definition_for plans local d some has h = plan_by definition_for plans local d _ refl some has h
 
--- the plan at the place of a local number
-pub plan_at : (definition_for : ℕ → Option Definition) (local : ℕ) (d : Definition) (plans : List Plan) (k : ℕ) (plan : Plan) →
-    k ≡ local % 4 → plan ≡ get_or plans k plan → definition_for local ≡ Some d → ArePlansFor definition_for plans →
-    (get_or plans k plan).local ≡ Some local → IsPlanOf d (get_or plans k plan)
-plan_at definition_for local d plans k plan place is there h has =
-    let P : Plan → Type 0 = λ p. IsPlanOf d p in
-    subst P is (h local d plan (is ∙ ap (λ i. get_or plans i plan) place) (ap (λ p. p.local) is ∙ has) there)
+pub plan_got : (definition_for : ℕ → Option Definition) (plans : Plans) (local : ℕ) (d : Definition) (plan : Plan) (columns : List Column) →
+    get_or plans.slots local None ≡ Some plan → columns ≡ slice_range plans.columns.items plan.first plan.end → definition_for local ≡ Some d →
+    ArePlansFor definition_for plans → IsPlanOf d plan columns × (plan.utc ≡ plans.utc)
+plan_got definition_for plans local d plan columns there is has h =
+    let own = h local d plan there has in (rw is own.is, own.dated)

@@ -4,6 +4,7 @@ pub mod Text
 pub mod Pen
 pub mod Plan
 pub mod Showing
+pub mod Summary
 pub mod Checking
 pub mod Reading
 pub mod Replaying

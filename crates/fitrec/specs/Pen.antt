@@ -1,5 +1,5 @@
 -- What a pen does with text: some was handed over to its writer, and some waits.
-use Rattle.std.specs.Prelude.{◌≡◌, ℕ, ◌+◌, List, ◌++◌, length, take, Option, Result, OnOk, OnErr}
+use Rattle.std.specs.Prelude.{◌≡◌, ℕ, ◌+◌, ◌/◌, ◌%◌, List, [], ◌∷◌, ◌++◌, length, take, Option, Result, OnOk, OnErr}
 use Rattle.std.specs.Io.KnownBytes.{Appends}
 use Rattle.fit_grammar.specs.Calls.Output.{AppendsBeginning}
 
@@ -23,9 +23,19 @@ pub record Puts {T E : Type 0} (old new : Written) (result : Result T E) (text :
   pub all : OnOk result (Continues old new text)
   pub beginning : OnErr result (AppendsBeginning old.held new.held (old.waiting ++ text))
 
+-- the text was put
+abbrev pub Took : Written → List ℕ → Written → Type 0
+Took old text new = (new.name ≡ old.name) × Continues old new text
+
 -- the text waits behind what waited
 pub record Adds (old new : Written) (text : List ℕ) : Type 0 where
   pub waits : new ≡ record old { waiting = old.waiting ++ text }
+
+-- ---- digits
+
+-- the three digits of a number below 1000
+abbrev pub three : ℕ → List ℕ
+three n = (48 + n / 100) ∷ (48 + n / 10 % 10) ∷ (48 + n % 10) ∷ []
 
 -- ---- a place in its buffer
 

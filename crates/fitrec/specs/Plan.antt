@@ -1,6 +1,8 @@
 -- How the messages of a definition are shown: what is settled where the definition is met, before any of its messages.
-use Rattle.std.specs.Prelude.{◌≡◌, ℕ, ◌+◌, ◌-◌, ◌*◌, ◌^◌, ◌%◌, ◌<◌, Bool, List, [], ◌∷◌, ◌++◌, length, take, drop, slice_index_or as get_or, Option, Some, codes, decimal, ◌==◌, nat_lt, if◌then◌else◌}
+use Rattle.std.specs.Prelude.{◌≡◌, ℕ, ◌+◌, ◌-◌, ◌*◌, ◌^◌, ◌<◌, ◌≤◌, Bool, List, [], ◌∷◌, ◌++◌, length, take, drop, slice_index_or as get_or, slice_range, Option, Some, None, codes, decimal, ◌==◌, nat_lt, if◌then◌else◌}
+use Rattle.std.specs.Int.{to_le_bytes, w32}
 use Rattle.fit_base.specs.declared.order.Arch.{Arch}
+use Rattle.fit_base.specs.declared.order.Arch.TheVariants.{Little}
 use Rattle.fit_base.specs.declared.base.BaseType.{BaseType}
 use Rattle.fit_base.specs.Base.{row_of}
 use Rattle.fit_base.specs.Number.{number as number_by}
@@ -12,8 +14,9 @@ use Rattle.fitrec.specs.declared.show.plan.Kind.{Kind}
 use Rattle.fitrec.specs.declared.show.plan.Kind.TheVariants.{Unsigned, Signed, Other}
 use Rattle.fitrec.specs.declared.show.plan.Column.{Column}
 use Rattle.fitrec.specs.declared.show.plan.Plan.{Plan}
+use Rattle.fitrec.specs.declared.show.plans.Plans.{Plans}
 use Rattle.fitrec.specs.Date.{dates_of, date_in}
-use Rattle.fitrec.specs.Profile.{FieldNames, field_rows, names_of_fields}
+use Rattle.fitrec.specs.Profile.{FieldNames, names_of_fields}
 use Rattle.fitrec.specs.Text.{IsNumber, number_text, message_name, field_name, shown_text}
 
 -- the field of a number and a base type that these bytes are
@@ -69,28 +72,46 @@ AreColumns names dates [] [] = Unit {0}
 AreColumns names dates (field ∷ fields) (column ∷ columns) = IsColumn names dates field column × AreColumns names dates fields columns
 AreColumns names dates _ _ = ⊥
 
+-- the field of a compressed timestamp, as a definition would have it
+abbrev pub time_definition : FieldDefinition
+time_definition = record { number = 253; size = 4; base = 0x86 }
+
+-- the text of the time of a compressed timestamp by its column, if there is one
+abbrev pub time_text : List ℕ → Column → Option ℕ → List ℕ
+time_text dates column None = []
+time_text dates column (Some time) = column_text dates Little column (to_le_bytes w32 time)
+
 -- each column has its kind
 abbrev pub HaveKinds : List ℕ → List Column → Type 0
 HaveKinds dates [] = Unit {0}
 HaveKinds dates (column ∷ columns) = IsKind dates column.number column.base column.size column.kind × HaveKinds dates columns
 
--- the plan of a definition
-pub record IsPlanOf (d : Definition) (plan : Plan) : Type 0 where
+-- the plan of a definition, and its columns
+pub record IsPlanOf (d : Definition) (plan : Plan) (columns : List Column) : Type 0 where
   pub arch : plan.arch ≡ d.arch
-  pub names : field_rows plan.names.now ≡ names_of_fields d.global
-  pub dates : plan.dates.now ≡ dates_of plan.utc d.global
+  pub global : plan.global ≡ d.global
   pub name : plan.name ≡ codes " " ++ message_name d.global
-  pub columns : AreColumns (names_of_fields d.global) (dates_of plan.utc d.global) d.fields.items plan.columns.items
+  pub time : IsColumn (names_of_fields d.global) (dates_of plan.utc d.global) time_definition plan.time
+  pub fields : AreColumns (names_of_fields d.global) (dates_of plan.utc d.global) d.fields.items columns
 
--- where definitions are in force, the plan at the place of a local number, if it has that number, is that of its definition
-abbrev pub ArePlansFor : (ℕ → Option Definition) → List Plan → Type 0
+-- the same, where its columns stand in a row
+pub record IsPlanIn (row : List Column) (utc : Bool) (d : Definition) (plan : Plan) : Type 0 where
+  pub dated : plan.utc ≡ utc
+  pub order : plan.first ≤ plan.end
+  pub inside : plan.end ≤ length row
+  pub is : IsPlanOf d plan (slice_range row plan.first plan.end)
+
+-- the plan of a local number is that of this definition
+pub record IsPlanAt (plans : Plans) (local : ℕ) (d : Definition) : Type 0 where
+  pub plan : Plan
+  pub there : get_or plans.slots local None ≡ Some plan
+  pub is : IsPlanIn plans.columns.items plans.utc d plan
+
+-- of each local number that has a plan, it is that of its definition in force
+abbrev pub ArePlansFor : (ℕ → Option Definition) → Plans → Type 0
 ArePlansFor definition_for plans =
-    (local : ℕ) (d : Definition) (plan : Plan) → plan ≡ get_or plans (local % 4) plan → plan.local ≡ Some local
-    → definition_for local ≡ Some d → IsPlanOf d plan
-
--- each of them shows times as dates, or none does
-abbrev pub ShowDates : Bool → List Plan → Type 0
-ShowDates utc plans = (i : ℕ) (plan : Plan) → i < 4 → plan ≡ get_or plans i plan → plan.utc ≡ utc
+    (local : ℕ) (d : Definition) (plan : Plan) → get_or plans.slots local None ≡ Some plan → definition_for local ≡ Some d
+    → IsPlanIn plans.columns.items plans.utc d plan
 
 -- ---- one value of a type
 

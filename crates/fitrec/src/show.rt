@@ -9,6 +9,7 @@ mod header;
 mod message;
 mod number;
 mod plan;
+mod plans;
 
 pub use file::show;
 

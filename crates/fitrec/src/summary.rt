@@ -12,6 +12,11 @@ pub struct SummaryLine(pub Summary);
 struct OrDash(Option<u32>);
 
 impl fmt::Display for OrDash {
+    ghost use Rattle.std.specs.Prelude.{Some};
+    ghost use Rattle.fitrec.specs.Summary.{or_dash};
+
+    ghost output = { λ number. Some (or_dash number.0) };
+
     fn fmt<W: Write>(&self, f: &mut Formatter<W>) -> fmt::Result {
         match self.0 {
             Some(number) => write!(f, "{number}"),
@@ -21,6 +26,11 @@ impl fmt::Display for OrDash {
 }
 
 impl fmt::Display for SummaryLine {
+    ghost use Rattle.std.specs.Prelude.{Some};
+    ghost use Rattle.fitrec.specs.Summary.{summary_text};
+
+    ghost output = { λ line. Some (summary_text line.0) };
+
     fn fmt<W: Write>(&self, f: &mut Formatter<W>) -> fmt::Result {
         let Summary {
             records,

@@ -3,7 +3,7 @@
 ghost use Rattle.std.specs.Prelude.{◌≡◌, ◌+◌, ◌≤◌, [], ◌++◌, length, take, decimal, IfOk};
 ghost use Rattle.std.specs.Fmt.{signed_decimal};
 ghost use Rattle.fitrec.specs.declared.writing.TheConstants.{SIZE, ROOM};
-ghost use Rattle.fitrec.specs.Pen.{Written, Puts, Adds};
+ghost use Rattle.fitrec.specs.Pen.{Written, Puts, Adds, Took};
 
 mod decimal;
 mod label;
@@ -70,9 +70,10 @@ impl<'a, W: Write> Pen<'a, W> {
         put(self.out, text)
     }
 
-    /// Hands over all that waits, to the last byte.
+    /// Hands over all that waits, and flushes the writer.
     pub fn flush(&mut self) -> Result<(), WriteFailed>
-        ensures { IfOk result (λ _. self.new.waiting ≡ []) }
+        ensures puts { Puts self.old self.new result [] }
+        ensures none { IfOk result (λ _. self.new.waiting ≡ []) }
     {
         self.hand_over()?;
         self.out.flush().map_err(|_| WriteFailed)
@@ -117,7 +118,7 @@ impl<'a, W: Write> Pen<'a, W> {
     /// A number in decimal, for which there is room.
     #[inline]
     pub fn add_number(&mut self, number: u64)
-        requires { length self.old.waiting + 20 ≤ SIZE }
+        requires { length self.old.waiting + 21 ≤ SIZE }
         ensures { Adds self.old self.new (decimal number) }
     {
         self.len = place_number(&mut self.bytes, self.len, number);
@@ -173,6 +174,8 @@ impl<'a, W: Write> Pen<'a, W> {
 }
 
 impl<W: Write> fmt::Write for Pen<'_, W> {
+    ghost write_str_gives = { Took };
+
     fn write_str(&mut self, text: &str) -> fmt::Result {
         self.put(text.as_bytes()).map_err(|_| fmt::Error)
     }

@@ -3,10 +3,8 @@
 ghost use Rattle.fitrec.specs.Checking.{ChecksBytes};
 
 use crate::command::input::read_file;
-use crate::command::print::print;
+use crate::command::print::print_summary;
 use crate::fault::Fault;
-use crate::summary::SummaryLine;
-use crate::writing::Pen;
 use fit_activity::check_activity;
 use fit_grammar::decode_file;
 use std::alloc::Global;
@@ -32,7 +30,7 @@ fn check_bytes<O: Write>(alloc: Global, bytes: &[u8], out: &mut O) -> Result<(),
         Err(fault) => return Err(Fault::File(fault)),
     };
     match check_activity(&file) {
-        Ok(summary) => print(&SummaryLine(summary), &mut Pen::new(out)),
+        Ok(summary) => print_summary(summary, out),
         Err(fault) => Err(Fault::Activity(fault)),
     }
 }

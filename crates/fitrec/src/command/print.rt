@@ -1,19 +1,39 @@
 // A line of what a subcommand says.
 
-ghost use Rattle.std.specs.Prelude.{IfErr};
+ghost use Rattle.std.specs.Io.KnownBytes.{Appends};
+ghost use Rattle.std.specs.Prelude.{◌≡◌, ◌++◌, [], codes, IfErr, IfSome, OnOk};
+ghost use Rattle.fitrec.specs.Pen.{Took};
 ghost use Rattle.fitrec.specs.Showing.{IsOutputFault};
+ghost use Rattle.fitrec.specs.Summary.{summary_text};
 
 use crate::fault::Fault;
+use crate::summary::SummaryLine;
 use crate::writing::Pen;
+use fit_activity::Summary;
 use std::fmt::{Display, Write};
 use std::io;
 
 /// Prints a line, to the last byte.
 pub fn print<L: Display, O: io::Write>(line: &L, pen: &mut Pen<'_, O>) -> Result<(), Fault<'static>>
-    ensures { IfErr result IsOutputFault }
+    ensures fault { IfErr result IsOutputFault }
+    ensures none { OnOk result (pen.new.waiting ≡ []) }
+    ensures line { OnOk result (IfSome (L.output line.now) (λ text. Took pen.old (text ++ codes "\n") pen.new)) }
 {
     if writeln!(pen, "{line}").is_err() || pen.flush().is_err() {
         return Err(Fault::Write("-"));
     }
     Ok(())
+}
+
+/// Prints the line of a summary.
+// Out of line, so that its pen is no part of the stack of others.
+#[inline(never)]
+pub fn print_summary<O: io::Write>(summary: Summary, out: &mut O) -> Result<(), Fault<'static>>
+    ensures fault { IfErr result IsOutputFault }
+    ensures line { OnOk result (Appends (O.contents out.old) (O.contents out.new) (summary_text summary ++ codes "\n")) }
+{
+    let mut pen = Pen::new(out);
+    let done = print(&SummaryLine(summary), &mut pen);
+    let _ = pen.into_writer();
+    done
 }

@@ -1,10 +1,13 @@
 // The subcommand `repair`: a recording is made whole again.
 
+ghost use Rattle.std.specs.Io.KnownBytes.{Appends};
+ghost use Rattle.std.specs.Prelude.{◌++◌, codes, OnOk};
+ghost use Rattle.fit_activity.specs.declared.activity.Summary.{Summary};
+ghost use Rattle.fitrec.specs.Summary.{summary_text};
+
 use crate::command::folder::open_folder;
-use crate::command::print::print;
+use crate::command::print::print_summary;
 use crate::fault::Fault;
-use crate::summary::SummaryLine;
-use crate::writing::Pen;
 use fit_recorder::recover;
 use std::io::Write;
 
@@ -13,10 +16,12 @@ pub fn repair_folder<'a, O: Write>(
     rt: &HostRuntime,
     name: &'a str,
     out: &mut O,
-) -> Result<(), Fault<'a>> {
+) -> Result<(), Fault<'a>>
+    ensures { OnOk result ((summary : Summary) × Appends (O.contents out.old) (O.contents out.new) (summary_text summary ++ codes "\n")) }
+{
     let mut files = open_folder(rt, name)?;
     match recover(&mut files) {
-        Ok(summary) => print(&SummaryLine(summary), &mut Pen::new(out)),
+        Ok(summary) => print_summary(summary, out),
         Err(fault) => Err(Fault::Recorder(fault)),
     }
 }

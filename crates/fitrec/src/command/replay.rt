@@ -1,10 +1,14 @@
 // The subcommand `replay`: the events of a script, over the files of a folder.
 
-ghost use Rattle.std.specs.Prelude.{◌≡◌, ◌≤◌, All, length, IfOk, IfErr, IfSome, IfNone, false};
+ghost use Rattle.std.specs.Prelude.{◌≡◌, ◌≤◌, List, All, length, IfOk, IfErr, IfSome, IfNone, false};
 ghost use Rattle.std.specs.Str.Lines.{lines};
+ghost use Rattle.fit_activity.specs.Recording.{Recorded};
+ghost use Rattle.fitrec.specs.declared.command.answer.Answer.TheVariants.{Done};
 ghost use Rattle.fitrec.specs.Script.{events_of};
 ghost use Rattle.fitrec.specs.Showing.{IsOutputFault};
-ghost use Rattle.fitrec.specs.Replaying.{CanGoOn, is_simulated, IsReplayed, first_simulated};
+ghost use Rattle.fitrec.specs.Replaying.{is_simulated, IsReplayed, first_simulated, IsScriptFault};
+ghost use Rattle.fitrec.specs.Replaying.{CanGoOn, is_riding, MayAnswer, rides_on, MayRefuse};
+ghost use Rattle.fitrec.specs.Replaying.{Handed, MayAnswerBehind, RidesOnWith, word_of};
 
 use crate::command::answer::Answer;
 use crate::command::folder::open_folder;
@@ -42,6 +46,7 @@ pub fn replay_script<'a, O: Write>(
 fn read_script<'a>(alloc: Global, name: &'a str, bytes: &[u8]) -> Result<Vec<Event>, Fault<'a>>
     ensures events { IfOk result (λ events. events.items ≡ events_of 1 (lines bytes.now)) }
     ensures replayed { IfOk result (λ events. All IsReplayed events.items) }
+    ensures fault { IfErr result (IsScriptFault name.entry bytes.now) }
 {
     let Ok(text) = str::from_utf8(bytes) else {
         return Err(Fault::Read(name));
@@ -80,6 +85,7 @@ fn is_simulated(command: &Command) -> bool
 fn play<O: Write>(files: Files, events: &[Event], out: &mut O) -> Result<usize, Fault<'static>>
     requires { All IsReplayed events.now }
     ensures most { IfOk result (λ refused. refused ≤ length events.now) }
+    ensures refused { IfOk result (MayRefuse events.now) }
     ensures fault { IfErr result IsOutputFault }
 {
     let mut pen = Pen::new(out);
@@ -100,7 +106,11 @@ fn play<O: Write>(files: Files, events: &[Event], out: &mut O) -> Result<usize, 
 fn run(mut ride: Ride, command: &Command) -> (Ride, Answer)
     requires goes_on { CanGoOn ride }
     requires replayed { is_simulated command.now ≡ false }
-    ensures { CanGoOn result.0 }
+    ensures goes_on { CanGoOn result.0 }
+    ensures answer { MayAnswer (is_riding ride) command.now result.1 }
+    ensures riding { is_riding result.0 ≡ rides_on (is_riding ride) command.now result.1 }
+    ensures behind { (list : List Recorded) → Handed ride list → MayAnswerBehind ride list command.now result.1 }
+    ensures handed { (list : List Recorded) → Handed ride list → result.1 ≡ Done → RidesOnWith ride list command.now result.0 }
 {
     match command {
         Command::Start(start) => ride.start(*start),
@@ -135,7 +145,9 @@ impl fmt::Display for Answered<'_> {
 }
 
 // The word of a command in a script.
-fn word_of(command: &Command) -> &'static str {
+fn word_of(command: &Command) -> &'static str
+    ensures { result.now ≡ word_of command.now }
+{
     match command {
         Command::Start(_) => "start",
         Command::Entry(Entry::Sample(_)) => "sample",

@@ -99,6 +99,7 @@ impl Ride {
     /// Recovers the recording, behind the end of the recorder that runs.
     pub fn recover(self) -> (Ride, Answer)
         ensures some { result.1 ≢ NoRecorder }
+        ensures told { result.1 ≢ Done }
         ensures ended { is_riding result.0 ≡ false }
     {
         let mut files = self.into_files();

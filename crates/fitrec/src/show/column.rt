@@ -13,6 +13,8 @@ use fit_grammar::WriteFailed;
 use std::io::Write;
 
 /// The fields of this content, each with its name. Fields of some numbers are shown as dates.
+// Out of line, so that what its loop needs stays in registers.
+#[inline(never)]
 pub fn put_columns<W: Write>(
     pen: &mut Pen<'_, W>,
     dates: &[u8],
@@ -35,8 +37,9 @@ pub fn put_columns<W: Write>(
     Ok(())
 }
 
-// A field with its name.
-fn put_column<W: Write>(
+/// A field with its name. Fields of some numbers are shown as dates.
+#[inline(always)]
+pub fn put_column<W: Write>(
     pen: &mut Pen<'_, W>,
     dates: &[u8],
     arch: Arch,
@@ -68,7 +71,7 @@ fn put_column<W: Write>(
 // A number, or `-` where it is this one.
 #[inline]
 fn add_unsigned<W: Write>(pen: &mut Pen<'_, W>, invalid: u64, number: u64)
-    requires { length pen.old.waiting + 20 ≤ SIZE }
+    requires { length pen.old.waiting + 21 ≤ SIZE }
     ensures { Adds pen.old pen.new (whole_of (Kind.Unsigned invalid) number) }
 {
     if number == invalid {
@@ -81,7 +84,7 @@ fn add_unsigned<W: Write>(pen: &mut Pen<'_, W>, invalid: u64, number: u64)
 // The same of a number with a sign, whose invalid one is the greatest.
 #[inline]
 fn add_signed<W: Write>(pen: &mut Pen<'_, W>, invalid: u64, number: u64)
-    requires room { length pen.old.waiting + 21 ≤ SIZE }
+    requires room { length pen.old.waiting + 22 ≤ SIZE }
     requires fits { number < 2 * invalid + 2 }
     requires limit { 2 * invalid + 2 ≤ 2 ^ 64 }
     ensures { Adds pen.old pen.new (whole_of (Kind.Signed invalid) number) }

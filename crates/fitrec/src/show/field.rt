@@ -1,4 +1,4 @@
-// A field of a message: its name and what it holds.
+// What a field of a message holds.
 
 ghost use Rattle.fit_base.specs.Base.{base_type};
 ghost use Rattle.std.specs.Prelude.{◌≡◌, ◌≢◌};
@@ -6,10 +6,8 @@ ghost use Rattle.fit_base.specs.Value.{count_of, values_of};
 ghost use Rattle.fitrec.specs.Pen.{Puts};
 ghost use Rattle.fit_grammar.specs.Format.Message.{MessageField};
 ghost use Rattle.fitrec.specs.Date.{date_in};
-ghost use Rattle.fitrec.specs.Profile.{field_rows};
-ghost use Rattle.fitrec.specs.Text.{values_text, shown_text, field_text, field_name};
+ghost use Rattle.fitrec.specs.Text.{values_text, shown_text};
 
-use crate::profile::{self, FieldName};
 use crate::show::bytes::{put_byte_field, put_hex, put_string};
 use crate::show::date::{date_in, put_date};
 use crate::show::number::put_numbers;
@@ -17,40 +15,6 @@ use crate::writing::Pen;
 use fit_base::{BaseType, FieldValue};
 use fit_grammar::WriteFailed;
 use std::io::Write;
-
-/// A space, the name of the field and what it holds, as ` heart_rate=100`. Its name is one of these or
-/// one that every message has, else `field_` and its number. Fields of some numbers are shown as dates.
-pub fn put_field<W: Write>(
-    pen: &mut Pen<'_, W>,
-    names: &[FieldName],
-    dates: &[u8],
-    number: u8,
-    value: &FieldValue<'_>,
-) -> Result<(), WriteFailed>
-    ensures { Puts pen.old pen.new result
-        (field_text (field_rows names.now) dates.now (record { number = number; base = value.now.base; values = values_of value.now })) }
-{
-    pen.put(b" ")?;
-    put_field_name(pen, names, number)?;
-    pen.put(b"=")?;
-    put_shown(pen, dates, number, value)
-}
-
-fn put_field_name<W: Write>(
-    pen: &mut Pen<'_, W>,
-    names: &[FieldName],
-    number: u8,
-) -> Result<(), WriteFailed>
-    ensures { Puts pen.old pen.new result (field_name (field_rows names.now) number) }
-{
-    match profile::field_name(names, number) {
-        Some(name) => pen.put(name.as_bytes()),
-        None => {
-            pen.put(b"field_")?;
-            pen.put_number(u64::from(number))
-        }
-    }
-}
 
 /// A date, where a field of this number is shown as one, or what it holds.
 pub fn put_shown<W: Write>(

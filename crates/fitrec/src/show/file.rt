@@ -1,6 +1,6 @@
 // A whole file.
 
-ghost use Rattle.std.specs.Prelude.{◌≡◌, ◌<◌, ◌^◌, ◌%◌, [], length, IfOk};
+ghost use Rattle.std.specs.Prelude.{◌≡◌, ◌<◌, ◌^◌, [], length, IfOk};
 ghost use Rattle.fit_grammar.specs.Format.Message.{messages_of};
 ghost use Rattle.fit_grammar.specs.Calls.Output.{WritesText};
 ghost use Rattle.fitrec.specs.Pen.{Puts};
@@ -8,7 +8,7 @@ ghost use Rattle.fitrec.specs.Text.{messages_text, text_of};
 
 use crate::show::header::{put_header, put_labelled};
 use crate::show::message::put_message;
-use crate::show::plan::Plan;
+use crate::show::plans::Plans;
 use crate::writing::Pen;
 use fit_grammar::{File, FileItem, WriteFailed};
 use std::io::Write;
@@ -31,6 +31,8 @@ impl ShowFault {
 
 /// Writes the text of a file, in one pass and with no allocation, through a buffer of its own. Under `utc` times are dates
 /// in UTC.
+// Out of line, so that its buffers lie on the stack where those of the reading lay.
+#[inline(never)]
 pub fn show<W: Write>(file: &File, utc: bool, out: &mut W) -> Result<(), ShowFault>
     ensures { WritesText (W.contents out.old) (W.contents out.new) result (text_of utc file.now) }
 {
@@ -73,34 +75,21 @@ fn put_messages<W: Write>(pen: &mut Pen<'_, W>, utc: bool, file: &File) -> Resul
     ensures text { Puts pen.old pen.new result (messages_text utc (messages_of file.now.items)) }
     ensures count { IfOk result (λ count. count ≡ length (messages_of file.now.items)) }
 {
-    let mut plans = [
-        Plan::new(utc),
-        Plan::new(utc),
-        Plan::new(utc),
-        Plan::new(utc),
-    ];
+    let mut plans = Plans::new(utc);
     let mut number = 0;
     for item in file.items() {
         match item {
             FileItem::Definition(definition) => {
-                let plan = &mut plans[slot_of(definition.local())];
-                plan.forget();
+                plans.forget(definition.local());
                 continue;
             }
             FileItem::Data(message, time) => {
-                let plan = &mut plans[slot_of(message.local)];
-                plan.settle(message.local, &message.definition);
-                put_message(pen, plan, number, &message, time)?;
+                plans.settle(message.local, &message.definition);
+                let (plan, columns) = plans.get(message.local);
+                put_message(pen, plan, columns, number, &message, time)?;
                 number += 1;
             }
         }
     }
     Ok(number)
-}
-
-// The place of the plan for this local number: several of them share one.
-fn slot_of(local: u8) -> usize
-    ensures { result ≡ local % 4 }
-{
-    usize::from(local % 4)
 }

@@ -1,66 +1,56 @@
 // The line of a message.
 
-ghost use Rattle.std.specs.Prelude.{◌≡◌, length, option_map};
-ghost use Rattle.std.specs.List.{flat_map};
-ghost use Rattle.fit_grammar.specs.Format.Message.{message_under, time_fields};
+ghost use Rattle.std.specs.Prelude.{◌≡◌, ◌<◌, ◌^◌, length, option_map, IfSome};
+ghost use Rattle.fit_grammar.specs.Format.Message.{message_under};
 ghost use Rattle.fitrec.specs.Pen.{Puts};
-ghost use Rattle.fitrec.specs.Plan.{IsPlanOf};
-ghost use Rattle.fitrec.specs.Profile.{field_rows};
-ghost use Rattle.fitrec.specs.Text.{field_text, message_text};
+ghost use Rattle.fitrec.specs.Plan.{IsKind, IsPlanOf, time_text};
+ghost use Rattle.fitrec.specs.Text.{message_text};
 
-use crate::profile::FieldName;
-use crate::show::column::put_columns;
-use crate::show::field::put_field;
-use crate::show::plan::Plan;
+use crate::show::column::{put_column, put_columns};
+use crate::show::date::dates_of;
+use crate::show::plan::{Column, Plan};
 use crate::writing::Pen;
-use fit_base::{Arch, BaseType, FieldValue};
+use fit_base::Arch;
 use fit_grammar::{DataMessage, WriteFailed};
 use std::io::Write;
-
-// The field that holds the time of a compressed timestamp.
-const TIMESTAMP: u8 = 253;
 
 /// The line of a message: its number, its name, the time of its compressed timestamp, if it has one, and its fields.
 pub fn put_message<W: Write>(
     pen: &mut Pen<'_, W>,
     plan: &Plan,
+    columns: &[Column],
     number: u64,
     message: &DataMessage<'_>,
     time: Option<u32>,
 ) -> Result<(), WriteFailed>
-    requires { IsPlanOf message.now.definition plan.now }
+    requires { IsPlanOf message.now.definition plan.now columns.now }
     ensures { Puts pen.old pen.new result
         (message_text plan.now.utc number (message_under message.now.definition time message.now.content.now)) }
 {
     pen.room()?;
     pen.add_number(number);
     pen.add_label(&plan.name);
-    put_time(pen, plan.names, plan.dates, time)?;
-    put_columns(
-        pen,
-        plan.dates,
-        plan.arch,
-        plan.columns.as_slice(),
-        message.content,
-    )?;
+    let dates = dates_of(plan.utc, plan.global);
+    put_time(pen, dates, &plan.time, time)?;
+    put_columns(pen, dates, plan.arch, columns, message.content)?;
     pen.put(b"\n")
 }
 
 // The time of a compressed timestamp, if there is one.
+#[inline(never)]
 fn put_time<W: Write>(
     pen: &mut Pen<'_, W>,
-    names: &[FieldName],
     dates: &[u8],
+    column: &Column,
     time: Option<u32>,
 ) -> Result<(), WriteFailed>
-    ensures { Puts pen.old pen.new result (flat_map (field_text (field_rows names.now) dates.now) (time_fields time)) }
+    requires kind { IsKind dates.now column.now.number column.now.base column.now.size column.now.kind }
+    requires size { column.now.size ≡ 4 }
+    ensures text { Puts pen.old pen.new result (time_text dates.now column.now time) }
+    ensures fits { IfSome time (λ time. time < 2 ^ 32) }
 {
     match time {
         None => Ok(()),
-        Some(time) => {
-            let bytes = time.to_le_bytes();
-            let value = FieldValue::new(BaseType::Uint32.code(), Arch::Little, &bytes);
-            put_field(pen, names, dates, TIMESTAMP, &value)
-        }
+        Some(time) => put_column(pen, dates, Arch::Little, column, &time.to_le_bytes()),
     }
 }

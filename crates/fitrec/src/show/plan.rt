@@ -1,7 +1,9 @@
 // How the messages of a definition are shown, settled once for all of them.
 
-ghost use Rattle.std.specs.Prelude.{◌≡◌, ◌≤◌, ◌++◌, length, codes, true};
-ghost use Rattle.fitrec.specs.Plan.{IsKind, IsKindOf, IsColumn, AreColumns, IsPlanOf};
+ghost use Rattle.std.specs.Prelude.{◌≡◌, ◌+◌, ◌≤◌, ◌++◌, List, length, codes, true};
+ghost use Rattle.fitrec.specs.declared.show.plan.Column.{Column as AnyColumn};
+ghost use Rattle.fitrec.specs.declared.show.plan.TheConstants.{COLUMNS};
+ghost use Rattle.fitrec.specs.Plan.{time_definition, IsKind, IsKindOf, IsColumn, AreColumns, IsPlanIn};
 ghost use Rattle.fitrec.specs.Profile.{field_rows, are_short};
 ghost use Rattle.fitrec.specs.Text.{field_name, message_name};
 
@@ -10,7 +12,10 @@ use crate::show::date::dates_of;
 use crate::writing::Label;
 use arrayvec::ArrayVec;
 use fit_base::{Arch, BaseType};
-use fit_grammar::{Definition, DefinitionMessage, FieldDefinition};
+use fit_grammar::{Definition, FieldDefinition};
+
+// The field that holds the time of a compressed timestamp.
+const TIMESTAMP: u8 = 253;
 
 /// How the value of a field is shown.
 #[derive(Clone, Copy, Debug, Default)]
@@ -52,89 +57,75 @@ impl Column {
     }
 }
 
-/// How the messages of one definition are shown.
+/// The most columns of all plans together.
+pub const COLUMNS: usize = 256;
+
+/// How the messages of one definition are shown. Its columns stand in a row, beside those of other plans.
 #[derive(Drop)]
 pub struct Plan {
     /// Whether times are shown as dates.
     pub utc: bool,
-    /// The local number of the definition, where there is one.
-    pub local: Option<u8>,
     pub arch: Arch,
-    /// The names of its fields.
-    pub names: &'static [FieldName],
-    /// The numbers of the fields that are shown as dates.
-    pub dates: &'static [u8],
+    /// The global number of the messages.
+    pub global: u16,
     /// A space and the name of the message.
     pub name: Label,
-    pub columns: ArrayVec<Column, 255>,
+    /// The time of a compressed timestamp.
+    pub time: Column,
+    /// The place of its first column in the row.
+    pub first: usize,
+    /// The place behind its last one.
+    pub end: usize,
 }
 
 impl Plan {
-    /// A plan of no definition.
-    pub fn new(utc: bool) -> Self
-        ensures utc { result.utc ≡ utc }
-        ensures none { result.local ≡ None }
-    {
-        Plan {
-            utc,
-            local: None,
-            arch: Arch::Little,
-            names: &[],
-            dates: &[],
-            name: Label::new(),
-            columns: ArrayVec::new(),
-        }
-    }
-
-    /// From here on it is no plan of a definition.
-    pub fn forget(&mut self)
-        ensures utc { self.new.utc ≡ self.old.utc }
-        ensures none { self.new.local ≡ None }
-    {
-        self.local = None;
-    }
-
-    /// Makes it the plan of the definition of this local number, if it is not.
-    pub fn settle(&mut self, local: u8, definition: &DefinitionMessage<'_>)
-        requires { self.old.local ≡ Some local → IsPlanOf definition.now self.old }
-        ensures utc { self.new.utc ≡ self.old.utc }
-        ensures local { self.new.local ≡ Some local }
-        ensures plan { IsPlanOf definition.now self.new }
-    {
-        if self.local != Some(local) {
-            self.local = Some(local);
-            self.set(&definition.read());
-        }
-    }
-
-    // Makes it the plan of this definition.
-    fn set(&mut self, definition: &Definition)
-        ensures utc { self.new.utc ≡ self.old.utc }
-        ensures local { self.new.local ≡ self.old.local }
-        ensures plan { IsPlanOf definition.now self.new }
+    /// The plan of this definition. Its columns come behind those in the row, where there is room for them.
+    pub fn new(utc: bool, definition: &Definition, columns: &mut ArrayVec<Column, COLUMNS>) -> Self
+        requires { length columns.old.items + length definition.now.fields.items ≤ COLUMNS }
+        ensures plan { IsPlanIn columns.new.items utc definition.now result }
+        ensures behind { (own : List AnyColumn) × (columns.new.items ≡ columns.old.items ++ own) }
     {
         let global = definition.global;
-        self.arch = definition.arch;
-        self.names = profile::fields_of(global);
-        self.dates = dates_of(self.utc, global);
-        self.name = message_label(global);
-        let fields = definition.fields.as_slice();
-        set_columns(&mut self.columns, self.names, self.dates, fields);
+        let names = profile::fields_of(global);
+        let dates = dates_of(utc, global);
+        let first = columns.len();
+        add_columns(columns, names, dates, definition.fields.as_slice());
+        Plan {
+            utc,
+            arch: definition.arch,
+            global,
+            name: message_label(global),
+            time: time_column(names, dates),
+            first,
+            end: columns.len(),
+        }
     }
 }
 
-// Makes them the columns of these fields.
-fn set_columns(
-    columns: &mut ArrayVec<Column, 255>,
+// The column of the time of a compressed timestamp.
+fn time_column(names: &[FieldName], dates: &[u8]) -> Column
+    requires { are_short (field_rows names.now) ≡ true }
+    ensures { IsColumn (field_rows names.now) dates.now time_definition result }
+{
+    let time = FieldDefinition {
+        number: TIMESTAMP,
+        size: 4,
+        base: BaseType::Uint32.code(),
+    };
+    Column::new(names, dates, &time)
+}
+
+// The columns of these fields, behind those in the row.
+fn add_columns(
+    columns: &mut ArrayVec<Column, COLUMNS>,
     names: &[FieldName],
     dates: &[u8],
     fields: &[FieldDefinition],
 )
     requires short { are_short (field_rows names.now) ≡ true }
-    requires room { length fields.now ≤ 255 }
-    ensures { AreColumns (field_rows names.now) dates.now fields.now columns.new.items }
+    requires room { length columns.old.items + length fields.now ≤ COLUMNS }
+    ensures { (own : List AnyColumn) × (columns.new.items ≡ columns.old.items ++ own) × AreColumns (field_rows names.now) dates.now fields.now own }
 {
-    columns.clear();
     let mut rest = fields;
     while let [field, others @ ..] = rest {
         columns.push(Column::new(names, dates, field));

@@ -1,16 +1,36 @@
+ghost use Rattle.std.specs.Prelude.{◌≡◌, IfOk};
+
+use super::column::put_column;
 use super::date::dates_of;
-use super::field::put_field;
+use super::plan::Column;
+use super::show;
 use crate::profile::{field_name, fields_of, message_name};
 use crate::writing::Pen;
-use fit_base::{Arch, FieldValue};
+use arrayvec::ArrayVec;
+use fit_base::Arch;
+use fit_grammar::{Definition, FieldDefinition, File, Frame};
 use std::test::Fail;
 
-// The text of field 99 of a message 20.
-fn text_of(rt: &HostRuntime, base: u8, arch: Arch, bytes: &[u8]) -> Result<Vec<u8>, Fail> {
+// The text of a field of a message, with times as dates or as they are.
+fn text_of(
+    rt: &HostRuntime,
+    utc: bool,
+    global: u16,
+    number: u8,
+    base: u8,
+    arch: Arch,
+    bytes: &[u8],
+) -> Result<Vec<u8>, Fail> {
+    let field = FieldDefinition {
+        number,
+        size: u8::try_from(bytes.len())?,
+        base,
+    };
+    let dates = dates_of(utc, global);
+    let column = Column::new(fields_of(global), dates, &field);
     let mut out = Vec::new(rt.alloc());
     let mut pen = Pen::new(&mut out);
-    let value = FieldValue::new(base, arch, bytes);
-    put_field(&mut pen, fields_of(20), &[], 99, &value)?;
+    put_column(&mut pen, dates, arch, &column, bytes)?;
     pen.hand_over()?;
     Ok(out)
 }
@@ -58,34 +78,13 @@ fn shows_values(rt: HostRuntime) -> Result<(), Fail> {
         (0x06, &[1, 0], "0x0100"),
     ];
     for (base, bytes, text) in cases {
-        let out = text_of(&rt, base, Arch::Little, bytes)?;
+        let out = text_of(&rt, false, 20, 99, base, Arch::Little, bytes)?;
         let whole = format!(in rt.alloc(); " field_99={text}")?;
         assert_eq!(rt; out.as_slice(), whole.as_bytes(), "{base} {bytes:?}");
     }
-    let out = text_of(&rt, 0x86, Arch::Big, &[0, 0, 1, 2])?;
+    let out = text_of(&rt, false, 20, 99, 0x86, Arch::Big, &[0, 0, 1, 2])?;
     assert_eq!(rt; out.as_slice(), b" field_99=258".as_slice());
     Ok(())
-}
-
-// The text of a field of a message, with times as dates or as they are.
-fn dated(
-    rt: &HostRuntime,
-    utc: bool,
-    global: u16,
-    number: u8,
-    value: &FieldValue<'_>,
-) -> Result<Vec<u8>, Fail> {
-    let mut out = Vec::new(rt.alloc());
-    let mut pen = Pen::new(&mut out);
-    put_field(
-        &mut pen,
-        fields_of(global),
-        dates_of(utc, global),
-        number,
-        value,
-    )?;
-    pen.hand_over()?;
-    Ok(out)
 }
 
 #[test]
@@ -109,15 +108,9 @@ fn shows_dates(rt: HostRuntime) -> Result<(), Fail> {
         let little = time.to_le_bytes();
         let big = time.to_be_bytes();
         let whole = format!(in rt.alloc(); " timestamp={text}")?;
-        let out = dated(
-            &rt,
-            true,
-            1000,
-            253,
-            &FieldValue::new(0x86, Arch::Little, &little),
-        )?;
+        let out = text_of(&rt, true, 1000, 253, 0x86, Arch::Little, &little)?;
         assert_eq!(rt; out.as_slice(), whole.as_bytes(), "{time}");
-        let out = dated(&rt, true, 20, 253, &FieldValue::new(0x86, Arch::Big, &big))?;
+        let out = text_of(&rt, true, 20, 253, 0x86, Arch::Big, &big)?;
         assert_eq!(rt; out.as_slice(), whole.as_bytes(), "{time}");
     }
     Ok(())
@@ -157,8 +150,7 @@ fn shows_other_numbers_as_they_are(rt: HostRuntime) -> Result<(), Fail> {
         (true, 20, 253, 0x86, &[], " timestamp="),
     ];
     for (utc, global, number, base, bytes, text) in cases {
-        let value = FieldValue::new(base, Arch::Little, bytes);
-        let out = dated(&rt, utc, global, number, &value)?;
+        let out = text_of(&rt, utc, global, number, base, Arch::Little, bytes)?;
         assert_eq!(rt; out.as_slice(), text.as_bytes(), "{text}");
     }
     Ok(())
@@ -274,4 +266,87 @@ fn names_messages_and_fields(rt: HostRuntime) {
         assert_eq!(rt; field_name(fields_of(number), 253), Some("timestamp"));
         assert_eq!(rt; field_name(fields_of(number), 254), Some("message_index"));
     }
+}
+
+// A definition of one field of one byte, and behind it fields of no byte: those from 100 on and below a last number.
+fn definition(local: u8, global: u16, number: u8, last: u8) -> Result<Definition, Fail>
+    ensures { IfOk result (λ d. d.local ≡ local) }
+{
+    let mut fields = ArrayVec::new();
+    fields.try_push(FieldDefinition {
+        number,
+        size: 1,
+        base: 2,
+    })?;
+    for number in 100..last {
+        fields.try_push(FieldDefinition {
+            number,
+            size: 0,
+            base: 2,
+        })?;
+    }
+    Ok(Definition {
+        local,
+        arch: Arch::Little,
+        global,
+        fields,
+    })
+}
+
+// Sixteen local numbers take turns, and two of them get another definition on the way. The columns of sixteen plans have
+// room where each has one, not where each has 41 or 151.
+#[test]
+fn shows_many_definitions(rt: HostRuntime) -> Result<(), Fail> {
+    // Each with the number of the message before which it stands.
+    let definitions: [(u8, u8, u16, u8, &str); 18] = [
+        (0, 0, 0, 0, "file_id type"),
+        (0, 1, 12, 0, "sport sport"),
+        (0, 2, 18, 5, "session sport"),
+        (0, 3, 19, 24, "lap lap_trigger"),
+        (0, 4, 20, 3, "record heart_rate"),
+        (0, 5, 21, 1, "event event_type"),
+        (0, 6, 34, 2, "activity type"),
+        (0, 7, 100, 3, "message_100 field_3"),
+        (0, 8, 20, 4, "record cadence"),
+        (0, 9, 20, 13, "record temperature"),
+        (0, 10, 18, 16, "session avg_heart_rate"),
+        (0, 11, 19, 15, "lap avg_heart_rate"),
+        (0, 12, 0, 2, "file_id product"),
+        (0, 13, 0, 253, "file_id timestamp"),
+        (0, 14, 65534, 254, "message_65534 message_index"),
+        (0, 15, 12, 1, "sport sub_sport"),
+        (32, 3, 34, 4, "activity event_type"),
+        (40, 12, 20, 7, "record power"),
+    ];
+    let frame = Frame {
+        header_size: 14,
+        protocol: 0x10,
+        profile: 100,
+    };
+    for (last, size) in [(100, 290), (140, 2450), (250, 8390)] {
+        let mut empty = String::new(rt.alloc());
+        for number in 100..last {
+            empty.push_str(&format!(in rt.alloc(); " field_{number}=")?)?;
+        }
+        let mut file = File::new(rt.alloc(), frame);
+        let mut names = [""; 16];
+        let mut text = format!(in rt.alloc(); "header 14 protocol 1.0 profile 100 data {size}\n")?;
+        for value in 0..64_u8 {
+            for (before, local, global, number, name) in definitions {
+                if before == value && local < 16 {
+                    file.define(&definition(local, global, number, last)?)?;
+                    names[usize::from(local)] = name;
+                }
+            }
+            let local = value % 16;
+            file.data(local, None, &[value])?;
+            let name = names[usize::from(local)];
+            text.push_str(&format!(in rt.alloc(); "{value} {name}={value}{empty}\n")?)?;
+        }
+        text.push_str("messages 64\n")?;
+        let mut out = Vec::new(rt.alloc());
+        show(&file, false, &mut out)?;
+        assert_eq!(rt; out.as_slice(), text.as_bytes(), "{last}");
+    }
+    Ok(())
 }

@@ -48,7 +48,7 @@ impl Label {
 
     /// A number in decimal behind it.
     pub fn add_number(&mut self, number: u64)
-        requires { length self.old ≤ 12 }
+        requires { length self.old ≤ 11 }
         ensures { self.new ≡ self.old ++ decimal number }
     {
         self.len = place_number(&mut self.bytes, self.len, number);

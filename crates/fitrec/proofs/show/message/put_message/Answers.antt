@@ -17,31 +17,34 @@ add_label-requires g c =
       length-decimal-le 20 c.args.number (omega arith) (omega arith) (omega arith),
     )
 
+pub put_time-requires-clause-kind : goal.put_time-requires-clause-kind
+put_time-requires-clause-kind g c = rw (c.dates_of-dates.ensures, c.requires.global) c.requires.time.kind
+
 pub put_columns-requires-clause-kinds : goal.put_columns-requires-clause-kinds
-put_columns-requires-clause-kinds g c = rw c.as_slice.ensures.value (plan_kinds c.args.message.now.definition c.args.plan.now c.requires)
+put_columns-requires-clause-kinds g c = plan_kinds c.args.message.now.definition c.args.plan.now c.args.columns.now _ c.dates_of-dates.ensures c.requires
 
 pub put_columns-requires-clause-whole : goal.put_columns-requires-clause-whole
 put_columns-requires-clause-whole g c =
-    rw c.as_slice.ensures.value (plan_size c.args.message.now.definition c.args.plan.now c.requires ∙ c.args.message.now.whole)
+    plan_size c.args.message.now.definition c.args.plan.now c.args.columns.now c.requires ∙ c.args.message.now.whole
 
 pub returns-in_err-put_time : goal.returns-in_err-put_time
 returns-in_err-put_time g c =
     let message = c.args.message.now in
     puts_same (puts_then (puts_more (puts_more c.in_ok-room.ensures.puts c.add_number.ensures) c.add_label.ensures.label)
-    (puts_stop c.from_residual-in_err-put_time.ensures.0 c.in_err-put_time.ensures _))
-    (plan_text c.args.number message.definition c.args.time message.content.now c.args.plan.now c.requires)
+    (puts_stop c.from_residual-in_err-put_time.ensures.0 c.in_err-put_time.ensures.text _))
+    (plan_text c.args.number message.definition c.args.time message.content.now c.args.plan.now c.args.columns.now _ c.dates_of-dates.ensures c.in_err-put_time.ensures.fits c.requires)
 
 pub returns-in_err-put_columns : goal.returns-in_err-put_columns
 returns-in_err-put_columns g c =
     let message = c.args.message.now in
     puts_same (puts_then (puts_more (puts_more c.in_ok-room.ensures.puts c.add_number.ensures) c.add_label.ensures.label)
-    (puts_then c.in_ok-put_time.ensures
-    (puts_stop c.from_residual-in_err-put_columns.ensures.0 (rw c.as_slice.ensures.value at c.in_err-put_columns.ensures) _)))
-    (plan_text c.args.number message.definition c.args.time message.content.now c.args.plan.now c.requires)
+    (puts_then c.in_ok-put_time.ensures.text
+    (puts_stop c.from_residual-in_err-put_columns.ensures.0 c.in_err-put_columns.ensures _)))
+    (plan_text c.args.number message.definition c.args.time message.content.now c.args.plan.now c.args.columns.now _ c.dates_of-dates.ensures c.in_ok-put_time.ensures.fits c.requires)
 
 pub returns : goal.returns
 returns g c =
     let message = c.args.message.now in
     puts_same (puts_then (puts_more (puts_more c.in_ok-room.ensures.puts c.add_number.ensures) c.add_label.ensures.label)
-    (puts_then c.in_ok-put_time.ensures (puts_then (rw c.as_slice.ensures.value at c.in_ok-put_columns.ensures) c.put.ensures)))
-    (plan_text c.args.number message.definition c.args.time message.content.now c.args.plan.now c.requires)
+    (puts_then c.in_ok-put_time.ensures.text (puts_then c.in_ok-put_columns.ensures c.put.ensures)))
+    (plan_text c.args.number message.definition c.args.time message.content.now c.args.plan.now c.args.columns.now _ c.dates_of-dates.ensures c.in_ok-put_time.ensures.fits c.requires)

@@ -1,14 +1,13 @@
-use Rattle.std.proofs.Common.{refl, sym, arith}
-use Rattle.std.proofs.lemmas.Fmt.{decimal_digit}
-use Rattle.std.proofs.lemmas.List.{take_more_set}
-use Rattle.itoa.proofs.Decimal.{decimal_two}
-use Rattle.fitrec.proofs.PenLemmas.{places_same}
+use Rattle.std.proofs.Common.{◌+◌, ◌*◌, ◌-◌, ◌++◌, take, refl, ap, ◌∙◌, arith}
+use Rattle.fitrec.proofs.DecimalLemmas.{first_from, first_length}
 use Rattle.fitrec.proofs.writing.decimal.place_first.Goals as goal
 
-pub returns-then-number-lt10 : goal.returns-then-number-lt10
-returns-then-number-lt10 c =
-    rw (decimal_digit c.args.number c.if-number-lt10.true)
-    (record { bytes = take_more_set c.args.bytes.now c.args.at _ (omega arith); moved = refl })
-
 pub returns : goal.returns
-returns c = places_same c.place_pair.ensures (sym (decimal_two c.args.number c.if-number-lt10.false c.requires.short))
+returns c =
+    let digits = 1 + c.from.result + c.from-2.result in
+    let from = 3 * c.args.number + 3 - digits in
+    let first = first_from c.args.number _ _ digits from refl refl c.requires.short (rw (c.from.ensures, c.from-2.ensures) refl) refl in
+    record {
+      bytes = c.copy_digits.ensures digits (omega (arith, first.0)) ∙ ap (λ t. take c.args.at c.args.bytes.now ++ t) first.1;
+      moved = ap (λ d. c.args.at + d) (first_length c.args.number digits from first.0 (omega arith) first.1);
+    }
