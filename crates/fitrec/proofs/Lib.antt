@@ -1,12 +1,5 @@
-pub mod PenLemmas
 pub mod PrintLemmas
-pub mod DecimalLemmas
-pub mod NameLemmas
-pub mod PlanLemmas
-pub mod TextLemmas
-pub mod FieldLemmas
 pub mod ReadingLemmas
 pub mod ScriptLemmas
-pub mod DateLemmas
 pub mod RideLemmas
 pub mod ReplayLemmas

@@ -3,8 +3,8 @@ use Rattle.std.proofs.Common.{◌≡◌, List, [], ◌∷◌, ◌++◌, ℕ, Opt
 use Rattle.std.specs.Fmt.{WritesText, with_newline}
 use Rattle.std.specs.List.{FoldsTo, concat}
 use Rattle.std.specs.Result.{is_err}
-use Rattle.fitrec.specs.Pen.{Written, Continues, Puts, Took}
-use Rattle.fitrec.proofs.PenLemmas.{continues_none, continues_then}
+use Rattle.fit_text.specs.Pen.{Written, Continues, Puts, Took}
+use Rattle.fit_text.proofs.PenLemmas.{continues_none, continues_then}
 
 -- what several calls put
 in_calls : {o n : Written} (parts : List (List ℕ)) → FoldsTo Took o parts n → Took o (concat parts) n

@@ -1,8 +1,3 @@
-pub mod Profile
-pub mod Date
-pub mod Text
-pub mod Pen
-pub mod Plan
 pub mod Showing
 pub mod Summary
 pub mod Checking

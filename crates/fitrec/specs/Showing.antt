@@ -6,7 +6,7 @@ use Rattle.fit_grammar.specs.Format.File.{FileValue, FileOf}
 use Rattle.fit_grammar.specs.Format.Refusal.{IsFaultOf}
 use Rattle.fitrec.specs.declared.fault.Fault.{Fault}
 use Rattle.fitrec.specs.declared.fault.Fault.TheVariants as faults
-use Rattle.fitrec.specs.Text.{text_of}
+use Rattle.fit_text.specs.Text.{text_of}
 
 -- what a file meets on its way out: standard output that fails
 abbrev pub IsOutputFault : Fault → Type 0

@@ -2,14 +2,14 @@
 
 ghost use Rattle.std.specs.Io.KnownBytes.{Appends};
 ghost use Rattle.std.specs.Prelude.{◌≡◌, ◌++◌, [], codes, IfErr, IfSome, OnOk};
-ghost use Rattle.fitrec.specs.Pen.{Took};
+ghost use Rattle.fit_text.specs.Pen.{Took};
 ghost use Rattle.fitrec.specs.Showing.{IsOutputFault};
 ghost use Rattle.fitrec.specs.Summary.{summary_text};
 
 use crate::fault::Fault;
 use crate::summary::SummaryLine;
-use crate::writing::Pen;
 use fit_activity::Summary;
+use fit_text::Pen;
 use std::fmt::{Display, Write};
 use std::io;
 

@@ -3,12 +3,12 @@
 ghost use Rattle.std.specs.Prelude.{IfErr};
 ghost use Rattle.fit_grammar.specs.Calls.Output.{WritesText};
 ghost use Rattle.fitrec.specs.Showing.{ShowsBytes, IsOutputFault};
-ghost use Rattle.fitrec.specs.Text.{text_of};
+ghost use Rattle.fit_text.specs.Text.{text_of};
 
 use crate::command::input::read_file;
 use crate::fault::Fault;
-use crate::show::show;
 use fit_grammar::{File, decode_file};
+use fit_text::show;
 use std::alloc::Global;
 use std::io::Write;
 use std::rt::Files;

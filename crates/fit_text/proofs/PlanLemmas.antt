@@ -1,0 +1,391 @@
+-- What a plan shows is what the text of a message says: for `showing/plan`, `showing/plans`, `showing/column` and `showing/message`.
+use Rattle.std.proofs.lemmas.List.{get_or-set_same, get_or-set_other, get_or_past, drop-append-le, take-append-le, length-drop}
+use Rattle.std.specs.Array.{AllOfLen}
+use Rattle.arrayvec.specs.ArrayVec.{ArrayVec}
+use Rattle.std.specs.Prelude.{slice_range}
+use Rattle.std.proofs.lemmas.Bool.{cases_lt}
+use Rattle.fit_grammar.specs.Format.Item.{Defines}
+use Rattle.fit_grammar.specs.Calls.Table.{behind}
+use Rattle.std.proofs.Common.{set, eq-zero-or-pos, ◌⊎◌, ◌≡◌, ◌≢◌, ℕ, suc, ◌+◌, ◌-◌, ◌*◌, ◌/◌, ◌%◌, ◌^◌, ◌<◌, ◌≤◌, ◌==◌, Bool, true, false, List, [], ◌∷◌, ◌++◌, length, get_or, take, drop, sum_by, append_assoc, pos, ◌-ℤ◌, refl, sym, ap, ◌∙◌, inl, inr, append-nil, eq-eqb, nat_lt, ltb, codes, decimal, Option, Some, None, IfSome, IsSome, length-append, length-set, arith, rules, if◌then◌else◌}
+use Rattle.std.proofs.lemmas.Bool.{lt-ltb}
+use Rattle.std.proofs.lemmas.Grind.{flat_map-append}
+use Rattle.std.proofs.lemmas.List.{take_all}
+use Rattle.std.specs.Fmt.{signed_decimal}
+use Rattle.std.specs.List.{list_any, flat_map}
+use Rattle.fit_base.specs.declared.order.Arch.{Arch}
+use Rattle.fit_base.specs.declared.base.BaseType.{BaseType}
+use Rattle.fit_base.specs.declared.base.BaseType.TheVariants.{Sint8, Sint16, Uint16, Sint32, Uint32, Float32, Float64, Uint16z, Uint32z}
+use Rattle.std.specs.Int.{to_le_bytes, w32}
+use Rattle.std.proofs.lemmas.List.Sums.{sum_by-cons}
+use Rattle.fit_base.specs.declared.order.Arch.TheVariants.{Little}
+use Rattle.fit_base.specs.Number.{number, low_first}
+use Rattle.fit_base.specs.Base.{row_of, base_type, has_sign}
+use Rattle.fit_base.specs.Value.{Field, IsValueSize, raw_by, size_by, value_size, count_of, numbers}
+use Rattle.fit_text.specs.declared.showing.plan.Kind.{Kind}
+use Rattle.fit_text.specs.declared.showing.plan.Kind.TheVariants.{Unsigned, Signed, Other}
+use Rattle.fit_text.specs.declared.showing.plan.Column.{Column}
+use Rattle.fit_text.specs.declared.showing.plan.Plan.{Plan}
+use Rattle.fit_text.specs.declared.showing.plans.Plans.{Plans}
+use Rattle.fit_grammar.specs.declared.definition.Definition.{Definition}
+use Rattle.fit_grammar.specs.declared.definition.FieldDefinition.{FieldDefinition}
+use Rattle.fit_grammar.specs.Format.Message.{fields_of, time_field, time_fields, message_under}
+use Rattle.fit_grammar.specs.Format.Item.{content_size}
+use Rattle.fit_text.specs.Date.{dates_of}
+use Rattle.fit_text.specs.Profile.{FieldNames, names_of_fields}
+use Rattle.fit_text.specs.Plan.{field_at, shown_at, whole_of, ShowsWhole, IsKind, IsWholeOf, IsKindOf, time_definition, time_text, column_text, columns_text, IsColumn, AreColumns, HaveKinds, IsPlanOf, IsPlanIn, IsPlanAt, ArePlansFor}
+use Rattle.fit_text.specs.Text.{IsNumber, plain_text, number_text, numbers_text, message_name, field_name, field_text, message_text}
+use Rattle.fit_text.proofs.FieldLemmas.{number_values}
+use Rattle.fit_text.proofs.TextLemmas.{plain_whole, plain_signed, whole_unsigned, whole_signed}
+
+-- ---- one number of a type
+
+without_sign : (type : BaseType) (n : ℕ) → has_sign type ≡ false → type ≢ Float32 → type ≢ Float64 → decimal n ≡ plain_text type n
+without_sign type n e no_32 no_64 = whole_unsigned type n e ∙ plain_whole type n no_32 no_64
+
+unsigned_shows : (type : BaseType) (invalid n : ℕ) → invalid ≡ (row_of type).invalid → has_sign type ≡ false → type ≢ Float32 →
+    type ≢ Float64 → whole_of (Unsigned invalid) n ≡ number_text type n
+unfolding number_text
+unsigned_shows type invalid n is e no_32 no_64 =
+    rw is (ap (λ t. if n == (row_of type).invalid then codes "-" else t) (without_sign type n e no_32 no_64))
+
+-- a type without a sign that is no float
+pub unsigned_kind : (type : BaseType) (invalid : ℕ) → invalid ≡ (row_of type).invalid → IsNumber type → has_sign type ≡ false →
+    type ≢ Float32 → type ≢ Float64 → IsWholeOf type (Unsigned invalid)
+unsigned_kind type invalid is numbers e no_32 no_64 =
+    record { numbers = numbers; shows = λ n fits. unsigned_shows type invalid n is e no_32 no_64 }
+
+-- a number past the half is below zero
+below_zero : (m n : ℕ) → n < suc m → 45 ∷ decimal (suc m - n) ≡ signed_decimal (pos n -ℤ pos (suc m))
+below_zero m n h =
+    let t : ltb n (suc m) ≡ true = lt-ltb n (suc m) h in
+    let e : suc m - n ≡ suc (suc m - suc n) = omega arith in
+    rw t (ap (λ k. 45 ∷ decimal k) e)
+
+by_sign : (b : Bool) (m n : ℕ) → n < suc m →
+    (if b then decimal n else 45 ∷ decimal (suc m - n)) ≡ signed_decimal (if b then pos n else pos n -ℤ pos (suc m))
+by_sign true m n h = refl
+by_sign false m n h = below_zero m n h
+
+signed_shows : (type : BaseType) (n : ℕ) → has_sign type ≡ true → n < 256 ^ (row_of type).size →
+    whole_of (Signed (row_of type).invalid) n ≡ number_text type n
+unfolding number_text
+signed_shows Sint8 n e h =
+    ap (λ t. if n == 127 then codes "-" else t) (by_sign (nat_lt n 128) 255 n h ∙ whole_signed Sint8 n refl ∙ plain_signed Sint8 n refl)
+signed_shows Sint16 n e h =
+    ap (λ t. if n == 32767 then codes "-" else t)
+    (by_sign (nat_lt n 32768) 65535 n h ∙ whole_signed Sint16 n refl ∙ plain_signed Sint16 n refl)
+signed_shows Sint32 n e h =
+    ap (λ t. if n == 2147483647 then codes "-" else t)
+    (by_sign (nat_lt n 2147483648) 4294967295 n h ∙ whole_signed Sint32 n refl ∙ plain_signed Sint32 n refl)
+signed_shows type n e h = cc
+
+signed_limit : (type : BaseType) → has_sign type ≡ true → 256 ^ (row_of type).size ≡ 2 * (row_of type).invalid + 2
+signed_limit Sint8 e = refl
+signed_limit Sint16 e = refl
+signed_limit Sint32 e = refl
+signed_limit type e = cc
+
+-- a type with a sign
+pub signed_kind : (type : BaseType) (invalid : ℕ) → invalid ≡ (row_of type).invalid → IsNumber type → has_sign type ≡ true →
+    IsWholeOf type (Signed invalid) × (256 ^ (row_of type).size ≡ 2 * invalid + 2)
+signed_kind type invalid is numbers e =
+    rw is (record { numbers = numbers; shows = λ n fits. signed_shows type n e fits }, signed_limit type e)
+
+-- ---- a field of one value
+
+one_count : (type : BaseType) (n : ℕ) → n ≡ (row_of type).size → (n % (row_of type).size ≡ 0) × (n / (row_of type).size ≡ 1)
+one_count Float64 n e = (omega arith, omega arith)
+one_count _ n e = (omega arith, omega arith)
+
+value_size_of : (type : BaseType) → IsValueSize (row_of type).size
+value_size_of Sint16 = inr (inl refl)
+value_size_of Uint16 = inr (inl refl)
+value_size_of Uint16z = inr (inl refl)
+value_size_of Sint32 = inr (inr (inl refl))
+value_size_of Uint32 = inr (inr (inl refl))
+value_size_of Uint32z = inr (inr (inl refl))
+value_size_of Float32 = inr (inr (inl refl))
+value_size_of Float64 = inr (inr (inr refl))
+value_size_of _ = inl refl
+
+abbrev count_by : Option BaseType → List ℕ → ℕ
+count_by o bytes = if raw_by o (length bytes) then 0 else length bytes / size_by o
+
+one_of_type : (type : BaseType) (bytes : List ℕ) → length bytes ≡ (row_of type).size → count_by (Some type) bytes ≡ 1
+one_of_type type bytes e =
+    let counted = one_count type (length bytes) e in
+    let rest : (length bytes % (row_of type).size == 0) ≡ true = eq-eqb _ _ counted.0 in
+    rw (rest, counted.1) refl
+
+one_number : (type : BaseType) (arch : Arch) (bytes : List ℕ) → length bytes ≡ (row_of type).size →
+    numbers arch (size_by (Some type)) (count_by (Some type) bytes) bytes ≡ number arch bytes ∷ []
+one_number type arch bytes e =
+    rw (one_of_type type bytes e) (ap (λ t. number arch t ∷ []) (take_all (row_of type).size bytes (omega (arith, e))))
+
+one_text : (type : BaseType) (n : ℕ) → number_text type n ≡ numbers_text type (n ∷ [])
+unfolding numbers_text
+one_text type n = sym (append-nil (number_text type n))
+
+-- a field with one value, which is no date, shows it
+one_shown : (dates : List ℕ) (n base : ℕ) (arch : Arch) (bytes : List ℕ) (type : BaseType) →
+    list_any (λ date. date == n) dates ≡ false → base_type base ≡ Some type → IsNumber type → length bytes ≡ (row_of type).size →
+    number_text type (number arch bytes) ≡ shown_at dates n base arch bytes
+one_shown dates n base arch bytes type no_date known is e =
+    let field : Field = record { base = base; arch = arch; bytes = bytes } in
+    let P : Option BaseType → List ℕ = λ o. numbers arch (size_by o) (count_by o bytes) bytes in
+    let one : numbers arch (value_size field) (count_of field) bytes ≡ number arch bytes ∷ [] = ap P known ∙ one_number type arch bytes e in
+    let some : count_of field ≡ 1 = ap (λ o. count_by o bytes) known ∙ one_of_type type bytes e in
+    rw no_date
+    (one_text type (number arch bytes) ∙ ap (numbers_text type) (sym one) ∙ number_values field type known is (λ none. omega (arith, some, none)))
+
+-- the fields of a type of whole numbers, of the size of one
+pub shows_whole : (dates : List ℕ) (n base size : ℕ) (type : BaseType) (kind : Kind) →
+    list_any (λ date. date == n) dates ≡ false → base_type base ≡ Some type → size ≡ (row_of type).size → IsWholeOf type kind →
+    ShowsWhole dates n base size kind
+shows_whole dates n base size type kind no_date known e h =
+    rw e (record {
+      sized = value_size_of type;
+      shows = λ arch bytes one fits. h.shows (number arch bytes) fits ∙ one_shown dates n base arch bytes type no_date known h.numbers one;
+    })
+
+-- the kind of a field by that of its type
+pub kind_shows : (dates : List ℕ) (n base size : ℕ) (type : BaseType) (kind : Kind) →
+    list_any (λ date. date == n) dates ≡ false → base_type base ≡ Some type → size ≡ (row_of type).size → IsKindOf type kind →
+    IsKind dates n base size kind
+kind_shows dates n base size type (Unsigned invalid) no_date known e h = shows_whole dates n base size type (Unsigned invalid) no_date known e h
+kind_shows dates n base size type (Signed invalid) no_date known e h =
+    (shows_whole dates n base size type (Signed invalid) no_date known e h.0, ap (λ s. 256 ^ s) e ∙ h.1)
+kind_shows dates n base size type Other no_date known e h = tt
+
+-- ---- columns
+
+pub columns_length : (names : FieldNames) (dates : List ℕ) (fields : List FieldDefinition) (columns : List Column) →
+    AreColumns names dates fields columns → length columns ≡ length fields
+columns_length names dates [] [] h = refl
+columns_length names dates [] (column ∷ columns) h = absurd h
+columns_length names dates (field ∷ fields) [] h = absurd h
+columns_length names dates (field ∷ fields) (column ∷ columns) h = ap (λ n. suc n) (columns_length names dates fields columns h.1)
+
+-- the fields that are left, behind those that have columns
+pub left_over : (done fields : List FieldDefinition) (all : List FieldDefinition) → all ≡ done ++ fields → length fields < 1 → all ≡ done
+left_over done [] all e lt = e ∙ append-nil done
+left_over done (field ∷ fields) all e lt = absurd (omega arith)
+
+-- the next of them
+pub next_field : (done fields : List FieldDefinition) (all : List FieldDefinition) (d : FieldDefinition) → all ≡ done ++ fields →
+    1 ≤ length fields → all ≡ (done ++ get_or fields 0 d ∷ []) ++ take (length fields - 1) (drop 1 fields)
+next_field done [] all d e lt = absurd (omega arith)
+next_field done (field ∷ fields) all d e lt =
+    let rest : take (length (field ∷ fields) - 1) fields ≡ fields = take_all _ fields (omega arith) in
+    rw (rest, append_assoc) e
+
+-- the column of a field more
+pub columns_more : (names : FieldNames) (dates : List ℕ) (fields : List FieldDefinition) (columns : List Column) (field : FieldDefinition)
+    (column : Column) → AreColumns names dates fields columns → IsColumn names dates field column →
+    AreColumns names dates (fields ++ field ∷ []) (columns ++ column ∷ [])
+columns_more names dates [] [] field column h k = (k, tt)
+columns_more names dates [] (c ∷ columns) field column h k = absurd h
+columns_more names dates (f ∷ fields) [] field column h k = absurd h
+columns_more names dates (f ∷ fields) (c ∷ columns) field column h k =
+    (h.0, columns_more names dates fields columns field column h.1 k)
+
+-- the text of columns is that of their fields
+column_shows : (names : FieldNames) (dates : List ℕ) (arch : Arch) (field : FieldDefinition) (column : Column) (bytes : List ℕ) →
+    IsColumn names dates field column →
+    column_text dates arch column bytes ≡ field_text names dates (field_at field.number field.base arch bytes)
+column_shows names dates arch field column bytes h =
+    ap (λ t. t ++ shown_at dates column.number column.base arch bytes) h.label
+    ∙ ap (λ n. codes " " ++ field_name names field.number ++ codes "=" ++ shown_at dates n column.base arch bytes) h.number
+    ∙ ap (λ b. codes " " ++ field_name names field.number ++ codes "=" ++ shown_at dates field.number b arch bytes) h.base
+
+-- the text of a time is that of its field
+time_shown : (names : FieldNames) (dates : List ℕ) (column : Column) (time : Option ℕ) → IfSome time (λ time. time < 2 ^ 32) →
+    IsColumn names dates time_definition column → time_text dates column time ≡ flat_map (field_text names dates) (time_fields time)
+time_shown names dates column None fits h = refl
+time_shown names dates column (Some time) fits h =
+    let all : low_first (to_le_bytes w32 time) ≡ time = omega (arith, fits) in
+    column_shows names dates Little time_definition column (to_le_bytes w32 time) h
+    ∙ ap (λ n. field_text names dates (time_field n)) all ∙ sym (append-nil _)
+
+pub columns_show : (names : FieldNames) (dates : List ℕ) (arch : Arch) (fields : List FieldDefinition) (columns : List Column)
+    (content : List ℕ) → AreColumns names dates fields columns →
+    columns_text dates arch columns content ≡ flat_map (field_text names dates) (fields_of arch fields content)
+columns_show names dates arch [] [] content h = refl
+columns_show names dates arch [] (column ∷ columns) content h = absurd h
+columns_show names dates arch (field ∷ fields) [] content h = absurd h
+columns_show names dates arch (field ∷ fields) (column ∷ columns) content h =
+    let size : column.size ≡ field.size = h.0.size in
+    rw (
+      size,
+      column_shows names dates arch field column (take field.size content) h.0,
+      columns_show names dates arch fields columns (drop field.size content) h.1,
+    ) refl
+
+pub columns_kinds : (names : FieldNames) (dates : List ℕ) (fields : List FieldDefinition) (columns : List Column) →
+    AreColumns names dates fields columns → HaveKinds dates columns
+columns_kinds names dates [] [] h = tt
+columns_kinds names dates [] (column ∷ columns) h = absurd h
+columns_kinds names dates (field ∷ fields) [] h = absurd h
+columns_kinds names dates (field ∷ fields) (column ∷ columns) h = (h.0.kind, columns_kinds names dates fields columns h.1)
+
+pub columns_size : (names : FieldNames) (dates : List ℕ) (fields : List FieldDefinition) (columns : List Column) →
+    AreColumns names dates fields columns → sum_by (λ c. c.size) columns ≡ sum_by (λ f. f.size) fields
+columns_size names dates [] [] h = refl
+columns_size names dates [] (column ∷ columns) h = absurd h
+columns_size names dates (field ∷ fields) [] h = absurd h
+columns_size names dates (field ∷ fields) (column ∷ columns) h =
+    let rest = columns_size names dates fields columns h.1 in
+    omega (arith, rest, h.0.size, sum_by-cons (λ (c : Column). c.size) column columns, sum_by-cons (λ (f : FieldDefinition). f.size) field fields)
+
+-- ---- the first of several columns, and the others
+
+abbrev others : List Column → List Column
+others columns = take (length columns - 1) (drop 1 columns)
+
+pub first_size : (columns : List Column) (column : Column) → 1 ≤ length columns → column ≡ get_or columns 0 column →
+    sum_by (λ c. c.size) columns ≡ column.size + sum_by (λ c. c.size) (others columns)
+first_size [] column some is = absurd (omega arith)
+first_size (c ∷ columns) column some is =
+    let rest : others (c ∷ columns) ≡ columns = take_all _ columns (omega arith) in
+    rw (is, rest) (sum_by-cons (λ (c : Column). c.size) c columns)
+
+pub other_kinds : (dates : List ℕ) (columns : List Column) → 1 ≤ length columns → HaveKinds dates columns → HaveKinds dates (others columns)
+other_kinds dates [] some h = absurd (omega arith)
+other_kinds dates (c ∷ columns) some h =
+    let rest : others (c ∷ columns) ≡ columns = take_all _ columns (omega arith) in rw rest h.1
+
+pub first_text : (dates : List ℕ) (arch : Arch) (columns : List Column) (column : Column) (content bytes behind : List ℕ) (n : ℕ) →
+    1 ≤ length columns → column ≡ get_or columns 0 column → bytes ≡ take n content → behind ≡ drop n content → n ≡ column.size →
+    columns_text dates arch columns content ≡ column_text dates arch column bytes ++ columns_text dates arch (others columns) behind
+first_text dates arch [] column content bytes behind n some is front back size = absurd (omega arith)
+first_text dates arch (c ∷ columns) column content bytes behind n some is front back size =
+    let rest : others (c ∷ columns) ≡ columns = take_all _ columns (omega arith) in rw (front, back, size, is, rest) refl
+
+pub no_column : (dates : List ℕ) (arch : Arch) (columns : List Column) (content : List ℕ) → length columns < 1 →
+    columns_text dates arch columns content ≡ []
+no_column dates arch [] content none = refl
+no_column dates arch (column ∷ columns) content none = absurd (omega arith)
+
+-- ---- the line of a message
+
+line_parts : (number name times fields : List ℕ) →
+    (number ++ (codes " " ++ name)) ++ (times ++ (fields ++ codes "\n")) ≡ number ++ codes " " ++ name ++ (times ++ fields) ++ codes "\n"
+line_parts number name times fields = simp append_assoc
+
+-- the parts of the line, in their order
+pub plan_text : (number : ℕ) (d : Definition) (time : Option ℕ) (content : List ℕ) (plan : Plan) (columns : List Column) →
+    (dates : List ℕ) → dates ≡ dates_of plan.utc plan.global → IfSome time (λ time. time < 2 ^ 32) → IsPlanOf d plan columns →
+    (decimal number ++ plan.name)
+    ++ (time_text dates plan.time time ++ (columns_text dates plan.arch columns content ++ codes "\n"))
+    ≡ message_text plan.utc number (message_under d time content)
+plan_text number d time content plan columns dates is fits h =
+    let names = names_of_fields d.global in
+    let shown = dates_of plan.utc d.global in
+    let texts = flat_map-append (field_text names shown) (time_fields time) (fields_of d.arch d.fields.items content) in
+    rw (is, h.global, h.arch, h.name, time_shown names shown plan.time time fits h.time, columns_show names shown d.arch d.fields.items columns content h.fields)
+    (line_parts (decimal number) (message_name d.global) _ _
+    ∙ ap (λ t. decimal number ++ codes " " ++ message_name d.global ++ t ++ codes "\n") (sym texts))
+
+pub plan_kinds : (d : Definition) (plan : Plan) (columns : List Column) (dates : List ℕ) → dates ≡ dates_of plan.utc plan.global →
+    IsPlanOf d plan columns → HaveKinds dates columns
+plan_kinds d plan columns dates is h =
+    rw (is, h.global) (columns_kinds (names_of_fields d.global) (dates_of plan.utc d.global) d.fields.items columns h.fields)
+
+pub plan_size : (d : Definition) (plan : Plan) (columns : List Column) → IsPlanOf d plan columns →
+    sum_by (λ c. c.size) columns ≡ content_size d
+plan_size d plan columns h =
+    columns_size (names_of_fields d.global) (dates_of plan.utc d.global) d.fields.items columns h.fields
+
+-- ---- columns in the row of all
+
+-- a plan stays where more columns come behind its own
+plan_in_more : (row more : List Column) (utc : Bool) (d : Definition) (plan : Plan) → IsPlanIn row utc d plan → IsPlanIn (row ++ more) utc d plan
+plan_in_more row more utc d plan h =
+    let same : slice_range (row ++ more) plan.first plan.end ≡ slice_range row plan.first plan.end =
+    ap (λ t. take (plan.end - plan.first) t) (drop-append-le plan.first row more (omega (arith, h.order, h.inside)))
+    ∙ take-append-le (plan.end - plan.first) (drop plan.first row) more (omega (arith, h.order, h.inside, length-drop plan.first row)) in
+    record {
+      dated = h.dated;
+      order = h.order;
+      inside = omega (arith, h.inside, length-append row more);
+      is = rw same h.is;
+    }
+
+-- ---- plans, each at the place of its local number
+
+same_or_not : (a b : ℕ) → (a ≡ b) ⊎ (a ≢ b)
+same_or_not a b =
+    elim (eq-zero-or-pos ((a - b) + (b - a))) [
+      | inl none ↦ inl (omega arith)
+      | inr some ↦ inr (λ e. omega (arith, some, e))
+    ]
+
+-- none of sixteen
+pub none_there : (slots : List (Option Plan)) (local : ℕ) → AllOfLen (λ slot. slot ≡ None) slots 16 → get_or slots local None ≡ None
+none_there slots local h =
+    elim (cases_lt local 16) [
+      | inl lt ↦ h.at local None lt
+      | inr ge ↦ get_or_past slots local None (omega (arith, ge, h.long))
+    ]
+
+pub plans_none : (definition_for : ℕ → Option Definition) (plans : Plans) → ((local : ℕ) → get_or plans.slots local None ≡ None) →
+    ArePlansFor definition_for plans
+plans_none definition_for plans none local d plan there has = let gone = none local in cc
+
+-- a plan at a place that was set is the one that was put there
+set_there : (slots : List (Option Plan)) (k : ℕ) (slot : Option Plan) (plan : Plan) → get_or (set slots k slot) k None ≡ Some plan → slot ≡ Some plan
+set_there slots k slot plan there =
+    elim (cases_lt k (length slots)) [
+      | inl lt ↦ sym (get_or-set_same slots k slot None lt) ∙ there
+      | inr ge ↦ let gone = get_or_past (set slots k slot) k None (omega (arith, ge, length-set slots k slot)) in cc
+    ]
+
+-- behind a definition its local number has no plan
+pub plans_forget : (definition_for : ℕ → Option Definition) (d : Definition) (plans : Plans) (k : ℕ) → k ≡ d.local →
+    ArePlansFor definition_for plans → ArePlansFor (behind (Defines d) definition_for) (record plans { slots = set plans.slots k None })
+plans_forget definition_for d plans k place h local definition plan there has =
+    elim (same_or_not local k) [
+      | inl here ↦
+          let gone : None ≡ Some plan =
+          set_there plans.slots k None plan (ap (λ i. get_or (set plans.slots k None) i None) (sym here) ∙ there) in
+          cc
+      | inr other ↦
+          let apart : d.local ≢ local = λ e. other (sym e ∙ sym place) in
+          let no : (d.local == local) ≡ false = search rules in
+          h local definition plan (sym (get_or-set_other plans.slots k local None None other) ∙ there) (rw no at has)
+    ]
+
+-- a plan that was made, whose columns came behind the others
+pub plans_set : (definition_for : ℕ → Option Definition) (own : ℕ) (d : Definition) (plans : Plans) (columns : ArrayVec Column) (plan : Plan)
+    (k : ℕ) (more : List Column) → k ≡ own → definition_for own ≡ Some d → IsPlanIn columns.items plans.utc d plan →
+    columns.items ≡ plans.columns.items ++ more → ArePlansFor definition_for plans →
+    ArePlansFor definition_for (record plans { slots = set plans.slots k (Some plan); columns = columns })
+plans_set definition_for own d plans columns plan k more place found good row h local definition other there has =
+    elim (same_or_not local k) [
+      | inl here ↦
+          let one : Some plan ≡ Some other =
+          set_there plans.slots k (Some plan) other (ap (λ i. get_or (set plans.slots k (Some plan)) i None) (sym here) ∙ there) in
+          let same : Some d ≡ Some definition = sym found ∙ ap definition_for (sym place ∙ sym here) ∙ has in
+          let is_plan : plan ≡ other = cc in
+          let is_definition : d ≡ definition = cc in
+          rw (← is_plan, ← is_definition) good
+      | inr apart ↦
+          let kept = sym (get_or-set_other plans.slots k local (Some plan) None apart) ∙ there in
+          rw row (plan_in_more plans.columns.items more plans.utc definition other (h local definition other kept has))
+    ]
+
+-- the plan of a local number that has one
+plan_by : (definition_for : ℕ → Option Definition) (plans : Plans) (local : ℕ) (d : Definition) (o : Option Plan) →
+    get_or plans.slots local None ≡ o → IsSome o → definition_for local ≡ Some d → ArePlansFor definition_for plans → IsPlanAt plans local d
+plan_by definition_for plans local d None there bad has h = cc
+plan_by definition_for plans local d (Some plan) there some has h = record { plan = plan; there = there; is = h local d plan there has }
+
+pub plan_at : (definition_for : ℕ → Option Definition) (plans : Plans) (local : ℕ) (d : Definition) → IsSome (get_or plans.slots local None) →
+    definition_for local ≡ Some d → ArePlansFor definition_for plans → IsPlanAt plans local d
+plan_at definition_for plans local d some has h = plan_by definition_for plans local d _ refl some has h
+
+pub plan_got : (definition_for : ℕ → Option Definition) (plans : Plans) (local : ℕ) (d : Definition) (plan : Plan) (columns : List Column) →
+    get_or plans.slots local None ≡ Some plan → columns ≡ slice_range plans.columns.items plan.first plan.end → definition_for local ≡ Some d →
+    ArePlansFor definition_for plans → IsPlanOf d plan columns × (plan.utc ≡ plans.utc)
+plan_got definition_for plans local d plan columns there is has h =
+    let own = h local d plan there has in (rw is own.is, own.dated)

@@ -1,0 +1,14 @@
+use Rattle.std.proofs.Common.{◌≡◌, length, sum_by}
+use Rattle.fit_text.specs.Plan.{HaveKinds, columns_text}
+use Rattle.fit_text.proofs.PenLemmas.{Leaves}
+use Rattle.fit_text.proofs.showing.column.put_columns.Given as goal
+
+abbrev pub invariant-loop-left : goal.invariant-loop-left
+invariant-loop-left g l = record {
+  kinds : HaveKinds l.dates l.left;
+  whole : sum_by (λ column. column.size) l.left ≡ length l.rest;
+  put : Leaves l.initial.pen l.pen (columns_text l.dates l.arch l.initial.left l.initial.rest) (columns_text l.dates l.arch l.left l.rest);
+}
+
+abbrev pub decreases-loop-left : goal.decreases-loop-left
+decreases-loop-left g l = length l.left

@@ -1,0 +1,7 @@
+use Rattle.fit_text.proofs.PlanLemmas.{plans_set}
+use Rattle.fit_text.proofs.showing.plans.Plans.set.Goals as goal
+
+pub returns-clause-plans : goal.returns-clause-plans
+returns-clause-plans c = λ definition_for found h.
+    plans_set definition_for c.args.local c.args.definition.now c.make_room.new.self c.new-plan.new.columns c.new-plan.result c.from.result _
+    c.from.ensures found c.new-plan.ensures.plan c.new-plan.ensures.behind.1 (c.make_room.ensures.plans definition_for h)

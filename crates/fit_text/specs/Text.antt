@@ -1,0 +1,129 @@
+-- The text that shows a file: a line for its header, a line for each message, and a line that counts them. It
+-- follows from what the messages say and not from how they are spelled.
+use Rattle.std.specs.Prelude.{ℕ, Bool, ◌/◌, ◌%◌, List, [], ◌∷◌, ◌++◌, length, codes, decimal, Option, Some, None, true, ◌==◌, ◌&&◌, not, nat_le, if◌then◌else◌}
+use Rattle.std.specs.Fmt.{signed_decimal, digit_glyph}
+use Rattle.std.specs.Int.{to_be_bytes, w32, w64}
+use Rattle.std.specs.List.{flat_map, list_all, before_first, join_by, enumerate_from}
+use Rattle.fit_base.specs.declared.base.BaseType.{BaseType}
+use Rattle.fit_base.specs.declared.base.BaseType.TheVariants.{Float32, Float64, String, Byte}
+use Rattle.fit_base.specs.Number.{twos_complement}
+use Rattle.fit_base.specs.Base.{row_of, base_type, has_sign}
+use Rattle.fit_base.specs.Value.{Values, Numbers, Raw}
+use Rattle.fit_grammar.specs.declared.file.frame.Frame.{Frame}
+use Rattle.fit_grammar.specs.Format.Records.{data_size}
+use Rattle.fit_grammar.specs.Format.Message.{Message, MessageField, messages_of}
+use Rattle.fit_grammar.specs.Format.File.{FileValue}
+use Rattle.fit_text.specs.Date.{dates_of, date_in, date_text}
+use Rattle.fit_text.specs.Profile.{FieldNames, message_named, names_of_fields, field_named}
+
+-- ---- values
+
+-- two upper-case hexadecimal digits of a byte
+unfoldable pub hex_byte : ℕ → List ℕ
+hex_byte byte = digit_glyph true (byte / 16) ∷ digit_glyph true (byte % 16) ∷ []
+
+-- `0x` and two digits a byte; of no byte nothing
+unfoldable pub hex_text : List ℕ → List ℕ
+hex_text [] = []
+hex_text (byte ∷ bytes) = codes "0x" ++ flat_map hex_byte (byte ∷ bytes)
+
+-- a byte that can be printed and is no quotation mark or backslash
+abbrev pub is_plain : ℕ → Bool
+is_plain byte = nat_le 32 byte && nat_le byte 126 && not (byte == 34) && not (byte == 92)
+
+-- a byte of a string: as it is, or `\x` and two digits
+unfoldable pub escaped : ℕ → List ℕ
+escaped byte = if is_plain byte then byte ∷ [] else 92 ∷ 120 ∷ hex_byte byte
+
+-- a string between quotation marks, up to its first zero byte
+unfoldable pub string_text : List ℕ → List ℕ
+string_text bytes = codes "\"" ++ flat_map escaped (before_first (λ byte. byte == 0) bytes) ++ codes "\""
+
+-- the bytes of a field of type byte, which is invalid where all of them are FF
+unfoldable pub byte_text : List ℕ → List ℕ
+byte_text bytes = if list_all (λ byte. byte == 255) bytes then codes "-" else hex_text bytes
+
+-- a whole number in decimal, read as two's complement where its type has a sign
+unfoldable pub whole_text : BaseType → ℕ → List ℕ
+whole_text type n = if has_sign type then signed_decimal (twos_complement (row_of type).size n) else decimal n
+
+-- a number that is not invalid; of a float the digits of its bits
+unfoldable pub plain_text : BaseType → ℕ → List ℕ
+plain_text Float32 n = hex_text (to_be_bytes w32 n)
+plain_text Float64 n = hex_text (to_be_bytes w64 n)
+plain_text type n = whole_text type n
+
+-- a number, or `-` where it is its type's invalid value
+unfoldable pub number_text : BaseType → ℕ → List ℕ
+number_text type n = if n == (row_of type).invalid then codes "-" else plain_text type n
+
+-- the numbers of a field with commas between them
+unfoldable pub numbers_text : BaseType → List ℕ → List ℕ
+numbers_text type numbers = join_by (number_text type) (codes ",") numbers
+
+-- a type whose values are shown as numbers
+abbrev pub IsNumber : BaseType → Type 0
+IsNumber String = ⊥
+IsNumber Byte = ⊥
+IsNumber type = Unit {0}
+
+-- the values of a type that has a byte or more
+abbrev pub some_text : Option BaseType → List ℕ → List ℕ
+some_text None numbers = []
+some_text (Some String) bytes = string_text bytes
+some_text (Some Byte) bytes = byte_text bytes
+some_text (Some type) numbers = numbers_text type numbers
+
+-- what a field holds; one of size 0 shows nothing
+abbrev pub values_text : Option BaseType → Values → List ℕ
+values_text type (Raw bytes) = hex_text bytes
+values_text type (Numbers []) = []
+values_text type (Numbers (n ∷ numbers)) = some_text type (n ∷ numbers)
+
+-- ---- messages
+
+-- a name, or a word and the number in its place
+abbrev pub named : Option (List ℕ) → List ℕ → ℕ → List ℕ
+named None word number = word ++ decimal number
+named (Some name) word number = name
+
+abbrev pub message_name : ℕ → List ℕ
+message_name number = named (message_named number) (codes "message_") number
+
+abbrev pub field_name : FieldNames → ℕ → List ℕ
+field_name names number = named (field_named names number) (codes "field_") number
+
+-- a date, or what a field holds
+abbrev pub shown_text : Option ℕ → MessageField → List ℕ
+shown_text (Some time) field = date_text time
+shown_text None field = values_text (base_type field.base) field.values
+
+-- a field, where those of some numbers are shown as dates
+abbrev pub field_text : FieldNames → List ℕ → MessageField → List ℕ
+field_text names dates field =
+    codes " " ++ field_name names field.number ++ codes "=" ++ shown_text (date_in dates field) field
+
+-- the line of a message, behind its number
+abbrev pub message_text : Bool → ℕ → Message → List ℕ
+message_text utc number message =
+    decimal number ++ codes " " ++ message_name message.global
+    ++ flat_map (field_text (names_of_fields message.global) (dates_of utc message.global)) message.fields ++ codes "\n"
+
+-- ---- files
+
+-- the first line: what the header says, over this many bytes of records
+abbrev pub header_text : Frame → ℕ → List ℕ
+header_text frame size =
+    codes "header " ++ decimal frame.header_size ++ codes " protocol " ++ decimal (frame.protocol / 16)
+    ++ codes "." ++ decimal (frame.protocol % 16) ++ codes " profile " ++ decimal frame.profile
+    ++ codes " data " ++ decimal size ++ codes "\n"
+
+-- the lines of messages, which are numbered from 0
+abbrev pub messages_text : Bool → List Message → List ℕ
+messages_text utc messages = flat_map (λ row. message_text utc row.0 row.1) (enumerate_from 0 messages)
+
+-- with times as dates in UTC, or as they are
+unfoldable pub text_of : Bool → FileValue → List ℕ
+text_of utc v =
+    header_text v.frame (data_size v.items) ++ messages_text utc (messages_of v.items)
+    ++ codes "messages " ++ decimal (length (messages_of v.items)) ++ codes "\n"

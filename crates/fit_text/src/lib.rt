@@ -1,0 +1,26 @@
+//! What a FIT file says, as text: a line for its header, a line for each message, and how many these are.
+//!
+//! `show` writes the text of a `File`, in one pass and with no allocation. Times are numbers, or dates where they are asked for:
+//!
+//!     let mut file = File::new(alloc, frame);
+//!     file.define(&Definition { local: 0, arch: Arch::Little, global: 0, fields })?;
+//!     file.data(0, None, &[4, 0x00, 0xCA, 0x9A, 0x3B])?;
+//!     show(&file, true, &mut out)?;
+//!
+//! writes
+//!
+//!     header 14 protocol 1.0 profile 100 data 18
+//!     0 file_id type=4 time_created=2021-09-08T01:46:40Z
+//!     messages 1
+//!
+//! (The test `the_example_of_the_crate`.) The names of messages and fields stand in `profile`, and what is written goes through
+//! the buffer of a `Pen` (`writing`). What is promised is said in the words of `specs/`: `Text` has the text of a file, `Profile`
+//! the names in it, `Date` the dates, `Pen` what a pen puts. `Plan` has what only private functions and proofs speak of.
+#![tactic(auto)]
+
+mod profile;
+mod showing;
+mod writing;
+
+pub use showing::{ShowFault, show};
+pub use writing::Pen;

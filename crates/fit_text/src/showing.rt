@@ -1,0 +1,17 @@
+// What a file says, as text.
+
+mod bytes;
+mod column;
+mod date;
+mod field;
+mod file;
+mod header;
+mod message;
+mod number;
+mod plan;
+mod plans;
+
+pub use file::{ShowFault, show};
+
+#[cfg(test)]
+mod tests;

@@ -1,0 +1,101 @@
+// Bytes as hexadecimal digits and as a string.
+
+ghost use Rattle.std.specs.Prelude.{◌≡◌, ◌<◌, ◌==◌, true};
+ghost use Rattle.std.specs.Fmt.{digit_glyph};
+ghost use Rattle.std.specs.List.{flat_map, list_all};
+ghost use Rattle.fit_text.specs.Pen.{Puts};
+ghost use Rattle.fit_text.specs.Text.{hex_byte, hex_text, is_plain, escaped, string_text, byte_text};
+
+use crate::writing::Pen;
+use fit_base::FieldValue;
+use fit_grammar::WriteFailed;
+use std::io::Write;
+
+/// `0x` and two digits a byte; of no byte nothing.
+pub fn put_hex<W: Write>(pen: &mut Pen<'_, W>, bytes: &[u8]) -> Result<(), WriteFailed>
+    ensures { Puts pen.old pen.new result (hex_text bytes.now) }
+{
+    if bytes.is_empty() {
+        return Ok(());
+    }
+    pen.put(b"0x")?;
+    put_digits(pen, bytes)
+}
+
+fn put_digits<W: Write>(pen: &mut Pen<'_, W>, bytes: &[u8]) -> Result<(), WriteFailed>
+    ensures { Puts pen.old pen.new result (flat_map hex_byte bytes.now) }
+{
+    for byte in bytes {
+        pen.put(&hex_byte(*byte))?;
+    }
+    Ok(())
+}
+
+/// A string between quotation marks, up to its first zero byte.
+pub fn put_string<W: Write>(pen: &mut Pen<'_, W>, field: &FieldValue<'_>) -> Result<(), WriteFailed>
+    ensures { Puts pen.old pen.new result (string_text field.now.bytes) }
+{
+    pen.put(b"\"")?;
+    put_all_escaped(pen, field.text_bytes())?;
+    pen.put(b"\"")
+}
+
+fn put_all_escaped<W: Write>(pen: &mut Pen<'_, W>, bytes: &[u8]) -> Result<(), WriteFailed>
+    ensures { Puts pen.old pen.new result (flat_map escaped bytes.now) }
+{
+    for byte in bytes {
+        put_escaped(pen, *byte)?;
+    }
+    Ok(())
+}
+
+fn put_escaped<W: Write>(pen: &mut Pen<'_, W>, byte: u8) -> Result<(), WriteFailed>
+    ensures { Puts pen.old pen.new result (escaped byte) }
+{
+    if is_plain(byte) {
+        return pen.put(&[byte]);
+    }
+    pen.put(b"\\x")?;
+    pen.put(&hex_byte(byte))
+}
+
+fn is_plain(byte: u8) -> bool
+    ensures { result ≡ is_plain byte }
+{
+    byte >= 32 && byte <= 126 && byte != b'"' && byte != b'\\'
+}
+
+/// The bytes of a field of type byte: `-` where all of them are FF.
+pub fn put_byte_field<W: Write>(pen: &mut Pen<'_, W>, bytes: &[u8]) -> Result<(), WriteFailed>
+    ensures { Puts pen.old pen.new result (byte_text bytes.now) }
+{
+    if all_invalid(bytes) {
+        pen.put(b"-")
+    } else {
+        put_hex(pen, bytes)
+    }
+}
+
+fn all_invalid(bytes: &[u8]) -> bool
+    ensures { result ≡ list_all (λ byte. byte == 255) bytes.now }
+{
+    bytes.iter().all(|byte| *byte == 255)
+}
+
+#[tactic(auto, unfolding(crate::specs::Text::hex_byte))]
+fn hex_byte(byte: u8) -> [u8; 2]
+    ensures { result ≡ hex_byte byte }
+{
+    [hex_digit(byte / 16), hex_digit(byte % 16)]
+}
+
+fn hex_digit(digit: u8) -> u8
+    requires { digit < 16 }
+    ensures { result ≡ digit_glyph true digit }
+{
+    if digit < 10 {
+        b'0' + digit
+    } else {
+        b'A' + (digit - 10)
+    }
+}

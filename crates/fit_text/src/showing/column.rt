@@ -1,0 +1,100 @@
+// The fields of a message, by the columns of its plan.
+
+ghost use Rattle.std.specs.Prelude.{◌≡◌, ◌<◌, ◌≤◌, ◌+◌, ◌*◌, ◌^◌, length, sum_by};
+ghost use Rattle.fit_text.specs.declared.writing.TheConstants.{SIZE};
+ghost use Rattle.fit_text.specs.Pen.{Puts, Adds};
+ghost use Rattle.fit_text.specs.Plan.{whole_of, IsKind, HaveKinds, column_text, columns_text};
+
+use crate::showing::field::put_shown;
+use crate::showing::plan::{Column, Kind};
+use crate::writing::Pen;
+use fit_base::{Arch, FieldValue, number_of};
+use fit_grammar::WriteFailed;
+use std::io::Write;
+
+/// The fields of this content, each with its name. Fields of some numbers are shown as dates.
+// Out of line, so that what its loop needs stays in registers.
+#[inline(never)]
+pub fn put_columns<W: Write>(
+    pen: &mut Pen<'_, W>,
+    dates: &[u8],
+    arch: Arch,
+    columns: &[Column],
+    content: &[u8],
+) -> Result<(), WriteFailed>
+    requires kinds { HaveKinds dates.now columns.now }
+    requires whole { sum_by (λ column. column.size) columns.now ≡ length content.now }
+    ensures { Puts pen.old pen.new result (columns_text dates.now arch columns.now content.now) }
+{
+    let mut left = columns;
+    let mut rest = content;
+    while let [column, others @ ..] = left {
+        let (bytes, behind) = rest.split_at(usize::from(column.size));
+        put_column(pen, dates, arch, column, bytes)?;
+        left = others;
+        rest = behind;
+    }
+    Ok(())
+}
+
+/// A field with its name. Fields of some numbers are shown as dates.
+#[inline(always)]
+pub fn put_column<W: Write>(
+    pen: &mut Pen<'_, W>,
+    dates: &[u8],
+    arch: Arch,
+    column: &Column,
+    bytes: &[u8],
+) -> Result<(), WriteFailed>
+    requires kind { IsKind dates.now column.now.number column.now.base column.now.size column.now.kind }
+    requires size { length bytes.now ≡ column.now.size }
+    ensures { Puts pen.old pen.new result (column_text dates.now arch column.now bytes.now) }
+{
+    pen.room()?;
+    pen.add_label(&column.label);
+    match column.kind {
+        Kind::Unsigned(invalid) => {
+            add_unsigned(pen, invalid, number_of(arch, bytes));
+            Ok(())
+        }
+        Kind::Signed(invalid) => {
+            add_signed(pen, invalid, number_of(arch, bytes));
+            Ok(())
+        }
+        Kind::Other => {
+            let value = FieldValue::new(column.base, arch, bytes);
+            put_shown(pen, dates, column.number, &value)
+        }
+    }
+}
+
+// A number, or `-` where it is this one.
+#[inline]
+fn add_unsigned<W: Write>(pen: &mut Pen<'_, W>, invalid: u64, number: u64)
+    requires { length pen.old.waiting + 21 ≤ SIZE }
+    ensures { Adds pen.old pen.new (whole_of (Kind.Unsigned invalid) number) }
+{
+    if number == invalid {
+        pen.add(b"-");
+    } else {
+        pen.add_number(number);
+    }
+}
+
+// The same of a number with a sign, whose invalid one is the greatest.
+#[inline]
+fn add_signed<W: Write>(pen: &mut Pen<'_, W>, invalid: u64, number: u64)
+    requires room { length pen.old.waiting + 22 ≤ SIZE }
+    requires fits { number < 2 * invalid + 2 }
+    requires limit { 2 * invalid + 2 ≤ 2 ^ 64 }
+    ensures { Adds pen.old pen.new (whole_of (Kind.Signed invalid) number) }
+{
+    if number == invalid {
+        pen.add(b"-");
+    } else if number <= invalid {
+        pen.add_number(number);
+    } else {
+        pen.add(b"-");
+        pen.add_number(invalid - (number - invalid - 1) + 1);
+    }
+}

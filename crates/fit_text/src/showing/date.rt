@@ -1,0 +1,68 @@
+// Times that are shown as dates.
+
+ghost use Rattle.std.specs.Prelude.{◌≡◌};
+ghost use Rattle.fit_base.specs.Value.{values_of};
+ghost use Rattle.fit_text.specs.Pen.{Puts};
+ghost use Rattle.fit_text.specs.Date.{dates_of, date_in, date_text};
+
+use crate::writing::Pen;
+use fit_base::{BaseType, FieldValue};
+use fit_grammar::WriteFailed;
+use jiff::Timestamp;
+use jiff::fmt::temporal::DateTimePrinter;
+use std::io::Write;
+
+// The first time of the calendar. One below it counts from when the device was switched on.
+const FIRST_DATE: u64 = 0x1000_0000;
+
+// From 1970-01-01T00:00:00Z to 1989-12-31T00:00:00Z, in seconds.
+const FIT_EPOCH: i64 = 631_065_600;
+
+/// The numbers of the fields that are shown as dates, in the message with this global number: under `utc`, those that
+/// hold times.
+pub fn dates_of(utc: bool, global: u16) -> &'static [u8]
+    ensures { result.now ≡ dates_of utc global }
+{
+    if !utc {
+        return &[];
+    }
+    match global {
+        0 => &[253, 4],
+        18 | 19 => &[253, 2],
+        _ => &[253],
+    }
+}
+
+/// The time that a field of this number holds, where it is shown as a date: these are the numbers of the fields that are.
+pub fn date_in(dates: &[u8], number: u8, value: &FieldValue<'_>) -> Option<u32>
+    ensures { result ≡ date_in dates.now (record { number = number; base = value.now.base; values = values_of value.now }) }
+{
+    if !dates.contains(&number) {
+        return None;
+    }
+    if value.base() != BaseType::Uint32.code() {
+        return None;
+    }
+    if value.count() != 1 {
+        return None;
+    }
+    let time = value.unsigned(0);
+    if time >= FIRST_DATE && time != BaseType::Uint32.invalid() {
+        Some(time as u32)
+    } else {
+        None
+    }
+}
+
+/// A time as a date in UTC, as `2021-09-08T01:46:40Z`.
+pub fn put_date<W: Write>(pen: &mut Pen<'_, W>, time: u32) -> Result<(), WriteFailed>
+    ensures { Puts pen.old pen.new result (date_text time) }
+{
+    match Timestamp::from_second(i64::from(time) + FIT_EPOCH) {
+        Ok(instant) => {
+            let text = DateTimePrinter::new().timestamp_text(instant.to_plain());
+            pen.put(text.as_str().as_bytes())
+        }
+        Err(_) => unreachable!(),
+    }
+}

@@ -1,0 +1,65 @@
+// What a field of a message holds.
+
+ghost use Rattle.fit_base.specs.Base.{base_type};
+ghost use Rattle.std.specs.Prelude.{◌≡◌, ◌≢◌};
+ghost use Rattle.fit_base.specs.Value.{count_of, values_of};
+ghost use Rattle.fit_text.specs.Pen.{Puts};
+ghost use Rattle.fit_grammar.specs.Format.Message.{MessageField};
+ghost use Rattle.fit_text.specs.Date.{date_in};
+ghost use Rattle.fit_text.specs.Text.{values_text, shown_text};
+
+use crate::showing::bytes::{put_byte_field, put_hex, put_string};
+use crate::showing::date::{date_in, put_date};
+use crate::showing::number::put_numbers;
+use crate::writing::Pen;
+use fit_base::{BaseType, FieldValue};
+use fit_grammar::WriteFailed;
+use std::io::Write;
+
+/// A date, where a field of this number is shown as one, or what it holds.
+pub fn put_shown<W: Write>(
+    pen: &mut Pen<'_, W>,
+    dates: &[u8],
+    number: u8,
+    value: &FieldValue<'_>,
+) -> Result<(), WriteFailed>
+    ensures { Puts pen.old pen.new result (let field : MessageField = record
+        { number = number; base = value.now.base; values = values_of value.now } in shown_text (date_in dates.now field) field) }
+{
+    match date_in(dates, number, value) {
+        Some(time) => put_date(pen, time),
+        None => put_value(pen, value),
+    }
+}
+
+/// What a field holds.
+fn put_value<W: Write>(pen: &mut Pen<'_, W>, value: &FieldValue<'_>) -> Result<(), WriteFailed>
+    ensures { Puts pen.old pen.new result
+        (values_text (base_type value.now.base) (values_of value.now)) }
+{
+    if value.count() == 0 {
+        return put_hex(pen, value.raw());
+    }
+    match value.base_type() {
+        Some(base) => put_some(pen, base, value),
+        None => unreachable!(),
+    }
+}
+
+// One value or more of this type.
+fn put_some<W: Write>(
+    pen: &mut Pen<'_, W>,
+    base: BaseType,
+    value: &FieldValue<'_>,
+) -> Result<(), WriteFailed>
+    requires known { base_type value.now.base ≡ Some base }
+    requires some { count_of value.now ≢ 0 }
+    ensures { Puts pen.old pen.new result
+        (values_text (base_type value.now.base) (values_of value.now)) }
+{
+    match base {
+        BaseType::String => put_string(pen, value),
+        BaseType::Byte => put_byte_field(pen, value.raw()),
+        _ => put_numbers(pen, base, value),
+    }
+}

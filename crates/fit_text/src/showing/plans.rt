@@ -1,0 +1,107 @@
+// The plans of the definitions in force.
+
+ghost use Rattle.std.specs.Prelude.{◌≡◌, ◌+◌, ◌<◌, ◌≤◌, ℕ, Option, None, Some, IsSome, length, slice_index_or, slice_range};
+ghost use Rattle.fit_grammar.specs.declared.definition.Definition.{Definition as AnyDefinition};
+ghost use Rattle.fit_grammar.specs.Format.Item.{Defines};
+ghost use Rattle.fit_grammar.specs.Calls.Table.{behind};
+ghost use Rattle.fit_text.specs.declared.showing.plan.TheConstants.{COLUMNS};
+ghost use Rattle.fit_text.specs.Plan.{ArePlansFor, IsPlanAt};
+
+use crate::showing::plan::{COLUMNS, Column, Plan};
+use arrayvec::ArrayVec;
+use fit_grammar::{Definition, DefinitionMessage};
+
+/// For each of the sixteen local numbers the plan of its definition, or none. A plan is made where the first message of its
+/// definition is met.
+#[derive(Drop)]
+pub struct Plans {
+    /// Whether times are shown as dates.
+    pub utc: bool,
+    pub slots: [Option<Plan>; 16],
+    /// The columns of the plans, those of one behind those of another.
+    pub columns: ArrayVec<Column, COLUMNS>,
+}
+
+impl Plans {
+    /// No plans.
+    pub fn new(utc: bool) -> Self
+        ensures utc { result.utc ≡ utc }
+        ensures plans { (definition_for : ℕ → Option AnyDefinition) → ArePlansFor definition_for result }
+    {
+        Plans {
+            utc,
+            slots: no_plans(),
+            columns: ArrayVec::new(),
+        }
+    }
+
+    /// A local number has another definition from here on, and no plan yet.
+    pub fn forget(&mut self, local: u8)
+        requires { local < 16 }
+        ensures utc { self.new.utc ≡ self.old.utc }
+        ensures plans { (definition_for : ℕ → Option AnyDefinition) (d : AnyDefinition) → d.local ≡ local
+            → ArePlansFor definition_for self.old → ArePlansFor (behind (Defines d) definition_for) self.new }
+    {
+        self.slots[usize::from(local)] = None;
+    }
+
+    /// Makes the plan of a local number that has this definition, where there is none yet.
+    pub fn settle(&mut self, local: u8, definition: &DefinitionMessage<'_>)
+        requires { local < 16 }
+        ensures utc { self.new.utc ≡ self.old.utc }
+        ensures some { IsSome (slice_index_or self.new.slots local None) }
+        ensures plans { (definition_for : ℕ → Option AnyDefinition) → definition_for local ≡ Some definition.now
+            → ArePlansFor definition_for self.old → ArePlansFor definition_for self.new }
+    {
+        if self.slots[usize::from(local)].is_none() {
+            self.set(local, &definition.read());
+        }
+    }
+
+    // Makes the plan of a local number that has this definition. Where the row has no room for its columns, all others go.
+    fn set(&mut self, local: u8, definition: &Definition)
+        requires { local < 16 }
+        ensures utc { self.new.utc ≡ self.old.utc }
+        ensures some { IsSome (slice_index_or self.new.slots local None) }
+        ensures plans { (definition_for : ℕ → Option AnyDefinition) → definition_for local ≡ Some definition.now
+            → ArePlansFor definition_for self.old → ArePlansFor definition_for self.new }
+    {
+        self.make_room(definition.fields.len());
+        let plan = Plan::new(self.utc, definition, &mut self.columns);
+        self.slots[usize::from(local)] = Some(plan);
+    }
+
+    // Makes room for so many columns: all plans go where there is none.
+    fn make_room(&mut self, count: usize)
+        requires { count ≤ 255 }
+        ensures utc { self.new.utc ≡ self.old.utc }
+        ensures room { length self.new.columns.items + count ≤ COLUMNS }
+        ensures plans { (definition_for : ℕ → Option AnyDefinition) → ArePlansFor definition_for self.old
+            → ArePlansFor definition_for self.new }
+    {
+        if count > self.columns.remaining_capacity() {
+            self.slots = no_plans();
+            self.columns.clear();
+        }
+    }
+
+    /// The plan of a local number that has one, and its columns.
+    #[inline]
+    pub fn get(&self, local: u8) -> (&Plan, &[Column])
+        requires { (d : AnyDefinition) × IsPlanAt self.now local d }
+        ensures plan { slice_index_or self.now.slots local None ≡ Some result.0.now }
+        ensures columns { result.1.now ≡ slice_range self.now.columns.items result.0.now.first result.0.now.end }
+    {
+        match self.slots.get(usize::from(local)) {
+            Some(Some(plan)) => (plan, &self.columns.as_slice()[plan.first..plan.end]),
+            _ => unreachable!(),
+        }
+    }
+}
+
+// No plan for any local number.
+fn no_plans() -> [Option<Plan>; 16]
+    ensures { (local : ℕ) → slice_index_or result local None ≡ None }
+{
+    Default::default()
+}

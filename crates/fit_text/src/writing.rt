@@ -1,0 +1,185 @@
+// Text on its way to a writer.
+
+ghost use Rattle.std.specs.Prelude.{◌≡◌, ◌+◌, ◌≤◌, [], ◌++◌, length, take, decimal, IfOk};
+ghost use Rattle.std.specs.Fmt.{signed_decimal};
+ghost use Rattle.fit_text.specs.declared.writing.TheConstants.{SIZE, ROOM};
+ghost use Rattle.fit_text.specs.Pen.{Written, Puts, Adds, Took};
+
+mod decimal;
+mod label;
+
+use decimal::place_number;
+use fit_grammar::{WriteFailed, put};
+pub use label::{LABEL, Label};
+use std::fmt;
+use std::io::Write;
+use std::marker::Model;
+
+// How many bytes wait at most.
+const SIZE: usize = 32_768;
+
+// Room for a name and a number.
+const ROOM: usize = 64;
+
+/// Writes text: it hands over to its writer what came together in its buffer. After an `Err` the writer has taken a
+/// beginning of the text.
+#[derive(Drop)]
+pub struct Pen<'a, W: Write> {
+    bytes: [u8; SIZE],
+    // How many of them wait to be handed over.
+    len: usize,
+    out: &'a mut W,
+}
+
+impl<'a, W: Write> Model for Pen<'a, W> {
+    ghost Value = { Written };
+
+    ghost view = { λ p. record { name = p.out.ghost_name; held = W.contents p.out.now; waiting = take p.len p.bytes } };
+
+    ghost invariant = { λ p. p.len ≤ SIZE };
+}
+
+impl<'a, W: Write> Pen<'a, W> {
+    /// A pen that has put nothing yet.
+    pub fn new(out: &'a mut W) -> Self
+        ensures { result ≡ record { name = out.entry.ghost_name; held = W.contents out.old; waiting = [] } }
+    {
+        Pen {
+            bytes: [0; SIZE],
+            len: 0,
+            out,
+        }
+    }
+
+    /// The writer. What waits is not handed over.
+    pub fn into_writer(self) -> &'a mut W
+        ensures name { result.ghost_name ≡ self.entry.name }
+        ensures held { W.contents result.now ≡ self.entry.held }
+    {
+        let Pen { out, .. } = self;
+        out
+    }
+
+    /// Hands over all that waits.
+    pub fn hand_over(&mut self) -> Result<(), WriteFailed>
+        ensures puts { Puts self.old self.new result [] }
+        ensures none { IfOk result (λ _. self.new.waiting ≡ []) }
+    {
+        let text = &self.bytes[..self.len];
+        self.len = 0;
+        put(self.out, text)
+    }
+
+    /// Hands over all that waits, and flushes the writer.
+    pub fn flush(&mut self) -> Result<(), WriteFailed>
+        ensures puts { Puts self.old self.new result [] }
+        ensures none { IfOk result (λ _. self.new.waiting ≡ []) }
+    {
+        self.hand_over()?;
+        self.out.flush().map_err(|_| WriteFailed)
+    }
+
+    /// Makes room for 64 bytes.
+    #[inline]
+    pub fn room(&mut self) -> Result<(), WriteFailed>
+        ensures puts { Puts self.old self.new result [] }
+        ensures room { IfOk result (λ _. length self.new.waiting + ROOM ≤ SIZE) }
+    {
+        if self.len > SIZE - ROOM {
+            return self.hand_over();
+        }
+        Ok(())
+    }
+
+    /// A text for which there is room.
+    #[inline]
+    pub fn add(&mut self, text: &[u8])
+        requires { length self.old.waiting + length text.now ≤ SIZE }
+        ensures { Adds self.old self.new text.now }
+    {
+        let end = self.len + text.len();
+        self.bytes[self.len..end].copy_from_slice(text);
+        self.len = end;
+    }
+
+    /// A label, where there is room for the longest.
+    #[inline]
+    pub fn add_label(&mut self, label: &Label)
+        requires { length self.old.waiting + 32 ≤ SIZE }
+        ensures label { Adds self.old self.new label.now }
+        ensures short { length label.now ≤ 32 }
+    {
+        // A copy of a known length is one or two moves. What stands behind the label is written over later.
+        let whole = label.bytes;
+        self.bytes[self.len..self.len + LABEL].copy_from_slice(&whole);
+        self.len += label.len;
+    }
+
+    /// A number in decimal, for which there is room.
+    #[inline]
+    pub fn add_number(&mut self, number: u64)
+        requires { length self.old.waiting + 21 ≤ SIZE }
+        ensures { Adds self.old self.new (decimal number) }
+    {
+        self.len = place_number(&mut self.bytes, self.len, number);
+    }
+
+    /// A text of any length.
+    #[inline]
+    pub fn put(&mut self, text: &[u8]) -> Result<(), WriteFailed>
+        ensures { Puts self.old self.new result text.now }
+    {
+        if text.len() > SIZE - self.len {
+            return self.put_beyond(text);
+        }
+        self.add(text);
+        Ok(())
+    }
+
+    // A text for which there is no room. One that is longer than the buffer is handed over as it is.
+    #[inline(never)]
+    fn put_beyond(&mut self, text: &[u8]) -> Result<(), WriteFailed>
+        ensures { Puts self.old self.new result text.now }
+    {
+        self.hand_over()?;
+        if text.len() > SIZE {
+            return put(self.out, text);
+        }
+        self.add(text);
+        Ok(())
+    }
+
+    /// A number in decimal.
+    #[inline]
+    pub fn put_number(&mut self, number: u64) -> Result<(), WriteFailed>
+        ensures { Puts self.old self.new result (decimal number) }
+    {
+        self.room()?;
+        self.add_number(number);
+        Ok(())
+    }
+
+    /// A number in decimal, behind `-` where it is below zero.
+    #[inline]
+    pub fn put_signed(&mut self, number: i64) -> Result<(), WriteFailed>
+        ensures { Puts self.old self.new result (signed_decimal number) }
+    {
+        self.room()?;
+        if number < 0 {
+            self.add(b"-");
+        }
+        self.add_number(number.unsigned_abs());
+        Ok(())
+    }
+}
+
+impl<W: Write> fmt::Write for Pen<'_, W> {
+    ghost write_str_gives = { Took };
+
+    fn write_str(&mut self, text: &str) -> fmt::Result {
+        self.put(text.as_bytes()).map_err(|_| fmt::Error)
+    }
+}
+
+#[cfg(test)]
+mod tests;
