@@ -1,0 +1,11 @@
+use Rattle.std.proofs.Common.{◌≡◌, true, take, map}
+use Rattle.fit_world.specs.ScriptSample.{are_settings, sample_at}
+use Rattle.fit_world.proofs.script.sample.sample_at.Given as goal
+
+abbrev pub invariant-loop-index : goal.invariant-loop-index
+invariant-loop-index l =
+    let words = take l.index (map (λ word. word.now) l.settings) in
+    record {
+      settings : are_settings words ≡ true;
+      sample : l.sample ≡ sample_at l.time words;
+    }

@@ -1,0 +1,5 @@
+pub mod ScriptWords
+pub mod ScriptSample
+pub mod Script
+pub mod Replaying
+pub mod FaultCode

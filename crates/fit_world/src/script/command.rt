@@ -1,0 +1,150 @@
+// What the words of a line ask for.
+
+ghost use Rattle.std.specs.Prelude.{◌≡◌, map, option_map, if◌then◌else◌};
+ghost use Rattle.std.specs.Result.{result_ok};
+ghost use Rattle.fit_world.specs.Script.{number32, count, sport_named, alone, only, start_of, sample_of, entry_of, command_of};
+ghost use Rattle.fit_world.specs.declared.command.Command.TheVariants as commands;
+
+use crate::command::Command;
+use crate::script::fault::ScriptFaultKind;
+use crate::script::number::number;
+use crate::script::sample::sample_at;
+use fit_activity::{Entry, Sport, Start};
+
+/// What the words of a line ask for. They are judged one by one, and then whether one is missing.
+pub fn command_of(words: &[&[u8]]) -> Result<Command, ScriptFaultKind>
+    ensures { result_ok result ≡ command_of (map (λ word. word.now) words.now) }
+{
+    let [name, arguments @ ..] = words else {
+        return Err(ScriptFaultKind::MissingWord);
+    };
+    if *name == b"start".as_slice() {
+        Ok(Command::Start(start_of(arguments)?))
+    } else if *name == b"sample".as_slice() {
+        Ok(Command::Entry(sample_of(arguments)?))
+    } else if *name == b"lap".as_slice() {
+        Ok(Command::Entry(Entry::Lap(only_number(arguments)?)))
+    } else if *name == b"pause".as_slice() {
+        Ok(Command::Entry(Entry::Pause(only_number(arguments)?)))
+    } else if *name == b"resume".as_slice() {
+        Ok(Command::Entry(Entry::Resume(only_number(arguments)?)))
+    } else if *name == b"stop".as_slice() {
+        Ok(Command::Entry(Entry::Stop(only_number(arguments)?)))
+    } else if *name == b"commit".as_slice() {
+        alone(Command::Commit, arguments)
+    } else if *name == b"restart".as_slice() {
+        alone(Command::Restart, arguments)
+    } else if *name == b"recover".as_slice() {
+        alone(Command::Recover, arguments)
+    } else if *name == b"erase".as_slice() {
+        alone(Command::Erase, arguments)
+    } else if *name == b"fail".as_slice() {
+        Ok(Command::Fail(only_count(arguments)?))
+    } else if *name == b"cut".as_slice() {
+        Ok(Command::Cut(only_count(arguments)?))
+    } else if *name == b"power".as_slice() {
+        alone(Command::Power, arguments)
+    } else {
+        Err(ScriptFaultKind::UnknownWord)
+    }
+}
+
+// TIME SERIAL SPORT
+fn start_of(arguments: &[&[u8]]) -> Result<Start, ScriptFaultKind>
+    ensures { result_ok result ≡ start_of (map (λ word. word.now) arguments.now) }
+{
+    let [time, arguments @ ..] = arguments else {
+        return Err(ScriptFaultKind::MissingWord);
+    };
+    let time = number32(time)?;
+    let [serial, arguments @ ..] = arguments else {
+        return Err(ScriptFaultKind::MissingWord);
+    };
+    let serial = number32(serial)?;
+    let [sport, rest @ ..] = arguments else {
+        return Err(ScriptFaultKind::MissingWord);
+    };
+    let sport = sport_named(sport)?;
+    if !rest.is_empty() {
+        return Err(ScriptFaultKind::ExtraWord);
+    }
+    Ok(Start {
+        time,
+        serial,
+        sport,
+    })
+}
+
+fn sport_named(word: &[u8]) -> Result<Sport, ScriptFaultKind>
+    ensures { result_ok result ≡ sport_named word.now }
+{
+    if word == b"generic".as_slice() {
+        Ok(Sport::Generic)
+    } else if word == b"running".as_slice() {
+        Ok(Sport::Running)
+    } else if word == b"cycling".as_slice() {
+        Ok(Sport::Cycling)
+    } else {
+        Err(ScriptFaultKind::UnknownWord)
+    }
+}
+
+// TIME KEY=NUMBER ..
+fn sample_of(arguments: &[&[u8]]) -> Result<Entry, ScriptFaultKind>
+    ensures { result_ok result ≡ sample_of (map (λ word. word.now) arguments.now) }
+{
+    let [time, settings @ ..] = arguments else {
+        return Err(ScriptFaultKind::MissingWord);
+    };
+    let time = number32(time)?;
+    Ok(Entry::Sample(sample_at(time, settings)?))
+}
+
+// A command without further words.
+fn alone(command: Command, arguments: &[&[u8]]) -> Result<Command, ScriptFaultKind>
+    ensures { result_ok result ≡ alone command (map (λ word. word.now) arguments.now) }
+{
+    if arguments.is_empty() {
+        Ok(command)
+    } else {
+        Err(ScriptFaultKind::ExtraWord)
+    }
+}
+
+// A number, and no further word.
+fn only_number(arguments: &[&[u8]]) -> Result<u32, ScriptFaultKind>
+    ensures { result_ok result ≡ only number32 (map (λ word. word.now) arguments.now) }
+{
+    let [word, rest @ ..] = arguments else {
+        return Err(ScriptFaultKind::MissingWord);
+    };
+    let number = number32(word)?;
+    if rest.is_empty() {
+        Ok(number)
+    } else {
+        Err(ScriptFaultKind::ExtraWord)
+    }
+}
+
+// A number of 1 or more, and no further word.
+fn only_count(arguments: &[&[u8]]) -> Result<u32, ScriptFaultKind>
+    ensures { result_ok result ≡ only count (map (λ word. word.now) arguments.now) }
+{
+    let [word, rest @ ..] = arguments else {
+        return Err(ScriptFaultKind::MissingWord);
+    };
+    let number = number32(word)?;
+    if number == 0 {
+        Err(ScriptFaultKind::BadNumber)
+    } else if rest.is_empty() {
+        Ok(number)
+    } else {
+        Err(ScriptFaultKind::ExtraWord)
+    }
+}
+
+fn number32(word: &[u8]) -> Result<u32, ScriptFaultKind>
+    ensures { result_ok result ≡ number32 word.now }
+{
+    number(word, u32::MAX)
+}

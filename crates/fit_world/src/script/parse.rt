@@ -1,0 +1,76 @@
+// A script as a whole.
+
+ghost use Rattle.std.specs.Prelude.{◌≡◌, ◌≢◌, All, map, IfOk, IfErr};
+ghost use Rattle.std.specs.Str.Lines.{lines};
+ghost use Rattle.fit_world.specs.Script.{IsLine, is_silent, meaning_of, event_of, events_of, IsFirstFault};
+ghost use Rattle.fit_world.specs.declared.script.fault.ScriptFaultKind.TheVariants as kinds;
+
+use crate::script::command::command_of;
+use crate::event::Event;
+use crate::script::fault::{ScriptFault, ScriptFaultKind};
+use crate::script::words::{lines_of, words_of};
+use std::alloc::Global;
+
+/// The events of a script, each with the number of its line, from 1. An empty line is no event, and neither is one whose
+/// first word begins with `#`. A fault is that of the first line that is none of a script, or want of memory.
+pub fn parse_script(alloc: Global, text: &str) -> Result<Vec<Event>, ScriptFault>
+    ensures lines { IfOk result (λ _. All IsLine (lines text.now)) }
+    ensures events { IfOk result (λ events. events.items ≡ events_of 1 (lines text.now)) }
+    ensures fault { IfErr result (λ fault. fault.kind ≢ kinds.Memory → IsFirstFault (lines text.now) fault.line) }
+{
+    let Ok(lines) = lines_of(alloc, text) else {
+        return Err(out_of_memory(1));
+    };
+    let mut events = Vec::new(alloc);
+    for (index, line) in lines.iter().enumerate() {
+        let found = event_at(alloc, index + 1, line)?;
+        if let Some(event) = found {
+            if events.push(event).is_err() {
+                return Err(out_of_memory(index + 1));
+            }
+        }
+    }
+    Ok(events)
+}
+
+// The event of a line, if it is one of a script.
+fn event_at(alloc: Global, number: usize, line: &str) -> Result<Option<Event>, ScriptFault>
+    ensures line { IfOk result (λ _. IsLine line.now) }
+    ensures event { IfOk result (λ event. event ≡ event_of number line.now) }
+    ensures number { IfErr result (λ fault. fault.line ≡ number) }
+    ensures fault { IfErr result (λ fault. fault.kind ≢ kinds.Memory → meaning_of line.now ≡ None) }
+{
+    let Ok(words) = words_of(alloc, line.as_bytes()) else {
+        return Err(out_of_memory(number));
+    };
+    if is_silent(words.as_slice()) {
+        return Ok(None);
+    }
+    match command_of(words.as_slice()) {
+        Ok(command) => Ok(Some(Event {
+            line: number,
+            command,
+        })),
+        Err(kind) => Err(ScriptFault { kind, line: number }),
+    }
+}
+
+// Whether there is no word, or the first begins with `#`.
+fn is_silent(words: &[&[u8]]) -> bool
+    ensures { result ≡ is_silent (map (λ word. word.now) words.now) }
+{
+    match words {
+        [] => true,
+        [word, ..] => word.first() == Some(&b'#'),
+    }
+}
+
+fn out_of_memory(line: usize) -> ScriptFault
+    ensures kind { result.kind ≡ kinds.Memory }
+    ensures line { result.line ≡ line }
+{
+    ScriptFault {
+        kind: ScriptFaultKind::Memory,
+        line,
+    }
+}
