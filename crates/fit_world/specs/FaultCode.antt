@@ -1,5 +1,9 @@
 -- The number of each fault.
 use Rattle.std.specs.Prelude.{ℕ}
+use Rattle.fit_world.specs.declared.fault.TellFault.{TellFault}
+use Rattle.fit_world.specs.declared.fault.TellFault.TheVariants.{File, Activity, Output}
+use Rattle.fit_world.specs.declared.reading.ReadFault.{ReadFault}
+use Rattle.fit_world.specs.declared.reading.ReadFault.TheVariants.{Failed, TooLarge, NoMemory}
 use Rattle.fit_world.specs.declared.script.fault.ReplayFault.{ReplayFault}
 use Rattle.fit_world.specs.declared.script.fault.ReplayFault.TheVariants.{NoText, Script, OnlySimulate}
 use Rattle.fit_world.specs.declared.script.fault.ScriptFaultKind.{ScriptFaultKind}
@@ -20,3 +24,15 @@ abbrev pub replay_code : ReplayFault → ℕ
 replay_code NoText = 1
 replay_code (Script fault) = 2
 replay_code (OnlySimulate line) = 3
+
+-- of why an input was not read
+abbrev pub read_code : ReadFault → ℕ
+read_code Failed = 1
+read_code TooLarge = 2
+read_code NoMemory = 3
+
+-- of why something is not told, or not to its end
+abbrev pub tell_code : TellFault → ℕ
+tell_code (File fault) = 1
+tell_code (Activity fault) = 2
+tell_code Output = 3

@@ -1,3 +1,7 @@
+pub mod Showing
+pub mod Summary
+pub mod Checking
+pub mod Reading
 pub mod ScriptWords
 pub mod ScriptSample
 pub mod Script

@@ -1,0 +1,39 @@
+// A line of what is told.
+
+ghost use Rattle.std.specs.Io.KnownBytes.{Appends};
+ghost use Rattle.std.specs.Prelude.{◌≡◌, ◌++◌, [], codes, IfErr, IfSome, OnOk};
+ghost use Rattle.fit_text.specs.Pen.{Took};
+ghost use Rattle.fit_world.specs.Showing.{IsOutputFault};
+ghost use Rattle.fit_world.specs.Summary.{summary_text};
+
+use crate::fault::TellFault;
+use crate::summary::SummaryLine;
+use fit_activity::Summary;
+use fit_text::Pen;
+use std::fmt::{Display, Write};
+use std::io;
+
+/// Prints a line, to the last byte.
+pub fn print<L: Display, O: io::Write>(line: &L, pen: &mut Pen<'_, O>) -> Result<(), TellFault>
+    ensures fault { IfErr result IsOutputFault }
+    ensures none { OnOk result (pen.new.waiting ≡ []) }
+    ensures line { OnOk result (IfSome (L.output line.now) (λ text. Took pen.old (text ++ codes "\n") pen.new)) }
+{
+    if writeln!(pen, "{line}").is_err() || pen.flush().is_err() {
+        return Err(TellFault::Output);
+    }
+    Ok(())
+}
+
+/// Prints the line of a summary.
+// Out of line, so that its pen is no part of the stack of others.
+#[inline(never)]
+pub fn print_summary<O: io::Write>(summary: Summary, out: &mut O) -> Result<(), TellFault>
+    ensures fault { IfErr result IsOutputFault }
+    ensures line { OnOk result (Appends (O.contents out.old) (O.contents out.new) (summary_text summary ++ codes "\n")) }
+{
+    let mut pen = Pen::new(out);
+    let done = print(&SummaryLine(summary), &mut pen);
+    let _ = pen.into_writer();
+    done
+}

@@ -1,0 +1,41 @@
+// The text of the file that bytes are.
+
+ghost use Rattle.std.specs.Prelude.{IfErr};
+ghost use Rattle.fit_grammar.specs.Calls.Output.{WritesText};
+ghost use Rattle.fit_world.specs.Showing.{ShowsBytes, IsOutputFault};
+ghost use Rattle.fit_text.specs.Text.{text_of};
+
+use crate::fault::TellFault;
+use fit_grammar::{File, decode_file};
+use fit_text::show;
+use std::alloc::Global;
+use std::io::Write;
+
+/// Shows the file that these bytes are, under `utc` with times as dates. They are read whole before anything is written.
+pub fn show_bytes<O: Write>(
+    alloc: Global,
+    bytes: &[u8],
+    utc: bool,
+    out: &mut O,
+) -> Result<(), TellFault>
+    ensures { ShowsBytes utc (O.contents out.old) (O.contents out.new) bytes.now result }
+{
+    match decode_file(alloc, bytes) {
+        Ok(file) => show_flushed(&file, utc, out),
+        Err(fault) => Err(TellFault::File(fault)),
+    }
+}
+
+// Shows a file, to the last byte.
+fn show_flushed<O: Write>(file: &File, utc: bool, out: &mut O) -> Result<(), TellFault>
+    ensures text { WritesText (O.contents out.old) (O.contents out.new) result (text_of utc file.now) }
+    ensures fault { IfErr result IsOutputFault }
+{
+    let Ok(()) = show(file, utc, out) else {
+        return Err(TellFault::Output);
+    };
+    match out.flush() {
+        Ok(()) => Ok(()),
+        Err(_) => Err(TellFault::Output),
+    }
+}

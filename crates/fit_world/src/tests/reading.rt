@@ -1,0 +1,82 @@
+// Inputs that are read to their end, or not.
+
+use crate::{ReadFault, read_all};
+use std::alloc::Global;
+use std::io::{self, Read};
+
+// A reader that gives some bytes a call, and refuses each call behind some.
+#[derive(Drop)]
+struct Pieces<'a> {
+    rest: &'a [u8],
+    step: usize,
+    calls: usize,
+}
+
+impl Read for Pieces<'_> {
+    fn read(&mut self, buf: &mut [u8]) -> io::Result<usize> {
+        if self.calls == 0 {
+            return Err(io::Error::from(io::ErrorKind::BrokenPipe));
+        }
+        self.calls -= 1;
+        let given = self.rest.len().min(self.step).min(buf.len());
+        let (now, rest) = self.rest.split_at(given);
+        buf[..given].copy_from_slice(now);
+        self.rest = rest;
+        Ok(given)
+    }
+}
+
+const TEXT: &[u8] = b"abcdefghijkl";
+
+// What is read of so many bytes of the text, ten at most.
+fn outcome(alloc: Global, len: usize, step: usize, calls: usize) -> Result<Vec<u8>, ReadFault> {
+    let rest = TEXT.get(..len).unwrap_or(TEXT);
+    read_all(alloc, &mut Pieces { rest, step, calls }, 10)
+}
+
+fn is_all(read: &Result<Vec<u8>, ReadFault>, len: usize) -> bool {
+    match read {
+        Ok(bytes) => TEXT.get(..len) == Some(bytes.as_slice()),
+        Err(_) => false,
+    }
+}
+
+// Ten bytes are read, and eleven are too many, however they come.
+#[test]
+fn reads_to_the_most(rt: HostRuntime) {
+    for step in [1, 3, 10, 11, 65_536] {
+        for len in 0..=12 {
+            let read = outcome(rt.alloc(), len, step, usize::MAX);
+            if len <= 10 {
+                assert!(rt; is_all(&read, len), "{len} {step}");
+            } else {
+                assert_eq!(rt; read.err(), Some(ReadFault::TooLarge), "{len} {step}");
+            }
+        }
+    }
+}
+
+// Nine bytes by three are four calls, the last of which gives none; with twelve the fourth is too much.
+#[test]
+fn tells_a_failed_read_from_too_much(rt: HostRuntime) {
+    for calls in 0..6 {
+        let nine = outcome(rt.alloc(), 9, 3, calls);
+        let twelve = outcome(rt.alloc(), 12, 3, calls);
+        if calls < 4 {
+            assert_eq!(rt; nine.err(), Some(ReadFault::Failed), "{calls}");
+            assert_eq!(rt; twelve.err(), Some(ReadFault::Failed), "{calls}");
+        } else {
+            assert!(rt; is_all(&nine, 9), "{calls}");
+            assert_eq!(rt; twelve.err(), Some(ReadFault::TooLarge), "{calls}");
+        }
+    }
+}
+
+// Run with each allocation refused in turn: all is read, or want of memory is told as such.
+#[test]
+fn tells_want_of_memory(rt: HostRuntime) {
+    let read = outcome(rt.alloc(), 10, 3, usize::MAX);
+    if !is_all(&read, 10) {
+        assert_eq!(rt; read.err(), Some(ReadFault::NoMemory));
+    }
+}
