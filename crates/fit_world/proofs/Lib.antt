@@ -1,3 +1,5 @@
 pub mod PrintLemmas
 pub mod ReadingLemmas
 pub mod ScriptLemmas
+pub mod RideLemmas
+pub mod ReplayLemmas

@@ -6,4 +6,6 @@ pub mod ScriptWords
 pub mod ScriptSample
 pub mod Script
 pub mod Replaying
+pub mod Answering
+pub mod Riding
 pub mod FaultCode

@@ -1,24 +1,30 @@
 //! What happens to a recording.
 #![tactic(auto)]
 
+mod answer;
 mod checking;
 mod command;
 mod event;
 mod fault;
+mod playing;
 mod printing;
 mod reading;
+mod ride;
 mod script;
 mod showing;
 mod summary;
 #[cfg(test)]
 mod tests;
 
+pub use answer::Answer;
 pub use checking::check_bytes;
 pub use command::Command;
 pub use event::Event;
 pub use fault::TellFault;
+pub use playing::play;
 pub use printing::{print, print_summary};
 pub use reading::{ReadFault, read_all};
+pub use ride::Ride;
 pub use script::{ReplayFault, ScriptFault, ScriptFaultKind, parse_script, read_script};
 pub use showing::show_bytes;
 pub use summary::SummaryLine;
