@@ -1,9 +1,2 @@
-pub mod Showing
-pub mod Summary
-pub mod Checking
 pub mod Reading
-pub mod Replaying
-pub mod ScriptWords
-pub mod ScriptSample
-pub mod Script
-pub mod ScriptFault
+pub mod Faults

@@ -1,19 +1,16 @@
 // The program as one call: words in, text out, and the exit status.
 //
-// Each subcommand has a file of its own. They share `words`, which reads the command line, `input`, which opens and reads
-// a file, `folder`, which opens the files of a recording, `print`, and `status`, which prints a fault. `replay` runs the
-// events of a script over a `ride`.
+// Each subcommand has a file of its own, which opens what it needs and leaves the rest to `fit_world`. They share `words`,
+// which reads the command line, `input`, which opens and reads a file, `folder`, which opens the files of a recording, and
+// `status`, which prints a fault.
 
 ghost use Rattle.std.specs.Prelude.{◌≤◌};
 
-mod answer;
 mod check;
 mod folder;
 mod input;
-mod print;
 mod repair;
 mod replay;
-mod ride;
 mod show;
 mod words;
 

@@ -1,9 +1,9 @@
 // Why the program ends without having done what it was asked for.
 
-use crate::script::ScriptFault;
 use fit_activity::ActivityFault;
 use fit_grammar::FileFault;
 use fit_recorder::RecFault;
+use fit_world::{ScriptFault, TellFault};
 use thiserror::Error;
 
 /// A fault of the program. Its text is what stands behind `fitrec: ` on standard error.
@@ -42,6 +42,20 @@ pub enum Fault<'a> {
     /// So many events of a script were not ok.
     #[error("{0} refused")]
     Refused(usize),
+}
+
+impl From<TellFault> for Fault<'_> {
+    ghost use Rattle.fitrec.specs.Faults.{IsTellFault};
+
+    ghost from_gives = { IsTellFault };
+
+    fn from(told: TellFault) -> Self {
+        match told {
+            TellFault::File(fault) => Fault::File(fault),
+            TellFault::Activity(fault) => Fault::Activity(fault),
+            TellFault::Output => Fault::Write("-"),
+        }
+    }
 }
 
 #[cfg(test)]

@@ -1,9 +1,8 @@
 //! The program `fitrec`: it records rides, repairs them, and reads FIT files and shows what they say.
 //!
-//! `command` is the program as one call: words in, text out, and the exit status. A subcommand has its file in `command/`;
-//! `show` reads a file whole (`reading`), has `fit_grammar` decode it and `fit_text` write its text. `script` reads what is to
-//! happen to a recording, a command a line; `command/ride.rt` plays it over the files of a folder. `fault` has the one line that
-//! is said where something goes wrong.
+//! `command` is the program as one call: words in, text out, and the exit status. A subcommand has its file in `command/`,
+//! which opens a file or a folder; what becomes of its bytes, and what a script does to a recording, is `fit_world`'s. `fault`
+//! has the one line that is said where something goes wrong.
 //!
 //!     fitrec show row3.fit
 //!
@@ -13,16 +12,12 @@
 //!     0 file_id type=4 time_created=1000000000
 //!     messages 1
 //!
-//! (The stored run of this crate: `args`, `data` and `stdout`.) What is promised is said in the words of `specs/`: `Showing`
-//! has what becomes of bytes that are to be shown, `Checking` of those to be checked, `Reading` what is taken from an input,
-//! `Script` which lines a script has and what each asks for, and `Replaying` what becomes of them.
+//! (The stored run of this crate: `args`, `data` and `stdout`.) What is promised is said in the words of `specs/`: `Reading`
+//! has what is said of a file that is not read, and `Faults` of the faults of the libraries.
 #![tactic(auto)]
 
 mod command;
 mod fault;
-mod reading;
-mod script;
-mod summary;
 
 use std::io::{ErrorKind, Write};
 use std::process::ExitCode;

@@ -1,7 +1,7 @@
 // The folder of a recording.
 
 ghost use Rattle.std.specs.Prelude.{◌≡◌};
-ghost use Rattle.fitrec.specs.Replaying.{fault_of_open};
+ghost use Rattle.fitrec.specs.Faults.{fault_of_open};
 
 use crate::fault::Fault;
 use fit_disk::{Files, OpenFault};

@@ -1,10 +1,11 @@
 // The file that a subcommand reads.
 
 ghost use Rattle.std.specs.Prelude.{◌≡◌, ◌<◌, ◌↔◌, IsTrue, IfOk, IfErr};
-ghost use Rattle.fitrec.specs.Reading.{ReadsAll, fault_of_read, IsReadFault, IsFileFault};
+ghost use Rattle.fit_world.specs.Reading.{ReadsAll};
+ghost use Rattle.fitrec.specs.Reading.{fault_of_read, IsReadFault, IsFileFault};
 
 use crate::fault::Fault;
-use crate::reading::{ReadFault, read_all};
+use fit_world::{ReadFault, read_all};
 use std::alloc::Global;
 use std::fs::{self, OpenFile};
 use std::io::Read;

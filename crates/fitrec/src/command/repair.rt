@@ -3,12 +3,12 @@
 ghost use Rattle.std.specs.Io.KnownBytes.{Appends};
 ghost use Rattle.std.specs.Prelude.{◌++◌, codes, OnOk};
 ghost use Rattle.fit_activity.specs.declared.activity.Summary.{Summary};
-ghost use Rattle.fitrec.specs.Summary.{summary_text};
+ghost use Rattle.fit_world.specs.Summary.{summary_text};
 
 use crate::command::folder::open_folder;
-use crate::command::print::print_summary;
 use crate::fault::Fault;
 use fit_recorder::recover;
+use fit_world::print_summary;
 use std::io::Write;
 
 /// Recovers the recording of this folder, and prints what its first session says.
@@ -21,7 +21,10 @@ pub fn repair_folder<'a, O: Write>(
 {
     let mut files = open_folder(rt, name)?;
     match recover(&mut files) {
-        Ok(summary) => print_summary(summary, out),
+        Ok(summary) => {
+            print_summary(summary, out)?;
+            Ok(())
+        }
         Err(fault) => Err(Fault::Recorder(fault)),
     }
 }

@@ -1,7 +1,7 @@
 use super::Fault;
-use crate::script::{ScriptFault, ScriptFaultKind};
 use fit_grammar::{FaultKind, FileFault};
 use fit_recorder::RecFault;
+use fit_world::{ScriptFault, ScriptFaultKind};
 use std::test::Fail;
 
 fn of_file(kind: FaultKind, place: usize) -> Fault<'static> {

@@ -1,0 +1,29 @@
+-- What the program says of the faults of the libraries below it.
+use Rattle.std.specs.Prelude.{◌≡◌, ℕ, List, codes}
+use Rattle.std.specs.Borrow.{Bor}
+use Rattle.fit_disk.specs.declared.files.OpenFault.{OpenFault}
+use Rattle.fit_disk.specs.declared.files.OpenFault.TheVariants.{Open, Memory}
+use Rattle.fit_world.specs.declared.fault.TellFault.{TellFault}
+use Rattle.fit_world.specs.declared.fault.TellFault.TheVariants as tells
+use Rattle.fit_world.specs.declared.script.fault.ReplayFault.{ReplayFault}
+use Rattle.fit_world.specs.declared.script.fault.ReplayFault.TheVariants as replays
+use Rattle.fitrec.specs.declared.fault.Fault.{Fault}
+use Rattle.fitrec.specs.declared.fault.Fault.TheVariants as faults
+
+-- of a folder of this name that is not opened
+abbrev pub fault_of_open : Bor (List ℕ) → OpenFault → Fault
+fault_of_open name Open = faults.Open name
+fault_of_open name Memory = faults.NoMemory
+
+-- of a script of this name that is not replayed
+abbrev pub fault_of_replay : Bor (List ℕ) → ReplayFault → Fault
+fault_of_replay name replays.NoText = faults.Read name
+fault_of_replay name (replays.Script fault) = faults.Script fault
+fault_of_replay name (replays.OnlySimulate line) = faults.OnlySimulate line
+
+-- of what is not told, or not to its end; the name of the output is `-`
+abbrev pub IsTellFault : TellFault → Fault → Type 0
+IsTellFault (tells.File fault) said = said ≡ faults.File fault
+IsTellFault (tells.Activity fault) said = said ≡ faults.Activity fault
+IsTellFault tells.Output (faults.Write name) = name.now ≡ codes "-"
+IsTellFault tells.Output _ = ⊥
