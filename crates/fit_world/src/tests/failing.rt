@@ -1,0 +1,48 @@
+// An output that fails.
+
+use std::alloc::Global;
+use std::io::{self, Write};
+
+// A writer that takes some bytes of a call, and refuses one call or all from it on.
+#[derive(Drop)]
+pub struct Failing {
+    pub held: Vec<u8>,
+    pub step: usize,
+    // How many calls come before the refused one.
+    pub calls: usize,
+    pub recovers: bool,
+    pub flushes: bool,
+}
+
+impl Failing {
+    pub fn new(alloc: Global, step: usize, calls: usize) -> Failing {
+        Failing {
+            held: Vec::new(alloc),
+            step,
+            calls,
+            recovers: false,
+            flushes: true,
+        }
+    }
+}
+
+impl Write for Failing {
+    fn write(&mut self, buf: &[u8]) -> io::Result<usize> {
+        if self.calls == 0 {
+            if self.recovers {
+                self.calls = usize::MAX;
+            }
+            return Err(io::Error::from(io::ErrorKind::BrokenPipe));
+        }
+        self.calls -= 1;
+        let taken = buf.len().min(self.step);
+        self.held.write(&buf[..taken])
+    }
+
+    fn flush(&mut self) -> io::Result<()> {
+        match self.flushes {
+            true => Ok(()),
+            false => Err(io::Error::from(io::ErrorKind::BrokenPipe)),
+        }
+    }
+}

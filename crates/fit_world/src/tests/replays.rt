@@ -1,0 +1,120 @@
+// Scripts that are played over a disk in memory. The lines are from outside.
+
+use super::failing::Failing;
+use crate::{ReplayFault, ScriptFaultKind, TellFault, play, read_script};
+use fit_disk::{Memory, Which};
+use fit_recorder::recover;
+use std::test::Fail;
+
+// Five events, of which each second commits one record more.
+const TWO_COMMITS: &str =
+    "start 1000000000 7 running\nsample 1000000001\ncommit\nsample 1000000002\ncommit\n";
+
+const TWO_COMMITS_ANSWERS: &str =
+    "1 start: ok\n2 sample: ok\n3 commit: ok\n4 sample: ok\n5 commit: ok\n";
+
+// The file of a ride that was started and stopped.
+pub fn stopped_ride(rt: &HostRuntime) -> Result<Vec<u8>, Fail> {
+    let mut out = Vec::new(rt.alloc());
+    let disk = match read_script(
+        rt.alloc(),
+        b"start 1000000000 7 running\nstop 1000000001\n",
+    ) {
+        Ok(events) => play(Memory::new(rt.alloc()), events.as_slice(), &mut out).0,
+        Err(_) => Memory::new(rt.alloc()),
+    };
+    Ok(Vec::from_slice(rt.alloc(), disk.content(Which::Data))?)
+}
+
+#[test]
+fn a_stopped_ride_is_erased_and_another_begins(rt: HostRuntime) -> Result<(), Fail> {
+    let script =
+        "start 1000000000 7 running\nstop 1000000001\nstart 1000000002 7 running\nerase\nrestart\nstart 1000000002 7 cycling\nsample 1000000003\nrecover\n";
+    let text =
+        "1 start: ok\n2 stop: ok\n3 start: NotEmpty\n4 erase: ok\n5 restart: ok\n6 start: ok\n7 sample: ok\n8 recover: ok records=0 laps=1 sessions=1 start=1000000002 elapsed_ms=0 timer_ms=0 distance_cm=-\n";
+    let mut out = Vec::new(rt.alloc());
+    let refused = match read_script(rt.alloc(), script.as_bytes()) {
+        Ok(events) => play(Memory::new(rt.alloc()), events.as_slice(), &mut out).1,
+        Err(_) => Ok(0),
+    };
+    assert_eq!(rt; refused, Ok(1));
+    assert_eq!(rt; out.as_slice(), text.as_bytes());
+    Ok(())
+}
+
+// Whether a play to this output tells what became of it, and a recovery finds so many records behind it.
+fn keeps(rt: &HostRuntime, out: &mut Failing, records: u32) -> bool {
+    let Ok(events) = read_script(rt.alloc(), TWO_COMMITS.as_bytes()) else {
+        return false;
+    };
+    let (mut disk, played) = play(Memory::new(rt.alloc()), events.as_slice(), out);
+    let text = TWO_COMMITS_ANSWERS.as_bytes();
+    let told = match played {
+        Ok(refused) => refused == 0 && out.held.as_slice() == text,
+        Err(fault) => fault == TellFault::Output && text.starts_with(&out.held),
+    };
+    disk.cycle(&[]);
+    match recover(&mut disk) {
+        Ok(summary) => told && summary.records == records,
+        Err(_) => false,
+    }
+}
+
+// Where each call of the output in turn fails, no further event is run, and what was answered is kept.
+#[test]
+fn a_replay_ends_where_its_output_fails(rt: HostRuntime) {
+    // An event whose line fails was run.
+    for (answered, kept) in [(0, 0), (1, 0), (2, 1), (3, 1), (4, 2), (5, 2)] {
+        let mut out = Failing::new(rt.alloc(), usize::MAX, answered);
+        assert!(rt; keeps(&rt, &mut out, kept), "{answered}");
+    }
+    let mut out = Failing::new(rt.alloc(), usize::MAX, usize::MAX);
+    out.flushes = false;
+    assert!(rt; keeps(&rt, &mut out, 0));
+    assert_eq!(rt; out.held.as_slice(), b"1 start: ok\n".as_slice());
+}
+
+// The bytes are no text, a line is none of a script, or an event is only simulated: the first of these is told.
+#[test]
+fn a_script_that_is_not_replayed(rt: HostRuntime) {
+    let cases: [(&[u8], u8, usize); 6] = [
+        (b"lap 5000000000\n\xFF", 1, 0),
+        (b"lap 5000000000\n", 2, 1),
+        (b"cut 1\nlap\n", 2, 2),
+        (b"cut 1\n", 3, 1),
+        (b"start 1000000000 7 running\nfail 1\npower\n", 3, 2),
+        (b"\npower\n", 3, 2),
+    ];
+    for (bytes, code, line) in cases {
+        match read_script(rt.alloc(), bytes) {
+            Ok(_) => assert!(rt; false, "{bytes:?}"),
+            Err(fault) => {
+                let at = match fault {
+                    ReplayFault::NoText => 0,
+                    ReplayFault::Script(fault) => fault.line,
+                    ReplayFault::OnlySimulate(line) => line,
+                };
+                assert_eq!(rt; (fault.code(), at), (code, line), "{bytes:?}");
+            }
+        }
+    }
+}
+
+// Run with each allocation refused in turn: want of memory is told at a line, or the device of the disk failed.
+#[test]
+fn a_replay_says_that_memory_is_refused(rt: HostRuntime) -> Result<(), Fail> {
+    let mut out = Vec::with_capacity(rt.alloc(), 256)?;
+    match read_script(rt.alloc(), TWO_COMMITS.as_bytes()) {
+        Ok(events) => {
+            let (disk, played) = play(Memory::new(rt.alloc()), events.as_slice(), &mut out);
+            let all = out.as_slice() == TWO_COMMITS_ANSWERS.as_bytes();
+            assert!(rt; disk.spent() != (played == Ok(0)) && disk.spent() != all);
+        }
+        Err(ReplayFault::Script(fault)) => {
+            assert_eq!(rt; fault.kind, ScriptFaultKind::Memory);
+            assert_eq!(rt; out.len(), 0);
+        }
+        Err(_) => assert!(rt; false),
+    }
+    Ok(())
+}
