@@ -25,7 +25,7 @@ pub not_ended : {P : Type 0} (totals : Kept) → ((list : List Recorded) → Are
 not_ended totals going (inl ended) = let clash : true ≡ false = sym ended.1.1 ∙ going ended.0 ended.1.0 in absurd cc
 not_ended totals going (inr at) = at
 
-open_before : (totals : Kept) (list : List Recorded) (e : Entry) → AreTotals totals list → refusal_of list e ≡ None → has_stopped list ≡ false
+pub open_before : (totals : Kept) (list : List Recorded) (e : Entry) → AreTotals totals list → refusal_of list e ≡ None → has_stopped list ≡ false
 open_before totals list e are none = sym are.stopped ∙ going_on totals list e are none
 
 -- nor has one in which an entry is not refused

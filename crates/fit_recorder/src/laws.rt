@@ -1,15 +1,19 @@
 //! Laws of the definitions in `specs/`. Each is the contract of a function that does nothing.
 
-ghost use Rattle.std.specs.Prelude.{◌≡◌, ◌⊎◌, List, Result, Err};
+ghost use Rattle.std.specs.Prelude.{◌≡◌, ◌⊎◌, IsTrue, List, Result, Err};
 ghost use Rattle.fit_activity.specs.declared.activity.Summary.{Summary};
 ghost use Rattle.fit_activity.specs.Recording.{Recorded};
-ghost use Rattle.fit_disk.specs.State.{Contents};
+ghost use Rattle.fit_disk.specs.State.{Contents, LeavesOnly};
 ghost use Rattle.fit_disk.specs.Story.{Story};
 ghost use Rattle.fit_recorder.specs.Begun.{IsNothing};
 ghost use Rattle.fit_recorder.specs.Body.{StandsFor};
+ghost use Rattle.fit_recorder.specs.Recording.{StandsAt, disk_of};
 ghost use Rattle.fit_recorder.specs.Recovering.{RecoveryAnswers, RecoversList};
 ghost use Rattle.fit_recorder.specs.declared.fault.RecFault.{RecFault};
 ghost use Rattle.fit_recorder.specs.declared.fault.RecFault.TheVariants.{Device};
+ghost use Rattle.fit_recorder.specs.declared.recorder.Recorder.{Recorder};
+
+use fit_disk::Disk;
 
 /// No two files stand for two recordings, nor for one and for none.
 pub fn files_stand_for_one_list()
@@ -22,4 +26,10 @@ pub fn files_stand_for_one_list()
 pub fn what_stands_is_recovered()
     ensures { (list : List Recorded) (contents : Contents) (story : Story) (result : Result Summary RecFault) → StandsFor list contents
         → RecoveryAnswers contents story result → (result ≡ Err Device) ⊎ RecoversList list story result }
+{}
+
+/// Whatever a power cut leaves of the disk of a recorder stands for the entries that are committed.
+pub fn what_is_committed_stands<D: Disk>()
+    ensures { IsTrue D.honest → (recorder : Recorder D) (list committed : List Recorded) → StandsAt D.honest D.story recorder list committed
+        → LeavesOnly (StandsFor committed) (D.story (disk_of recorder)).now }
 {}

@@ -1,0 +1,7 @@
+use Rattle.fit_disk.proofs.Moments.{at_end}
+use Rattle.fit_recorder.specs.Body.{StandsFor}
+use Rattle.fit_recorder.proofs.RecorderLemmas.{stays_stand}
+use Rattle.fit_recorder.proofs.laws.what_is_committed_stands.Goals as goal
+
+pub returns : goal.returns
+returns g c honest recorder list committed at = at_end (StandsFor committed) _ _ (stays_stand g.D.Disk.honest _ _ list committed at honest)
