@@ -1,4 +1,24 @@
-//! What happens to a recording.
+//! What becomes of bytes and of scripts once a file is open: it is shown or checked, and what a script tells is recorded over a
+//! disk.
+//!
+//! `read_all` reads an input whole. `show_bytes` and `check_bytes` tell what a file holds. `read_script` reads the events of a
+//! script, and `play` runs them over any `Disk`, by a `Ride`, which answers each `Command`:
+//!
+//!     let events = read_script(alloc, b"start 1000000000 7 running\nstop 1000000001\n")?;
+//!     let (disk, played) = play(Memory::new(alloc), events.as_slice(), &mut out);
+//!     assert_eq!(rt; played, Ok(0));
+//!     check_bytes(alloc, disk.content(Which::Data), &mut out)?;
+//!
+//! writes
+//!
+//!     1 start: ok
+//!     2 stop: ok
+//!     ok records=0 laps=1 sessions=1 start=1000000000 elapsed_ms=1000 timer_ms=1000 distance_cm=-
+//!
+//! (The test `the_example_of_the_crate`.) What is promised is said in the words of `specs/`: `Showing` has what becomes of bytes
+//! that are to be shown, `Checking` of those to be checked, `Reading` what is taken from an input; `Script`, `ScriptWords` and
+//! `ScriptSample` which lines a script has and what each asks for, `Replaying` which of its events are replayed, `Answering` what
+//! may be answered to them, and `Riding` what is known of a ride.
 #![tactic(auto)]
 
 mod answer;

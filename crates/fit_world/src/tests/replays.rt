@@ -1,7 +1,7 @@
 // Scripts that are played over a disk in memory. The lines are from outside.
 
 use super::failing::Failing;
-use crate::{ReplayFault, ScriptFaultKind, TellFault, play, read_script};
+use crate::{ReplayFault, ScriptFaultKind, TellFault, check_bytes, play, read_script};
 use fit_disk::{Memory, Which};
 use fit_recorder::recover;
 use std::test::Fail;
@@ -16,14 +16,23 @@ const TWO_COMMITS_ANSWERS: &str =
 // The file of a ride that was started and stopped.
 pub fn stopped_ride(rt: &HostRuntime) -> Result<Vec<u8>, Fail> {
     let mut out = Vec::new(rt.alloc());
-    let disk = match read_script(
-        rt.alloc(),
-        b"start 1000000000 7 running\nstop 1000000001\n",
-    ) {
-        Ok(events) => play(Memory::new(rt.alloc()), events.as_slice(), &mut out).0,
-        Err(_) => Memory::new(rt.alloc()),
-    };
+    let events = read_script(rt.alloc(), b"start 1000000000 7 running\nstop 1000000001\n")?;
+    let (disk, _) = play(Memory::new(rt.alloc()), events.as_slice(), &mut out);
     Ok(Vec::from_slice(rt.alloc(), disk.content(Which::Data))?)
+}
+
+#[test]
+fn the_example_of_the_crate(rt: HostRuntime) -> Result<(), Fail> {
+    let alloc = rt.alloc();
+    let mut out = Vec::new(alloc);
+    let events = read_script(alloc, b"start 1000000000 7 running\nstop 1000000001\n")?;
+    let (disk, played) = play(Memory::new(alloc), events.as_slice(), &mut out);
+    assert_eq!(rt; played, Ok(0));
+    check_bytes(alloc, disk.content(Which::Data), &mut out)?;
+    let text =
+        "1 start: ok\n2 stop: ok\nok records=0 laps=1 sessions=1 start=1000000000 elapsed_ms=1000 timer_ms=1000 distance_cm=-\n";
+    assert_eq!(rt; out.as_slice(), text.as_bytes());
+    Ok(())
 }
 
 #[test]
@@ -33,11 +42,9 @@ fn a_stopped_ride_is_erased_and_another_begins(rt: HostRuntime) -> Result<(), Fa
     let text =
         "1 start: ok\n2 stop: ok\n3 start: NotEmpty\n4 erase: ok\n5 restart: ok\n6 start: ok\n7 sample: ok\n8 recover: ok records=0 laps=1 sessions=1 start=1000000002 elapsed_ms=0 timer_ms=0 distance_cm=-\n";
     let mut out = Vec::new(rt.alloc());
-    let refused = match read_script(rt.alloc(), script.as_bytes()) {
-        Ok(events) => play(Memory::new(rt.alloc()), events.as_slice(), &mut out).1,
-        Err(_) => Ok(0),
-    };
-    assert_eq!(rt; refused, Ok(1));
+    let events = read_script(rt.alloc(), script.as_bytes())?;
+    let (_, played) = play(Memory::new(rt.alloc()), events.as_slice(), &mut out);
+    assert_eq!(rt; played, Ok(1));
     assert_eq!(rt; out.as_slice(), text.as_bytes());
     Ok(())
 }
