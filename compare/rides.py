@@ -1,5 +1,6 @@
-"""Rides that are replayed, stopped or cut off, and repaired, held against the second reader and against gpsbabel where it is there;
-and replays whose disk is full, whose files may not grow, whose output is full or closed and whose memory is little."""
+"""Rides that are replayed, stopped or cut off, and repaired, held against the second reader and against gpsbabel where it
+is there; and replays whose disk is full, whose files may not grow, whose output is full or closed and whose memory is
+little."""
 
 import contextlib
 import pathlib

@@ -1,7 +1,7 @@
 """Runs the rows of compare/rows over the built program: what lies in a folder, words, and what has to come of them.
 
-A row begins with `= NAME` and has a new folder, in which the program runs. Each line of it is a word and what that is about;
-the lines below it that stand in by four blanks belong to it. Lines that begin with `#` are comments. What lies there:
+A row begins with `= NAME` and has a new folder, in which the program runs. Each line of it is a word and what that is
+about; the lines below it that stand in by four blanks belong to it. Lines that begin with `#` are comments. What lies there:
 
     bytes FILE      a file of these bytes, in hexadecimal
     records FILE    a file of these records, in hexadecimal, behind a header of 14 bytes and with right checksums
@@ -12,8 +12,8 @@ the lines below it that stand in by four blanks belong to it. Lines that begin w
 
 What is run:
 
-    run WORDS       the program with these words, which are quoted as in a shell; it prints just these lines, or ends with
-                    them where the first is `...`
+    run WORDS       the program with these words, which are quoted as in a shell; it prints just these lines, or where the
+                    first is `...` the others as its last ones
     status N        its exit status, 0 where none is said
     error LINE      what it says on standard error, nothing where no line is said
     named TEXT      what it says on standard error has this in it
@@ -78,7 +78,8 @@ def rows_of(text):
 
 def run(program, folder, step):
     """What differs between what the program says and what a step wants."""
-    ran = subprocess.run([program, *shlex.split(step.about)], stdin=subprocess.DEVNULL, capture_output=True, cwd=folder, timeout=100)
+    words = shlex.split(step.about)
+    ran = subprocess.run([program, *words], stdin=subprocess.DEVNULL, capture_output=True, cwd=folder, timeout=100)
     out, err, text = ran.stdout.decode(), ran.stderr.decode(), step.text()
     printed = out == text
     if step.lines[:1] == ["..."]:
@@ -87,6 +88,10 @@ def run(program, folder, step):
     if printed and told and ran.returncode == step.status:
         return None
     return (step.status, text, step.named or step.error), (ran.returncode, out, err)
+
+
+def bytes_of(path):
+    return path.read_bytes() if path.is_file() else b""
 
 
 def lies(folder, step):
@@ -109,10 +114,10 @@ def lies(folder, step):
         case "remove":
             (folder / step.about).unlink()
         case "left":
-            return differs((folder / step.about).read_bytes().hex(" "), step.bytes().hex(" "))
+            return differs(bytes_of(folder / step.about).hex(" "), step.bytes().hex(" "))
         case "size":
             size, _, name = step.about.partition(" ")
-            return differs((folder / name).stat().st_size, int(size))
+            return differs(len(bytes_of(folder / name)), int(size))
         case "there" | "absent":
             return differs((folder / step.about).exists(), step.word == "there")
         case _:
