@@ -69,6 +69,8 @@ def rows_of(text):
         elif word == "=":
             rows.append((about, []))
         elif word in ("status", "error", "named"):
+            if rows[-1][1][-1].word != "run":
+                raise ValueError("line %d: no run before it: %s" % (number, line))
             rows[-1][1][-1].wants(word, about)
         elif line and word != "#":
             rows[-1][1].append(Step(number, word, about))
