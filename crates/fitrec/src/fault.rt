@@ -43,6 +43,3 @@ pub enum Fault<'a> {
     #[error("{0} refused")]
     Refused(usize),
 }
-
-#[cfg(test)]
-mod tests;
