@@ -33,6 +33,13 @@ def many_messages(count):
     return framed(bytes([0x40, 0, 0, 0xE8, 3, 0]) + bytes(count))
 
 
+def long_beginning(size):
+    """A beginning of a file of so many bytes, behind which zeros are whole messages up to its last byte."""
+    empty, long = (bytes([0x40, 0, 0, 20, 0, fields]) + fields * bytes([99, 255, 13]) for fields in (0, 255))
+    start = bytes([14, 0x10, 100, 0]) + (size - 14).to_bytes(4, "little") + b".FIT\0\0"
+    return start + empty + bytes((size - 15 - len(empty + long)) % (255 * 255 + 1)) + long
+
+
 class Program:
     """The program, and a folder for its files."""
 
@@ -64,16 +71,11 @@ def answers(fitrec, small):
     yield "a refused file is no activity either", fitrec.run("check", "cut.fit"), wanted(small[:-1])
 
 
-def wrong_words(fitrec):
-    """A wrong command line: status 2, nothing on standard output, and a text that names what is wrong or missing."""
-    cases = [
-        ([], "subcommand"), (["show"], "<FILE>"), (["shown", "x"], "shown"), (["show", "x", "surplus"], "surplus"),
-        (["show", "--other", "x"], "--other"), (["--other"], "--other"), (["--version"], "--version"),
-        (["help"], "show"), (["--help"], "show"), (["show", "--help"], "<FILE>"), (["help", "show"], "<FILE>"),
-        (["check"], "<FILE>"), (["--help"], "check")]
-    for words, named in cases:
-        status, out, err = fitrec.run(*words)
-        yield "wrong words: %s" % " ".join(words), (status, out, named in err), (2, "", True)
+def beginnings(fitrec, small):
+    """Each beginning of a file is cut short at its end."""
+    for size in range(len(small)):
+        said = fitrec.run("show", fitrec.write("cut.fit", small[:size]))
+        yield "a beginning of a file", said, (1, "", "fitrec: Truncated at %d\n" % size)
 
 
 def sizes(fitrec):
@@ -109,6 +111,13 @@ def limits(fitrec):
         writer.start()
         yield "a pipe of %d bytes" % count, fitrec.run("show", "pipe"), want
         writer.join()
+    with open(fitrec.folder / "large.fit", "wb") as file:
+        file.write(long_beginning(MOST))
+        file.truncate(MOST - 1)
+        file.seek(MOST - 1)
+        file.write(b"\x0F")
+    want = 1, "", "fitrec: UndefinedLocal(15) at %d\n" % (MOST - 1)
+    yield "the last place of the largest file", fitrec.run("show", "large.fit"), want
 
 
 def outputs(fitrec, small):
@@ -152,8 +161,8 @@ def check(program, small):
     """Yields a name and a difference, or None, for each run."""
     with tempfile.TemporaryDirectory() as folder:
         fitrec = Program(program, folder)
-        runs = (answers(fitrec, small), wrong_words(fitrec), sizes(fitrec), limits(fitrec), outputs(fitrec, small),
-                memory(fitrec))
+        runs = (answers(fitrec, small), beginnings(fitrec, small), sizes(fitrec), limits(fitrec),
+                outputs(fitrec, small), memory(fitrec))
         for rows in runs:
             for name, said, want in rows:
                 yield name, None if said == want else (want, said)

@@ -1,11 +1,13 @@
-"""Rides that are replayed, stopped or cut off, and repaired, held against the second reader and against gpsbabel where it is there;
-and replays whose disk is full, whose output is closed and whose memory is little."""
+"""Rides that are replayed, stopped or cut off, and repaired, held against the second reader and against gpsbabel where it
+is there; and replays whose disk is full, whose files may not grow, whose output is full or closed and whose memory is
+little."""
 
 import contextlib
 import pathlib
 import re
 import resource
 import shutil
+import signal
 import subprocess
 import tempfile
 
@@ -88,6 +90,46 @@ def on_a_full_disk(fitrec):
         yield "full disk: repaired", None if records and kept <= int(records[1]) <= handed else (line, err, kept, handed)
 
 
+def with_files_that_may_not_grow(fitrec):
+    """Files that may have so many bytes and no more: the device has failed, and what was committed is kept."""
+    def little(size):
+        def limit():
+            # Without this the system ends a program whose file may not grow.
+            signal.signal(signal.SIGXFSZ, signal.SIG_IGN)
+            resource.setrlimit(resource.RLIMIT_FSIZE, (size, size))
+        return limit
+
+    with tempfile.TemporaryDirectory() as folder:
+        script, ride, other = (pathlib.Path(folder) / name for name in ("script", "ride", "other"))
+        ride.mkdir()
+        other.mkdir()
+        script.write_text("start 1000000000 7 running\nsample 1000000001\ncommit\nsample 1000000002\n")
+        run(fitrec, "replay", script, ride)
+        size = (ride / "activity.fit").stat().st_size
+        said = run(fitrec, "repair", ride, preexec_fn=little(size))
+        yield "files that may not grow: not repaired", differs(said, (1, "", "fitrec: Device\n"))
+        line = "ok records=1 laps=1 sessions=1 start=1000000000 elapsed_ms=1000 timer_ms=1000 distance_cm=-\n"
+        yield "files that may not grow: repaired", differs(run(fitrec, "repair", ride), (0, line, ""))
+        said = run(fitrec, "replay", script, other, preexec_fn=little(86))
+        answers = "1 start: ok\n2 sample: Device\n3 commit: Failed\n4 sample: Failed\n"
+        yield "files that may not grow: replayed", differs(said, (1, answers, "fitrec: 3 refused\n"))
+
+
+def with_full_output(fitrec):
+    """Output that takes nothing: it is told, and what was done is kept."""
+    with tempfile.TemporaryDirectory() as folder, tempfile.NamedTemporaryFile("w") as script:
+        script.write(script_of(2, 1))
+        script.flush()
+        file = pathlib.Path(folder) / "activity.fit"
+        for words in (["replay", script.name, folder], ["repair", folder], ["check", file]):
+            with open("/dev/full", "w") as full:
+                done = subprocess.run([fitrec, *words], stdout=full, stderr=subprocess.PIPE, text=True)
+            yield "full output: told", differs((done.returncode, done.stderr), (1, "fitrec: cannot write -\n"))
+        # The event whose answer failed was run, and none behind it.
+        line = "ok records=0 laps=1 sessions=1 start=1000000000 elapsed_ms=0 timer_ms=0 distance_cm=-\n"
+        yield "full output: kept", differs(run(fitrec, "repair", folder), (0, line, ""))
+
+
 def with_closed_output(fitrec):
     """Output that is closed in the middle: no further event is run, and what was answered is kept."""
     with tempfile.TemporaryDirectory() as folder, tempfile.NamedTemporaryFile("w") as script:
@@ -130,6 +172,8 @@ def with_little_memory(fitrec):
 def check(fitrec):
     yield from rides(fitrec)
     yield from on_a_full_disk(fitrec)
+    yield from with_files_that_may_not_grow(fitrec)
+    yield from with_full_output(fitrec)
     yield from with_closed_output(fitrec)
     yield from with_little_memory(fitrec)
 

@@ -57,6 +57,3 @@ impl From<TellFault> for Fault<'_> {
         }
     }
 }
-
-#[cfg(test)]
-mod tests;

@@ -1,15 +1,10 @@
-// The program as one call, over files of their own. Texts and places are from outside.
+// The program as one call, with output that fails and memory that is refused. What it says of files, words, scripts and folders
+// are rows of `compare/rows`.
 
-mod checks;
-mod files;
 mod output;
-mod refusals;
 mod rides;
 
-use super::command;
 use fit_base::Crc;
-use std::alloc::Global;
-use std::fs::{self, OpenFile};
 use std::test::Fail;
 use std::{env, process};
 
@@ -23,41 +18,12 @@ const ONE_MESSAGE: [u8; 34] = [
 const ONE_MESSAGE_TEXT: &str =
     "header 14 protocol 1.0 profile 100 data 18\n0 file_id type=4 time_created=1000000000\nmessages 1\n";
 
-// A file without messages.
-const NO_MESSAGE: [u8; 16] = [
-    0x0E, 0x10, 0x64, 0x00, 0x00, 0x00, 0x00, 0x00, 0x2E, 0x46, 0x49, 0x54, 0x21, 0xEE, 0x00, 0x00,
-];
-
-// The status of a run, and what it wrote.
-#[derive(Drop)]
-struct Ran {
-    status: u8,
-    out: Vec<u8>,
-    err: Vec<u8>,
-}
-
-fn run(rt: &HostRuntime, words: &[&str]) -> Ran {
-    let mut out = Vec::new(rt.alloc());
-    let mut err = Vec::new(rt.alloc());
-    let status = command(rt, words, &mut out, &mut err);
-    Ran { status, out, err }
-}
-
 // A path for a test's own file.
 fn path_of(rt: &HostRuntime, name: &str) -> Result<String, Fail> {
     let id = process::id(rt.process());
     let folder = env::temp_dir(rt)?;
     let folder = folder.as_str();
     Ok(format!(in rt.alloc(); "{folder}/fitrec_{id}_{name}.fit")?)
-}
-
-// What `show` does with a file of these bytes.
-fn run_on(rt: &HostRuntime, name: &str, bytes: &[u8]) -> Result<Ran, Fail> {
-    let path = path_of(rt, name)?;
-    fs::write(rt, path.as_str(), bytes)?;
-    let ran = run(rt, &["show", path.as_str()]);
-    fs::remove_file(rt, path.as_str())?;
-    Ok(ran)
 }
 
 // A file with these records and right checksums.
