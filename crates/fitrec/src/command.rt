@@ -64,6 +64,3 @@ fn status<E: Write>(done: Result<(), Fault<'_>>, err: &mut E) -> u8
         }
     }
 }
-
-#[cfg(test)]
-mod tests;
