@@ -5,8 +5,8 @@ ghost use Rattle.std.specs.Str.Lines.{lines};
 ghost use Rattle.fit_world.specs.Script.{IsLine, is_silent, meaning_of, event_of, events_of, IsFirstFault};
 ghost use Rattle.fit_world.specs.declared.script.fault.ScriptFaultKind.TheVariants as kinds;
 
-use crate::script::command::command_of;
 use crate::event::Event;
+use crate::script::command::command_of;
 use crate::script::fault::{ScriptFault, ScriptFaultKind};
 use crate::script::words::{lines_of, words_of};
 use std::alloc::Global;

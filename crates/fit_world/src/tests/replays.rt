@@ -16,10 +16,7 @@ const TWO_COMMITS_ANSWERS: &str =
 // The file of a ride that was started and stopped.
 pub fn stopped_ride(rt: &HostRuntime) -> Result<Vec<u8>, Fail> {
     let mut out = Vec::new(rt.alloc());
-    let disk = match read_script(
-        rt.alloc(),
-        b"start 1000000000 7 running\nstop 1000000001\n",
-    ) {
+    let disk = match read_script(rt.alloc(), b"start 1000000000 7 running\nstop 1000000001\n") {
         Ok(events) => play(Memory::new(rt.alloc()), events.as_slice(), &mut out).0,
         Err(_) => Memory::new(rt.alloc()),
     };
