@@ -1,17 +1,33 @@
 -- What a recording answers is what its recorder answered: for the calls of a ride.
 use Rattle.std.proofs.Common.{◌≡◌, ◌∙◌, ap, sym, true≢false, Result, Ok, Err, OnOk}
+use Rattle.std.specs.Prelude.{IfErr}
+use Rattle.fit_activity.specs.declared.activity.Summary.{Summary}
 use Rattle.fit_recorder.specs.declared.fault.RecFault.{RecFault}
-use Rattle.fit_world.specs.declared.answer.Answer.{Answer}
-use Rattle.fit_world.specs.declared.answer.Answer.TheVariants.{Done}
-use Rattle.fit_world.specs.Answering.{Answers, answer_of, is_ok}
+use Rattle.fit_recorder.specs.declared.fault.RecFault.TheVariants.{NotEmpty, Refused, Full, JournalFull, Device, Failed, NothingRecorded, Damaged}
+use Rattle.fit_recorder.specs.Recovering.{IsRecoveryFault}
+use Rattle.fit_world.specs.declared.reply.Reply.{Reply}
+use Rattle.fit_world.specs.declared.reply.Reply.TheVariants.{Done}
+use Rattle.fit_world.specs.Replying.{Replies, RepliesRecovery, reply_of, recovered_of, is_ok}
 
-pub answers_of_call : (known : Result (Unit {0}) RecFault → Type 0) (done : Result (Unit {0}) RecFault) (answer : Answer) →
-    answer ≡ answer_of done → known done → Answers known answer
-answers_of_call known (Ok unit) answer is holds = rw is holds
-answers_of_call known (Err fault) answer is holds = rw is holds
+pub replies_of_call : (known : Result (Unit {0}) RecFault → Type 0) (done : Result (Unit {0}) RecFault) (reply : Reply) →
+    reply ≡ reply_of done → known done → Replies known reply
+replies_of_call known (Ok unit) reply is holds = rw is holds
+replies_of_call known (Err fault) reply is holds = rw is holds
 
--- what a call says of its answer Ok holds where the recording answered ok
-pub done_of_call : (done : Result (Unit {0}) RecFault) (answer : Answer) (A : Type 0) → answer ≡ answer_of done →
-    OnOk done A → answer ≡ Done → A
-done_of_call (Ok unit) answer A is holds ok = holds
-done_of_call (Err fault) answer A is holds ok = absurd (true≢false (sym (ap is_ok ok) ∙ ap is_ok is))
+-- what a call says of its reply Ok holds where the recording answered ok
+pub done_of_call : (done : Result (Unit {0}) RecFault) (reply : Reply) (A : Type 0) → reply ≡ reply_of done →
+    OnOk done A → reply ≡ Done → A
+done_of_call (Ok unit) reply A is holds ok = holds
+done_of_call (Err fault) reply A is holds ok = absurd (true≢false (sym (ap is_ok ok) ∙ ap is_ok is))
+
+-- to a recovery no other fault is replied than it has
+pub replies_recovery : (done : Result Summary RecFault) → IfErr done IsRecoveryFault → RepliesRecovery (recovered_of done)
+replies_recovery (Ok summary) known = tt
+replies_recovery (Err Device) known = tt
+replies_recovery (Err NothingRecorded) known = tt
+replies_recovery (Err Damaged) known = tt
+replies_recovery (Err NotEmpty) known = known
+replies_recovery (Err (Refused refusal)) known = known
+replies_recovery (Err Full) known = known
+replies_recovery (Err JournalFull) known = known
+replies_recovery (Err Failed) known = known

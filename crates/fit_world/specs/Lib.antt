@@ -6,6 +6,8 @@ pub mod ScriptWords
 pub mod ScriptSample
 pub mod Script
 pub mod Replaying
-pub mod Answering
+pub mod Replying
 pub mod Riding
+pub mod Histories
+pub mod Standing
 pub mod FaultCode

@@ -1,16 +1,16 @@
 -- What contracts see of a recording that is played.
 use Rattle.std.specs.Prelude.{◌≡◌, ℕ, ◌+◌, Bool, true, false, List, [], ◌∷◌, ◌++◌}
 use Rattle.fit_activity.specs.declared.recording.entry.Entry.TheVariants as entries
-use Rattle.fit_activity.specs.Recording.{Recorded, Added, is_stop}
+use Rattle.fit_activity.specs.Recording.{Recorded, Started, Added, is_stop}
 use Rattle.fit_disk.specs.Story.{Story}
 use Rattle.fit_recorder.specs.Answers.{HandAnswers, CommitAnswers, StopAnswers}
 use Rattle.fit_recorder.specs.Recording.{GoesOn, WasHanded, disk_of, has_failed, data_len, open_slots}
-use Rattle.fit_world.specs.declared.answer.Answer.{Answer}
+use Rattle.fit_world.specs.declared.reply.Reply.{Reply}
 use Rattle.fit_world.specs.declared.command.Command.{Command}
 use Rattle.fit_world.specs.declared.command.Command.TheVariants as commands
 use Rattle.fit_world.specs.declared.ride.Ride.{Ride}
 use Rattle.fit_world.specs.declared.ride.Ride.TheVariants.{Idle, Riding}
-use Rattle.fit_world.specs.Answering.{Answers}
+use Rattle.fit_world.specs.Replying.{Replies}
 
 module _ {D : Type 0} where
   -- its disk
@@ -22,6 +22,11 @@ module _ {D : Type 0} where
   abbrev pub is_riding : Ride D → Bool
   is_riding (Idle disk) = false
   is_riding (Riding recorder) = true
+
+  -- a call of the device failed in the recorder that runs
+  abbrev pub is_broken : Ride D → Bool
+  is_broken (Idle disk) = false
+  is_broken (Riding recorder) = has_failed recorder
 
   -- each call of the recorder that runs may be made
   abbrev pub CanGoOn : Bool → (D → Story) → Ride D → Type 0
@@ -42,16 +47,21 @@ module _ {D : Type 0} where
   slots_of (Idle disk) = 0
   slots_of (Riding recorder) = open_slots recorder
 
-  -- what may be answered to a command behind the list that was handed in
-  abbrev pub MayAnswerBehind : Ride D → List Recorded → Command → Answer → Type 0
-  MayAnswerBehind ride list (commands.Entry entry) answer =
-      (is_stop (Added entry) ≡ false → Answers (HandAnswers list (said_len ride) entry) answer)
-      × ((time : ℕ) → entry ≡ entries.Stop time → Answers (StopAnswers list time) answer)
-  MayAnswerBehind ride list commands.Commit answer = Answers (CommitAnswers list (slots_of ride)) answer
-  MayAnswerBehind ride list _ answer = Unit {0}
+  -- what may be replied to a command behind the list that was handed in
+  abbrev pub MayReplyBehind : Ride D → List Recorded → Command → Reply → Type 0
+  MayReplyBehind ride list (commands.Entry entry) reply =
+      (is_stop (Added entry) ≡ false → Replies (HandAnswers list (said_len ride) entry) reply)
+      × ((time : ℕ) → entry ≡ entries.Stop time → Replies (StopAnswers list time) reply)
+  MayReplyBehind ride list commands.Commit reply = Replies (CommitAnswers list (slots_of ride)) reply
+  MayReplyBehind ride list _ reply = Unit {0}
 
   -- where that was ok: an entry stands behind the list, and a commit opened one slot more
   abbrev pub RidesOnWith : Ride D → List Recorded → Command → Ride D → Type 0
   RidesOnWith ride list (commands.Entry entry) next = is_stop (Added entry) ≡ false → Handed next (list ++ Added entry ∷ [])
   RidesOnWith ride list commands.Commit next = Handed next list × (slots_of next ≡ slots_of ride + 1)
   RidesOnWith ride list _ next = Unit {0}
+
+  -- where a start was ok: the recorder was handed the start alone, in the first slot
+  abbrev pub Begins : Command → Ride D → Type 0
+  Begins (commands.Start start) next = Handed next (Started start ∷ []) × (slots_of next ≡ 1)
+  Begins _ next = Unit {0}

@@ -1,59 +1,19 @@
-// What a recording answers to a command.
+// What the simulated disk's ride answers to an event.
 
-ghost use Rattle.std.specs.Prelude.{◌≡◌};
-
-use crate::summary::SummaryLine;
 use fit_activity::Summary;
 use fit_recorder::RecFault;
-use std::fmt::{self, Formatter, Write};
 
-/// The answer to a command.
-#[derive(Clone, Copy, Debug, PartialEq, Eq)]
+/// The answer to an event, with the file where one was finished.
+#[derive(Debug, Drop, PartialEq, Eq)]
 pub enum Answer {
     /// It was done.
     Done,
-    /// The recording was recovered, and its file says this of itself.
-    Recovered(Summary),
+    /// The recording has ended with its stop, and this is its finished file.
+    Stopped { file: Vec<u8> },
+    /// The recording was recovered: its file says this of itself, and these are the bytes of it.
+    Recovered { summary: Summary, file: Vec<u8> },
     /// It was refused, or the device failed.
     Refused(RecFault),
     /// It needs a recorder, and none runs.
     NoRecorder,
-}
-
-impl Answer {
-    ghost use Rattle.fit_world.specs.Answering.{is_ok};
-
-    /// Whether what the command asks for was done.
-    pub fn is_ok(&self) -> bool
-        ensures { result ≡ is_ok self.now }
-    {
-        match self {
-            Answer::Done | Answer::Recovered(_) => true,
-            Answer::Refused(_) | Answer::NoRecorder => false,
-        }
-    }
-}
-
-impl From<Result<(), RecFault>> for Answer {
-    ghost use Rattle.fit_world.specs.Answering.{answer_of};
-
-    ghost from_gives = { λ done answer. answer ≡ answer_of done };
-
-    fn from(done: Result<(), RecFault>) -> Answer {
-        match done {
-            Ok(()) => Answer::Done,
-            Err(fault) => Answer::Refused(fault),
-        }
-    }
-}
-
-impl fmt::Display for Answer {
-    fn fmt<W: Write>(&self, f: &mut Formatter<W>) -> fmt::Result {
-        match self {
-            Answer::Done => f.write_str("ok"),
-            Answer::Recovered(summary) => write!(f, "{}", SummaryLine(*summary)),
-            Answer::Refused(fault) => write!(f, "{fault:?}"),
-            Answer::NoRecorder => f.write_str("NoRecorder"),
-        }
-    }
 }

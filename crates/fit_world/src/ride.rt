@@ -1,13 +1,15 @@
 // A recording that is played: a recorder runs over its disk, or none does.
 
-ghost use Rattle.std.specs.Prelude.{◌≡◌, ◌≢◌, ◌↔◌, ◌+◌, ◌++◌, ◌∷◌, [], false};
+ghost use Rattle.std.specs.Prelude.{◌≡◌, ◌≢◌, ◌↔◌, ◌+◌, ◌++◌, ◌∷◌, [], true, false, IsTrue};
+ghost use Rattle.fit_world.specs.declared.command.Command.TheVariants as commands;
 
-use crate::answer::Answer;
+use crate::reply::Reply;
 use fit_activity::{Entry, Start};
 use fit_disk::Disk;
 use fit_recorder::{Recorder, erase, recover};
 
-/// The recording of a disk.
+/// The recording of a disk. Over an honest disk each call is a step of a history, whatever it replies (`step`); over any disk a
+/// reply that the device failed comes only where it did (`counted`), and from then on only `Failed` until the recorder ends.
 #[derive(Drop)]
 pub enum Ride<D: Disk> {
     /// No recorder runs.
@@ -18,112 +20,148 @@ pub enum Ride<D: Disk> {
 
 impl<D: Disk> Ride<D> {
     ghost use Rattle.std.specs.Prelude.{List};
-    ghost use Rattle.fit_activity.specs.Recording.{Recorded, Added, is_stop};
-    ghost use Rattle.fit_recorder.specs.declared.fault.RecFault.TheVariants.{Device};
+    ghost use Rattle.fit_activity.specs.declared.recording.entry.Entry.TheVariants.{Stop};
+    ghost use Rattle.fit_activity.specs.Recording.{Recorded, Started, Added, is_stop};
+    ghost use Rattle.fit_recorder.specs.declared.fault.RecFault.TheVariants.{Device, Failed};
     ghost use Rattle.fit_recorder.specs.Answers.{HandAnswers, CommitAnswers, StopAnswers};
-    ghost use Rattle.fit_world.specs.declared.answer.Answer.TheVariants.{Done, Refused, NoRecorder};
-    ghost use Rattle.fit_world.specs.Answering.{Answers, AnswersStart, is_ok};
-    ghost use Rattle.fit_world.specs.Riding.{CanGoOn, Handed, disk_in, is_riding, said_len, slots_of};
+    ghost use Rattle.fit_world.specs.declared.reply.Reply.TheVariants.{Done, Stopped, Refused, NoRecorder};
+    ghost use Rattle.fit_world.specs.Histories.Table.{History, ended};
+    ghost use Rattle.fit_world.specs.Replying.{Replies, RepliesStart, RepliesRecovery, RepliesErasing, is_ok};
+    ghost use Rattle.fit_world.specs.Riding.{CanGoOn, Handed, disk_in, is_broken, is_riding, said_len, slots_of};
+    ghost use Rattle.fit_world.specs.Standing.{StandsIn, GoesBy, IsCounted, Rests};
 
     /// Begins a recording, behind the end of the recorder that runs. None runs where it is refused.
-    pub fn start(self, start: Start) -> (Ride<D>, Answer)
+    pub fn start(self, start: Start) -> (Ride<D>, Reply)
         ensures goes_on { CanGoOn D.honest D.story result.0 }
-        ensures answers { AnswersStart start result.1 }
+        ensures replies { RepliesStart start result.1 }
+        ensures handed { result.1 ≡ Done → Handed result.0 (Started start ∷ []) }
+        ensures made { result.1 ≡ Done → slots_of result.0 ≡ 1 }
         ensures riding { is_riding result.0 ≡ is_ok result.1 }
+        ensures step { IsTrue D.honest → (before : History) → StandsIn D.honest D.story self before
+            → GoesBy D.honest D.story before (commands.Start start) result.1 result.0 }
+        ensures counted { IsCounted result.1 (D.counts (disk_in self)) (D.counts (disk_in result.0)) }
+        ensures planned { D.schedule (disk_in result.0) ≡ D.schedule (disk_in self) }
     {
         match Recorder::start(self.into_disk(), start) {
-            Ok(recorder) => (Ride::Riding(recorder), Answer::Done),
-            Err((disk, fault)) => (Ride::Idle(disk), Answer::Refused(fault)),
+            Ok(recorder) => (Ride::Riding(recorder), Reply::Done),
+            Err((disk, fault)) => (Ride::Idle(disk), Reply::Refused(fault)),
         }
     }
 
     /// Hands in an entry that is no stop.
-    pub fn hand(&mut self, entry: &Entry) -> Answer
+    pub fn hand(&mut self, entry: &Entry) -> Reply
         requires goes_on { CanGoOn D.honest D.story self.old }
         requires no_stop { is_stop (Added entry.now) ≡ false }
         ensures goes_on { CanGoOn D.honest D.story self.new }
-        ensures answers { (list : List Recorded) → Handed self.old list
-            → Answers (HandAnswers list (said_len self.old) entry.now) result }
+        ensures replies { (list : List Recorded) → Handed self.old list
+            → Replies (HandAnswers list (said_len self.old) entry.now) result }
         ensures handed { (list : List Recorded) → Handed self.old list → result ≡ Done → Handed self.new (list ++ Added entry.now ∷ []) }
         ensures none { (result ≡ NoRecorder) ↔ (is_riding self.old ≡ false) }
         ensures riding { is_riding self.new ≡ is_riding self.old }
+        ensures failed { is_broken self.old ≡ true → result ≡ Refused Failed }
+        ensures broken { is_riding self.old ≡ true → result ≡ Refused Device → is_broken self.new ≡ true }
+        ensures step { IsTrue D.honest → (before : History) → StandsIn D.honest D.story self.old before
+            → GoesBy D.honest D.story before (commands.Entry entry.now) result self.new }
+        ensures counted { IsCounted result (D.counts (disk_in self.old)) (D.counts (disk_in self.new)) }
+        ensures planned { D.schedule (disk_in self.new) ≡ D.schedule (disk_in self.old) }
     {
         match self {
-            Ride::Idle(_) => Answer::NoRecorder,
+            Ride::Idle(_) => Reply::NoRecorder,
             Ride::Riding(recorder) => recorder.hand(entry).into(),
         }
     }
 
     /// Makes safe what was handed in.
-    pub fn commit(&mut self) -> Answer
+    pub fn commit(&mut self) -> Reply
         requires { CanGoOn D.honest D.story self.old }
         ensures goes_on { CanGoOn D.honest D.story self.new }
-        ensures answers { (list : List Recorded) → Handed self.old list
-            → Answers (CommitAnswers list (slots_of self.old)) result }
+        ensures replies { (list : List Recorded) → Handed self.old list
+            → Replies (CommitAnswers list (slots_of self.old)) result }
         ensures handed { (list : List Recorded) → Handed self.old list → result ≡ Done → Handed self.new list }
         ensures made { result ≡ Done → slots_of self.new ≡ slots_of self.old + 1 }
         ensures none { (result ≡ NoRecorder) ↔ (is_riding self.old ≡ false) }
         ensures riding { is_riding self.new ≡ is_riding self.old }
+        ensures failed { is_broken self.old ≡ true → result ≡ Refused Failed }
+        ensures broken { is_riding self.old ≡ true → result ≡ Refused Device → is_broken self.new ≡ true }
+        ensures step { IsTrue D.honest → (before : History) → StandsIn D.honest D.story self.old before
+            → GoesBy D.honest D.story before commands.Commit result self.new }
+        ensures counted { IsCounted result (D.counts (disk_in self.old)) (D.counts (disk_in self.new)) }
+        ensures planned { D.schedule (disk_in self.new) ≡ D.schedule (disk_in self.old) }
     {
         match self {
-            Ride::Idle(_) => Answer::NoRecorder,
+            Ride::Idle(_) => Reply::NoRecorder,
             Ride::Riding(recorder) => recorder.commit().into(),
         }
     }
 
-    /// Ends the recording with a stop at this time. From an ok on no recorder runs, and else the one that ran.
-    pub fn stop(self, time: u32) -> (Ride<D>, Answer)
+    /// Ends the recording with a stop at this time. From a `Stopped` on no recorder runs, and else the one that ran.
+    pub fn stop(self, time: u32) -> (Ride<D>, Reply)
         requires { CanGoOn D.honest D.story self }
         ensures goes_on { CanGoOn D.honest D.story result.0 }
-        ensures answers { (list : List Recorded) → Handed self list → Answers (StopAnswers list time) result.1 }
+        ensures replies { (list : List Recorded) → Handed self list → Replies (StopAnswers list time) result.1 }
         ensures none { (result.1 ≡ NoRecorder) ↔ (is_riding self ≡ false) }
-        ensures ended { result.1 ≡ Done → is_riding result.0 ≡ false }
-        ensures kept { result.1 ≢ Done → is_riding result.0 ≡ is_riding self }
+        ensures not_done { result.1 ≢ Done }
+        ensures ended { result.1 ≡ Stopped → is_riding result.0 ≡ false }
+        ensures kept { result.1 ≢ Stopped → is_riding result.0 ≡ is_riding self }
+        ensures failed { is_broken self ≡ true → result.1 ≡ Refused Failed }
+        ensures broken { is_riding self ≡ true → result.1 ≡ Refused Device → is_broken result.0 ≡ true }
+        ensures step { IsTrue D.honest → (before : History) → StandsIn D.honest D.story self before
+            → GoesBy D.honest D.story before (commands.Entry (Stop time)) result.1 result.0 }
+        ensures counted { IsCounted result.1 (D.counts (disk_in self)) (D.counts (disk_in result.0)) }
+        ensures planned { D.schedule (disk_in result.0) ≡ D.schedule (disk_in self) }
     {
         match self {
-            Ride::Idle(disk) => (Ride::Idle(disk), Answer::NoRecorder),
+            Ride::Idle(disk) => (Ride::Idle(disk), Reply::NoRecorder),
             Ride::Riding(mut recorder) => match recorder.stop(time) {
-                Ok(()) => (Ride::Idle(recorder.into_disk()), Answer::Done),
-                Err(fault) => (Ride::Riding(recorder), Answer::Refused(fault)),
+                Ok(()) => (Ride::Idle(recorder.into_disk()), Reply::Stopped),
+                Err(fault) => (Ride::Riding(recorder), Reply::Refused(fault)),
             },
         }
     }
 
     /// Ends the recorder that runs, if one does.
-    pub fn restart(self) -> (Ride<D>, Answer)
+    pub fn restart(self) -> (Ride<D>, Reply)
         ensures ok { result.1 ≡ Done }
         ensures ended { is_riding result.0 ≡ false }
+        ensures disk { disk_in result.0 ≡ disk_in self }
+        ensures step { IsTrue D.honest → (before : History) → StandsIn D.honest D.story self before
+            → GoesBy D.honest D.story before commands.Restart result.1 result.0 }
     {
-        (Ride::Idle(self.into_disk()), Answer::Done)
+        (Ride::Idle(self.into_disk()), Reply::Done)
     }
 
     /// Recovers the recording, behind the end of the recorder that runs.
-    pub fn recover(self) -> (Ride<D>, Answer)
-        ensures some { result.1 ≢ NoRecorder }
-        ensures told { result.1 ≢ Done }
+    pub fn recover(self) -> (Ride<D>, Reply)
+        ensures replies { RepliesRecovery result.1 }
         ensures ended { is_riding result.0 ≡ false }
+        ensures step { IsTrue D.honest → (before : History) → StandsIn D.honest D.story self before
+            → GoesBy D.honest D.story before commands.Recover result.1 result.0 }
+        ensures counted { IsCounted result.1 (D.counts (disk_in self)) (D.counts (disk_in result.0)) }
+        ensures planned { D.schedule (disk_in result.0) ≡ D.schedule (disk_in self) }
     {
         let mut disk = self.into_disk();
-        let answer = match recover(&mut disk) {
-            Ok(summary) => Answer::Recovered(summary),
-            Err(fault) => Answer::Refused(fault),
-        };
-        (Ride::Idle(disk), answer)
+        let reply = recover(&mut disk).into();
+        (Ride::Idle(disk), reply)
     }
 
     /// Erases the recording, behind the end of the recorder that runs.
-    pub fn erase(self) -> (Ride<D>, Answer)
-        ensures answers { result.1 ≢ Done → result.1 ≡ Refused Device }
+    pub fn erase(self) -> (Ride<D>, Reply)
+        ensures replies { RepliesErasing result.1 }
         ensures ended { is_riding result.0 ≡ false }
+        ensures step { IsTrue D.honest → (before : History) → StandsIn D.honest D.story self before
+            → GoesBy D.honest D.story before commands.Erase result.1 result.0 }
+        ensures counted { IsCounted result.1 (D.counts (disk_in self)) (D.counts (disk_in result.0)) }
+        ensures planned { D.schedule (disk_in result.0) ≡ D.schedule (disk_in self) }
     {
         let mut disk = self.into_disk();
-        let answer = erase(&mut disk).into();
-        (Ride::Idle(disk), answer)
+        let reply = erase(&mut disk).into();
+        (Ride::Idle(disk), reply)
     }
 
     /// The disk, behind the end of the recorder that runs. What was not committed is not promised.
     pub fn into_disk(self) -> D
-        ensures { result ≡ disk_in self }
+        ensures disk { result ≡ disk_in self }
+        ensures rests { IsTrue D.honest → (before : History) → StandsIn D.honest D.story self before → Rests (ended before) (D.story result) }
     {
         match self {
             Ride::Idle(disk) => disk,

@@ -11,14 +11,14 @@ loop-event-preserved g c =
         most = omega (arith, w.refused-is, c.loop-event.invariant.most);
         leads = rw w.refused-is
             (one_refused c.args.events.now c.loop-event.event-index _ _ _ _ _ c.loop-event-test.true c.loop-event.invariant.leads
-            c.run-next.ensures.answer c.run-next.ensures.riding (sym c.is_ok.ensures ∙ w.if-not-is_ok.true));
+            c.run-next.ensures.reply c.run-next.ensures.riding (sym c.is_ok.ensures ∙ w.if-not-is_ok.true));
       }
       | else-not-is_ok w ↦ record {
         goes_on = c.run-next.ensures.goes_on;
         most = omega (arith, w.refused-is, c.loop-event.invariant.most);
         leads = rw w.refused-is
             (one_ok c.args.events.now c.loop-event.event-index _ _ _ _ _ c.loop-event-test.true c.loop-event.invariant.leads
-            c.run-next.ensures.answer c.run-next.ensures.riding (sym c.is_ok.ensures ∙ w.if-not-is_ok.false));
+            c.run-next.ensures.reply c.run-next.ensures.riding (sym c.is_ok.ensures ∙ w.if-not-is_ok.false));
       }
     ]
 

@@ -1,13 +1,14 @@
 use Rattle.fit_recorder.specs.Answers.{CommitAnswers}
 use Rattle.fit_recorder.specs.Recording.{open_slots}
-use Rattle.fit_world.proofs.RideLemmas.{answers_of_call, done_of_call}
+use Rattle.fit_world.proofs.RideLemmas.{replies_of_call, done_of_call}
+use Rattle.fit_world.proofs.StepLemmas.{commit_goes}
 use Rattle.fit_world.proofs.ride.Ride.commit.Goals as goal
 
-pub returns-in-Riding-clause-answers : goal.returns-in-Riding-clause-answers
-returns-in-Riding-clause-answers g c list handed =
+pub returns-in-Riding-clause-replies : goal.returns-in-Riding-clause-replies
+returns-in-Riding-clause-replies g c list handed =
     let known = rw c.in-Riding.is at handed in
     rw c.in-Riding.is
-    (answers_of_call (CommitAnswers list (open_slots c.in-Riding.recorder)) c.commit.result c.into.result c.into.ensures
+    (replies_of_call (CommitAnswers list (open_slots c.in-Riding.recorder)) c.commit.result c.into.result c.into.ensures
     (c.commit.ensures.answers list known.0 known.1))
 
 pub returns-in-Riding-clause-handed : goal.returns-in-Riding-clause-handed
@@ -20,3 +21,11 @@ returns-in-Riding-clause-handed g c list handed done =
 pub returns-in-Riding-clause-made : goal.returns-in-Riding-clause-made
 returns-in-Riding-clause-made g c done =
     rw c.in-Riding.is (done_of_call c.commit.result c.into.result _ c.into.ensures c.commit.ensures.slots done)
+
+pub returns-in-Riding-clause-step : goal.returns-in-Riding-clause-step
+returns-in-Riding-clause-step g c honest before stands =
+    let here = rw c.in-Riding.is at stands in
+    let done = c.commit.ensures in
+    rw c.into.ensures
+    (commit_goes g.D.Disk.honest g.D.Disk.story c.in-Riding.recorder c.commit.new.self c.commit.result done.same done.failed done.gone
+    done.answers done.ok (done.any_moment honest) before here)

@@ -1,13 +1,14 @@
 use Rattle.fit_recorder.specs.Answers.{HandAnswers}
 use Rattle.fit_recorder.specs.Recording.{data_len}
-use Rattle.fit_world.proofs.RideLemmas.{answers_of_call, done_of_call}
+use Rattle.fit_world.proofs.RideLemmas.{replies_of_call, done_of_call}
+use Rattle.fit_world.proofs.StepLemmas.{hand_goes}
 use Rattle.fit_world.proofs.ride.Ride.hand.Goals as goal
 
-pub returns-in-Riding-clause-answers : goal.returns-in-Riding-clause-answers
-returns-in-Riding-clause-answers g c list handed =
+pub returns-in-Riding-clause-replies : goal.returns-in-Riding-clause-replies
+returns-in-Riding-clause-replies g c list handed =
     let known = rw c.in-Riding.is at handed in
     rw c.in-Riding.is
-    (answers_of_call (HandAnswers list (data_len c.in-Riding.recorder) c.args.entry.now) c.hand.result c.into.result c.into.ensures
+    (replies_of_call (HandAnswers list (data_len c.in-Riding.recorder) c.args.entry.now) c.hand.result c.into.result c.into.ensures
     (c.hand.ensures.answers list known.0 known.1))
 
 pub returns-in-Riding-clause-handed : goal.returns-in-Riding-clause-handed
@@ -16,3 +17,11 @@ returns-in-Riding-clause-handed g c list handed done =
       done_of_call c.hand.result c.into.result _ c.into.ensures (c.hand.ensures.handed list known.0) done,
       done_of_call c.hand.result c.into.result _ c.into.ensures c.hand.ensures.going done,
     )
+
+pub returns-in-Riding-clause-step : goal.returns-in-Riding-clause-step
+returns-in-Riding-clause-step g c honest before stands =
+    let here = rw c.in-Riding.is at stands in
+    let done = c.hand.ensures in
+    rw c.into.ensures
+    (hand_goes g.D.Disk.honest g.D.Disk.story c.in-Riding.recorder c.hand.new.self c.hand.result done.same done.failed done.gone c.args.entry.now c.requires.no_stop
+    done.answers done.ok (done.any_moment honest) before here)

@@ -1,0 +1,14 @@
+use Rattle.fit_disk.specs.Story.{seen_of}
+use Rattle.fit_disk.specs.declared.disk.Which.TheVariants.{Data}
+use Rattle.fit_world.proofs.HistoryLemmas.{erase_goes}
+use Rattle.fit_world.proofs.StepLemmas.{idle_goes}
+use Rattle.fit_world.proofs.ride.Ride.erase.Goals as goal
+
+pub returns-clause-step : goal.returns-clause-step
+returns-clause-step g c honest before stands =
+    let done = c.erase.ensures in
+    let file = seen_of Data (g.D.Disk.story c.erase.new.disk) in
+    rw c.into-reply.ensures
+    (idle_goes g.D.Disk.honest g.D.Disk.story before _ _ _
+    (erase_goes before _ (c.into_disk-disk.ensures.rests honest before stands) (g.met.D.Disk.sound c.into_disk-disk.result honest) _ file c.erase.result
+    (done.empty honest) done.fault (done.any_moment honest) (done.stays_empty honest)))

@@ -1,0 +1,19 @@
+use Rattle.std.proofs.Common.{refl}
+use Rattle.fit_disk.specs.Story.{seen_of}
+use Rattle.fit_disk.specs.declared.disk.Which.TheVariants.{Data}
+use Rattle.fit_world.proofs.HistoryLemmas.{recover_goes}
+use Rattle.fit_world.proofs.RideLemmas.{replies_recovery}
+use Rattle.fit_world.proofs.StepLemmas.{idle_goes}
+use Rattle.fit_world.proofs.ride.Ride.recover.Goals as goal
+
+pub returns-clause-step : goal.returns-clause-step
+returns-clause-step g c honest before stands =
+    let done = c.recover.ensures in
+    let file = seen_of Data (g.D.Disk.story c.recover.new.disk) in
+    rw c.into-reply.ensures
+    (idle_goes g.D.Disk.honest g.D.Disk.story before _ _ _
+    (recover_goes before _ (c.into_disk-disk.ensures.rests honest before stands) (g.met.D.Disk.sound c.into_disk-disk.result honest) _ file c.recover.result refl
+    (done.decides honest) (done.any_moment honest) (done.settled honest)))
+
+pub returns-clause-replies : goal.returns-clause-replies
+returns-clause-replies g c = rw c.into-reply.ensures (replies_recovery c.recover.result c.recover.ensures.known_fault)

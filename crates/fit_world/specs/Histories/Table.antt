@@ -1,0 +1,127 @@
+-- The table of histories: where a recording stands, and what may be answered then to each command.
+use Rattle.std.specs.Prelude.{◌≡◌, ◌≢◌, ℕ, Bool, true, false, IsTrue, List, [], ◌∷◌, ◌++◌, length, Some, None}
+use Rattle.fit_grammar.specs.Format.File.{File}
+use Rattle.fit_activity.specs.declared.activity.Summary.{Summary}
+use Rattle.fit_activity.specs.declared.recording.entry.Entry.{Entry}
+use Rattle.fit_activity.specs.declared.recording.entry.Entry.TheVariants.{Stop}
+use Rattle.fit_activity.specs.declared.recording.start.Start.{Start}
+use Rattle.fit_activity.specs.Finished.{summary_of_list}
+use Rattle.fit_activity.specs.Recording.{Recorded, Started, Added}
+use Rattle.fit_activity.specs.Refusal.{Allowed, refusal_of, start_refusal}
+use Rattle.fit_activity.specs.Speaking.{spoken, closing}
+use Rattle.fit_recorder.specs.declared.fault.RecFault.{RecFault}
+use Rattle.fit_recorder.specs.declared.fault.RecFault.TheVariants.{NotEmpty, Refused, Full, JournalFull, Device, Failed, NothingRecorded}
+use Rattle.fit_world.specs.declared.command.Command.{Command}
+use Rattle.fit_world.specs.declared.command.Command.TheVariants as commands
+use Rattle.fit_world.specs.Histories.Claims.{Claim, claim_of, no_claim, whole, has_none, MayBe, with_start}
+
+-- what is answered to a command: a stop that is done and a recovery tell the file that the data file holds then
+pub data Told : Type 0 where
+  Done : Told
+  Stopped : List ℕ → Told
+  Recovered : Summary → List ℕ → Told
+  Fault : RecFault → Told
+  NoRecorder : Told
+
+-- Where a history stands: no recorder runs, these claims may be recorded, and whether a start was begun since the last
+-- erasing; or one runs that was handed this list, of which so many entries are promised, and whether the device failed in it.
+pub data History : Type 0 where
+  Idle : List Claim → Bool → History
+  Riding : List Recorded → ℕ → Bool → History
+
+-- nothing was done yet
+abbrev pub at_first : History
+at_first = Idle (no_claim ∷ []) false
+
+abbrev pub claims_of : History → List Claim
+claims_of (Idle claims begun) = claims
+claims_of (Riding list promise failed) = claim_of list promise ∷ []
+
+abbrev pub was_begun : History → Bool
+was_begun (Idle claims begun) = begun
+was_begun (Riding list promise failed) = true
+
+-- the recorder that runs, if one does, ends
+abbrev pub ended : History → History
+ended history = Idle (claims_of history) (was_begun history)
+
+-- these bytes are a valid file of what the list says and the messages that close it
+abbrev pub IsFileOf : List ℕ → List Recorded → Type 0
+IsFileOf file list = File file (spoken list ++ closing list)
+
+-- ---- from before, this may be answered, and then the history stands there
+
+abbrev pub StartStep : History → Start → Told → History → Type 0
+StartStep before start Done after = IsTrue (has_none (claims_of before)) × (start_refusal start ≡ None) × (after ≡ Riding (Started start ∷ []) 1 false)
+StartStep before start (Fault (Refused refusal)) after = (start_refusal start ≡ Some refusal) × (after ≡ ended before)
+StartStep before start (Fault NotEmpty) after = (start_refusal start ≡ None) × (was_begun before ≡ true) × (after ≡ ended before)
+StartStep before start (Fault Device) after = (start_refusal start ≡ None) × (after ≡ Idle (with_start start (claims_of before)) true)
+StartStep before start _ after = ⊥
+
+-- to an entry that is no stop
+abbrev pub HandStep : History → Entry → Told → History → Type 0
+HandStep (Idle claims begun) entry NoRecorder after = after ≡ Idle claims begun
+HandStep (Riding list promise false) entry Done after =
+    Allowed (list ++ Added entry ∷ []) × (after ≡ Riding (list ++ Added entry ∷ []) promise false)
+HandStep (Riding list promise false) entry (Fault (Refused refusal)) after =
+    (refusal_of list entry ≡ Some refusal) × (after ≡ Riding list promise false)
+HandStep (Riding list promise false) entry (Fault Full) after = (refusal_of list entry ≡ None) × (after ≡ Riding list promise false)
+HandStep (Riding list promise false) entry (Fault Device) after = (refusal_of list entry ≡ None) × (after ≡ Riding list promise true)
+HandStep (Riding list promise true) entry (Fault Failed) after = after ≡ Riding list promise true
+HandStep before entry _ after = ⊥
+
+abbrev pub CommitStep : History → Told → History → Type 0
+CommitStep (Idle claims begun) NoRecorder after = after ≡ Idle claims begun
+CommitStep (Riding list promise false) Done after = after ≡ Riding list (length list) false
+CommitStep (Riding list promise false) (Fault JournalFull) after = after ≡ Riding list promise false
+CommitStep (Riding list promise false) (Fault Device) after = after ≡ Riding list promise true
+CommitStep (Riding list promise true) (Fault Failed) after = after ≡ Riding list promise true
+CommitStep before _ after = ⊥
+
+abbrev pub StopStep : History → ℕ → Told → History → Type 0
+StopStep (Idle claims begun) time NoRecorder after = after ≡ Idle claims begun
+StopStep (Riding list promise false) time (Stopped file) after =
+    Allowed (list ++ Added (Stop time) ∷ []) × IsFileOf file (list ++ Added (Stop time) ∷ [])
+    × (after ≡ Idle (whole (list ++ Added (Stop time) ∷ []) ∷ []) true)
+StopStep (Riding list promise false) time (Fault (Refused refusal)) after =
+    (refusal_of list (Stop time) ≡ Some refusal) × (after ≡ Riding list promise false)
+StopStep (Riding list promise false) time (Fault Device) after =
+    (refusal_of list (Stop time) ≡ None) × (after ≡ Riding (list ++ Added (Stop time) ∷ []) promise true)
+StopStep (Riding list promise true) time (Fault Failed) after = after ≡ Riding list promise true
+StopStep before time _ after = ⊥
+
+-- a recovery found this list, with its summary, and the file is its
+pub record Recovers (before : History) (summary : Summary) (file : List ℕ) (after : History) : Type 0 where
+  pub list : List Recorded
+  pub may_be : MayBe (claims_of before) list
+  pub some : list ≢ []
+  pub is_file : IsFileOf file list
+  pub sums_up : summary ≡ summary_of_list list
+  pub after_is : after ≡ Idle (whole list ∷ []) (was_begun before)
+
+abbrev pub RecoverStep : History → Told → History → Type 0
+RecoverStep before (Recovered summary file) after = Recovers before summary file after
+RecoverStep before (Fault NothingRecorded) after =
+    IsTrue (has_none (claims_of before)) × (after ≡ Idle (no_claim ∷ []) (was_begun before))
+RecoverStep before (Fault Device) after = after ≡ ended before
+RecoverStep before _ after = ⊥
+
+abbrev pub EraseStep : History → Told → History → Type 0
+EraseStep before Done after = after ≡ Idle (no_claim ∷ []) false
+EraseStep before (Fault Device) after = after ≡ Idle (no_claim ∷ claims_of before) (was_begun before)
+EraseStep before _ after = ⊥
+
+abbrev pub EntryStep : History → Entry → Told → History → Type 0
+EntryStep before (Stop time) told after = StopStep before time told after
+EntryStep before entry told after = HandStep before entry told after
+
+abbrev pub Step : History → Command → Told → History → Type 0
+Step before (commands.Start start) told after = StartStep before start told after
+Step before (commands.Entry entry) told after = EntryStep before entry told after
+Step before commands.Commit told after = CommitStep before told after
+Step before commands.Recover told after = RecoverStep before told after
+Step before commands.Erase told after = EraseStep before told after
+Step before commands.Restart told after = (told ≡ Done) × (after ≡ ended before)
+Step before commands.Power told after = (told ≡ Done) × (after ≡ ended before)
+Step before (commands.Fail k) told after = (told ≡ Done) × (after ≡ before)
+Step before (commands.Cut k) told after = (told ≡ Done) × (after ≡ before)

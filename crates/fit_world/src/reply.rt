@@ -1,0 +1,74 @@
+// What a ride replies to a command.
+
+ghost use Rattle.std.specs.Prelude.{◌≡◌};
+
+use crate::summary::SummaryLine;
+use fit_activity::Summary;
+use fit_recorder::RecFault;
+use std::fmt::{self, Formatter, Write};
+
+/// The reply to a command.
+#[derive(Clone, Copy, Debug, PartialEq, Eq)]
+pub enum Reply {
+    /// It was done.
+    Done,
+    /// The recording has ended with its stop, and its file is finished.
+    Stopped,
+    /// The recording was recovered, and its file says this of itself.
+    Recovered(Summary),
+    /// It was refused, or the device failed.
+    Refused(RecFault),
+    /// It needs a recorder, and none runs.
+    NoRecorder,
+}
+
+impl Reply {
+    ghost use Rattle.fit_world.specs.Replying.{is_ok};
+
+    /// Whether what the command asks for was done.
+    pub fn is_ok(&self) -> bool
+        ensures { result ≡ is_ok self.now }
+    {
+        match self {
+            Reply::Done | Reply::Stopped | Reply::Recovered(_) => true,
+            Reply::Refused(_) | Reply::NoRecorder => false,
+        }
+    }
+}
+
+impl From<Result<(), RecFault>> for Reply {
+    ghost use Rattle.fit_world.specs.Replying.{reply_of};
+
+    ghost from_gives = { λ done reply. reply ≡ reply_of done };
+
+    fn from(done: Result<(), RecFault>) -> Reply {
+        match done {
+            Ok(()) => Reply::Done,
+            Err(fault) => Reply::Refused(fault),
+        }
+    }
+}
+
+impl From<Result<Summary, RecFault>> for Reply {
+    ghost use Rattle.fit_world.specs.Replying.{recovered_of};
+
+    ghost from_gives = { λ done reply. reply ≡ recovered_of done };
+
+    fn from(done: Result<Summary, RecFault>) -> Reply {
+        match done {
+            Ok(summary) => Reply::Recovered(summary),
+            Err(fault) => Reply::Refused(fault),
+        }
+    }
+}
+
+impl fmt::Display for Reply {
+    fn fmt<W: Write>(&self, f: &mut Formatter<W>) -> fmt::Result {
+        match self {
+            Reply::Done | Reply::Stopped => f.write_str("ok"),
+            Reply::Recovered(summary) => write!(f, "{}", SummaryLine(*summary)),
+            Reply::Refused(fault) => write!(f, "{fault:?}"),
+            Reply::NoRecorder => f.write_str("NoRecorder"),
+        }
+    }
+}
