@@ -1,7 +1,7 @@
 // Items as other writers write them, at every window.
-use crate::*;
 use arrayvec::ArrayVec;
 use fit_base::Arch;
+use fit_grammar::*;
 use std::process::Abort;
 use std::test::*;
 

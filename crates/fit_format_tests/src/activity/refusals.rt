@@ -1,7 +1,7 @@
 // Why entries are refused: each cause alone, at its bound, and beside each later one.
 
 use super::{T, refusal, ride, with_distance, with_heart_rate};
-use crate::{Entry, Refusal, Sample};
+use fit_activity::{Entry, Refusal, Sample};
 use std::test::Fail;
 
 #[test]

@@ -1,6 +1,6 @@
 // Values from outside: the checksums are known ones, and the rows are those of the protocol's table.
 
-use crate::{Arch, BaseType, Crc, FieldValue, put};
+use fit_base::{Arch, BaseType, Crc, FieldValue, put};
 use std::process::Abort;
 
 // Three values of one type, in both orders.

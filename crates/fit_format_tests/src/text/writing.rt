@@ -1,38 +1,20 @@
-use super::{Pen, SIZE};
+// Text on its way to a writer, through the buffer of a pen.
+
+use crate::slow::Slow;
 use fit_grammar::WriteFailed;
-use std::alloc::Global;
-use std::io::{self, Write};
+use fit_text::Pen;
+use std::io::Write;
 use std::test::Fail;
 
-// A writer that refuses each call from one on.
-#[derive(Drop)]
-struct Failing {
-    held: Vec<u8>,
-    // How many calls come before it.
-    calls: usize,
-}
+// How many bytes wait in a pen at most.
+const SIZE: usize = 32_768;
 
-impl Failing {
-    fn new(alloc: Global, calls: usize) -> Failing {
-        Failing {
-            held: Vec::new(alloc),
-            calls,
-        }
-    }
-}
-
-impl Write for Failing {
-    fn write(&mut self, buf: &[u8]) -> io::Result<usize> {
-        if self.calls == 0 {
-            return Err(io::Error::from(io::ErrorKind::BrokenPipe));
-        }
-        self.calls -= 1;
-        self.held.write(buf)
-    }
-
-    fn flush(&mut self) -> io::Result<()> {
-        Ok(())
-    }
+#[test]
+fn so_many_bytes_wait(rt: HostRuntime) {
+    let mut out = Slow::new(rt.alloc(), usize::MAX, 0);
+    let mut pen = Pen::new(&mut out);
+    assert!(rt; pen.put(&[b'x'; SIZE]).is_ok());
+    assert!(rt; pen.put(b"x").is_err());
 }
 
 // Puts this text, and some of each kind behind it.
@@ -58,17 +40,21 @@ fn text_crosses_the_end_of_the_buffer(rt: HostRuntime) -> Result<(), Fail> {
         let mut whole = Vec::from_slice(rt.alloc(), text)?;
         whole.extend_from_slice(BEHIND)?;
         for calls in 0..4 {
-            let mut out = Failing::new(rt.alloc(), calls);
+            let mut out = Slow::new(rt.alloc(), usize::MAX, calls);
             let mut pen = Pen::new(&mut out);
             let done = put_behind(&mut pen, text).is_ok();
             let _ = pen.into_writer();
             assert!(rt;
-                whole.as_slice().starts_with(&out.held),
+                whole.as_slice().starts_with(out.written()),
                 "{missing} {calls}"
             );
-            assert_eq!(rt; done, out.held.len() == whole.len(), "{missing} {calls}");
+            assert_eq!(rt;
+                done,
+                out.written().len() == whole.len(),
+                "{missing} {calls}"
+            );
             assert!(rt; done || calls < 3, "{missing} {calls}");
-            assert!(rt; calls > 0 || out.held.is_empty(), "{missing}");
+            assert!(rt; calls > 0 || out.written().is_empty(), "{missing}");
         }
     }
     Ok(())

@@ -2,11 +2,11 @@
 
 ghost use Rattle.std.specs.Prelude.{◌≡◌};
 
-use super::files::empty_file;
-use super::slow::Slow;
-use crate::{Definition, FieldDefinition, File, decode_file, encode_file, put};
+use crate::known_files::empty_file;
+use crate::slow::Slow;
 use arrayvec::ArrayVec;
 use fit_base::Arch;
+use fit_grammar::{Definition, FieldDefinition, File, decode_file, encode_file, put};
 use std::alloc::{AllocError, Global};
 use std::process::Abort;
 use std::test::Fail;

@@ -5,4 +5,3 @@ mod files;
 mod items;
 mod places;
 mod sizes;
-mod slow;

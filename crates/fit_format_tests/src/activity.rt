@@ -4,7 +4,7 @@ ghost use Rattle.std.specs.Prelude.{◌≡◌, ◌+◌, ◌≤◌, ◌<◌, ◌^
 ghost use Rattle.fit_activity.specs.Recording.{Recorded};
 ghost use Rattle.fit_activity.specs.Totals.{AreTotals};
 
-use crate::{Entry, Refusal, Sample, Speech, Sport, Start, Totals, speak};
+use fit_activity::{Entry, Refusal, Sample, Speech, Sport, Start, Totals, speak};
 use std::process::Abort;
 
 mod activities;

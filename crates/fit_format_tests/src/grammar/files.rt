@@ -2,14 +2,14 @@
 
 ghost use Rattle.std.specs.Prelude.{◌≡◌};
 
-use super::decoding::FILE_ID;
-use super::slow::Slow;
-use crate::{
+use crate::known_files::{FILE_ID, empty_file};
+use crate::slow::Slow;
+use arrayvec::ArrayVec;
+use fit_base::Arch;
+use fit_grammar::{
     Definition, EncodeFault, FaultKind, FieldDefinition, File, Frame, PutFault, decode_file,
     encode_file,
 };
-use arrayvec::ArrayVec;
-use fit_base::Arch;
 use std::alloc::Global;
 use std::process::Abort;
 use std::test::Fail;
@@ -37,15 +37,6 @@ fn file_id(local: u8) -> Definition
         global: 0,
         fields,
     }
-}
-
-pub(crate) fn empty_file(alloc: Global) -> File {
-    let frame = Frame {
-        header_size: 14,
-        protocol: 0x10,
-        profile: 100,
-    };
-    File::new(alloc, frame)
 }
 
 fn small_file(alloc: Global) -> Result<File, PutFault> {

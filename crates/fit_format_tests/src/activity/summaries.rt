@@ -3,7 +3,7 @@
 ghost use Rattle.std.specs.Prelude.{◌<◌, ◌^◌, length};
 
 use super::{START, T, ride, with_distance, with_heart_rate};
-use crate::{Entry, Refusal, Sample, Sport, Start};
+use fit_activity::{Entry, Refusal, Sample, Sport, Start};
 use std::process::Abort;
 
 // The elapsed time and the timer's time of the open lap of a ride, in ms.

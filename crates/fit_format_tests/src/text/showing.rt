@@ -1,17 +1,15 @@
+// Values, dates and names of messages and fields as they are shown, each in the text of a whole file.
+
 ghost use Rattle.std.specs.Prelude.{◌≡◌, IfOk};
 
-use super::column::put_column;
-use super::date::dates_of;
-use super::plan::Column;
-use super::show;
-use crate::profile::{field_name, fields_of, message_name};
-use crate::writing::Pen;
+use crate::known_files::empty_file;
 use arrayvec::ArrayVec;
 use fit_base::Arch;
 use fit_grammar::{Definition, FieldDefinition, File, Frame};
+use fit_text::show;
 use std::test::Fail;
 
-// The text of a field of a message, with times as dates or as they are.
+// The text of a file of one message with one field, with times as dates or as they are.
 fn text_of(
     rt: &HostRuntime,
     utc: bool,
@@ -21,18 +19,33 @@ fn text_of(
     arch: Arch,
     bytes: &[u8],
 ) -> Result<Vec<u8>, Fail> {
-    let field = FieldDefinition {
+    let mut fields = ArrayVec::new();
+    fields.try_push(FieldDefinition {
         number,
         size: u8::try_from(bytes.len())?,
         base,
-    };
-    let dates = dates_of(utc, global);
-    let column = Column::new(fields_of(global), dates, &field);
+    })?;
+    let mut file = empty_file(rt.alloc());
+    file.define(&Definition {
+        local: 0,
+        arch,
+        global,
+        fields,
+    })?;
+    file.data(0, None, bytes)?;
     let mut out = Vec::new(rt.alloc());
-    let mut pen = Pen::new(&mut out);
-    put_column(&mut pen, dates, arch, &column, bytes)?;
-    pen.hand_over()?;
+    show(&file, utc, &mut out)?;
     Ok(out)
+}
+
+// The text of such a file, whose field has so many bytes and this text behind the name of its message.
+fn text_around(rt: &HostRuntime, message: &str, size: usize, field: &str) -> Result<String, Fail> {
+    // The definition has nine bytes, and the message one and its field.
+    let size = size.saturating_add(10);
+    let text = format!(in rt.alloc();
+        "header 14 protocol 1.0 profile 100 data {size}\n0 {message}{field}\nmessages 1\n"
+    )?;
+    Ok(text)
 }
 
 #[test]
@@ -79,11 +92,13 @@ fn shows_values(rt: HostRuntime) -> Result<(), Fail> {
     ];
     for (base, bytes, text) in cases {
         let out = text_of(&rt, false, 20, 99, base, Arch::Little, bytes)?;
-        let whole = format!(in rt.alloc(); " field_99={text}")?;
+        let field = format!(in rt.alloc(); " field_99={text}")?;
+        let whole = text_around(&rt, "record", bytes.len(), &field)?;
         assert_eq!(rt; out.as_slice(), whole.as_bytes(), "{base} {bytes:?}");
     }
     let out = text_of(&rt, false, 20, 99, 0x86, Arch::Big, &[0, 0, 1, 2])?;
-    assert_eq!(rt; out.as_slice(), b" field_99=258".as_slice());
+    let whole = text_around(&rt, "record", 4, " field_99=258")?;
+    assert_eq!(rt; out.as_slice(), whole.as_bytes());
     Ok(())
 }
 
@@ -107,10 +122,12 @@ fn shows_dates(rt: HostRuntime) -> Result<(), Fail> {
     for (time, text) in times {
         let little = time.to_le_bytes();
         let big = time.to_be_bytes();
-        let whole = format!(in rt.alloc(); " timestamp={text}")?;
+        let field = format!(in rt.alloc(); " timestamp={text}")?;
         let out = text_of(&rt, true, 1000, 253, 0x86, Arch::Little, &little)?;
+        let whole = text_around(&rt, "message_1000", 4, &field)?;
         assert_eq!(rt; out.as_slice(), whole.as_bytes(), "{time}");
         let out = text_of(&rt, true, 20, 253, 0x86, Arch::Big, &big)?;
+        let whole = text_around(&rt, "record", 4, &field)?;
         assert_eq!(rt; out.as_slice(), whole.as_bytes(), "{time}");
     }
     Ok(())
@@ -151,121 +168,16 @@ fn shows_other_numbers_as_they_are(rt: HostRuntime) -> Result<(), Fail> {
     ];
     for (utc, global, number, base, bytes, text) in cases {
         let out = text_of(&rt, utc, global, number, base, Arch::Little, bytes)?;
-        assert_eq!(rt; out.as_slice(), text.as_bytes(), "{text}");
+        let message = match global {
+            0 => "file_id",
+            18 => "session",
+            19 => "lap",
+            _ => "record",
+        };
+        let whole = text_around(&rt, message, bytes.len(), text)?;
+        assert_eq!(rt; out.as_slice(), whole.as_bytes(), "{text}");
     }
     Ok(())
-}
-
-// The rows of the profile, of each message its number, its name and its fields.
-#[test]
-fn names_messages_and_fields(rt: HostRuntime) {
-    let rows: [(u16, &str, &[(u8, &str)]); 7] = [
-        (
-            0,
-            "file_id",
-            &[
-                (0, "type"),
-                (1, "manufacturer"),
-                (2, "product"),
-                (3, "serial_number"),
-                (4, "time_created"),
-            ],
-        ),
-        (12, "sport", &[(0, "sport"), (1, "sub_sport")]),
-        (
-            18,
-            "session",
-            &[
-                (0, "event"),
-                (1, "event_type"),
-                (2, "start_time"),
-                (5, "sport"),
-                (6, "sub_sport"),
-                (7, "total_elapsed_time"),
-                (8, "total_timer_time"),
-                (9, "total_distance"),
-                (14, "avg_speed"),
-                (15, "max_speed"),
-                (16, "avg_heart_rate"),
-                (17, "max_heart_rate"),
-                (20, "avg_power"),
-                (21, "max_power"),
-                (25, "first_lap_index"),
-                (26, "num_laps"),
-                (28, "trigger"),
-            ],
-        ),
-        (
-            19,
-            "lap",
-            &[
-                (0, "event"),
-                (1, "event_type"),
-                (2, "start_time"),
-                (7, "total_elapsed_time"),
-                (8, "total_timer_time"),
-                (9, "total_distance"),
-                (13, "avg_speed"),
-                (14, "max_speed"),
-                (15, "avg_heart_rate"),
-                (16, "max_heart_rate"),
-                (19, "avg_power"),
-                (20, "max_power"),
-                (24, "lap_trigger"),
-            ],
-        ),
-        (
-            20,
-            "record",
-            &[
-                (0, "position_lat"),
-                (1, "position_long"),
-                (2, "altitude"),
-                (3, "heart_rate"),
-                (4, "cadence"),
-                (5, "distance"),
-                (6, "speed"),
-                (7, "power"),
-                (13, "temperature"),
-                (73, "enhanced_speed"),
-                (78, "enhanced_altitude"),
-            ],
-        ),
-        (21, "event", &[(0, "event"), (1, "event_type")]),
-        (
-            34,
-            "activity",
-            &[
-                (0, "total_timer_time"),
-                (1, "num_sessions"),
-                (2, "type"),
-                (3, "event"),
-                (4, "event_type"),
-            ],
-        ),
-    ];
-    for (number, name, fields) in rows {
-        assert_eq!(rt; message_name(number), Some(name));
-        for (field, name) in fields {
-            assert_eq!(rt;
-                field_name(fields_of(number), *field),
-                Some(*name),
-                "{number}"
-            );
-        }
-        let named = (0..=255)
-            .filter(|field| field_name(fields_of(number), *field).is_some())
-            .count();
-        assert_eq!(rt; named, fields.len() + 2, "{number}");
-    }
-    let named = (0..=65535)
-        .filter(|number| message_name(*number).is_some())
-        .count();
-    assert_eq!(rt; named, rows.len());
-    for number in [0, 1, 20, 1000] {
-        assert_eq!(rt; field_name(fields_of(number), 253), Some("timestamp"));
-        assert_eq!(rt; field_name(fields_of(number), 254), Some("message_index"));
-    }
 }
 
 // A definition of one field of one byte, and behind it fields of no byte: those from 100 on and below a last number.

@@ -1,8 +1,8 @@
 // Items where they stand in a file.
 
-use super::decoding::{COMPRESSED, FILE_ID, REDEFINED};
-use super::files::empty_file;
-use crate::{FileItem, decode_file};
+use super::decoding::{COMPRESSED, REDEFINED};
+use crate::known_files::{FILE_ID, empty_file};
+use fit_grammar::{FileItem, decode_file};
 use std::alloc::Global;
 use std::test::*;
 
