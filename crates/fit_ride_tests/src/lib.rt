@@ -1,10 +1,6 @@
-//! Tests of the disk, the journal and the recorder, by their public calls. They stand above these crates, so that no library
-//! is proved once more with its tests.
+//! Tests of the recorder, by its public calls. They stand above its crate, so that no library is proved once more with its
+//! tests.
 #![tactic(auto)]
 
-#[cfg(test)]
-mod disk;
-#[cfg(test)]
-mod journal;
 #[cfg(test)]
 mod recorder;
