@@ -8,8 +8,6 @@ pub mod laws;
 mod recording;
 mod replay;
 mod speaking;
-#[cfg(test)]
-mod tests;
 mod totals;
 
 pub use activity::checking::check_activity;

@@ -11,9 +11,9 @@
 //!     assert!(rt; field.is_invalid(1));
 //!     assert_eq!(rt; Crc::of(b"123456789"), 0xBB3D);
 //!
-//! (The test `the_example_of_the_crate`.) Nothing here takes memory. What the calls promise is said in the words of
-//! `specs/`: `Base` has the table of types, `Number` the number of bytes, `Value` what a field holds, and `Checksum` the
-//! register. The program's tables of the checksum are checked against it entry by entry.
+//! (The test `the_example_of_the_crate` of `fit_format_tests`.) Nothing here takes memory. What the calls promise is said in
+//! the words of `specs/`: `Base` has the table of types, `Number` the number of bytes, `Value` what a field holds, and `Checksum`
+//! the register. The program's tables of the checksum are checked against it entry by entry.
 #![tactic(auto)]
 
 mod base;
@@ -21,8 +21,6 @@ mod checksum;
 mod number;
 mod order;
 mod putting;
-#[cfg(test)]
-mod tests;
 mod value;
 
 pub use base::BaseType;

@@ -9,8 +9,6 @@ mod half;
 mod memory;
 mod store;
 mod tally;
-#[cfg(test)]
-mod tests;
 
 pub use disk::{DeviceError, Disk, Which};
 pub use files::{Files, OpenFault};

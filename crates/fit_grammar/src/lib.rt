@@ -18,9 +18,9 @@
 //!     let message = read.messages().next().expect(&rt, "one message");
 //!     assert_eq!(rt; message.global(), 20);
 //!
-//! (The test `the_example_of_the_crate`.) What the calls promise is said in the words of `specs/`: `Format` has the FIT
-//! format itself, `Calls` what public calls say beside it, and `Private` what only proofs need. `laws` has what follows
-//! from the definitions alone.
+//! (The test `the_example_of_the_crate` of `fit_format_tests`.) What the calls promise is said in the words of `specs/`:
+//! `Format` has the FIT format itself, `Calls` what public calls say beside it, and `Private` what only proofs need. `laws` has
+//! what follows from the definitions alone.
 #![tactic(auto)]
 
 mod definition;
@@ -28,8 +28,6 @@ mod file;
 mod item;
 pub mod laws;
 mod message;
-#[cfg(test)]
-mod tests;
 mod to_writer;
 
 pub use definition::{Definition, DefinitionMessage, FieldDefinition, Table};

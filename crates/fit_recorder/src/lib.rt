@@ -13,9 +13,9 @@
 //!     let summary = recover(&mut disk)?;
 //!     assert_eq!(rt; summary.laps, 2);
 //!
-//! (The test `the_example_of_the_crate`.) What is promised over every disk that keeps what it synced is said in the words of
-//! `specs/`: `Body`, `Begun`, `Kept` and `Finished` have what files stand for, `Recording`, `Starting` and `Answers` what a
-//! recorder does, `Recovering` and `Erasing` the rest. `laws` has what follows from the definitions alone.
+//! (The test `the_example_of_the_crate` of `fit_ride_tests`.) What is promised over every disk that keeps what it synced is
+//! said in the words of `specs/`: `Body`, `Begun`, `Kept` and `Finished` have what files stand for, `Recording`, `Starting` and
+//! `Answers` what a recorder does, `Recovering` and `Erasing` the rest. `laws` has what follows from the definitions alone.
 #![tactic(auto)]
 
 mod body;
@@ -28,8 +28,6 @@ mod recorder;
 mod recovery;
 mod spelling;
 mod store;
-#[cfg(test)]
-mod tests;
 
 pub use erasing::erase;
 pub use fault::RecFault;

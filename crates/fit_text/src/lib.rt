@@ -13,9 +13,10 @@
 //!     0 file_id type=4 time_created=2021-09-08T01:46:40Z
 //!     messages 1
 //!
-//! (The test `the_example_of_the_crate`.) The names of messages and fields stand in `profile`, and what is written goes through
-//! the buffer of a `Pen` (`writing`). What is promised is said in the words of `specs/`: `Text` has the text of a file, `Profile`
-//! the names in it, `Date` the dates, `Pen` what a pen puts. `Plan` has what only private functions and proofs speak of.
+//! (The test `the_example_of_the_crate` of `fit_format_tests`.) The names of messages and fields stand in `profile`, and what is
+//! written goes through the buffer of a `Pen` (`writing`). What is promised is said in the words of `specs/`: `Text` has the text
+//! of a file, `Profile` the names in it, `Date` the dates, `Pen` what a pen puts. `Plan` has what only private functions and proofs
+//! speak of.
 #![tactic(auto)]
 
 mod profile;

@@ -12,6 +12,3 @@ mod plan;
 mod plans;
 
 pub use file::{ShowFault, show};
-
-#[cfg(test)]
-mod tests;

@@ -180,6 +180,3 @@ impl<W: Write> fmt::Write for Pen<'_, W> {
         self.put(text.as_bytes()).map_err(|_| fmt::Error)
     }
 }
-
-#[cfg(test)]
-mod tests;

@@ -1,8 +1,0 @@
-use Rattle.std.proofs.Common.{◌≡◌, ◌++◌, List}
-use Rattle.fit_grammar.specs.Format.Message.{Message}
-use Rattle.fit_activity.specs.Replay.{HasHeard}
-use Rattle.fit_activity.proofs.tests.replays.replay.Given as goal
-
-abbrev pub invariant-loop-message : goal.invariant-loop-message
-invariant-loop-message l =
-    (done : List Message) × (l.initial.message-iterator ≡ done ++ l.message-iterator) × HasHeard l.replay done

@@ -1,0 +1,74 @@
+// Rides that are known from outside, and what they are refused for, add up to and say.
+
+ghost use Rattle.std.specs.Prelude.{◌≡◌, ◌+◌, ◌≤◌, ◌<◌, ◌^◌, List, None, length};
+ghost use Rattle.fit_activity.specs.Recording.{Recorded};
+ghost use Rattle.fit_activity.specs.Totals.{AreTotals};
+
+use fit_activity::{Entry, Refusal, Sample, Speech, Sport, Start, Totals, speak};
+use std::process::Abort;
+
+mod activities;
+mod messages;
+mod refusals;
+mod replays;
+mod summaries;
+
+// 2021-09-08T01:46:40Z.
+const T: u32 = 1_000_000_000;
+
+const START: Start = Start {
+    time: T,
+    serial: 7,
+    sport: Sport::Running,
+};
+
+fn with_heart_rate(time: u32, rate: u8) -> Entry {
+    Entry::Sample(Sample {
+        heart_rate: Some(rate),
+        ..Sample::new(time)
+    })
+}
+
+fn with_distance(time: u32, distance: u32) -> Entry {
+    Entry::Sample(Sample {
+        distance: Some(distance),
+        ..Sample::new(time)
+    })
+}
+
+// The totals of a ride, each of whose entries is allowed.
+fn ride(rt: &impl Abort, entries: &[Entry]) -> Totals
+    requires { length entries.now < 2 ^ 31 }
+    ensures { (list : List Recorded) × AreTotals result list × (length list < 2 ^ 32) }
+{
+    match START.check() {
+        Ok(()) => {}
+        Err(refusal) => panic!(rt; "refused: {refusal:?}"),
+    }
+    let mut totals = Totals::start(&START);
+    for entry in entries {
+        match totals.check(entry) {
+            Ok(()) => totals.add(entry),
+            Err(refusal) => panic!(rt; "refused: {refusal:?}"),
+        }
+    }
+    totals
+}
+
+// Why an entry behind a ride is refused.
+fn refusal(rt: &impl Abort, entries: &[Entry], entry: Entry) -> Option<Refusal>
+    requires { length entries.now < 2 ^ 31 }
+{
+    ride(rt, entries).check(&entry).err()
+}
+
+// What an entry behind a ride says.
+fn say(rt: &impl Abort, entries: &[Entry], entry: Entry, speech: &mut Speech)
+    requires { length entries.now < 2 ^ 31 }
+{
+    let totals = ride(rt, entries);
+    match totals.check(&entry) {
+        Ok(()) => speak(&entry, &totals, speech),
+        Err(refusal) => panic!(rt; "refused: {refusal:?}"),
+    }
+}

@@ -1,0 +1,343 @@
+// What rides say, as bytes and as messages that are read again.
+
+use super::{START, T, ride, say, with_distance, with_heart_rate};
+use crate::known_files::empty_file;
+use fit_activity::{
+    Entry, Sample, Speech, SpokenMessage, Sport, Start, entry_of, file_id_of, speak_closing,
+    speak_start, sport_of,
+};
+use fit_grammar::{File, Message, PutFault};
+use std::alloc::Global;
+use std::process::Abort;
+use std::test::Fail;
+
+// Adds what was said, each message with its definition.
+pub(super) fn put(file: &mut File, speech: &Speech) -> Result<(), PutFault> {
+    put_messages(file, speech.messages())
+}
+
+pub(super) fn put_messages(file: &mut File, messages: &[SpokenMessage]) -> Result<(), PutFault> {
+    for message in messages {
+        if message.definition.local < 16 {
+            file.define(&message.definition)?;
+            file.data(message.definition.local, None, &message.content)?;
+        }
+    }
+    Ok(())
+}
+
+// The global numbers of a file's messages, and the values of their fields.
+fn values(alloc: Global, file: &File) -> Result<Vec<u64>, std::alloc::AllocError> {
+    let mut values = Vec::new(alloc);
+    for message in file.messages() {
+        values.push(u64::from(message.global()))?;
+        for field in message.fields() {
+            if field.value.count() == 1 {
+                values.push(field.value.unsigned(0))?;
+            }
+        }
+    }
+    Ok(values)
+}
+
+const NO_U8: u64 = 0xFF;
+
+const NO_U16: u64 = 0xFFFF;
+
+const NO_U32: u64 = 0xFFFF_FFFF;
+
+const AT: u64 = 1_000_000_000;
+
+#[test]
+fn says_a_start(rt: HostRuntime) -> Result<(), Fail> {
+    let mut speech = Speech::new();
+    speak_start(&START, &mut speech);
+    assert_eq!(rt; speech.messages().len(), 3);
+    let mut bytes = Vec::new(rt.alloc());
+    for message in speech.messages() {
+        bytes.extend_from_slice(&message.content)?;
+    }
+    assert_eq!(rt;
+        bytes.as_slice(),
+        [
+            0x04, 0xFF, 0x00, 0x01, 0x00, 0x07, 0x00, 0x00, 0x00, 0x00, 0xCA, 0x9A, 0x3B, 0x01,
+            0x00, 0x00, 0xCA, 0x9A, 0x3B, 0x00, 0x00,
+        ]
+        .as_slice()
+    );
+
+    // The fields of file_id, sport and event: number, size, base type.
+    let mut fields = Vec::new(rt.alloc());
+    for message in speech.messages() {
+        for field in &message.definition.fields {
+            fields.push(field.number)?;
+            fields.push(field.size)?;
+            fields.push(field.base)?;
+        }
+    }
+    assert_eq!(rt;
+        fields.as_slice(),
+        [
+            0x00, 0x01, 0x00, 0x01, 0x02, 0x84, 0x02, 0x02, 0x84, 0x03, 0x04, 0x8C, 0x04, 0x04,
+            0x86, 0x00, 0x01, 0x00, 0x01, 0x01, 0x00, 0xFD, 0x04, 0x86, 0x00, 0x01, 0x00, 0x01,
+            0x01, 0x00,
+        ]
+        .as_slice()
+    );
+    let mut heads = Vec::new(rt.alloc());
+    for message in speech.messages() {
+        heads.push((message.definition.local, message.definition.global))?;
+    }
+    assert_eq!(rt; heads.as_slice(), [(4, 0), (5, 12), (6, 21)].as_slice());
+    Ok(())
+}
+
+#[test]
+fn says_a_lap_and_the_end(rt: HostRuntime) -> Result<(), Fail> {
+    let entries = [
+        with_heart_rate(T, 100),
+        with_heart_rate(T + 1, 101),
+        Entry::Lap(T + 2),
+        with_heart_rate(T + 2, 110),
+    ];
+    let mut file = empty_file(rt.alloc());
+    let mut speech = Speech::new();
+    say(&rt, &entries[..2], entries[2], &mut speech);
+    put(&mut file, &speech)?;
+    say(&rt, &entries[..3], entries[3], &mut speech);
+    put(&mut file, &speech)?;
+    speak_closing(&ride(&rt, &entries), &mut speech);
+    put(&mut file, &speech)?;
+    assert_eq!(rt;
+        values(rt.alloc(), &file)?.as_slice(),
+        [
+            19,
+            0,
+            AT + 2,
+            9,
+            1,
+            AT,
+            2000,
+            2000,
+            NO_U32,
+            NO_U16,
+            NO_U16,
+            100,
+            101,
+            NO_U16,
+            NO_U16,
+            0,
+            20,
+            AT + 2,
+            110,
+            21,
+            AT + 2,
+            0,
+            4,
+            19,
+            1,
+            AT + 2,
+            9,
+            1,
+            AT + 2,
+            0,
+            0,
+            NO_U32,
+            NO_U16,
+            NO_U16,
+            110,
+            110,
+            NO_U16,
+            NO_U16,
+            7,
+            18,
+            0,
+            AT + 2,
+            8,
+            1,
+            AT,
+            1,
+            0,
+            2000,
+            2000,
+            NO_U32,
+            NO_U16,
+            NO_U16,
+            103,
+            110,
+            NO_U16,
+            NO_U16,
+            0,
+            2,
+            0,
+            34,
+            AT + 2,
+            2000,
+            1,
+            0,
+            26,
+            1,
+        ]
+        .as_slice()
+    );
+    assert!(rt; NO_U8 == 255);
+    Ok(())
+}
+
+// Behind a stop no event is said again.
+#[test]
+fn says_the_end_behind_a_stop(rt: HostRuntime) -> Result<(), Fail> {
+    let mut speech = Speech::new();
+    speak_closing(&ride(&rt, &[Entry::Stop(T + 3)]), &mut speech);
+    let mut heads = Vec::new(rt.alloc());
+    for message in speech.messages() {
+        heads.push((message.definition.local, message.definition.global))?;
+    }
+    assert_eq!(rt; heads.as_slice(), [(7, 19), (8, 18), (9, 34)].as_slice());
+    Ok(())
+}
+
+// A sample with all fields: latitude and temperature below zero go by two's complement.
+#[test]
+fn says_a_sample(rt: HostRuntime) -> Result<(), Fail> {
+    let full = Sample {
+        time: T,
+        lat: Some(-2),
+        long: Some(1),
+        altitude: Some(2600),
+        heart_rate: Some(101),
+        cadence: Some(90),
+        distance: Some(12345),
+        speed: Some(5000),
+        power: Some(250),
+        temperature: Some(-5),
+    };
+    let mut speech = Speech::new();
+    say(&rt, &[], Entry::Sample(full), &mut speech);
+    let mut bytes = Vec::new(rt.alloc());
+    for message in speech.messages() {
+        bytes.extend_from_slice(&message.content)?;
+    }
+    assert_eq!(rt;
+        bytes.as_slice(),
+        [
+            0x00, 0xCA, 0x9A, 0x3B, 0xFE, 0xFF, 0xFF, 0xFF, 0x01, 0x00, 0x00, 0x00, 0x28, 0x0A,
+            0x65, 0x5A, 0x39, 0x30, 0x00, 0x00, 0x88, 0x13, 0xFA, 0x00, 0xFB,
+        ]
+        .as_slice()
+    );
+    let mut numbers = Vec::new(rt.alloc());
+    for message in speech.messages() {
+        for field in &message.definition.fields {
+            numbers.push(field.number)?;
+        }
+    }
+    assert_eq!(rt;
+        numbers.as_slice(),
+        [253, 0, 1, 2, 3, 4, 5, 6, 7, 13].as_slice()
+    );
+
+    say(&rt, &[], Entry::Sample(Sample::new(T)), &mut speech);
+    assert_eq!(rt; speech.messages().len(), 1);
+    if speech.messages().len() > 0 {
+        speech.set_local(3);
+    }
+    let mut local = 16;
+    for message in speech.messages() {
+        local = message.definition.local;
+        assert_eq!(rt; message.content.len(), 4);
+    }
+    assert_eq!(rt; local, 3);
+    Ok(())
+}
+
+// The entry of the one message of a file.
+fn entry_in(file: &File) -> Option<Entry> {
+    let mut entry = None;
+    for message in file.messages() {
+        entry = entry_of(&message);
+    }
+    entry
+}
+
+#[test]
+fn reads_entries_again(rt: HostRuntime) -> Result<(), Fail> {
+    let full = Sample {
+        time: T + 1,
+        lat: Some(i32::MIN),
+        long: Some(-1),
+        altitude: Some(1),
+        heart_rate: Some(2),
+        cadence: Some(3),
+        distance: Some(4),
+        speed: Some(5),
+        power: Some(6),
+        temperature: Some(-128),
+    };
+    let some = Sample {
+        lat: Some(7),
+        power: Some(250),
+        ..Sample::new(T + 2)
+    };
+    let entries = [
+        Entry::Sample(full),
+        Entry::Sample(some),
+        Entry::Sample(Sample::new(T + 2)),
+        with_distance(T + 2, 9),
+        Entry::Lap(T + 3),
+        Entry::Pause(T + 4),
+        Entry::Stop(T + 5),
+    ];
+    let mut speech = Speech::new();
+    for entry in entries {
+        let mut file = empty_file(rt.alloc());
+        say(&rt, &[], entry, &mut speech);
+        put(&mut file, &speech)?;
+        assert_eq!(rt; entry_in(&file), Some(entry));
+    }
+    let mut file = empty_file(rt.alloc());
+    say(&rt, &[Entry::Pause(T)], Entry::Resume(T + 1), &mut speech);
+    put(&mut file, &speech)?;
+    assert_eq!(rt; entry_in(&file), Some(Entry::Resume(T + 1)));
+    Ok(())
+}
+
+// A message's file_id, sport and entry.
+fn heard(message: &Message) -> (Option<(u32, u32)>, Option<Sport>, Option<Entry>) {
+    (file_id_of(message), sport_of(message), entry_of(message))
+}
+
+#[test]
+fn reads_starts_and_ends_again(rt: HostRuntime) -> Result<(), Fail> {
+    for sport in [Sport::Generic, Sport::Running, Sport::Cycling] {
+        let start = Start {
+            time: T,
+            serial: 0,
+            sport,
+        };
+        let mut speech = Speech::new();
+        speak_start(&start, &mut speech);
+        let mut file = empty_file(rt.alloc());
+        put(&mut file, &speech)?;
+        let mut wanted = [
+            (Some((T, 0)), None, None),
+            (None, Some(sport), None),
+            (None, None, Some(Entry::Resume(T))),
+        ]
+        .into_iter();
+        for message in file.messages() {
+            assert_eq!(rt; Some(heard(&message)), wanted.next());
+        }
+        assert_eq!(rt; wanted.next(), None);
+    }
+
+    // The lap that closes a recording, the session and the activity are no entry's.
+    let mut speech = Speech::new();
+    speak_closing(&ride(&rt, &[Entry::Stop(T)]), &mut speech);
+    let mut file = empty_file(rt.alloc());
+    put(&mut file, &speech)?;
+    for message in file.messages() {
+        assert_eq!(rt; heard(&message), (None, None, None));
+    }
+    Ok(())
+}

@@ -1,0 +1,262 @@
+// Why entries are refused: each cause alone, at its bound, and beside each later one.
+
+use super::{T, refusal, ride, with_distance, with_heart_rate};
+use fit_activity::{Entry, Refusal, Sample};
+use std::test::Fail;
+
+#[test]
+fn refuses_as_known(rt: HostRuntime) {
+    let far = [with_distance(T + 10, 500)];
+    assert_eq!(rt;
+        refusal(&rt, &far, Entry::Sample(Sample::new(T + 9))),
+        Some(Refusal::Time)
+    );
+    assert_eq!(rt;
+        refusal(&rt, &far, with_distance(T + 10, 499)),
+        Some(Refusal::Distance)
+    );
+    assert_eq!(rt; refusal(&rt, &far, with_distance(T + 10, 500)), None);
+    assert_eq!(rt;
+        refusal(&rt, &far, with_heart_rate(T + 10, 255)),
+        Some(Refusal::Value(3))
+    );
+    assert_eq!(rt; refusal(&rt, &far, Entry::Pause(T + 10)), None);
+
+    let paused = [with_distance(T + 10, 500), Entry::Pause(T + 10)];
+    assert_eq!(rt;
+        refusal(&rt, &paused, with_heart_rate(T + 10, 90)),
+        Some(Refusal::TimerStopped)
+    );
+    assert_eq!(rt;
+        refusal(&rt, &paused, Entry::Pause(T + 11)),
+        Some(Refusal::TimerStopped)
+    );
+    assert_eq!(rt; refusal(&rt, &paused, Entry::Lap(T + 11)), None);
+    assert_eq!(rt; refusal(&rt, &paused, Entry::Stop(T + 11)), None);
+    assert_eq!(rt; refusal(&rt, &paused, Entry::Resume(T + 12)), None);
+
+    let resumed = [
+        with_distance(T + 10, 500),
+        Entry::Pause(T + 10),
+        Entry::Resume(T + 12),
+    ];
+    assert_eq!(rt;
+        refusal(&rt, &resumed, Entry::Resume(T + 12)),
+        Some(Refusal::TimerRunning)
+    );
+    assert_eq!(rt;
+        refusal(&rt, &resumed, Entry::Lap(T + 4_000_001)),
+        Some(Refusal::TooLong)
+    );
+    assert_eq!(rt; refusal(&rt, &resumed, Entry::Lap(T + 4_000_000)), None);
+}
+
+#[test]
+fn refuses_times(rt: HostRuntime) {
+    assert_eq!(rt; refusal(&rt, &[], Entry::Lap(T - 1)), Some(Refusal::Time));
+    assert_eq!(rt; refusal(&rt, &[], Entry::Lap(T)), None);
+    assert_eq!(rt;
+        refusal(&rt, &[], Entry::Lap(0xFFFF_FFFF)),
+        Some(Refusal::Time)
+    );
+    assert_eq!(rt;
+        refusal(&rt, &[], Entry::Lap(0xFFFF_FFFE)),
+        Some(Refusal::TooLong)
+    );
+    assert_eq!(rt; refusal(&rt, &[], Entry::Stop(T + 4_000_000)), None);
+    assert_eq!(rt;
+        refusal(&rt, &[], Entry::Stop(T + 4_000_001)),
+        Some(Refusal::TooLong)
+    );
+}
+
+// A sample that holds every invalid value from one field on.
+#[test]
+fn refuses_invalid_values(rt: HostRuntime) {
+    let mut worst = Sample {
+        temperature: Some(0x7F),
+        ..Sample::new(T)
+    };
+    assert_eq!(rt;
+        refusal(&rt, &[], Entry::Sample(worst)),
+        Some(Refusal::Value(13))
+    );
+    worst.power = Some(0xFFFF);
+    assert_eq!(rt;
+        refusal(&rt, &[], Entry::Sample(worst)),
+        Some(Refusal::Value(7))
+    );
+    worst.speed = Some(0xFFFF);
+    assert_eq!(rt;
+        refusal(&rt, &[], Entry::Sample(worst)),
+        Some(Refusal::Value(6))
+    );
+    worst.distance = Some(0xFFFF_FFFF);
+    assert_eq!(rt;
+        refusal(&rt, &[], Entry::Sample(worst)),
+        Some(Refusal::Value(5))
+    );
+    worst.cadence = Some(0xFF);
+    assert_eq!(rt;
+        refusal(&rt, &[], Entry::Sample(worst)),
+        Some(Refusal::Value(4))
+    );
+    worst.heart_rate = Some(0xFF);
+    assert_eq!(rt;
+        refusal(&rt, &[], Entry::Sample(worst)),
+        Some(Refusal::Value(3))
+    );
+    worst.altitude = Some(0xFFFF);
+    assert_eq!(rt;
+        refusal(&rt, &[], Entry::Sample(worst)),
+        Some(Refusal::Value(2))
+    );
+    worst.long = Some(0x7FFF_FFFF);
+    assert_eq!(rt;
+        refusal(&rt, &[], Entry::Sample(worst)),
+        Some(Refusal::Value(1))
+    );
+    worst.lat = Some(0x7FFF_FFFF);
+    assert_eq!(rt;
+        refusal(&rt, &[], Entry::Sample(worst)),
+        Some(Refusal::Value(0))
+    );
+}
+
+// The greatest values that are valid, and the least.
+#[test]
+fn allows_extreme_values(rt: HostRuntime) {
+    let most = Sample {
+        time: T,
+        lat: Some(0x7FFF_FFFE),
+        long: Some(0x7FFF_FFFE),
+        altitude: Some(0xFFFE),
+        heart_rate: Some(0xFE),
+        cadence: Some(0xFE),
+        distance: Some(0xFFFF_FFFE),
+        speed: Some(0xFFFE),
+        power: Some(0xFFFE),
+        temperature: Some(0x7E),
+    };
+    assert_eq!(rt; refusal(&rt, &[], Entry::Sample(most)), None);
+    let least = Sample {
+        lat: Some(i32::MIN),
+        long: Some(-1),
+        distance: Some(0),
+        temperature: Some(-128),
+        ..Sample::new(T)
+    };
+    assert_eq!(rt; refusal(&rt, &[], Entry::Sample(least)), None);
+    assert_eq!(rt;
+        refusal(&rt, &[Entry::Sample(most)], Entry::Sample(least)),
+        Some(Refusal::Distance)
+    );
+}
+
+// Each cause beside each later one that can hold with it.
+#[test]
+fn answers_the_first_cause(rt: HostRuntime) {
+    let bad = Sample {
+        distance: Some(1),
+        power: Some(0xFFFF),
+        ..Sample::new(T + 4_000_001)
+    };
+    let stopped = [with_distance(T + 10, 500), Entry::Stop(T + 10)];
+    assert_eq!(rt;
+        refusal(&rt, &stopped, Entry::Stop(T + 10)),
+        Some(Refusal::Stopped)
+    );
+    assert_eq!(rt;
+        refusal(&rt, &stopped, Entry::Stop(T + 9)),
+        Some(Refusal::Stopped)
+    );
+    assert_eq!(rt;
+        refusal(&rt, &stopped, Entry::Sample(bad)),
+        Some(Refusal::Stopped)
+    );
+    assert_eq!(rt;
+        refusal(&rt, &stopped, Entry::Resume(T + 10)),
+        Some(Refusal::Stopped)
+    );
+
+    let paused = [with_distance(T + 10, 500), Entry::Pause(T + 10)];
+    let invalid = Sample {
+        time: 0xFFFF_FFFF,
+        ..bad
+    };
+    assert_eq!(rt;
+        refusal(&rt, &paused, Entry::Sample(invalid)),
+        Some(Refusal::Time)
+    );
+    assert_eq!(rt;
+        refusal(&rt, &paused, Entry::Sample(bad)),
+        Some(Refusal::TooLong)
+    );
+    let late = Sample {
+        time: T + 10,
+        ..bad
+    };
+    assert_eq!(rt;
+        refusal(&rt, &paused, Entry::Sample(late)),
+        Some(Refusal::TimerStopped)
+    );
+
+    let far = [with_distance(T + 10, 500)];
+    assert_eq!(rt;
+        refusal(&rt, &far, Entry::Resume(T + 9)),
+        Some(Refusal::Time)
+    );
+    assert_eq!(rt;
+        refusal(&rt, &far, Entry::Resume(T + 4_000_001)),
+        Some(Refusal::TooLong)
+    );
+    assert_eq!(rt;
+        refusal(&rt, &far, Entry::Resume(T + 10)),
+        Some(Refusal::TimerRunning)
+    );
+    assert_eq!(rt;
+        refusal(&rt, &far, Entry::Sample(late)),
+        Some(Refusal::Value(7))
+    );
+    let less = Sample {
+        power: None,
+        ..late
+    };
+    assert_eq!(rt;
+        refusal(&rt, &far, Entry::Sample(less)),
+        Some(Refusal::Distance)
+    );
+}
+
+#[test]
+fn counts_laps(rt: HostRuntime) -> Result<(), Fail> {
+    let laps = vec![in rt.alloc(); Entry::Lap(T); 999]?;
+    assert_eq!(rt; laps.len(), 999);
+    assert_eq!(rt; refusal(&rt, &laps[..998], Entry::Lap(T)), None);
+    let totals = ride(&rt, &laps);
+    assert_eq!(rt; totals.check(&Entry::Lap(T)), Err(Refusal::TooManyLaps));
+    assert_eq!(rt;
+        totals.check(&Entry::Lap(T + 4_000_001)),
+        Err(Refusal::TooLong)
+    );
+    assert_eq!(rt; totals.check(&Entry::Stop(T)), Ok(()));
+    assert_eq!(rt; totals.session().laps, 1000);
+    Ok(())
+}
+
+#[test]
+fn numbers_refusals(rt: HostRuntime) {
+    let refusals = [
+        Refusal::Time,
+        Refusal::Distance,
+        Refusal::Value(3),
+        Refusal::TimerStopped,
+        Refusal::TimerRunning,
+        Refusal::TooLong,
+        Refusal::TooManyLaps,
+        Refusal::Stopped,
+    ];
+    for (i, refusal) in refusals.iter().enumerate() {
+        assert_eq!(rt; refusal.code() as usize, i + 1);
+    }
+}

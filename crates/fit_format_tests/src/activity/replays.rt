@@ -1,0 +1,239 @@
+// What messages tell when they are heard again, and which are refused.
+
+ghost use Rattle.std.specs.Prelude.{◌<◌, ◌^◌, length};
+
+use super::messages::{put, put_messages};
+use super::{START, T, ride, say, with_distance, with_heart_rate};
+use crate::known_files::empty_file;
+use fit_activity::{
+    Entry, Replay, Sample, Speech, SpokenMessage, Start, Summary, check_activity, speak_closing,
+    speak_start,
+};
+use fit_grammar::{File, PutFault};
+use std::alloc::Global;
+use std::process::Abort;
+
+// What the messages of a file tell, if they are all heard.
+fn replay(file: &File) -> Option<Replay> {
+    // Every file has fewer than 2^32 messages.
+    let _frame = file.frame();
+    let mut replay = Replay::new();
+    for message in file.messages() {
+        match replay.hear(&message) {
+            Ok(()) => {}
+            Err(_) => return None,
+        }
+    }
+    Some(replay)
+}
+
+// The messages of a ride.
+fn told(rt: &impl Abort, alloc: Global, entries: &[Entry]) -> Result<File, PutFault>
+    requires { length entries.now < 2 ^ 31 }
+{
+    let mut file = empty_file(alloc);
+    let mut speech = Speech::new();
+    speak_start(&START, &mut speech);
+    put(&mut file, &speech)?;
+    for i in 0..entries.len() {
+        say(rt, &entries[..i], entries[i], &mut speech);
+        put(&mut file, &speech)?;
+    }
+    Ok(file)
+}
+
+#[test]
+fn hears_a_ride_again(rt: HostRuntime) -> Result<(), PutFault> {
+    let entries = [
+        with_distance(T, 100),
+        with_heart_rate(T + 4, 120),
+        Entry::Lap(T + 5),
+        Entry::Pause(T + 6),
+        Entry::Resume(T + 9),
+        with_distance(T + 9, 250),
+        Entry::Lap(T + 9),
+        Entry::Lap(T + 12),
+        Entry::Stop(T + 12),
+    ];
+    for count in 0..10 {
+        let replay = replay(&told(&rt, rt.alloc(), &entries[..count])?);
+        let replay = replay.expect(&rt, "each message is heard");
+        let totals = replay.totals().expect(&rt, "a start and entries");
+        let wanted = ride(&rt, &entries[..count]);
+        assert_eq!(rt; totals.session(), wanted.session());
+        assert_eq!(rt; totals.lap(), wanted.lap());
+        assert_eq!(rt; totals.activity(), wanted.activity());
+        assert_eq!(rt; totals.running(), wanted.running());
+        assert_eq!(rt; totals.stopped(), wanted.stopped());
+    }
+    Ok(())
+}
+
+// What the messages of a ride tell of its finished file, and what is said of that file.
+fn summaries(
+    rt: &impl Abort,
+    alloc: Global,
+    entries: &[Entry],
+) -> Result<(Option<Summary>, Option<Summary>), PutFault>
+    requires { length entries.now < 2 ^ 31 }
+{
+    let mut file = told(rt, alloc, entries)?;
+    let replay = replay(&file).expect(rt, "each message is heard");
+    let mut speech = Speech::new();
+    speak_closing(&ride(rt, entries), &mut speech);
+    put(&mut file, &speech)?;
+    Ok((replay.summary(), check_activity(&file).ok()))
+}
+
+#[test]
+fn sums_up_the_finished_file(rt: HostRuntime) -> Result<(), PutFault> {
+    let entries = [
+        with_distance(T, 100),
+        with_heart_rate(T + 4, 120),
+        Entry::Lap(T + 5),
+        Entry::Pause(T + 6),
+        Entry::Lap(T + 8),
+        Entry::Resume(T + 9),
+        with_distance(T + 9, 250),
+        Entry::Lap(T + 12),
+        Entry::Stop(T + 12),
+    ];
+    let whole = Summary {
+        records: 3,
+        laps: 4,
+        sessions: 1,
+        start: Some(1_000_000_000),
+        elapsed_ms: Some(12_000),
+        timer_ms: Some(9_000),
+        distance_cm: Some(250),
+    };
+    assert_eq!(rt;
+        summaries(&rt, rt.alloc(), &entries)?,
+        (Some(whole), Some(whole))
+    );
+
+    // Cut off while it stands in its second lap, and behind its start.
+    let paused = Summary {
+        records: 2,
+        laps: 2,
+        elapsed_ms: Some(6_000),
+        timer_ms: Some(6_000),
+        distance_cm: Some(100),
+        ..whole
+    };
+    assert_eq!(rt;
+        summaries(&rt, rt.alloc(), &entries[..4])?,
+        (Some(paused), Some(paused))
+    );
+    let begun = Summary {
+        records: 0,
+        laps: 1,
+        elapsed_ms: Some(0),
+        timer_ms: Some(0),
+        distance_cm: None,
+        ..whole
+    };
+    assert_eq!(rt;
+        summaries(&rt, rt.alloc(), &[])?,
+        (Some(begun), Some(begun))
+    );
+    Ok(())
+}
+
+// Adds a message with another byte at a place of its content.
+fn put_changed(
+    alloc: Global,
+    file: &mut File,
+    message: &SpokenMessage,
+    place: usize,
+) -> Result<(), PutFault> {
+    let mut content = Vec::new(alloc);
+    content.extend_from_slice(&message.content)?;
+    if let Some(byte) = content.get_mut(place) {
+        *byte ^= 1;
+    }
+    if message.definition.local < 16 {
+        file.define(&message.definition)?;
+        file.data(message.definition.local, None, &content)?;
+    }
+    Ok(())
+}
+
+#[test]
+fn refuses_a_lap_with_another_value(rt: HostRuntime) -> Result<(), PutFault> {
+    let entries = [with_heart_rate(T, 100), with_distance(T + 1, 700)];
+    let mut speech = Speech::new();
+    for place in 0..36 {
+        let mut file = told(&rt, rt.alloc(), &entries)?;
+        say(&rt, &entries, Entry::Lap(T + 2), &mut speech);
+        for message in speech.messages() {
+            put_changed(rt.alloc(), &mut file, message, place)?;
+        }
+        // Behind the content's last byte nothing is changed.
+        assert_eq!(rt; replay(&file).is_some(), place == 35, "at {place}");
+    }
+    Ok(())
+}
+
+#[test]
+fn hears_starts(rt: HostRuntime) -> Result<(), PutFault> {
+    let mut speech = Speech::new();
+    speak_start(&START, &mut speech);
+    let mut file = empty_file(rt.alloc());
+    put_messages(&mut file, &speech.messages()[1..])?;
+    assert!(rt; replay(&file).is_none());
+
+    // Two messages are no recording yet.
+    let mut file = empty_file(rt.alloc());
+    put_messages(&mut file, &speech.messages()[..2])?;
+    let begun = replay(&file).expect(&rt, "each message is heard");
+    assert!(rt; begun.totals().is_none());
+    assert!(rt; begun.summary().is_none());
+
+    // The timer starts at another time.
+    let later = Start {
+        time: T + 1,
+        ..START
+    };
+    speak_start(&later, &mut speech);
+    put_messages(&mut file, &speech.messages()[2..])?;
+    assert!(rt; replay(&file).is_none());
+
+    // No calendar time.
+    let early = Start {
+        time: 0x0FFF_FFFF,
+        ..START
+    };
+    speak_start(&early, &mut speech);
+    let mut file = empty_file(rt.alloc());
+    put(&mut file, &speech)?;
+    assert!(rt; replay(&file).is_none());
+    Ok(())
+}
+
+#[test]
+fn refuses_what_may_not_come_next(rt: HostRuntime) -> Result<(), PutFault> {
+    let mut speech = Speech::new();
+    let mut file = told(&rt, rt.alloc(), &[])?;
+    speak_start(&START, &mut speech);
+    put(&mut file, &speech)?;
+    assert!(rt; replay(&file).is_none());
+
+    let mut file = told(&rt, rt.alloc(), &[Entry::Pause(T + 5)])?;
+    say(&rt, &[], Entry::Pause(T + 6), &mut speech);
+    put(&mut file, &speech)?;
+    assert!(rt; replay(&file).is_none());
+
+    let mut file = told(&rt, rt.alloc(), &[with_distance(T + 5, 100)])?;
+    say(&rt, &[], Entry::Sample(Sample::new(T + 4)), &mut speech);
+    put(&mut file, &speech)?;
+    assert!(rt; replay(&file).is_none());
+
+    // The lap that closes a recording is no entry's.
+    let stopped = [Entry::Stop(T + 1)];
+    let mut file = told(&rt, rt.alloc(), &stopped)?;
+    speak_closing(&ride(&rt, &stopped), &mut speech);
+    put(&mut file, &speech)?;
+    assert!(rt; replay(&file).is_none());
+    Ok(())
+}

@@ -1,0 +1,194 @@
+// What rides add up to.
+
+ghost use Rattle.std.specs.Prelude.{◌<◌, ◌^◌, length};
+
+use super::{START, T, ride, with_distance, with_heart_rate};
+use fit_activity::{Entry, Refusal, Sample, Sport, Start};
+use std::process::Abort;
+
+// The elapsed time and the timer's time of the open lap of a ride, in ms.
+fn lap_times(rt: &impl Abort, entries: &[Entry]) -> (u32, u32)
+    requires { length entries.now < 2 ^ 31 }
+{
+    let lap = ride(rt, entries).lap().stretch;
+    (lap.elapsed, lap.timer)
+}
+
+#[test]
+fn times_laps(rt: HostRuntime) {
+    let turned = [
+        Entry::Pause(T + 5),
+        Entry::Resume(T + 5),
+        Entry::Lap(T + 5),
+        Entry::Stop(T + 8),
+    ];
+    assert_eq!(rt; lap_times(&rt, &turned[..2]), (5000, 5000));
+    assert_eq!(rt; lap_times(&rt, &turned), (3000, 3000));
+
+    let paused = [
+        Entry::Pause(T + 5),
+        Entry::Lap(T + 5),
+        Entry::Resume(T + 7),
+        Entry::Stop(T + 8),
+    ];
+    assert_eq!(rt; lap_times(&rt, &paused[..1]), (5000, 5000));
+    assert_eq!(rt; lap_times(&rt, &paused), (3000, 1000));
+}
+
+// The distance and the average speed of a ride.
+fn distance_and_speed(rt: &impl Abort, entries: &[Entry]) -> (Option<u32>, Option<u16>)
+    requires { length entries.now < 2 ^ 31 }
+{
+    let ride = ride(rt, entries).session().stretch;
+    (ride.distance, ride.average_speed)
+}
+
+#[test]
+fn measures_distances(rt: HostRuntime) {
+    let far = [
+        with_distance(T, 0),
+        with_distance(T + 10, 12345),
+        Entry::Stop(T + 10),
+    ];
+    assert_eq!(rt; distance_and_speed(&rt, &far), (Some(12345), Some(12345)));
+    let near = [with_distance(T + 7, 100), Entry::Stop(T + 7)];
+    assert_eq!(rt; distance_and_speed(&rt, &near), (Some(100), Some(142)));
+    let fast = [with_distance(T + 1, 100_000), Entry::Stop(T + 1)];
+    assert_eq!(rt; distance_and_speed(&rt, &fast), (Some(100_000), None));
+
+    // The greatest speed that a field holds, and one mm/s more.
+    let greatest = [with_distance(T + 10, 65534), Entry::Stop(T + 10)];
+    assert_eq!(rt;
+        distance_and_speed(&rt, &greatest),
+        (Some(65534), Some(65534))
+    );
+    let invalid = [with_distance(T + 10, 65535), Entry::Stop(T + 10)];
+    assert_eq!(rt; distance_and_speed(&rt, &invalid), (Some(65535), None));
+    assert_eq!(rt;
+        distance_and_speed(&rt, &[with_distance(T, 5)]),
+        (Some(5), None)
+    );
+    assert_eq!(rt;
+        distance_and_speed(&rt, &[Entry::Stop(T + 3)]),
+        (None, None)
+    );
+}
+
+#[test]
+fn measures_a_lap_from_its_beginning(rt: HostRuntime) {
+    let entries = [
+        with_distance(T + 10, 500),
+        Entry::Lap(T + 10),
+        with_distance(T + 20, 800),
+    ];
+    let totals = ride(&rt, &entries);
+    assert_eq!(rt; totals.lap().index, 1);
+    assert_eq!(rt; totals.lap().stretch.distance, Some(300));
+    assert_eq!(rt; totals.session().stretch.distance, Some(800));
+
+    // None in this lap, which begins where 800 is known.
+    let none = ride(&rt, &[with_distance(T + 10, 800), Entry::Lap(T + 10)]);
+    assert_eq!(rt; none.lap().stretch.distance, Some(0));
+}
+
+// A ride of two laps, with 100 and 101 in the first, and 110 in the second.
+#[test]
+fn adds_up_a_ride_of_two_laps(rt: HostRuntime) {
+    let entries = [
+        with_heart_rate(T, 100),
+        with_heart_rate(T + 1, 101),
+        Entry::Lap(T + 2),
+        with_heart_rate(T + 2, 110),
+    ];
+    let first = ride(&rt, &entries[..2]).lap();
+    assert_eq!(rt; first.index, 0);
+    assert_eq!(rt; (first.stretch.start, first.stretch.end), (T, T + 1));
+    assert_eq!(rt; first.stretch.average_heart_rate, Some(100));
+    assert_eq!(rt; first.stretch.greatest_heart_rate, Some(101));
+
+    let totals = ride(&rt, &entries);
+    let second = totals.lap();
+    assert_eq!(rt; second.index, 1);
+    assert_eq!(rt; (second.stretch.start, second.stretch.end), (T + 2, T + 2));
+    assert_eq!(rt; (second.stretch.elapsed, second.stretch.timer), (0, 0));
+    assert_eq!(rt; second.stretch.average_heart_rate, Some(110));
+    assert_eq!(rt; second.stretch.greatest_heart_rate, Some(110));
+
+    let session = totals.session();
+    assert_eq!(rt; (session.laps, session.sport), (2, Sport::Running));
+    assert_eq!(rt;
+        (session.stretch.elapsed, session.stretch.timer),
+        (2000, 2000)
+    );
+    assert_eq!(rt; session.stretch.average_heart_rate, Some(103));
+    assert_eq!(rt; session.stretch.greatest_heart_rate, Some(110));
+    assert_eq!(rt; session.stretch.average_power, None);
+    assert_eq!(rt; session.stretch.distance, None);
+
+    let activity = totals.activity();
+    assert_eq!(rt; (activity.time, activity.timer), (T + 2, 2000));
+    assert!(rt; totals.running());
+    assert!(rt; !totals.stopped());
+    assert_eq!(rt; totals.end_time(), T + 2);
+}
+
+// The greatest speed and power, which stand in the first lap; floors of averages.
+#[test]
+fn adds_up_speed_and_power(rt: HostRuntime) {
+    let entries = [
+        Entry::Sample(Sample {
+            speed: Some(9000),
+            power: Some(400),
+            ..Sample::new(T)
+        }),
+        Entry::Sample(Sample {
+            speed: Some(8000),
+            power: Some(101),
+            ..Sample::new(T + 1)
+        }),
+        Entry::Lap(T + 1),
+        Entry::Sample(Sample {
+            speed: Some(7000),
+            power: Some(100),
+            ..Sample::new(T + 2)
+        }),
+        Entry::Pause(T + 4),
+    ];
+    let totals = ride(&rt, &entries);
+    let session = totals.session().stretch;
+    assert_eq!(rt; session.greatest_speed, Some(9000));
+    assert_eq!(rt;
+        (session.average_power, session.greatest_power),
+        (Some(200), Some(400))
+    );
+    let lap = totals.lap().stretch;
+    assert_eq!(rt; lap.greatest_speed, Some(7000));
+    assert_eq!(rt;
+        (lap.average_power, lap.greatest_power),
+        (Some(100), Some(100))
+    );
+    assert!(rt; !totals.running());
+}
+
+#[test]
+fn checks_starts(rt: HostRuntime) {
+    let at = |time: u32| Start {
+        time,
+        serial: 0,
+        sport: Sport::Generic,
+    }
+    .check();
+    assert_eq!(rt; START.check(), Ok(()));
+    assert_eq!(rt; at(0x1000_0000), Ok(()));
+    assert_eq!(rt; at(0x1000_0000 - 1), Err(Refusal::Time));
+    assert_eq!(rt; at(0xFFFF_FFFE), Ok(()));
+    assert_eq!(rt; at(0xFFFF_FFFF), Err(Refusal::Time));
+    assert_eq!(rt;
+        (
+            Sport::Generic.number(),
+            Sport::Running.number(),
+            Sport::Cycling.number()
+        ),
+        (0, 1, 2)
+    );
+}

@@ -1,0 +1,312 @@
+// Values from outside: the checksums are known ones, and the rows are those of the protocol's table.
+
+use fit_base::{Arch, BaseType, Crc, FieldValue, put};
+use std::process::Abort;
+
+// Three values of one type, in both orders.
+#[derive(Drop)]
+struct Case<'a> {
+    code: u8,
+    little: &'a [u8],
+    big: &'a [u8],
+    numbers: [u64; 3],
+    invalid: [bool; 3],
+}
+
+#[test]
+fn the_example_of_the_crate(rt: HostRuntime) {
+    let field = FieldValue::new(0x84, Arch::Little, &[0xC8, 0x00, 0xFF, 0xFF]);
+    assert_eq!(rt; field.count(), 2);
+    assert_eq!(rt; field.unsigned(0), 200);
+    assert!(rt; field.is_invalid(1));
+    assert_eq!(rt; Crc::of(b"123456789"), 0xBB3D);
+}
+
+#[test]
+fn checksums(rt: HostRuntime) {
+    let header = [
+        0x0E, 0x10, 0x64, 0x00, 0x12, 0x00, 0x00, 0x00, 0x2E, 0x46, 0x49, 0x54,
+    ];
+    assert_eq!(rt; Crc::of(&[]), 0);
+    assert_eq!(rt; Crc::of(b"123456789"), 0xBB3D);
+    assert_eq!(rt; Crc::of(&header), 0x3BA1);
+    let mut pieces = Crc::new();
+    pieces.add(&header[..5]);
+    pieces.add(&header[5..]);
+    assert_eq!(rt; pieces.value(), 0x3BA1);
+    pieces.add(&[0xA1, 0x3B]);
+    assert_eq!(rt; pieces.value(), 0);
+}
+
+#[test]
+fn types_by_their_bytes(rt: HostRuntime) {
+    let rows: [(u8, usize, bool); 14] = [
+        (0x00, 1, false),
+        (0x01, 1, true),
+        (0x02, 1, false),
+        (0x07, 1, false),
+        (0x0A, 1, false),
+        (0x0D, 1, false),
+        (0x83, 2, true),
+        (0x84, 2, false),
+        (0x85, 4, true),
+        (0x86, 4, false),
+        (0x88, 4, false),
+        (0x89, 8, false),
+        (0x8B, 2, false),
+        (0x8C, 4, false),
+    ];
+    for (code, size, signed) in rows {
+        let base = BaseType::of(code).expect(&rt, "a row of the table");
+        assert_eq!(rt; base.code(), code);
+        assert_eq!(rt; base.size(), size, "of {code}");
+        assert_eq!(rt; base.is_signed(), signed, "of {code}");
+    }
+    let known = (0..=255)
+        .filter(|code| BaseType::of(*code).is_some())
+        .count();
+    assert_eq!(rt; known, 14);
+}
+
+// Each type at 0, at its greatest value and at its invalid one, or where 0 is invalid at another.
+#[test]
+fn values_of_each_type(rt: HostRuntime) {
+    let cases = [
+        Case {
+            code: 0x00,
+            little: &[0x00, 0xFE, 0xFF],
+            big: &[0x00, 0xFE, 0xFF],
+            numbers: [0, 0xFE, 0xFF],
+            invalid: [false, false, true],
+        },
+        Case {
+            code: 0x01,
+            little: &[0x00, 0x7E, 0x7F],
+            big: &[0x00, 0x7E, 0x7F],
+            numbers: [0, 0x7E, 0x7F],
+            invalid: [false, false, true],
+        },
+        Case {
+            code: 0x02,
+            little: &[0x00, 0xFE, 0xFF],
+            big: &[0x00, 0xFE, 0xFF],
+            numbers: [0, 0xFE, 0xFF],
+            invalid: [false, false, true],
+        },
+        Case {
+            code: 0x83,
+            little: &[0x00, 0x00, 0xFE, 0x7F, 0xFF, 0x7F],
+            big: &[0x00, 0x00, 0x7F, 0xFE, 0x7F, 0xFF],
+            numbers: [0, 0x7FFE, 0x7FFF],
+            invalid: [false, false, true],
+        },
+        Case {
+            code: 0x84,
+            little: &[0x00, 0x00, 0xFE, 0xFF, 0xFF, 0xFF],
+            big: &[0x00, 0x00, 0xFF, 0xFE, 0xFF, 0xFF],
+            numbers: [0, 0xFFFE, 0xFFFF],
+            invalid: [false, false, true],
+        },
+        Case {
+            code: 0x85,
+            little: &[
+                0x00, 0x00, 0x00, 0x00, 0xFE, 0xFF, 0xFF, 0x7F, 0xFF, 0xFF, 0xFF, 0x7F,
+            ],
+            big: &[
+                0x00, 0x00, 0x00, 0x00, 0x7F, 0xFF, 0xFF, 0xFE, 0x7F, 0xFF, 0xFF, 0xFF,
+            ],
+            numbers: [0, 0x7FFF_FFFE, 0x7FFF_FFFF],
+            invalid: [false, false, true],
+        },
+        Case {
+            code: 0x86,
+            little: &[
+                0x00, 0x00, 0x00, 0x00, 0xFE, 0xFF, 0xFF, 0xFF, 0xFF, 0xFF, 0xFF, 0xFF,
+            ],
+            big: &[
+                0x00, 0x00, 0x00, 0x00, 0xFF, 0xFF, 0xFF, 0xFE, 0xFF, 0xFF, 0xFF, 0xFF,
+            ],
+            numbers: [0, 0xFFFF_FFFE, 0xFFFF_FFFF],
+            invalid: [false, false, true],
+        },
+        Case {
+            code: 0x07,
+            little: &[0x00, 0xFF, 0x61],
+            big: &[0x00, 0xFF, 0x61],
+            numbers: [0, 0xFF, 0x61],
+            invalid: [true, false, false],
+        },
+        Case {
+            code: 0x88,
+            little: &[
+                0x00, 0x00, 0x00, 0x00, 0xFF, 0xFF, 0x7F, 0x7F, 0xFF, 0xFF, 0xFF, 0xFF,
+            ],
+            big: &[
+                0x00, 0x00, 0x00, 0x00, 0x7F, 0x7F, 0xFF, 0xFF, 0xFF, 0xFF, 0xFF, 0xFF,
+            ],
+            numbers: [0, 0x7F7F_FFFF, 0xFFFF_FFFF],
+            invalid: [false, false, true],
+        },
+        Case {
+            code: 0x89,
+            little: &[
+                0x00, 0x00, 0x00, 0x00, 0x00, 0x00, 0x00, 0x00, 0xFF, 0xFF, 0xFF, 0xFF, 0xFF, 0xFF,
+                0xEF, 0x7F, 0xFF, 0xFF, 0xFF, 0xFF, 0xFF, 0xFF, 0xFF, 0xFF,
+            ],
+            big: &[
+                0x00, 0x00, 0x00, 0x00, 0x00, 0x00, 0x00, 0x00, 0x7F, 0xEF, 0xFF, 0xFF, 0xFF, 0xFF,
+                0xFF, 0xFF, 0xFF, 0xFF, 0xFF, 0xFF, 0xFF, 0xFF, 0xFF, 0xFF,
+            ],
+            numbers: [0, 0x7FEF_FFFF_FFFF_FFFF, 0xFFFF_FFFF_FFFF_FFFF],
+            invalid: [false, false, true],
+        },
+        Case {
+            code: 0x0A,
+            little: &[0x00, 0xFF, 0x01],
+            big: &[0x00, 0xFF, 0x01],
+            numbers: [0, 0xFF, 1],
+            invalid: [true, false, false],
+        },
+        Case {
+            code: 0x8B,
+            little: &[0x00, 0x00, 0xFF, 0xFF, 0x00, 0x01],
+            big: &[0x00, 0x00, 0xFF, 0xFF, 0x01, 0x00],
+            numbers: [0, 0xFFFF, 0x0100],
+            invalid: [true, false, false],
+        },
+        Case {
+            code: 0x8C,
+            little: &[
+                0x00, 0x00, 0x00, 0x00, 0xFF, 0xFF, 0xFF, 0xFF, 0x04, 0x03, 0x02, 0x01,
+            ],
+            big: &[
+                0x00, 0x00, 0x00, 0x00, 0xFF, 0xFF, 0xFF, 0xFF, 0x01, 0x02, 0x03, 0x04,
+            ],
+            numbers: [0, 0xFFFF_FFFF, 0x0102_0304],
+            invalid: [true, false, false],
+        },
+        Case {
+            code: 0x0D,
+            little: &[0x00, 0xFE, 0xFF],
+            big: &[0x00, 0xFE, 0xFF],
+            numbers: [0, 0xFE, 0xFF],
+            invalid: [false, false, false],
+        },
+        Case {
+            code: 0x0D,
+            little: &[0xFF, 0xFF, 0xFF],
+            big: &[0xFF, 0xFF, 0xFF],
+            numbers: [0xFF, 0xFF, 0xFF],
+            invalid: [true, true, true],
+        },
+    ];
+    for case in &cases {
+        check(&rt, case, Arch::Little, case.little);
+        check(&rt, case, Arch::Big, case.big);
+    }
+}
+
+fn check(rt: &impl Abort, case: &Case, arch: Arch, bytes: &[u8]) {
+    let code = case.code;
+    let numbers = case.numbers;
+    let invalid = case.invalid;
+    let size = bytes.len() / 3;
+    let three = FieldValue::new(code, arch, bytes);
+    assert_eq!(rt; three.count(), 3, "of {code}");
+    for i in 0..3 {
+        assert_eq!(rt; three.unsigned(i), numbers[i], "of {code} at {i}");
+        assert_eq!(rt; three.is_invalid(i), invalid[i], "of {code} at {i}");
+    }
+    let one = FieldValue::new(code, arch, &bytes[..size]);
+    assert_eq!(rt; one.count(), 1, "of {code}");
+    assert_eq!(rt; one.unsigned(0), numbers[0], "of {code}");
+    assert_eq!(rt; FieldValue::new(code, arch, &[]).count(), 0, "of {code}");
+    if size > 1 {
+        let ragged = FieldValue::new(code, arch, &bytes[1..]);
+        assert!(rt; ragged.is_raw(), "of {code}");
+        assert_eq!(rt; ragged.count(), 0, "of {code}");
+        assert_eq!(rt; ragged.raw(), &bytes[1..], "of {code}");
+    }
+}
+
+#[test]
+fn a_byte_field_that_is_all_ff(rt: HostRuntime) {
+    let one = FieldValue::new(0x0D, Arch::Little, &[0xFF]);
+    assert_eq!(rt; one.count(), 1);
+    assert!(rt; one.is_invalid(0), "all bytes are FF");
+    let unknown = FieldValue::new(0x8E, Arch::Big, &[0xFF, 0xFF]);
+    assert!(rt; unknown.is_raw());
+    assert_eq!(rt; unknown.count(), 0);
+    assert_eq!(rt; unknown.base(), 0x8E);
+    assert_eq!(rt; unknown.arch(), Arch::Big);
+}
+
+#[test]
+fn values_with_a_sign(rt: HostRuntime) {
+    let bytes = [0x80, 0x00, 0x00, 0x00, 0x7F, 0xFF, 0xFF, 0xFE];
+    check_signed(&rt, 0x01, Arch::Big, &bytes[..4], &[-128, 0, 0, 0]);
+    check_signed(&rt, 0x01, Arch::Big, &bytes[4..], &[127, -1, -1, -2]);
+    check_signed(&rt, 0x83, Arch::Big, &bytes, &[-32768, 0, 32767, -2]);
+    check_signed(&rt, 0x83, Arch::Little, &bytes, &[128, 0, -129, -257]);
+    check_signed(
+        &rt,
+        0x85,
+        Arch::Big,
+        &bytes,
+        &[-2_147_483_648, 2_147_483_646],
+    );
+    check_signed(&rt, 0x85, Arch::Little, &bytes, &[128, -16_777_345]);
+}
+
+fn check_signed(rt: &impl Abort, code: u8, arch: Arch, bytes: &[u8], want: &[i64]) {
+    let base = BaseType::of(code).expect(rt, "a row of the table");
+    assert!(rt; base.is_signed());
+    let field = FieldValue::new(code, arch, bytes);
+    assert_eq!(rt; field.count(), want.len(), "of {code}");
+    for (i, value) in want.iter().enumerate() {
+        assert_eq!(rt; field.signed(i), *value, "of {code} at {i}");
+    }
+}
+
+#[test]
+fn text_ends_at_a_zero_byte(rt: HostRuntime) {
+    assert_eq!(rt; text_of(b"ride\0\0"), Some("ride"));
+    assert_eq!(rt; text_of(b"ride"), Some("ride"));
+    assert_eq!(rt; text_of(b"\0ride"), Some(""));
+    assert_eq!(rt; text_of(&[0x61, 0x00, 0xFF]), Some("a"));
+    assert_eq!(rt; text_of(&[0x61, 0xFF, 0x00]), None);
+}
+
+fn text_of(bytes: &[u8]) -> Option<&str> {
+    FieldValue::new(0x07, Arch::Little, bytes).text()
+}
+
+#[test]
+fn puts_and_reads_back(rt: HostRuntime) {
+    let mut one = [0];
+    put(BaseType::Sint8, Arch::Little, -128, &mut one);
+    assert_eq!(rt; one, [0x80]);
+    put(BaseType::Byte, Arch::Big, 255, &mut one);
+    assert_eq!(rt; one, [0xFF]);
+    let mut two = [0, 0];
+    put(BaseType::Sint16, Arch::Big, -2, &mut two);
+    assert_eq!(rt; two, [0xFF, 0xFE]);
+    assert_eq!(rt; FieldValue::new(0x83, Arch::Big, &two).signed(0), -2);
+    put(BaseType::Uint16z, Arch::Little, 1, &mut two);
+    assert_eq!(rt; two, [0x01, 0x00]);
+    let mut four = [0, 0, 0, 0];
+    put(BaseType::Uint32, Arch::Little, 0x1234_5678, &mut four);
+    assert_eq!(rt; four, [0x78, 0x56, 0x34, 0x12]);
+    put(BaseType::Sint32, Arch::Big, 2_147_483_647, &mut four);
+    assert_eq!(rt; four, [0x7F, 0xFF, 0xFF, 0xFF]);
+    let mut eight = [0, 0, 0, 0, 0, 0, 0, 0];
+    put(
+        BaseType::Float64,
+        Arch::Big,
+        0x3FF0_0000_0000_0000,
+        &mut eight,
+    );
+    assert_eq!(rt; eight, [0x3F, 0xF0, 0, 0, 0, 0, 0, 0]);
+    let back = FieldValue::new(0x89, Arch::Big, &eight);
+    assert_eq!(rt; back.unsigned(0), 0x3FF0_0000_0000_0000);
+}

@@ -1,0 +1,7 @@
+// Values from outside, sizes, and failures of memory and of writers.
+
+mod decoding;
+mod files;
+mod items;
+mod places;
+mod sizes;

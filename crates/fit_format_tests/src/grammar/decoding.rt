@@ -1,0 +1,181 @@
+// Files and bytes that are no files, with faults and places from outside. Checksums were computed by another
+// program, bit by bit.
+
+use crate::known_files::{EMPTY, FILE_ID};
+use fit_grammar::{FaultKind, decode_file, encode_file};
+use std::alloc::{AllocError, Global};
+use std::test::*;
+
+// A header of 12 bytes and protocol 2.0.
+const SHORT_HEADER: [u8; 14] = [
+    0x0C, 0x20, 0x64, 0x00, 0x00, 0x00, 0x00, 0x00, 0x2E, 0x46, 0x49, 0x54, 0x27, 0x29,
+];
+
+// A local number that is defined twice.
+pub(crate) const REDEFINED: [u8; 39] = [
+    0x0E, 0x10, 0x64, 0x00, 0x17, 0x00, 0x00, 0x00, 0x2E, 0x46, 0x49, 0x54, 0x61, 0x04, 0x40, 0x00,
+    0x00, 0x14, 0x00, 0x01, 0x03, 0x01, 0x02, 0x00, 0x64, 0x40, 0x00, 0x00, 0x14, 0x00, 0x01, 0x07,
+    0x02, 0x84, 0x00, 0xC8, 0x00, 0x83, 0x25,
+];
+
+// Compressed timestamps.
+pub(crate) const COMPRESSED: [u8; 53] = [
+    0x0E, 0x10, 0x64, 0x00, 0x25, 0x00, 0x00, 0x00, 0x2E, 0x46, 0x49, 0x54, 0xE3, 0xC9, 0x46, 0x00,
+    0x00, 0x15, 0x00, 0x03, 0xFD, 0x04, 0x86, 0x00, 0x01, 0x00, 0x01, 0x01, 0x00, 0x06, 0x00, 0xCA,
+    0x9A, 0x3B, 0x00, 0x00, 0x40, 0x00, 0x00, 0x14, 0x00, 0x01, 0x03, 0x01, 0x02, 0x80, 0x64, 0x9F,
+    0x65, 0x80, 0x66, 0x18, 0xCC,
+];
+
+fn outcome(alloc: Global, bytes: &[u8]) -> Option<(FaultKind, usize)> {
+    match decode_file(alloc, bytes) {
+        Ok(_) => None,
+        Err(fault) => Some((fault.kind, fault.place)),
+    }
+}
+
+fn edited(alloc: Global, edits: &[(usize, u8)]) -> Result<Vec<u8>, AllocError> {
+    let mut bytes = FILE_ID.to_vec(alloc)?;
+    for (at, byte) in edits {
+        if let Some(cell) = bytes.get_mut(*at) {
+            *cell = *byte;
+        }
+    }
+    Ok(bytes)
+}
+
+fn behind_header(alloc: Global, size: u8, records: &[u8]) -> Result<Vec<u8>, AllocError> {
+    let mut bytes = [
+        0x0C, 0x10, 0x64, 0x00, size, 0x00, 0x00, 0x00, 0x2E, 0x46, 0x49, 0x54,
+    ]
+    .to_vec(alloc)?;
+    bytes.extend_from_slice(records)?;
+    Ok(bytes)
+}
+
+#[test]
+fn files_are_read(rt: HostRuntime) -> Result<(), Fail> {
+    for (bytes, size) in [
+        (EMPTY.as_slice(), 0),
+        (SHORT_HEADER.as_slice(), 0),
+        (FILE_ID.as_slice(), 18),
+        (REDEFINED.as_slice(), 23),
+        (COMPRESSED.as_slice(), 37),
+    ] {
+        let file = decode_file(rt.alloc(), bytes)?;
+        assert_eq!(rt; file.data_size(), size);
+    }
+    Ok(())
+}
+
+#[test]
+fn what_is_read_is_written_again(rt: HostRuntime) -> Result<(), Fail> {
+    for bytes in [
+        EMPTY.as_slice(),
+        SHORT_HEADER.as_slice(),
+        FILE_ID.as_slice(),
+        REDEFINED.as_slice(),
+        COMPRESSED.as_slice(),
+    ] {
+        let file = decode_file(rt.alloc(), bytes)?;
+        let mut written = Vec::new(rt.alloc());
+        encode_file(&file, &mut written)?;
+        assert_eq!(rt; written.as_slice(), bytes);
+    }
+    Ok(())
+}
+
+#[test]
+fn a_beginning_is_cut_short(rt: HostRuntime) {
+    for len in 0..FILE_ID.len() {
+        let fault = outcome(rt.alloc(), &FILE_ID[..len]);
+        assert_eq!(rt; fault, Some((FaultKind::Truncated, len)));
+    }
+}
+
+#[test]
+fn one_byte_is_wrong(rt: HostRuntime) -> Result<(), Fail> {
+    let alloc = rt.alloc();
+    let crc = edited(alloc, &[(27, 0x05)])?;
+    assert_eq!(rt; outcome(alloc, &crc), Some((FaultKind::FileCrc, 32)));
+    let header = edited(alloc, &[(12, 0xA0)])?;
+    assert_eq!(rt; outcome(alloc, &header), Some((FaultKind::HeaderCrc, 12)));
+    let magic = edited(alloc, &[(9, 0x00)])?;
+    assert_eq!(rt; outcome(alloc, &magic), Some((FaultKind::Magic, 8)));
+    let mut longer = edited(alloc, &[])?;
+    longer.push(0)?;
+    assert_eq!(rt;
+        outcome(alloc, &longer),
+        Some((FaultKind::TrailingBytes, 34))
+    );
+    Ok(())
+}
+
+#[test]
+fn a_header_without_its_checksum(rt: HostRuntime) -> Result<(), Fail> {
+    let alloc = rt.alloc();
+    let old = edited(alloc, &[(12, 0), (13, 0)])?;
+    assert_eq!(rt; outcome(alloc, &old), Some((FaultKind::FileCrc, 32)));
+    let right = edited(alloc, &[(12, 0), (13, 0), (32, 0x74), (33, 0x55)])?;
+    assert_eq!(rt; outcome(alloc, &right), None);
+    Ok(())
+}
+
+#[test]
+fn refused_at_the_first_byte_that_shows_it(rt: HostRuntime) -> Result<(), Fail> {
+    let alloc = rt.alloc();
+    assert_eq!(rt; outcome(alloc, &[]), Some((FaultKind::Truncated, 0)));
+    assert_eq!(rt; outcome(alloc, &[0x0D]), Some((FaultKind::HeaderSize, 0)));
+    assert_eq!(rt;
+        outcome(alloc, &[0x0E, 0x30]),
+        Some((FaultKind::Protocol, 1))
+    );
+    for (size, records, kind, place) in [
+        (
+            1,
+            [0x05, 0x00, 0x00].as_slice(),
+            FaultKind::UndefinedLocal(5),
+            12,
+        ),
+        (1, [0x40].as_slice(), FaultKind::SplitMessage, 12),
+        (9, [0x40].as_slice(), FaultKind::Truncated, 13),
+        (7, [0x60].as_slice(), FaultKind::Developer, 12),
+        (
+            8,
+            [0x40, 0, 0, 0, 0, 1].as_slice(),
+            FaultKind::SplitMessage,
+            12,
+        ),
+        (
+            9,
+            [0x40, 0, 0, 0, 0, 1].as_slice(),
+            FaultKind::Truncated,
+            18,
+        ),
+    ] {
+        let bytes = behind_header(alloc, size, records)?;
+        assert_eq!(rt; outcome(alloc, &bytes), Some((kind, place)));
+    }
+    Ok(())
+}
+
+// Run with each allocation refused in turn: the item that wanted it is told, and a header that promises much
+// takes none.
+#[test]
+fn tells_which_item_wants_memory(rt: HostRuntime) {
+    for _ in 0..8 {
+        match outcome(rt.alloc(), &FILE_ID) {
+            None => {}
+            Some((kind, place)) => {
+                assert_eq!(rt; kind, FaultKind::Memory);
+                assert!(rt; place == 14 || place == 26, "{place}");
+            }
+        }
+        let promised = [
+            0x0C, 0x10, 0x64, 0x00, 0xFF, 0xFF, 0xFF, 0xFF, 0x2E, 0x46, 0x49, 0x54,
+        ];
+        assert_eq!(rt;
+            outcome(rt.alloc(), &promised),
+            Some((FaultKind::Truncated, 12))
+        );
+    }
+}

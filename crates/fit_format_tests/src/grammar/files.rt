@@ -1,0 +1,177 @@
+// Files that are built in memory and written.
+
+ghost use Rattle.std.specs.Prelude.{◌≡◌};
+
+use crate::known_files::{FILE_ID, empty_file};
+use crate::slow::Slow;
+use arrayvec::ArrayVec;
+use fit_base::Arch;
+use fit_grammar::{
+    Definition, EncodeFault, FaultKind, FieldDefinition, File, Frame, PutFault, decode_file,
+    encode_file,
+};
+use std::alloc::Global;
+use std::process::Abort;
+use std::test::Fail;
+
+const CONTENT: [u8; 5] = [0x04, 0x00, 0xCA, 0x9A, 0x3B];
+
+// A definition of file_id with its fields type and time_created.
+fn file_id(local: u8) -> Definition
+    ensures { result.local ≡ local }
+{
+    let mut fields = ArrayVec::new();
+    fields.push(FieldDefinition {
+        number: 0,
+        size: 1,
+        base: 0x00,
+    });
+    fields.push(FieldDefinition {
+        number: 4,
+        size: 4,
+        base: 0x86,
+    });
+    Definition {
+        local,
+        arch: Arch::Little,
+        global: 0,
+        fields,
+    }
+}
+
+fn small_file(alloc: Global) -> Result<File, PutFault> {
+    let mut file = empty_file(alloc);
+    file.define(&file_id(0))?;
+    file.data(0, None, &CONTENT)?;
+    Ok(file)
+}
+
+// Whether the file is written as these bytes.
+fn is_written(alloc: Global, file: &File, bytes: &[u8]) -> bool {
+    let mut out = Slow::new(alloc, 128, 128);
+    encode_file(file, &mut out).is_ok() && out.written() == bytes
+}
+
+#[test]
+fn the_example_of_the_crate(rt: HostRuntime) -> Result<(), Fail> {
+    let alloc = rt.alloc();
+    let mut fields = ArrayVec::new();
+    fields.push(FieldDefinition {
+        number: 3,
+        size: 1,
+        base: 0x02,
+    });
+    let mut bytes = Vec::new(alloc);
+    let frame = Frame {
+        header_size: 14,
+        protocol: 0x10,
+        profile: 100,
+    };
+    let mut file = File::new(alloc, frame);
+    file.define(&Definition {
+        local: 0,
+        arch: Arch::Little,
+        global: 20,
+        fields,
+    })?;
+    file.data(0, None, &[100])?;
+    encode_file(&file, &mut bytes)?;
+    let read = decode_file(alloc, bytes.as_slice())?;
+    let message = read.messages().next().expect(&rt, "one message");
+    assert_eq!(rt; message.global(), 20);
+    Ok(())
+}
+
+#[test]
+fn writes_a_file(rt: HostRuntime) -> Result<(), Fail> {
+    let mut file = small_file(rt.alloc())?;
+    assert!(rt; is_written(rt.alloc(), &file, &FILE_ID));
+    assert_eq!(rt; file.data(5, None, &[0]), Err(PutFault::UndefinedLocal));
+    assert!(rt; is_written(rt.alloc(), &file, &FILE_ID));
+    assert_eq!(rt; file.data(0, None, &[4]), Err(PutFault::Length));
+    assert!(rt; is_written(rt.alloc(), &file, &FILE_ID));
+    assert_eq!(rt; file.data(0, Some(32), &CONTENT), Err(PutFault::Length));
+    assert!(rt; is_written(rt.alloc(), &file, &FILE_ID));
+    Ok(())
+}
+
+#[test]
+fn offsets_need_a_low_local_number(rt: HostRuntime) -> Result<(), Fail> {
+    let mut file = small_file(rt.alloc())?;
+    file.define(&file_id(4))?;
+    let mut before = Slow::new(rt.alloc(), 128, 128);
+    encode_file(&file, &mut before)?;
+    assert_eq!(rt; file.data(4, Some(0), &CONTENT), Err(PutFault::Length));
+    assert!(rt; is_written(rt.alloc(), &file, before.written()));
+    Ok(())
+}
+
+#[test]
+fn lends_messages_with_their_times(rt: HostRuntime) -> Result<(), Fail> {
+    let mut file = small_file(rt.alloc())?;
+    file.data(0, Some(3), &CONTENT)?;
+    let mut times = [None; 2];
+    let mut count = 0;
+    for message in file.messages() {
+        assert!(rt; count < 2);
+        times[count] = message.time();
+        count += 1;
+    }
+    assert_eq!(rt; count, 2);
+    // file_id has no field 253, and the offset counts from 0
+    assert_eq!(rt; times, [None, Some(3)]);
+    Ok(())
+}
+
+#[test]
+fn a_failing_writer_has_a_beginning(rt: HostRuntime) -> Result<(), Fail> {
+    let file = small_file(rt.alloc())?;
+    for calls in 0..16 {
+        let mut out = Slow::new(rt.alloc(), 5, calls);
+        let answer = encode_file(&file, &mut out);
+        assert!(rt; FILE_ID.starts_with(out.written()));
+        if out.written().len() == 34 {
+            assert_eq!(rt; answer, Ok(()));
+        } else {
+            assert_eq!(rt; answer, Err(EncodeFault::Write));
+        }
+    }
+    let mut full = Slow::new(rt.alloc(), 0, 9);
+    assert_eq!(rt; encode_file(&file, &mut full), Err(EncodeFault::Write));
+    Ok(())
+}
+
+// Run with each allocation failing in turn: the answer is Memory, and the file is as it was.
+#[test]
+fn keeps_the_file_without_memory(rt: HostRuntime) {
+    let mut file = empty_file(rt.alloc());
+    for _ in 0..20 {
+        let before = file.data_size();
+        let defined = file.define(&file_id(0));
+        check_kept(&rt, &file, before, 12, defined);
+        let before = file.data_size();
+        match file.data(0, None, &CONTENT) {
+            Err(PutFault::UndefinedLocal) => assert_eq!(rt; before, 0),
+            added => check_kept(&rt, &file, before, 6, added),
+        }
+    }
+}
+
+fn check_kept(rt: &impl Abort, file: &File, before: u32, size: u32, answer: Result<(), PutFault>) {
+    match answer {
+        Ok(()) => assert_eq!(rt; file.data_size().wrapping_sub(before), size),
+        Err(fault) => {
+            assert_eq!(rt; fault, PutFault::Memory);
+            assert_eq!(rt; file.data_size(), before);
+        }
+    }
+}
+
+#[test]
+fn numbers_of_faults(rt: HostRuntime) {
+    assert_eq!(rt; FaultKind::Truncated.code(), 1);
+    assert_eq!(rt; FaultKind::UndefinedLocal(3).code(), 6);
+    assert_eq!(rt; FaultKind::Developer.code(), 11);
+    assert_eq!(rt; PutFault::Memory.code(), 4);
+    assert_eq!(rt; EncodeFault::Write.code(), 1);
+}

@@ -1,0 +1,241 @@
+// Items as other writers write them, at every window.
+use arrayvec::ArrayVec;
+use fit_base::Arch;
+use fit_grammar::*;
+use std::process::Abort;
+use std::test::*;
+
+// Asserts that each shorter window only begins the item.
+fn assert_begun(rt: &impl Abort, bytes: &[u8], table: &Table) {
+    for count in 0..bytes.len() {
+        assert!(rt; matches!(next_item(&bytes[..count], table), Step::NeedMore));
+    }
+}
+
+// Takes the definition that the bytes are.
+fn define(rt: &impl Abort, bytes: &[u8], table: &mut Table) {
+    assert_begun(rt, bytes, table);
+    match next_item(bytes, table) {
+        Step::Item(item, used) => match item {
+            Item::Definition(message) => {
+                assert_eq!(rt; used, bytes.len());
+                let definition = message.read();
+                table.take(&definition);
+            }
+            Item::Data(_) => panic!(rt; "a definition was expected"),
+        },
+        _ => panic!(rt; "an item was expected"),
+    }
+}
+
+// The message that the bytes are.
+fn read_message<'a>(
+    rt: &impl Abort,
+    bytes: &'a [u8],
+    table: &'a Table,
+    before: u32,
+) -> Message<'a> {
+    assert_begun(rt, bytes, table);
+    match next_item(bytes, table) {
+        Step::Item(item, used) => {
+            assert_eq!(rt; used, bytes.len());
+            message_of(&item, before).expect(rt, "a data message was expected")
+        }
+        _ => panic!(rt; "an item was expected"),
+    }
+}
+
+// Asserts that the fields have these numbers, base types and values, one value each.
+fn assert_fields(rt: &impl Abort, message: &Message, rows: &[(u8, u8, u64)]) {
+    let mut seen = 0;
+    for field in message.fields() {
+        assert!(rt; seen < rows.len());
+        let (number, base, value) = rows[seen];
+        assert_eq!(rt; field.number, number);
+        assert_eq!(rt; field.value.base(), base);
+        assert_eq!(rt; field.value.count(), 1);
+        assert_eq!(rt; field.value.unsigned(0), value);
+        seen += 1;
+    }
+    assert_eq!(rt; seen, rows.len());
+}
+
+#[test]
+fn a_second_definition_of_a_local_number(rt: HostRuntime) {
+    let mut table = Table::new();
+    define(
+        &rt,
+        &[0x40, 0x00, 0x00, 0x14, 0x00, 0x01, 0x03, 0x01, 0x02],
+        &mut table,
+    );
+    let first = read_message(&rt, &[0x00, 0x64], &table, 0);
+    assert_eq!(rt; first.global(), 20);
+    assert_eq!(rt; first.time(), None);
+    assert_fields(&rt, &first, &[(3, 0x02, 100)]);
+    define(
+        &rt,
+        &[0x40, 0x00, 0x00, 0x14, 0x00, 0x01, 0x07, 0x02, 0x84],
+        &mut table,
+    );
+    let second = read_message(&rt, &[0x00, 0xC8, 0x00], &table, 0);
+    assert_fields(&rt, &second, &[(7, 0x84, 200)]);
+}
+
+#[test]
+fn compressed_timestamps(rt: HostRuntime) {
+    let mut table = Table::new();
+    define(
+        &rt,
+        &[
+            0x46, 0x00, 0x00, 0x15, 0x00, 0x03, 0xFD, 0x04, 0x86, 0x00, 0x01, 0x00, 0x01, 0x01,
+            0x00,
+        ],
+        &mut table,
+    );
+    let event = read_message(&rt, &[0x06, 0x00, 0xCA, 0x9A, 0x3B, 0x00, 0x00], &table, 0);
+    assert_eq!(rt; event.global(), 21);
+    assert_eq!(rt; event.time(), Some(1_000_000_000));
+    define(
+        &rt,
+        &[0x40, 0x00, 0x00, 0x14, 0x00, 0x01, 0x03, 0x01, 0x02],
+        &mut table,
+    );
+    let mut time = 1_000_000_000;
+    for (bytes, then, rate) in [
+        ([0x80, 0x64], 1_000_000_000, 100),
+        ([0x9F, 0x65], 1_000_000_031, 101),
+        ([0x80, 0x66], 1_000_000_032, 102),
+    ] {
+        let record = read_message(&rt, &bytes, &table, time);
+        assert_eq!(rt; record.time(), Some(then));
+        assert_fields(
+            &rt,
+            &record,
+            &[(253, 0x86, u64::from(then)), (3, 0x02, rate)],
+        );
+        time = then;
+    }
+}
+
+#[test]
+fn a_time_that_is_invalid_states_nothing(rt: HostRuntime) {
+    let mut table = Table::new();
+    define(
+        &rt,
+        &[
+            0x40, 0, 0, 20, 0, 3, 253, 2, 0x84, 253, 4, 0x86, 253, 4, 0x86,
+        ],
+        &mut table,
+    );
+    let bytes = [0, 5, 0, 0xFF, 0xFF, 0xFF, 0xFF, 7, 0, 0, 0];
+    assert_eq!(rt; read_message(&rt, &bytes, &table, 9).time(), Some(7));
+    let bytes = [0, 5, 0, 0xFF, 0xFF, 0xFF, 0xFF, 0xFF, 0xFF, 0xFF, 0xFF];
+    assert_eq!(rt; read_message(&rt, &bytes, &table, 9).time(), None);
+}
+
+#[test]
+fn high_byte_first(rt: HostRuntime) {
+    let mut table = Table::new();
+    define(
+        &rt,
+        &[0x40, 0x00, 0x01, 0x00, 0x14, 0x01, 0x63, 0x04, 0x84],
+        &mut table,
+    );
+    let message = read_message(&rt, &[0x00, 0x00, 0x01, 0x00, 0x02], &table, 0);
+    assert_eq!(rt; message.global(), 20);
+    for field in message.fields() {
+        assert_eq!(rt; field.number, 99);
+        assert_eq!(rt; field.value.count(), 2);
+        assert_eq!(rt; field.value.unsigned(0), 1);
+        assert_eq!(rt; field.value.unsigned(1), 2);
+    }
+}
+
+// A definition of 255 fields of 255 bytes each.
+fn largest_definition(rt: &impl Abort) -> Definition {
+    let mut fields = ArrayVec::new();
+    for number in 0..255u8 {
+        let added = fields.try_push(FieldDefinition {
+            number,
+            size: 255,
+            base: 0x0D,
+        });
+        assert!(rt; added.is_ok());
+    }
+    Definition {
+        local: 15,
+        arch: Arch::Big,
+        global: 0xFF00,
+        fields,
+    }
+}
+
+// Asserts that the bytes are the largest data message, and that one byte less only begins it.
+fn assert_largest(rt: &impl Abort, bytes: &[u8], table: &Table) {
+    assert_eq!(rt; bytes.len(), 65026);
+    assert_eq!(rt; least_length(&bytes[..1], table).ok(), Some(65026));
+    let front = bytes.len() - 1;
+    assert!(rt; matches!(next_item(&bytes[..front], table), Step::NeedMore));
+    match next_item(bytes, table) {
+        Step::Item(Item::Data(data), _) => {
+            assert_eq!(rt; data.local, 15);
+            assert_eq!(rt; data.content.len(), 65025);
+            assert_eq!(rt; data.definition.global(), 0xFF00);
+        }
+        _ => panic!(rt; "a data message was expected"),
+    }
+}
+
+#[test]
+fn the_largest_definition_and_its_data(rt: HostRuntime) {
+    let definition = largest_definition(&rt);
+    assert!(rt; definition.local == 15 && definition.fields.len() == 255);
+    let mut bytes = [0u8; 771];
+    assert_eq!(rt; write_definition(&definition, &mut bytes), 771);
+    let mut table = Table::new();
+    define(&rt, &bytes, &mut table);
+    let content = [1u8; 65025];
+    let mut item = [0u8; 65026];
+    assert_eq!(rt; write_data(15, &content, &mut item), 65026);
+    assert_largest(&rt, &item, &table);
+}
+
+#[test]
+fn each_local_number(rt: HostRuntime) {
+    let mut table = Table::new();
+    for local in 0..16u8 {
+        define(&rt, &[0x40 + local, 0, 0, local, 0, 0], &mut table);
+    }
+    for local in 0..16u8 {
+        let bytes = [local];
+        let message = read_message(&rt, &bytes, &table, 0);
+        assert_eq!(rt; message.global(), u16::from(local));
+    }
+}
+
+#[test]
+fn each_first_byte(rt: HostRuntime) {
+    let table = Table::new();
+    for first in 0..=255u8 {
+        let window = [first, 0, 0, 0, 0, 0];
+        match next_item(&window, &table) {
+            Step::Item(item, used) => {
+                assert!(rt; 0x40 <= first && first < 0x60);
+                assert_eq!(rt; used, 6);
+                match item {
+                    Item::Definition(message) => assert_eq!(rt; message.local(), first & 0x0F),
+                    Item::Data(_) => panic!(rt; "there is no definition"),
+                }
+            }
+            Step::Refused(ItemFault::Developer) => assert!(rt; 0x60 <= first && first < 0x80),
+            Step::Refused(ItemFault::UndefinedLocal(local)) if first < 0x40 => {
+                assert_eq!(rt; local, first & 0x0F);
+            }
+            Step::Refused(ItemFault::UndefinedLocal(local)) => {
+                assert!(rt; 0x80 <= first);
+                assert_eq!(rt; local, (first >> 5) & 3);
+            }
+            _ => panic!(rt; "the window has a whole item"),
+        }
+    }
+}

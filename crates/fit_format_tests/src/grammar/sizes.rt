@@ -1,0 +1,126 @@
+// Long content, long files, and many messages.
+
+ghost use Rattle.std.specs.Prelude.{◌≡◌};
+
+use crate::known_files::empty_file;
+use crate::slow::Slow;
+use arrayvec::ArrayVec;
+use fit_base::Arch;
+use fit_grammar::{Definition, FieldDefinition, File, decode_file, encode_file, put};
+use std::alloc::{AllocError, Global};
+use std::process::Abort;
+use std::test::Fail;
+
+// A definition of a record whose content has this size: fields of 255 bytes, and one of the rest.
+fn definition_of(rt: &impl Abort, size: usize) -> Definition
+    ensures { result.local ≡ 3 }
+{
+    let mut fields = ArrayVec::new();
+    let mut left = size;
+    for _ in 0..size.div_ceil(255) {
+        let own = left.min(255);
+        let field = FieldDefinition {
+            number: 99,
+            size: own as u8,
+            base: 0x0D,
+        };
+        assert!(rt; fields.try_push(field).is_ok());
+        left -= own;
+    }
+    Definition {
+        local: 3,
+        arch: Arch::Big,
+        global: 20,
+        fields,
+    }
+}
+
+// Bytes of which no two near ones repeat the two before them.
+fn content_of(alloc: Global, size: usize) -> Result<Vec<u8>, AllocError> {
+    let mut content = Vec::new(alloc);
+    for at in 0..size {
+        content.push((at % 251) as u8 ^ (at / 251 % 241) as u8)?;
+    }
+    Ok(content)
+}
+
+// The content of all messages of the file, one after another.
+fn shown(alloc: Global, file: &File) -> Result<Vec<u8>, AllocError> {
+    let mut content = Vec::new(alloc);
+    for message in file.messages() {
+        for field in message.fields() {
+            content.extend_from_slice(field.value.raw())?;
+        }
+    }
+    Ok(content)
+}
+
+#[test]
+fn long_content(rt: HostRuntime) -> Result<(), Fail> {
+    let alloc = rt.alloc();
+    for (size, fields) in [(255, 1), (256, 2), (5_000, 20), (65_025, 255)] {
+        let definition = definition_of(&rt, size);
+        assert_eq!(rt; definition.fields.len(), fields);
+        let content = content_of(alloc, size)?;
+        let mut file = empty_file(alloc);
+        file.define(&definition)?;
+        file.data(3, Some(31), content.as_slice())?;
+        assert_eq!(rt; file.data_size() as usize, 6 + 3 * fields + 1 + size);
+        let mut bytes = Vec::new(alloc);
+        encode_file(&file, &mut bytes)?;
+        let at = 14 + 6 + 3 * fields;
+        assert_eq!(rt; bytes.len(), at + 1 + size + 2);
+        let item = bytes
+            .as_slice()
+            .get(at..at + 1 + size)
+            .expect(&rt, "an item");
+        assert_eq!(rt;
+            item.strip_prefix(&[0xFF]),
+            Some(content.as_slice()),
+            "{size}"
+        );
+        let read = decode_file(alloc, bytes.as_slice())?;
+        let fields = shown(alloc, &read)?;
+        let time = [31, 0, 0, 0].as_slice();
+        assert_eq!(rt;
+            fields.as_slice().strip_prefix(time),
+            Some(content.as_slice()),
+            "{size}"
+        );
+    }
+    Ok(())
+}
+
+// A file of more than a million messages, to a writer that takes three bytes a call.
+#[test]
+fn many_messages(rt: HostRuntime) -> Result<(), Fail> {
+    let alloc = rt.alloc();
+    let mut file = empty_file(alloc);
+    file.define(&definition_of(&rt, 1))?;
+    for at in 0..1_000_001u32 {
+        file.data(3, None, &[(at % 251) as u8])?;
+    }
+    assert_eq!(rt; file.data_size(), 2_000_011);
+    let mut out = Slow::new(alloc, 3, usize::MAX);
+    encode_file(&file, &mut out)?;
+    assert_eq!(rt; out.written().len(), 14 + 2_000_011 + 2);
+    let read = decode_file(alloc, out.written())?;
+    let content = shown(alloc, &read)?;
+    assert_eq!(rt; content.len(), 1_000_001);
+    for (at, byte) in content.iter().enumerate() {
+        assert_eq!(rt; *byte, (at % 251) as u8);
+    }
+    Ok(())
+}
+
+// Some bytes a call, to the end.
+#[test]
+fn puts_all_to_a_slow_writer(rt: HostRuntime) -> Result<(), Fail> {
+    let text = content_of(rt.alloc(), 100_000)?;
+    for step in [1, 2, 7, 99_999, 100_000] {
+        let mut out = Slow::new(rt.alloc(), step, usize::MAX);
+        put(&mut out, text.as_slice())?;
+        assert_eq!(rt; out.written(), text.as_slice(), "{step}");
+    }
+    Ok(())
+}

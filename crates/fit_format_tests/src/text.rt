@@ -1,0 +1,5 @@
+// What files say, as text, and text on its way to a writer.
+
+mod names;
+mod showing;
+mod writing;

@@ -1,8 +1,0 @@
-// Values from outside, sizes, and failures of memory and of writers.
-
-mod decoding;
-mod files;
-mod items;
-mod places;
-mod sizes;
-mod slow;

@@ -1,8 +1,0 @@
-use Rattle.std.proofs.Common.{true}
-use Rattle.fit_disk.specs.Memory.{memory_story}
-use Rattle.fit_recorder.specs.Recording.{GoesOn}
-use Rattle.fit_recorder.proofs.tests.play.Given as goal
-
--- the recorder goes on
-abbrev pub invariant-loop-entry : goal.invariant-loop-entry
-invariant-loop-entry l = GoesOn true memory_story l.recorder

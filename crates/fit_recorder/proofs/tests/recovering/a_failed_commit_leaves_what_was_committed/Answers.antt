@@ -1,4 +1,0 @@
-use Rattle.fit_recorder.proofs.tests.recovering.a_failed_commit_leaves_what_was_committed.Goals as goal
-
-pub commit-requires : goal.commit-requires
-commit-requires g c = c.fail_at.ensures.same.goes_on c.hand.ensures.goes_on

@@ -1,8 +1,0 @@
-use Rattle.std.proofs.Common.{true}
-use Rattle.fit_disk.specs.Memory.{memory_story}
-use Rattle.fit_recorder.specs.Recording.{GoesOn}
-use Rattle.fit_recorder.proofs.tests.the_last_slot_is_kept.Given as goal
-
--- the recorder goes on
-abbrev pub invariant-loop : goal.invariant-loop
-invariant-loop g l = GoesOn true memory_story l.recorder

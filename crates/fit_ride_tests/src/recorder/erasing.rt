@@ -1,0 +1,206 @@
+// Rides that are erased, also with a power cut or a failure at each call of the device.
+
+ghost use Rattle.std.specs.Prelude.{◌≤◌};
+
+use super::power_cuts::Trouble;
+use super::{
+    ALONE, SHORT_RIDE, TIME, begun_on, committed, copy_of, entries_told, heart_rate, play, ride,
+    short_ride, start_cut_at,
+};
+use fit_activity::{Entry, Summary, check_activity};
+use fit_disk::{Memory, Which};
+use fit_grammar::decode_file;
+use fit_recorder::{RecFault, erase, recover};
+use std::alloc::Global;
+use std::process::Abort;
+use std::test::Fail;
+
+// How many calls of the device an erasing makes where there is a ride: the fifth takes the journal's mark away, the sixth
+// keeps that, and the seventh cuts the data file.
+const CALLS: u32 = 8;
+
+// The entries of the short ride with its stop.
+fn stopped_ride() -> [Entry; 5] {
+    let [first, second, lap, third] = short_ride();
+    [first, second, lap, third, Entry::Stop(TIME + 2)]
+}
+
+// Records a ride of one sample on a disk that was erased. The finished file tells that one alone.
+fn rides_anew(rt: &impl Abort, alloc: Global, disk: Memory) -> Result<(), Fail> {
+    assert_eq!(rt; disk.content(Which::Data).len(), 0);
+    let mut recorder = begun_on(disk)?;
+    let entries = [heart_rate(TIME + 5, 90), Entry::Stop(TIME + 9)];
+    play(&mut recorder, &entries)?;
+    let disk = recorder.into_disk();
+    let file = decode_file(alloc, disk.content(Which::Data))?;
+    let summary = Summary {
+        records: 1,
+        elapsed_ms: Some(9000),
+        timer_ms: Some(9000),
+        ..ALONE
+    };
+    assert_eq!(rt; check_activity(&file), Ok(summary));
+    assert_eq!(rt; entries_told(&file, &entries), Some(2));
+    Ok(())
+}
+
+#[test]
+fn an_erased_ride_makes_room_for_another(rt: HostRuntime) -> Result<(), Fail> {
+    let mut disk = ride(&rt, &stopped_ride())?;
+    assert_eq!(rt; disk.content(Which::Data).len(), 442);
+    disk.cut_at(CALLS + 1);
+    assert_eq!(rt; erase(&mut disk), Ok(()));
+    assert_eq!(rt; disk.content(Which::Data).len(), 0);
+    disk.cycle(&[0xFF; 16]);
+    assert_eq!(rt; recover(&mut disk), Err(RecFault::NothingRecorded));
+    rides_anew(&rt, rt.alloc(), disk)
+}
+
+#[test]
+fn a_start_that_was_cut_off_is_erased(rt: HostRuntime) -> Result<(), Fail> {
+    let (mut disk, fault) = start_cut_at(&rt, 5);
+    assert_eq!(rt; fault, Some(RecFault::Device));
+    disk.cycle(&[]);
+    assert_eq!(rt; recover(&mut disk), Err(RecFault::NothingRecorded));
+    assert_eq!(rt; erase(&mut disk), Ok(()));
+    assert_eq!(rt; begun_on(disk)?.data_len(), 72);
+    Ok(())
+}
+
+#[test]
+fn an_erasing_done_again_does_not_bring_the_ride_back(rt: HostRuntime) -> Result<(), Fail> {
+    let mut disk = committed(&rt)?;
+    disk.fail_at(7);
+    assert_eq!(rt; erase(&mut disk), Err(RecFault::Device));
+    // The mark is gone, so the fifth call is the sync of the journal.
+    disk.cut_at(5);
+    assert_eq!(rt; erase(&mut disk), Err(RecFault::Device));
+    disk.cycle(&[0, 0, 0, 0, 0, 0, 0, 0, 0x46]);
+    assert_eq!(rt; disk.content(Which::Data).len(), 203);
+    assert_eq!(rt; recover(&mut disk), Err(RecFault::NothingRecorded));
+    Ok(())
+}
+
+// An erasing that does not come to its end.
+#[derive(Clone, Copy, Debug)]
+struct Attempt {
+    // What befalls the k-th call.
+    trouble: Trouble,
+    k: u32,
+    // What a power cut leaves: the length of the data file, and each byte that is not sure.
+    len: u32,
+    byte: u8,
+}
+
+// Whether the ride is still found: before its mark is written over it is, and then where the mark is left.
+fn is_left(attempt: Attempt) -> bool {
+    let is_marked = match attempt.trouble {
+        Trouble::Cut => attempt.byte == 0x46,
+        Trouble::Failure => attempt.k == 5,
+    };
+    attempt.k <= 4 || (attempt.k <= 6 && is_marked)
+}
+
+// A copy of a ride, behind the erasing.
+fn erased(rt: &impl Abort, alloc: Global, ride: &Memory, attempt: Attempt) -> Result<Memory, Fail>
+    requires { 1 ≤ attempt.k }
+{
+    let mut disk = copy_of(
+        alloc,
+        ride.content(Which::Data),
+        ride.content(Which::Journal),
+    )?;
+    attempt.trouble.befall(&mut disk, attempt.k);
+    assert_eq!(rt; erase(&mut disk), Err(RecFault::Device), "{attempt:?}");
+    if matches!(attempt.trouble, Trouble::Cut) {
+        let mut choices = [attempt.byte; 600];
+        choices[..4].copy_from_slice(&attempt.len.to_le_bytes());
+        disk.cycle(&choices);
+    }
+    Ok(disk)
+}
+
+// Recovers what the erasing left, the ride or nothing.
+fn finds_it_or_nothing(
+    rt: &impl Abort,
+    alloc: Global,
+    disk: &mut Memory,
+    attempt: Attempt,
+) -> Result<(), Fail> {
+    let answer = recover(disk);
+    if is_left(attempt) {
+        assert_eq!(rt; answer, Ok(SHORT_RIDE), "{attempt:?}");
+        let file = decode_file(alloc, disk.content(Which::Data))?;
+        let told = entries_told(&file, &short_ride());
+        assert_eq!(rt; told, Some(4), "{attempt:?}");
+    } else {
+        assert_eq!(rt; answer, Err(RecFault::NothingRecorded), "{attempt:?}");
+    }
+    Ok(())
+}
+
+// Erases a ride, and again what that left; once with a recovery between the two.
+fn erases_again(rt: &impl Abort, alloc: Global, ride: &Memory, attempt: Attempt) -> Result<(), Fail>
+    requires { 1 ≤ attempt.k }
+{
+    for is_recovered in [false, true] {
+        let mut disk = erased(rt, alloc, ride, attempt)?;
+        if is_recovered {
+            finds_it_or_nothing(rt, alloc, &mut disk, attempt)?;
+        }
+        assert_eq!(rt; erase(&mut disk), Ok(()), "{attempt:?}");
+        rides_anew(rt, alloc, disk)?;
+    }
+    Ok(())
+}
+
+// Tries trouble at each call of an erasing.
+fn try_each_call(
+    rt: &impl Abort,
+    alloc: Global,
+    ride: &Memory,
+    trouble: Trouble,
+    len: u32,
+    byte: u8,
+) -> Result<(), Fail> {
+    for k in 1..=CALLS {
+        let attempt = Attempt {
+            trouble,
+            k,
+            len,
+            byte,
+        };
+        erases_again(rt, alloc, ride, attempt)?;
+    }
+    Ok(())
+}
+
+// Tries a failure and power cuts at each call of the erasing of a ride.
+fn leaves_it_or_nothing(rt: &impl Abort, alloc: Global, ride: &Memory) -> Result<(), Fail> {
+    try_each_call(rt, alloc, ride, Trouble::Failure, 0, 0)?;
+    // The two files have 203 and 442 bytes.
+    for len in [0, 50, 203, 442] {
+        for byte in [0x00, 0x46, 0x47, 0xA5, 0xFF] {
+            try_each_call(rt, alloc, ride, Trouble::Cut, len, byte)?;
+        }
+    }
+    Ok(())
+}
+
+#[test]
+fn an_erasing_that_ends_early_leaves_a_committed_ride_or_nothing(
+    rt: HostRuntime,
+) -> Result<(), Fail> {
+    let disk = committed(&rt)?;
+    assert_eq!(rt; disk.content(Which::Data).len(), 203);
+    leaves_it_or_nothing(&rt, rt.alloc(), &disk)
+}
+
+#[test]
+fn an_erasing_that_ends_early_leaves_a_stopped_ride_or_nothing(
+    rt: HostRuntime,
+) -> Result<(), Fail> {
+    let disk = ride(&rt, &stopped_ride())?;
+    assert_eq!(rt; disk.content(Which::Data).len(), 442);
+    leaves_it_or_nothing(&rt, rt.alloc(), &disk)
+}

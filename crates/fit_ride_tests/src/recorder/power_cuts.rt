@@ -1,0 +1,272 @@
+// Rides with a power cut or a failure at each call of the device, and recoveries with one at each of their calls. What
+// is recovered is what was committed, or what a commit had begun to commit.
+
+ghost use Rattle.std.specs.Prelude.{◌≤◌, true};
+ghost use Rattle.fit_disk.specs.Memory.{memory_story};
+ghost use Rattle.fit_recorder.specs.Recording.{GoesOn};
+
+use super::stopping::full_sample;
+use super::{RUN, TIME, copy_of, entries_told, heart_rate, one};
+use fit_activity::{Entry, Sample, Summary, check_activity};
+use fit_disk::{Memory, Which};
+use fit_grammar::decode_file;
+use fit_recorder::{RecFault, Recorder, recover};
+use std::alloc::Global;
+use std::process::Abort;
+use std::test::Fail;
+
+// With how many choices of noise each power cut is tried, beside the four that are not noise.
+const NOISES: u32 = 40;
+
+// How many calls of the device the ride makes: eleven for the start, one for each of nine entries, five for each commit
+// and nine for the stop.
+const CALLS: u32 = 11 + 9 + 5 * 5 + 9;
+
+// More calls than a recovery of the ride makes.
+const RECOVERY_CALLS: u32 = 100;
+
+// The entries of the ride, of each kind, and whether a commit follows.
+fn ride_with_commits() -> [(Entry, bool); 10] {
+    let mut far = Sample::new(TIME + 6);
+    far.distance = Some(4000);
+    [
+        (Entry::Sample(full_sample(TIME)), true),
+        (heart_rate(TIME + 1, 101), false),
+        (Entry::Lap(TIME + 2), true),
+        (Entry::Pause(TIME + 4), false),
+        (Entry::Resume(TIME + 6), true),
+        (Entry::Sample(far), false),
+        (Entry::Sample(Sample::new(TIME + 7)), true),
+        (Entry::Lap(TIME + 7), true),
+        (heart_rate(TIME + 8, 102), false),
+        (Entry::Stop(TIME + 9), false),
+    ]
+}
+
+// How many entries are committed, if a start is, and how many the last call that failed had begun to commit.
+#[derive(Clone, Copy)]
+struct Way {
+    committed: Option<usize>,
+    begun: Option<usize>,
+}
+
+// Hands in the entry of this number, and commits it where a commit follows. Tells whether no call failed.
+fn take_step(
+    recorder: &mut Recorder<Memory>,
+    entry: &Entry,
+    has_commit: bool,
+    number: usize,
+    way: &mut Way,
+) -> bool
+    requires { GoesOn true memory_story recorder.old }
+    ensures { GoesOn true memory_story recorder.new }
+{
+    let is_stop = matches!(entry, Entry::Stop(_));
+    if is_stop {
+        way.begun = Some(number);
+    }
+    if one(recorder, entry).is_err() {
+        return false;
+    }
+    if is_stop {
+        way.committed = Some(number);
+    }
+    if !has_commit {
+        return true;
+    }
+    way.begun = Some(number);
+    if recorder.commit().is_err() {
+        return false;
+    }
+    way.committed = Some(number);
+    true
+}
+
+// Goes on with the ride until a call fails.
+fn go_on(recorder: &mut Recorder<Memory>) -> Way
+    requires { GoesOn true memory_story recorder.old }
+{
+    let mut way = Way {
+        committed: Some(0),
+        begun: Some(0),
+    };
+    let mut number: usize = 0;
+    for (entry, has_commit) in &ride_with_commits() {
+        number = number.saturating_add(1);
+        if !take_step(recorder, entry, *has_commit, number, &mut way) {
+            return way;
+        }
+    }
+    way
+}
+
+// What befalls a call of the device.
+#[derive(Clone, Copy, Debug)]
+pub(super) enum Trouble {
+    Cut,
+    Failure,
+}
+
+impl Trouble {
+    // Lets it befall the k-th call from now.
+    pub(super) fn befall(self, disk: &mut Memory, k: u32)
+        requires { 1 ≤ k }
+    {
+        match self {
+            Trouble::Cut => disk.cut_at(k),
+            Trouble::Failure => disk.fail_at(k),
+        }
+    }
+}
+
+// The disk behind the ride with trouble at its k-th call, and how far it came.
+fn ride_with(alloc: Global, trouble: Trouble, k: u32) -> (Memory, Way)
+    requires { 1 ≤ k }
+{
+    let mut disk = Memory::new(alloc);
+    trouble.befall(&mut disk, k);
+    match Recorder::start(disk, RUN) {
+        Err((disk, _)) => (
+            disk,
+            Way {
+                committed: None,
+                begun: Some(0),
+            },
+        ),
+        Ok(mut recorder) => {
+            let way = go_on(&mut recorder);
+            (recorder.into_disk(), way)
+        }
+    }
+}
+
+// How many entries of the ride the file tells that a recovery with this answer left, if it left one.
+fn entries_in(
+    rt: &impl Abort,
+    alloc: Global,
+    disk: &Memory,
+    answer: Result<Summary, RecFault>,
+) -> Result<Option<usize>, Fail> {
+    if answer == Err(RecFault::NothingRecorded) {
+        return Ok(None);
+    }
+    let file = decode_file(alloc, disk.content(Which::Data))?;
+    let summary = answer?;
+    assert_eq!(rt; check_activity(&file), Ok(summary));
+    let entries = ride_with_commits().map(|(entry, _)| entry);
+    let told = entries_told(&file, &entries);
+    assert!(rt; told.is_some());
+    Ok(told)
+}
+
+// Lets the power go at the k-th call of the ride, or that call fail, and then at each call of the recovery, with these
+// choices for what the power cuts leave. Answers how many recoveries there were.
+fn recover_from(
+    rt: &impl Abort,
+    alloc: Global,
+    trouble: Trouble,
+    k: u32,
+    choices: &[u8],
+) -> Result<u32, Fail>
+    requires { 1 ≤ k }
+{
+    let (mut disk, way) = ride_with(alloc, trouble, k);
+    disk.cycle(choices);
+    let data = disk.content(Which::Data).to_vec(alloc)?;
+    let journal = disk.content(Which::Journal).to_vec(alloc)?;
+    let answer = recover(&mut disk);
+    let told = entries_in(rt, alloc, &disk, answer)?;
+    assert!(rt; told == way.committed || told == way.begun, "call {k}");
+    let whole = disk.content(Which::Data);
+    for again in 1..=RECOVERY_CALLS {
+        let mut copy = copy_of(alloc, &data, &journal)?;
+        trouble.befall(&mut copy, again);
+        let first = recover(&mut copy);
+        copy.cycle(choices);
+        assert_eq!(rt;
+            recover(&mut copy),
+            answer,
+            "call {k}, and call {again} of the recovery"
+        );
+        assert_eq!(rt;
+            copy.content(Which::Data),
+            whole,
+            "call {k}, and call {again} of the recovery"
+        );
+        if first != Err(RecFault::Device) {
+            return Ok(again);
+        }
+    }
+    assert!(rt; false, "a recovery of more calls");
+    Ok(0)
+}
+
+// The next of a row of numbers that look like chance.
+fn next_noise(noise: u32) -> u32 {
+    let first = noise ^ (noise << 13);
+    let second = first ^ (first >> 17);
+    second ^ (second << 5)
+}
+
+// Fills the choices of a power cut: none, and each byte an open gate, FF or 00; and from then on noise, with many an
+// open gate in it. Answers how many there are.
+fn choose(kind: u32, noise: &mut u32, choices: &mut [u8; 1024]) -> usize
+    ensures { result ≤ 1024 }
+{
+    if kind == 0 {
+        return 0;
+    }
+    for place in 0..1024 {
+        *noise = next_noise(*noise);
+        let [first, second, _, _] = noise.to_le_bytes();
+        choices[place] = match kind {
+            1 => 0xA5,
+            2 => 0xFF,
+            3 => 0x00,
+            _ => if second % 4 == 0 { 0xA5 } else { first },
+        };
+    }
+    1024
+}
+
+// Tries trouble at each call of the ride, with each kind of choices.
+fn try_each_call(
+    rt: &impl Abort,
+    alloc: Global,
+    trouble: Trouble,
+    kinds: u32,
+) -> Result<u32, Fail> {
+    let mut choices = [0; 1024];
+    let mut noise = 0x2545_F491;
+    let mut recoveries: u32 = 0;
+    for k in 1..=CALLS {
+        for kind in 0..kinds {
+            let count = choose(kind, &mut noise, &mut choices);
+            let made = recover_from(rt, alloc, trouble, k, &choices[..count])?;
+            recoveries = recoveries.saturating_add(made);
+        }
+    }
+    Ok(recoveries)
+}
+
+#[test]
+fn the_ride_makes_so_many_calls(rt: HostRuntime) {
+    let (_, cut) = ride_with(rt.alloc(), Trouble::Cut, CALLS);
+    assert_eq!(rt; (cut.committed, cut.begun), (Some(8), Some(10)));
+    let (_, whole) = ride_with(rt.alloc(), Trouble::Cut, CALLS + 1);
+    assert_eq!(rt; (whole.committed, whole.begun), (Some(10), Some(10)));
+}
+
+#[test]
+fn power_cuts_leave_what_was_committed(rt: HostRuntime) -> Result<(), Fail> {
+    let recoveries = try_each_call(&rt, rt.alloc(), Trouble::Cut, 4 + NOISES)?;
+    assert!(rt; recoveries > 0);
+    Ok(())
+}
+
+#[test]
+fn failures_leave_what_was_committed(rt: HostRuntime) -> Result<(), Fail> {
+    let recoveries = try_each_call(&rt, rt.alloc(), Trouble::Failure, 4 + NOISES)?;
+    assert!(rt; recoveries > 0);
+    Ok(())
+}

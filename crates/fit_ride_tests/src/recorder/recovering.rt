@@ -1,0 +1,443 @@
+// Recoveries on the memory disk. The bytes and the values are those of the description of what a recorder writes.
+
+ghost use Rattle.std.specs.Prelude.{◌≡◌, ◌<◌, ◌≤◌, ◌^◌, length};
+
+use super::{
+    ALONE, RUN, SHORT_RIDE, START_RECORDS, TIME, begun, committed, copy_of, entries_told,
+    heart_rate, holding, play, ride, short_ride, start_cut_at, value_in,
+};
+use fit_activity::{Entry, Sample, Summary, check_activity};
+use fit_disk::{Disk, Memory, Which};
+use fit_grammar::{File, decode_file};
+use fit_recorder::{RecFault, recover};
+use std::alloc::Global;
+use std::process::Abort;
+use std::test::Fail;
+
+// A field's number, and its one valid value.
+type Told = (u8, Option<u64>);
+
+// The global number of the message at a place of a file, and what its fields tell.
+fn told_at(rt: &HostRuntime, file: &File, place: usize) -> Result<(Option<u16>, Vec<Told>), Fail> {
+    let mut told = Vec::new(rt.alloc());
+    let mut left = place;
+    for message in file.messages() {
+        if left == 0 {
+            for field in message.fields() {
+                told.push((field.number, value_in(&field)))?;
+            }
+            return Ok((Some(message.global()), told));
+        }
+        left -= 1;
+    }
+    Ok((None, told))
+}
+
+#[test]
+fn what_is_committed_is_recovered(rt: HostRuntime) -> Result<(), Fail> {
+    let mut disk = committed(&rt)?;
+    assert_eq!(rt; recover(&mut disk), Ok(SHORT_RIDE));
+    let file = decode_file(rt.alloc(), disk.content(Which::Data))?;
+    assert_eq!(rt; check_activity(&file), Ok(SHORT_RIDE));
+    assert_eq!(rt; entries_told(&file, &short_ride()), Some(4));
+    Ok(())
+}
+
+#[test]
+fn a_recovered_file_tells_what_it_adds_up_to(rt: HostRuntime) -> Result<(), Fail> {
+    let mut disk = committed(&rt)?;
+    recover(&mut disk)?;
+    let file = decode_file(rt.alloc(), disk.content(Which::Data))?;
+    let end = Some(1_000_000_002);
+    let first_lap = [
+        (254, Some(0)),
+        (253, end),
+        (0, Some(9)),
+        (1, Some(1)),
+        (2, Some(1_000_000_000)),
+        (7, Some(2000)),
+        (8, Some(2000)),
+        (9, None),
+        (13, None),
+        (14, None),
+        (15, Some(100)),
+        (16, Some(101)),
+        (19, None),
+        (20, None),
+        (24, Some(0)),
+    ];
+    let (global, told) = told_at(&rt, &file, 5)?;
+    assert_eq!(rt; (global, told.as_slice()), (Some(19), first_lap.as_slice()));
+    let last_record = [(253, end), (3, Some(110))];
+    let (global, told) = told_at(&rt, &file, 6)?;
+    assert_eq!(rt;
+        (global, told.as_slice()),
+        (Some(20), last_record.as_slice())
+    );
+    let stop = [(253, end), (0, Some(0)), (1, Some(4))];
+    let (global, told) = told_at(&rt, &file, 7)?;
+    assert_eq!(rt; (global, told.as_slice()), (Some(21), stop.as_slice()));
+    let last_lap = [
+        (254, Some(1)),
+        (253, end),
+        (0, Some(9)),
+        (1, Some(1)),
+        (2, end),
+        (7, Some(0)),
+        (8, Some(0)),
+        (9, None),
+        (13, None),
+        (14, None),
+        (15, Some(110)),
+        (16, Some(110)),
+        (19, None),
+        (20, None),
+        (24, Some(7)),
+    ];
+    let (global, told) = told_at(&rt, &file, 8)?;
+    assert_eq!(rt; (global, told.as_slice()), (Some(19), last_lap.as_slice()));
+    let session = [
+        (254, Some(0)),
+        (253, end),
+        (0, Some(8)),
+        (1, Some(1)),
+        (2, Some(1_000_000_000)),
+        (5, Some(1)),
+        (6, Some(0)),
+        (7, Some(2000)),
+        (8, Some(2000)),
+        (9, None),
+        (14, None),
+        (15, None),
+        (16, Some(103)),
+        (17, Some(110)),
+        (20, None),
+        (21, None),
+        (25, Some(0)),
+        (26, Some(2)),
+        (28, Some(0)),
+    ];
+    let (global, told) = told_at(&rt, &file, 9)?;
+    assert_eq!(rt; (global, told.as_slice()), (Some(18), session.as_slice()));
+    let activity = [
+        (253, end),
+        (0, Some(2000)),
+        (1, Some(1)),
+        (2, Some(0)),
+        (3, Some(26)),
+        (4, Some(1)),
+    ];
+    let (global, told) = told_at(&rt, &file, 10)?;
+    assert_eq!(rt; (global, told.as_slice()), (Some(34), activity.as_slice()));
+    Ok(())
+}
+
+// The header of the finished file of a start alone.
+const ALONE_HEADER: [u8; 14] = [
+    0x0E, 0x10, 0x64, 0x00, 0x44, 0x01, 0x00, 0x00, 0x2E, 0x46, 0x49, 0x54, 0x34, 0xED,
+];
+
+// Recovers a disk on which a start alone is committed.
+fn recovers_the_start(rt: &impl Abort, alloc: Global, mut disk: Memory) -> Result<(), Fail> {
+    assert_eq!(rt; recover(&mut disk), Ok(ALONE));
+    let written = disk.content(Which::Data);
+    assert_eq!(rt; written.len(), 340);
+    assert_eq!(rt; &written[..14], ALONE_HEADER.as_slice());
+    assert_eq!(rt; &written[14..86], START_RECORDS.as_slice());
+    let file = decode_file(alloc, written)?;
+    assert_eq!(rt; check_activity(&file), Ok(ALONE));
+    assert_eq!(rt; entries_told(&file, &[]), Some(0));
+    Ok(())
+}
+
+#[test]
+fn samples_without_a_commit_are_gone(rt: HostRuntime) -> Result<(), Fail> {
+    let mut disk = ride(&rt, &[heart_rate(TIME, 100); 10])?;
+    disk.cycle(&[]);
+    recovers_the_start(&rt, rt.alloc(), disk)
+}
+
+#[test]
+fn a_start_counts_from_its_open_gate_on(rt: HostRuntime) -> Result<(), Fail> {
+    // The tenth call writes the gate.
+    for k in [5, 10] {
+        let (mut disk, fault) = start_cut_at(&rt, k);
+        assert_eq!(rt; fault, Some(RecFault::Device), "call {k}");
+        disk.cycle(&[]);
+        assert_eq!(rt;
+            recover(&mut disk),
+            Err(RecFault::NothingRecorded),
+            "call {k}"
+        );
+    }
+    let (mut disk, _) = start_cut_at(&rt, 10);
+    assert_eq!(rt; disk.cycle(&[0, 0, 0, 0, 0, 0, 0, 0, 0xA5]), 9);
+    recovers_the_start(&rt, rt.alloc(), disk)
+}
+
+#[test]
+fn a_failed_commit_leaves_what_was_committed(rt: HostRuntime) -> Result<(), Fail> {
+    let mut recorder = begun(&rt)?;
+    recorder.hand(&heart_rate(TIME, 100))?;
+    recorder.fail_at(1);
+    assert_eq!(rt; recorder.commit(), Err(RecFault::Device));
+    assert_eq!(rt;
+        recorder.hand(&heart_rate(TIME, 100)),
+        Err(RecFault::Failed)
+    );
+    recovers_the_start(&rt, rt.alloc(), recorder.into_disk())
+}
+
+#[test]
+fn nothing_is_recorded_before_a_start_is_committed(rt: HostRuntime) -> Result<(), Fail> {
+    let mut empty = Memory::new(rt.alloc());
+    assert_eq!(rt; recover(&mut empty), Err(RecFault::NothingRecorded));
+    let disk = begun(&rt)?.into_disk();
+    let data = disk.content(Which::Data);
+    let journal = disk.content(Which::Journal);
+    let mut whole = copy_of(rt.alloc(), data, journal)?;
+    assert_eq!(rt; recover(&mut whole), Ok(ALONE));
+    let mut short = copy_of(rt.alloc(), data, journal.get(..16).unwrap_or(&[]))?;
+    assert_eq!(rt; recover(&mut short), Err(RecFault::NothingRecorded));
+    assert_eq!(rt; short.content(Which::Data), data);
+    let mut other = copy_of(rt.alloc(), &[], journal)?;
+    assert_eq!(rt; recover(&mut other), Err(RecFault::NothingRecorded));
+    Ok(())
+}
+
+// The bytes of a finished file that a recovery leaves of a disk, where the k-th call of an earlier one failed with the
+// power gone.
+fn recovered_again(rt: &HostRuntime, mut disk: Memory, k: u32) -> Result<Vec<u8>, Fail>
+    requires { 1 ≤ k }
+{
+    disk.cut_at(k);
+    let _ = recover(&mut disk);
+    disk.cycle(&[]);
+    recover(&mut disk)?;
+    let bytes = disk.content(Which::Data).to_vec(rt.alloc())?;
+    Ok(bytes)
+}
+
+#[test]
+fn a_recovery_may_be_cut_off(rt: HostRuntime) -> Result<(), Fail> {
+    let mut disk = committed(&rt)?;
+    recover(&mut disk)?;
+    let whole = disk.content(Which::Data);
+    for k in 1..=40 {
+        let again = recovered_again(&rt, committed(&rt)?, k)?;
+        assert_eq!(rt; again.as_slice(), whole, "call {k}");
+    }
+    Ok(())
+}
+
+#[test]
+fn a_stopped_recording_is_finished(rt: HostRuntime) -> Result<(), Fail> {
+    let [first, second, lap, last] = short_ride();
+    let entries = [first, second, lap, last, Entry::Stop(TIME + 2)];
+    let mut disk = ride(&rt, &entries)?;
+    let stopped = disk.content(Which::Data).to_vec(rt.alloc())?;
+    recover(&mut disk)?;
+    assert_eq!(rt; disk.content(Which::Data), stopped.as_slice());
+    let file = decode_file(rt.alloc(), &stopped)?;
+    assert_eq!(rt; entries_told(&file, &entries), Some(5));
+    Ok(())
+}
+
+// A recording spelled in another way: other local numbers, high byte first, noise in bits and bytes that say nothing, a
+// definition that is never used, and compressed timestamps.
+const OTHER_SPELLING: [u8; 216] = [
+    // A definition of no message.
+    0x53, 0xA7, 0x01, 0x00, 0x14, 0x01, 0xFD, 0x04, 0x86, // The start: its file_id,
+    0x5C, 0x00, 0x01, 0x00, 0x00, 0x05, 0x00, 0x01, 0x00, 0x01, 0x02, 0x84, 0x02, 0x02, 0x84, 0x03,
+    0x04, 0x8C, 0x04, 0x04, 0x86, 0x3C, 0x04, 0x00, 0xFF, 0x00, 0x01, 0x00, 0x00, 0x00, 0x07, 0x3B,
+    0x9A, 0xCA, 0x00, // its sport,
+    0x4B, 0x5A, 0x00, 0x0C, 0x00, 0x02, 0x00, 0x01, 0x00, 0x01, 0x01, 0x00, 0x0B, 0x01, 0x00, // and its event.
+    0x42, 0x00, 0x01, 0x00, 0x15, 0x03, 0xFD, 0x04, 0x86, 0x00, 0x01, 0x00, 0x01, 0x01, 0x00, 0x02,
+    0x3B, 0x9A, 0xCA, 0x00, 0x00, 0x00, // A sample a second later.
+    0x40, 0xFF, 0x01, 0x00, 0x14, 0x03, 0xFD, 0x04, 0x86, 0x03, 0x01, 0x02, 0x07, 0x02, 0x84, 0x10,
+    0x3B, 0x9A, 0xCA, 0x01, 0x64, 0x00, 0xC8, // A pause at five seconds, and its end at seven.
+    0x41, 0x00, 0x00, 0x15, 0x00, 0x02, 0x00, 0x01, 0x00, 0x01, 0x01, 0x00, 0xA5, 0x00, 0x01, 0xA7,
+    0x00, 0x00, // A sample without fields at nine.
+    0x43, 0x00, 0x00, 0x14, 0x00, 0x00, 0xE9, // A lap at ten.
+    0x4F, 0x00, 0x01, 0x00, 0x13, 0x0F, 0xFE, 0x02, 0x84, 0xFD, 0x04, 0x86, 0x00, 0x01, 0x00, 0x01,
+    0x01, 0x00, 0x02, 0x04, 0x86, 0x07, 0x04, 0x86, 0x08, 0x04, 0x86, 0x09, 0x04, 0x86, 0x0D, 0x02,
+    0x84, 0x0E, 0x02, 0x84, 0x0F, 0x01, 0x02, 0x10, 0x01, 0x02, 0x13, 0x02, 0x84, 0x14, 0x02, 0x84,
+    0x18, 0x01, 0x00, 0x0F, 0x00, 0x00, 0x3B, 0x9A, 0xCA, 0x0A, 0x09, 0x01, 0x3B, 0x9A, 0xCA, 0x00,
+    0x00, 0x00, 0x27, 0x10, 0x00, 0x00, 0x1F, 0x40, 0xFF, 0xFF, 0xFF, 0xFF, 0xFF, 0xFF, 0xFF, 0xFF,
+    0x64, 0x64, 0x00, 0xC8, 0x00, 0xC8, 0x00,
+];
+
+#[test]
+fn another_spelling_is_recovered_as_it_stands(rt: HostRuntime) -> Result<(), Fail> {
+    let mut disk = holding(rt.alloc(), &OTHER_SPELLING, 216)?;
+    let summary = Summary {
+        records: 2,
+        laps: 2,
+        elapsed_ms: Some(10_000),
+        timer_ms: Some(8000),
+        ..ALONE
+    };
+    assert_eq!(rt; recover(&mut disk), Ok(summary));
+    let written = disk.content(Which::Data);
+    assert_eq!(rt; written.get(14..230), Some(OTHER_SPELLING.as_slice()));
+    let file = decode_file(rt.alloc(), written)?;
+    assert_eq!(rt; check_activity(&file), Ok(summary));
+    let mut sample = Sample::new(TIME + 1);
+    sample.heart_rate = Some(100);
+    sample.power = Some(200);
+    let entries = [
+        Entry::Sample(sample),
+        Entry::Pause(TIME + 5),
+        Entry::Resume(TIME + 7),
+        Entry::Sample(Sample::new(TIME + 9)),
+        Entry::Lap(TIME + 10),
+    ];
+    assert_eq!(rt; entries_told(&file, &entries), Some(5));
+    Ok(())
+}
+
+// Whether a recovery of these records, of which so many bytes are committed, answers Damaged and changes nothing.
+pub(super) fn is_damaged(rt: &HostRuntime, records: &[u8], len: u32) -> Result<bool, Fail> {
+    let mut disk = holding(rt.alloc(), records, len)?;
+    let data = disk.content(Which::Data).to_vec(rt.alloc())?;
+    let journal = disk.content(Which::Journal).to_vec(rt.alloc())?;
+    let is_told = recover(&mut disk) == Err(RecFault::Damaged);
+    let is_same = disk.content(Which::Data) == data.as_slice()
+        && disk.content(Which::Journal) == journal.as_slice();
+    Ok(is_told && is_same)
+}
+
+// The records of the short ride with more behind them.
+fn with_more(rt: &HostRuntime, more: &[u8]) -> Result<Vec<u8>, Fail> {
+    let disk = committed(rt)?;
+    let records = disk.content(Which::Data).get(14..).unwrap_or(&[]);
+    let mut records = records.to_vec(rt.alloc())?;
+    records.extend_from_slice(more)?;
+    Ok(records)
+}
+
+// Whether a recovery of the records of the short ride with more behind them answers Damaged and changes nothing.
+fn is_damaged_by(rt: &HostRuntime, more: &[u8]) -> Result<bool, Fail> {
+    let records = with_more(rt, more)?;
+    let len = u32::try_from(records.len()).unwrap_or(0);
+    is_damaged(rt, &records, len)
+}
+
+#[test]
+fn what_is_no_recording_is_damaged(rt: HostRuntime) -> Result<(), Fail> {
+    assert!(rt; !is_damaged_by(&rt, &[])?);
+    // A record later than all before it, and one that is earlier.
+    assert!(rt; !is_damaged_by(&rt, &[0x00, 0x02, 0xCA, 0x9A, 0x3B, 0x65])?);
+    assert!(rt; is_damaged_by(&rt, &[0x00, 0x01, 0xCA, 0x9A, 0x3B, 0x65])?);
+    // A second start.
+    assert!(rt; is_damaged_by(&rt, &START_RECORDS)?);
+    // A definition with a developer field.
+    let developer = [
+        0x61, 0x00, 0x00, 0x14, 0x00, 0x01, 0x03, 0x01, 0x02, 0x01, 0x00, 0x01, 0x00,
+    ];
+    assert!(rt; is_damaged_by(&rt, &developer)?);
+    // A record under a local number without a definition.
+    assert!(rt; is_damaged_by(&rt, &[0x03, 0x02, 0xCA, 0x9A, 0x3B, 0x65])?);
+    // No records at all.
+    assert!(rt; is_damaged(&rt, &START_RECORDS, 0)?);
+    Ok(())
+}
+
+#[test]
+fn a_lap_with_another_value_is_damaged(rt: HostRuntime) -> Result<(), Fail> {
+    let mut records = with_more(&rt, &[])?;
+    // The elapsed time of its lap.
+    assert_eq!(rt;
+        records.get(160..164),
+        Some([0xD0, 0x07, 0x00, 0x00].as_slice())
+    );
+    if let Some(byte) = records.get_mut(160) {
+        *byte = 0xD1;
+    }
+    assert!(rt; is_damaged(&rt, &records, 189)?);
+    Ok(())
+}
+
+#[test]
+fn a_body_shorter_than_committed_is_damaged(rt: HostRuntime) -> Result<(), Fail> {
+    let records = with_more(&rt, &[])?;
+    assert_eq!(rt; records.len(), 189);
+    assert!(rt; is_damaged(&rt, records.get(..188).unwrap_or(&[]), 189)?);
+    // The last item is cut in two.
+    assert!(rt; is_damaged(&rt, &records, 188)?);
+    assert!(rt; !is_damaged(&rt, &records, 183)?);
+    Ok(())
+}
+
+#[test]
+fn an_item_above_96_bytes_is_damaged(rt: HostRuntime) -> Result<(), Fail> {
+    let mut definition = [0; 99];
+    definition[0] = 0x43;
+    definition[3] = 0x14;
+    definition[5] = 30;
+    assert!(rt; !is_damaged_by(&rt, &definition[..96])?);
+    definition[5] = 31;
+    assert!(rt; is_damaged_by(&rt, &definition)?);
+    Ok(())
+}
+
+// Records of so many bytes: the start, samples with a power of 300, of 7 bytes each, and definitions of 96 bytes that
+// nothing uses.
+fn filled(rt: &HostRuntime, len: usize) -> Result<Vec<u8>, Fail> {
+    let sample = [0x00, 0x00, 0xCA, 0x9A, 0x3B, 0x2C, 0x01];
+    let mut unused = [0; 96];
+    unused[0] = 0x43;
+    unused[3] = 0x14;
+    unused[5] = 30;
+    let mut records = START_RECORDS.to_vec(rt.alloc())?;
+    records.extend_from_slice(&[0x40, 0, 0, 0x14, 0, 2, 0xFD, 4, 0x86, 7, 2, 0x84])?;
+    for _ in 0..96 {
+        if len.saturating_sub(records.len()) % 96 != 0 {
+            records.extend_from_slice(&sample)?;
+        }
+    }
+    for _ in 0..len.saturating_sub(records.len()) / 96 {
+        records.extend_from_slice(&unused)?;
+    }
+    Ok(records)
+}
+
+#[test]
+fn a_body_has_room_for_its_end(rt: HostRuntime) -> Result<(), Fail> {
+    let records = filled(&rt, 16_776_704)?;
+    assert_eq!(rt; records.len(), 16_776_704);
+    assert!(rt; !is_damaged(&rt, &records, 16_776_704)?);
+    let records = filled(&rt, 16_776_705)?;
+    assert_eq!(rt; records.len(), 16_776_705);
+    assert!(rt; is_damaged(&rt, &records, 16_776_705)?);
+    Ok(())
+}
+
+#[test]
+fn a_stopped_body_has_a_most(rt: HostRuntime) -> Result<(), Fail> {
+    let stop = [0x06, 0x00, 0xCA, 0x9A, 0x3B, 0x00, 0x04];
+    let mut records = filled(&rt, 16_777_216 - 7)?;
+    records.extend_from_slice(&stop)?;
+    assert_eq!(rt; records.len(), 16_777_216);
+    assert!(rt; !is_damaged(&rt, &records, 16_777_216)?);
+    let mut records = filled(&rt, 16_777_217 - 7)?;
+    records.extend_from_slice(&stop)?;
+    assert_eq!(rt; records.len(), 16_777_217);
+    assert!(rt; is_damaged(&rt, &records, 16_777_217)?);
+    Ok(())
+}
+
+#[test]
+fn a_journal_of_no_form_is_damaged(rt: HostRuntime) -> Result<(), Fail> {
+    let disk = begun(&rt)?.into_disk();
+    let data = disk.content(Which::Data);
+    let mut journal = disk.content(Which::Journal).to_vec(rt.alloc())?;
+    if let Some(byte) = journal.get_mut(3) {
+        *byte = 0x33;
+    }
+    let mut other = copy_of(rt.alloc(), data, &journal)?;
+    assert_eq!(rt; recover(&mut other), Err(RecFault::Damaged));
+    assert_eq!(rt; other.content(Which::Data), data);
+    assert_eq!(rt; other.content(Which::Journal), journal.as_slice());
+    Ok(())
+}
