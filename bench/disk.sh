@@ -1,6 +1,7 @@
 #!/bin/sh
 # Time and memory of the memory disk over a million writes of 512 bytes with a sync after each tenth: each write
-# behind the last one, so that the file grows to 512 MB, and each over the first 64 KiB.
+# behind the last one, so that the file grows to 512 MB, and each over the first 64 KiB; and of a power cut behind two
+# million writes of six bytes.
 # It proves and builds in a temporary folder, so that the repository stays as it is.
 set -eu
 
@@ -20,12 +21,15 @@ program=$work/repo/crates/bench_disk/out/bench_disk
 python3 - "$program" <<'PY'
 import os, subprocess, sys
 
-for name, words in (("at the end", []), ("over 64 KiB", ["over"])):
+for name, words in (("at the end", []), ("over 64 KiB", ["over"]), ("a power cut", ["power", "cut"])):
     child = subprocess.Popen([sys.argv[1]] + words, stdout=subprocess.PIPE)
     out = child.stdout.read().split()
     _, status, used = os.wait4(child.pid, 0)
     failures, nanoseconds = int(out[0]), int(out[1])
     if status or failures:
         sys.exit("%s: status %d, %d calls failed" % (name, status, failures))
+    if len(words) > 1:
+        print("%-12s %6.0f ms" % (name, nanoseconds / 1e6))
+        continue
     print("%-12s %6.0f ns and %5.0f bytes a write" % (name, nanoseconds / 1e6, used.ru_maxrss * 1024 / 1e6))
 PY

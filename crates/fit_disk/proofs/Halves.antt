@@ -1,5 +1,5 @@
 -- A half goes on to be its file through a write and a power cut.
-use Rattle.std.proofs.Common.{◌≡◌, ℕ, zero, suc, ◌+◌, ◌<◌, ◌≤◌, max, Bool, true, false, ◌&&◌, if◌then◌else◌, List, [], ◌∷◌, ◌++◌, length, get_or, refl, sym, ◌∙◌, ap}
+use Rattle.std.proofs.Common.{◌≡◌, ℕ, zero, suc, ◌+◌, ◌<◌, ◌≤◌, max, Bool, true, false, ◌&&◌, if◌then◌else◌, List, [], ◌∷◌, length, get_or, refl, sym, ◌∙◌, ap}
 use Rattle.std.proofs.lemmas.Bool.{and_parts, ltb-true}
 use Rattle.std.proofs.lemmas.List.FromFn.{fill_by_all}
 use Rattle.fit_disk.specs.declared.half.Half.{Half}
@@ -10,25 +10,14 @@ use Rattle.fit_disk.specs.Half.{IsHalf}
 use Rattle.fit_disk.proofs.Leaving.{left_rest}
 use Rattle.fit_disk.proofs.Cycling.{length-left_by, kept_same, cycle_leaves}
 
-and_swap : (a b c : Bool) → (a && (b && c)) ≡ (b && (a && c))
-and_swap true b c = refl
-and_swap false true c = refl
-and_swap false false c = refl
-
--- one range more, at either end
-pub outside_push : (place : ℕ) (ranges : List (ℕ × ℕ)) (range : ℕ × ℕ)
-    → is_outside place (ranges ++ range ∷ []) ≡ is_outside place (range ∷ ranges)
-outside_push place [] range = refl
-outside_push place (first ∷ ranges) range = ap (λ rest. is_beside place first && rest) (outside_push place ranges range) ∙ and_swap (is_beside place first) (is_beside place range) (is_outside place ranges)
-
 pub half_begun : (old new : Half) (file : Stored) (at count : ℕ) (now : List ℕ) → IsHalf old file → Left (write_begun at count now file) now
-    → now ≡ new.seen.items → new.least ≡ old.least → new.greatest ≡ max old.greatest (at + count) → new.written.items ≡ old.written.items ++ (at, count) ∷ []
+    → now ≡ new.seen.items → new.least ≡ old.least → new.greatest ≡ max old.greatest (at + count) → ((place : ℕ) → is_outside place new.written.items ≡ is_outside place ((at, count) ∷ old.written.items))
     → IsHalf new (write_begun at count now file)
 half_begun old new file at count now is left seen least greatest written = record {
   seen = seen;
   least = is.least ∙ sym least;
   greatest = ap (λ n. max n (at + count)) is.greatest ∙ sym greatest;
-  written = λ place. ap (is_outside place) written ∙ outside_push place old.written.items (at, count) ∙ ap (λ rest. is_beside place (at, count) && rest) (is.written place);
+  written = λ place. written place ∙ ap (λ rest. is_beside place (at, count) && rest) (is.written place);
   sound = left;
 }
 

@@ -62,6 +62,10 @@ is_from (Some planned) number = nat_le planned number
 abbrev pub is_planned : Schedule → ℕ → Bool
 is_planned schedule number = is_at schedule.fail number || is_from schedule.cut number
 
+-- the next call fails, whatever memory there is: its number is planned, or the counts are at their last value
+abbrev pub must_fail : Counts → Schedule → Bool
+must_fail counts schedule = is_planned schedule (counts.calls + 1) || (counts.calls == last_count)
+
 -- how many of the first so many calls are to fail
 abbrev pub failures : Schedule → ℕ → ℕ
 failures schedule zero = 0

@@ -1,10 +1,12 @@
 -- What a memory disk shows.
-use Rattle.std.specs.Prelude.{◌≡◌, true, false, Result, IsErr, OnErr, Bool, ◌||◌, ◌==◌}
+use Rattle.std.specs.Prelude.{◌≡◌, ℕ, true, Result, IsErr, is_err, OnErr, Bool, ◌||◌, ◌==◌}
 use Rattle.fit_disk.specs.declared.clock.Clock.{Clock}
+use Rattle.fit_disk.specs.declared.disk.Which.{Which}
 use Rattle.fit_disk.specs.declared.memory.Memory.{Memory}
-use Rattle.fit_disk.specs.State.{seen_in}
-use Rattle.fit_disk.specs.Story.{Story}
-use Rattle.fit_disk.specs.Counts.{Counts, Schedule, last_count}
+use Rattle.fit_disk.specs.Stored.{write_begun, cut_begun}
+use Rattle.fit_disk.specs.State.{file_of, seen_in}
+use Rattle.fit_disk.specs.Story.{Story, then_file, seen_of}
+use Rattle.fit_disk.specs.Counts.{Counts, Schedule, must_fail, last_count}
 use Rattle.fit_disk.specs.Clock.{counts_of, schedule_by}
 use Rattle.fit_disk.specs.Store.{story_in}
 
@@ -27,13 +29,29 @@ memory_schedule m = clock_schedule m.clock
 abbrev pub was_refused : Memory → Bool
 was_refused m = m.clock.was_refused
 
+-- a growth was refused in its last call
+abbrev pub is_refused : Memory → Bool
+is_refused m = m.clock.is_refused
+
 -- a growth was refused in it, or its counts are at their last value
 abbrev pub is_spent : Memory → Bool
 is_spent m = was_refused m || (m.clock.counts.calls == last_count)
+
+-- A call fails where it must and where memory was refused in it, and nowhere else. A refusal is told from then on.
+pub record FailsByCause {T E : Type 0} (result : Result T E) (old new : Memory) : Type 0 where
+  pub fails : is_err result ≡ (must_fail (memory_counts old) (memory_schedule old) || is_refused new)
+  pub told : was_refused new ≡ (was_refused old || is_refused new)
 
 -- A call that may take memory. Where it failed, reads give what they gave; where memory was refused in it,
 -- it failed and nothing changed.
 pub record FailsCleanly {T E : Type 0} (result : Result T E) (old new : Memory) : Type 0 where
   pub same_reads : OnErr result (seen_in (memory_story new).now ≡ seen_in (memory_story old).now)
-  pub unchanged : was_refused old ≡ false → was_refused new ≡ true → IsErr result × (memory_story new ≡ memory_story old)
-  pub stays : was_refused old ≡ true → was_refused new ≡ true
+  pub unchanged : is_refused new ≡ true → IsErr result × (memory_story new ≡ memory_story old)
+
+-- the story behind a write that failed, but for want of memory: it was begun, and reads give what they gave
+abbrev pub write_failed : Which → ℕ → ℕ → Story → Story
+write_failed which at count old = then_file which (write_begun at count (seen_of which old) (file_of which old.now)) old
+
+-- and behind a cut that failed so
+abbrev pub cut_failed : Which → ℕ → Story → Story
+cut_failed which len old = then_file which (cut_begun len (seen_of which old) (file_of which old.now)) old

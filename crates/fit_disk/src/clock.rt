@@ -1,7 +1,7 @@
 // The calls of the memory disk by number: how many were made, and which of them are to fail.
 
-ghost use Rattle.std.specs.Prelude.{IsOk, is_ok, if◌then◌else◌, ◌≡◌, ◌<◌, true, false, IsErr, ◌||◌, ◌==◌};
-ghost use Rattle.fit_disk.specs.Counts.{CountsCall, CountsRead, FailedAsPlanned, is_at, is_from, failing_at, cut_off_at, unplanned, no_calls, last_count, with_failure};
+ghost use Rattle.std.specs.Prelude.{IsOk, is_ok, is_err, if◌then◌else◌, ◌≡◌, ◌<◌, true, false, IsErr, ◌||◌, ◌==◌};
+ghost use Rattle.fit_disk.specs.Counts.{CountsCall, CountsRead, FailedAsPlanned, is_at, is_from, failing_at, cut_off_at, unplanned, no_calls, last_count, with_failure, must_fail};
 ghost use Rattle.fit_disk.specs.Clock.{counts_of, schedule_by};
 
 use crate::tally::Tally;
@@ -15,6 +15,8 @@ pub(crate) struct Clock {
     cut: Option<u64>,
     since: Tally,
     was_refused: bool,
+    // Memory was refused in the call that was counted last.
+    is_refused: bool,
     ghost planned: { was_refused ≡ false → FailedAsPlanned (counts_of counts) (schedule_by fail cut since) },
 }
 
@@ -25,6 +27,7 @@ impl Clock {
         ensures counts { clock_counts result ≡ no_calls }
         ensures schedule { clock_schedule result ≡ unplanned no_calls }
         ensures refused { result.was_refused ≡ false }
+        ensures last { result.is_refused ≡ false }
     {
         let none = Tally::new();
         Clock {
@@ -33,6 +36,7 @@ impl Clock {
             cut: None,
             since: none,
             was_refused: false,
+            is_refused: false,
         }
     }
 
@@ -48,8 +52,11 @@ impl Clock {
         ensures counted { CountsCall result (clock_counts self.old) (clock_counts self.new) }
         ensures reads { self.new.counts.data_reads ≡ self.old.counts.data_reads }
         ensures schedule { clock_schedule self.new ≡ clock_schedule self.old }
+        ensures fails { is_err result ≡ must_fail (clock_counts self.old) (clock_schedule self.old) }
         ensures refused { self.new.was_refused ≡ self.old.was_refused }
+        ensures last { self.new.is_refused ≡ false }
     {
+        self.is_refused = false;
         self.counts.call()?;
         if is_due(self.fail, self.cut, self.counts.calls) {
             self.counts.fail();
@@ -63,8 +70,11 @@ impl Clock {
         ensures counted { CountsCall result (clock_counts self.old) (clock_counts self.new) }
         ensures reads { CountsRead which (clock_counts self.old) (clock_counts self.new) }
         ensures schedule { clock_schedule self.new ≡ clock_schedule self.old }
+        ensures fails { is_err result ≡ must_fail (clock_counts self.old) (clock_schedule self.old) }
         ensures refused { self.new.was_refused ≡ self.old.was_refused }
+        ensures last { self.new.is_refused ≡ false }
     {
+        self.is_refused = false;
         self.counts.read(which)?;
         if is_due(self.fail, self.cut, self.counts.calls) {
             self.counts.fail();
@@ -80,8 +90,10 @@ impl Clock {
         ensures counts { clock_counts self.new ≡ (if is_ok answer then with_failure (clock_counts self.old) else clock_counts self.old) }
         ensures schedule { clock_schedule self.new ≡ clock_schedule self.old }
         ensures refused { self.new.was_refused ≡ true }
+        ensures last { self.new.is_refused ≡ true }
     {
         self.was_refused = true;
+        self.is_refused = true;
         match answer {
             Ok(()) => self.counts.fail(),
             Err(_) => {}
@@ -94,6 +106,7 @@ impl Clock {
         ensures counts { clock_counts self.new ≡ clock_counts self.old }
         ensures schedule { clock_schedule self.new ≡ failing_at k (clock_counts self.old) (clock_schedule self.old) }
         ensures refused { self.new.was_refused ≡ self.old.was_refused }
+        ensures last { self.new.is_refused ≡ self.old.is_refused }
     {
         self.fail = self.counts.calls.checked_add(u64::from(k));
         self.since = self.counts;
@@ -104,6 +117,7 @@ impl Clock {
         ensures counts { clock_counts self.new ≡ clock_counts self.old }
         ensures schedule { clock_schedule self.new ≡ cut_off_at k (clock_counts self.old) (clock_schedule self.old) }
         ensures refused { self.new.was_refused ≡ self.old.was_refused }
+        ensures last { self.new.is_refused ≡ self.old.is_refused }
     {
         if !is_from_number(self.cut, self.counts.calls) {
             self.cut = self.counts.calls.checked_add(u64::from(k));
@@ -116,6 +130,7 @@ impl Clock {
         ensures counts { clock_counts self.new ≡ clock_counts self.old }
         ensures schedule { clock_schedule self.new ≡ unplanned (clock_counts self.old) }
         ensures refused { self.new.was_refused ≡ self.old.was_refused }
+        ensures last { self.new.is_refused ≡ self.old.is_refused }
     {
         self.fail = None;
         self.cut = None;

@@ -5,6 +5,7 @@ ghost use Rattle.fit_disk.specs.Content.{over};
 ghost use Rattle.fit_disk.specs.Stored.{Stored, at_rest, write_begun, cut_begun};
 ghost use Rattle.fit_disk.specs.Cycle.{is_outside, is_kept, free_below, length_by, byte_by, left_by, taken_by};
 
+use crate::ranges::add_range;
 use std::alloc::{AllocError, Global};
 
 // What reads give, and since the last sync the least and the greatest length and the ranges that were written,
@@ -60,7 +61,7 @@ impl Half {
             (write_begun at (length bytes.now) (if is_done then over at bytes.now file.seen else file.seen) file) }
         ensures greatest { self.new.greatest ≡ max self.old.greatest (at + length bytes.now) }
     {
-        self.written.push_reserved((at, bytes.len()));
+        add_range(&mut self.written, at, bytes.len());
         self.greatest = self.greatest.max(at + bytes.len());
         if is_done {
             put(&mut self.seen, at, bytes);

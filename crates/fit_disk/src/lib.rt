@@ -7,6 +7,7 @@ mod event;
 mod files;
 mod half;
 mod memory;
+mod ranges;
 mod store;
 mod tally;
 

@@ -1,12 +1,12 @@
 // The disk in memory: an honest disk whose failures and power cuts are scheduled.
 
-ghost use Rattle.std.specs.Prelude.{◌≡◌, ◌⊎◌, ◌≤◌, true, false, min, length, IfOk};
+ghost use Rattle.std.specs.Prelude.{◌≡◌, ◌⊎◌, ◌<◌, ◌≤◌, true, false, min, length, IfOk, OnErr};
 ghost use Rattle.fit_disk.specs.State.{BothLeft, seen_in};
 ghost use Rattle.fit_disk.specs.Story.{then_state, seen_of};
 ghost use Rattle.fit_disk.specs.Cycle.{cycled, taken_in};
 ghost use Rattle.fit_disk.specs.Events.{fresh};
 ghost use Rattle.fit_disk.specs.Calls.{ReadsAt, Wrote, Shortened, Synced};
-ghost use Rattle.fit_disk.specs.Counts.{FailedAsPlanned, CountsCall, CountsRead, failing_at, cut_off_at, unplanned, no_calls};
+ghost use Rattle.fit_disk.specs.Counts.{FailedAsPlanned, CountsCall, CountsRead, failing_at, cut_off_at, unplanned, no_calls, last_count};
 ghost use Rattle.fit_disk.specs.Clock.{counts_of, schedule_by};
 
 use crate::clock::Clock;
@@ -14,7 +14,7 @@ use crate::store::Store;
 use crate::{DeviceError, Disk, Which};
 use std::alloc::Global;
 
-/// An honest disk in memory. A call fails only where it is scheduled to, where memory was refused, and where the
+/// An honest disk in memory. A call fails just where it is scheduled to, where memory was refused in it, and where the
 /// counts are at their last value; a write or cut that fails changes nothing that reads give.
 #[derive(Drop)]
 pub struct Memory {
@@ -26,7 +26,7 @@ pub struct Memory {
 }
 
 impl Memory {
-    ghost use Rattle.fit_disk.specs.Memory.{memory_story, memory_counts, memory_schedule, was_refused, is_spent};
+    ghost use Rattle.fit_disk.specs.Memory.{memory_story, memory_counts, memory_schedule, was_refused, is_refused, is_spent};
 
     /// Two empty files. It takes memory only as they grow.
     pub fn new(alloc: Global) -> Memory
@@ -34,6 +34,7 @@ impl Memory {
         ensures counts { memory_counts result ≡ no_calls }
         ensures schedule { memory_schedule result ≡ unplanned no_calls }
         ensures refused { was_refused result ≡ false }
+        ensures last { is_refused result ≡ false }
     {
         Memory {
             store: Store::new(alloc),
@@ -50,7 +51,8 @@ impl Memory {
 
     /// Whether memory was refused in it so far, or its counts are at their last value.
     pub fn spent(&self) -> bool
-        ensures { result ≡ is_spent self.now }
+        ensures spent { result ≡ is_spent self.now }
+        ensures below { result ≡ false → (memory_counts self.now).calls < last_count }
     {
         self.clock.is_spent()
     }
@@ -62,6 +64,7 @@ impl Memory {
         ensures counts { memory_counts self.new ≡ memory_counts self.old }
         ensures schedule { memory_schedule self.new ≡ failing_at k (memory_counts self.old) (memory_schedule self.old) }
         ensures refused { was_refused self.new ≡ was_refused self.old }
+        ensures last { is_refused self.new ≡ is_refused self.old }
     {
         self.clock.fail_at(k);
     }
@@ -74,6 +77,7 @@ impl Memory {
         ensures counts { memory_counts self.new ≡ memory_counts self.old }
         ensures schedule { memory_schedule self.new ≡ cut_off_at k (memory_counts self.old) (memory_schedule self.old) }
         ensures refused { was_refused self.new ≡ was_refused self.old }
+        ensures last { is_refused self.new ≡ is_refused self.old }
     {
         self.clock.cut_at(k);
     }
@@ -89,6 +93,7 @@ impl Memory {
         ensures counts { memory_counts self.new ≡ memory_counts self.old }
         ensures schedule { memory_schedule self.new ≡ unplanned (memory_counts self.old) }
         ensures refused { was_refused self.new ≡ was_refused self.old }
+        ensures last { is_refused self.new ≡ is_refused self.old }
     {
         self.clock.drop_plans();
         self.store.cycle(choices)
@@ -96,7 +101,7 @@ impl Memory {
 }
 
 impl Disk for Memory {
-    ghost use Rattle.fit_disk.specs.Memory.{memory_story, memory_counts, memory_schedule, was_refused, FailsCleanly};
+    ghost use Rattle.fit_disk.specs.Memory.{memory_story, memory_counts, memory_schedule, was_refused, is_refused, FailsByCause, FailsCleanly, write_failed, cut_failed};
 
     ghost honest = { true };
 
@@ -114,7 +119,9 @@ impl Disk for Memory {
         ensures counted { CountsCall result (memory_counts self.old) (memory_counts self.new) }
         ensures reads { (memory_counts self.new).data_reads ≡ (memory_counts self.old).data_reads }
         ensures planned { memory_schedule self.new ≡ memory_schedule self.old }
+        ensures cause { FailsByCause result self.old self.new }
         ensures refused { was_refused self.new ≡ was_refused self.old }
+        ensures last { is_refused self.new ≡ false }
     {
         self.clock.call()?;
         Ok(self.store.content(which).len() as u64)
@@ -127,7 +134,9 @@ impl Disk for Memory {
         ensures counted { CountsCall result (memory_counts self.old) (memory_counts self.new) }
         ensures reads { CountsRead which (memory_counts self.old) (memory_counts self.new) }
         ensures planned { memory_schedule self.new ≡ memory_schedule self.old }
+        ensures cause { FailsByCause result self.old self.new }
         ensures refused { was_refused self.new ≡ was_refused self.old }
+        ensures last { is_refused self.new ≡ false }
     {
         self.clock.read(which)?;
         Ok(copy_from(self.store.content(which), at, buffer))
@@ -136,6 +145,8 @@ impl Disk for Memory {
     fn write(&mut self, which: Which, at: u64, bytes: &[u8]) -> Result<(), DeviceError>
         requires { at ≤ length (seen_of which (memory_story self.old)) }
         ensures wrote { Wrote which at bytes.now result (memory_story self.old) (memory_story self.new) }
+        ensures begun { is_refused self.new ≡ false → OnErr result (memory_story self.new ≡ write_failed which at (length bytes.now) (memory_story self.old)) }
+        ensures cause { FailsByCause result self.old self.new }
         ensures clean { FailsCleanly result self.old self.new }
         ensures counted { CountsCall result (memory_counts self.old) (memory_counts self.new) }
         ensures reads { (memory_counts self.new).data_reads ≡ (memory_counts self.old).data_reads }
@@ -151,6 +162,8 @@ impl Disk for Memory {
     fn cut(&mut self, which: Which, len: u64) -> Result<(), DeviceError>
         requires { len ≤ length (seen_of which (memory_story self.old)) }
         ensures shortened { Shortened which len result (memory_story self.old) (memory_story self.new) }
+        ensures begun { is_refused self.new ≡ false → OnErr result (memory_story self.new ≡ cut_failed which len (memory_story self.old)) }
+        ensures cause { FailsByCause result self.old self.new }
         ensures clean { FailsCleanly result self.old self.new }
         ensures counted { CountsCall result (memory_counts self.old) (memory_counts self.new) }
         ensures reads { (memory_counts self.new).data_reads ≡ (memory_counts self.old).data_reads }
@@ -165,6 +178,7 @@ impl Disk for Memory {
 
     fn sync(&mut self, which: Which) -> Result<(), DeviceError>
         ensures synced { Synced which result (memory_story self.old) (memory_story self.new) }
+        ensures cause { FailsByCause result self.old self.new }
         ensures clean { FailsCleanly result self.old self.new }
         ensures counted { CountsCall result (memory_counts self.old) (memory_counts self.new) }
         ensures reads { (memory_counts self.new).data_reads ≡ (memory_counts self.old).data_reads }

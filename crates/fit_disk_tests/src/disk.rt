@@ -1,8 +1,11 @@
 // The disk model against values worked out by hand, and the real files.
 
+mod begun;
 mod cycles;
 mod files;
+mod long;
 mod memory;
+mod ranges;
 
 use fit_disk::{DeviceError, Disk, Memory, Which};
 use std::process::Abort;

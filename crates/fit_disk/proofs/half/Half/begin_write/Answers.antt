@@ -11,11 +11,11 @@ returns-then-is_done-clause-begun c = λ file is.
     rw c.if-is_done.true
     (half_begun c.args.self.now _ file c.args.at (length c.args.bytes.now) (over c.args.at c.args.bytes.now file.seen) is
     (write_sound c.args.at c.args.bytes.now file within (λ i. omega (arith, c.type_inv.bytes i)) is.sound)
-    (rw is.seen (sym c.put.ensures.items)) refl (omega arith) c.push_reserved.ensures.items)
+    (rw is.seen (sym c.put.ensures.items)) refl (omega arith) c.add_range.ensures)
 
 pub returns-else-is_done-clause-begun : goal.returns-else-is_done-clause-begun
 returns-else-is_done-clause-begun c = λ file is.
     rw c.if-is_done.false
     (half_begun c.args.self.now _ file c.args.at (length c.args.bytes.now) file.seen is
     (left_more c.args.at (length c.args.bytes.now) file.seen file file.seen is.sound)
-    is.seen refl (omega arith) c.push_reserved.ensures.items)
+    is.seen refl (omega arith) c.add_range.ensures)
