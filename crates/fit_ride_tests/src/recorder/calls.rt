@@ -1,0 +1,110 @@
+// Just the calls of the device that are told, in their order: how many they are is seen by a power cut at the last of them and at
+// the next one, and their order by what the files hold where one fails.
+
+ghost use Rattle.std.specs.Prelude.{◌≤◌};
+
+use super::{RUN, SHORT_RIDE, TIME, begun, committed, play, short_ride};
+use fit_disk::{Disk, Memory, Which};
+use fit_recorder::{RecFault, Recorder, erase, recover};
+use std::test::Fail;
+
+// The header while a ride is recorded: over no records.
+const NO_RECORDS: [u8; 14] = [
+    0x0E, 0x10, 0x64, 0x00, 0x00, 0x00, 0x00, 0x00, 0x2E, 0x46, 0x49, 0x54, 0x21, 0xEE,
+];
+
+// Of the short ride, committed behind its start: two syncs, the size, the head of the journal and three slots of it, the twelve
+// items of the body, and the four calls that close the file.
+const RECOVERY: u32 = 2 + 1 + 1 + 3 + 12 + 4;
+
+#[test]
+fn a_recovery_makes_just_its_calls(rt: HostRuntime) -> Result<(), Fail> {
+    let mut disk = committed(&rt)?;
+    disk.cut_at(RECOVERY);
+    assert_eq!(rt; recover(&mut disk), Err(RecFault::Device));
+    let mut disk = committed(&rt)?;
+    disk.cut_at(RECOVERY + 1);
+    assert_eq!(rt; recover(&mut disk), Ok(SHORT_RIDE));
+    assert_eq!(rt; disk.size(Which::Data).is_ok(), false);
+    Ok(())
+}
+
+#[test]
+fn a_start_that_finds_a_ride_makes_two_calls(rt: HostRuntime) -> Result<(), Fail> {
+    for (k, expected) in [(2, RecFault::Device), (3, RecFault::NotEmpty)] {
+        let mut disk = committed(&rt)?;
+        disk.cut_at(k);
+        let fault = match Recorder::start(disk, RUN) {
+            Ok(_) => None,
+            Err((_, fault)) => Some(fault),
+        };
+        assert_eq!(rt; fault, Some(expected));
+    }
+    Ok(())
+}
+
+// Where the data file is empty the journal is left as it is, its mark too.
+#[test]
+fn an_erasing_of_nothing_makes_three_calls(rt: HostRuntime) -> Result<(), Fail> {
+    for (k, expected) in [(3, Err(RecFault::Device)), (4, Ok(()))] {
+        let mut disk = Memory::new(rt.alloc());
+        disk.write(Which::Journal, 0, &[0x46, 0x52])?;
+        disk.cut_at(k);
+        assert_eq!(rt; erase(&mut disk), expected);
+        disk.cycle(&[]);
+        assert_eq!(rt; disk.content(Which::Journal), [0x46, 0x52].as_slice());
+    }
+    Ok(())
+}
+
+// The data file is kept before the journal: where the second sync fails, a power cut leaves the data as reads gave it.
+#[test]
+fn a_recovery_keeps_the_data_first(rt: HostRuntime) -> Result<(), Fail> {
+    let mut recorder = begun(&rt)?;
+    play(&mut recorder, &short_ride())?;
+    let mut disk = recorder.into_disk();
+    let data = Vec::from_slice(rt.alloc(), disk.content(Which::Data))?;
+    disk.fail_at(2);
+    assert_eq!(rt; recover(&mut disk), Err(RecFault::Device));
+    disk.cycle(&[0xFF; 400]);
+    assert_eq!(rt; disk.content(Which::Data), data.as_slice());
+    Ok(())
+}
+
+// The closing messages stand behind the body before the header counts them: in a stop by its seventh and its eighth call.
+#[test]
+fn a_stop_writes_its_header_last(rt: HostRuntime) -> Result<(), Fail> {
+    let mut lengths = Vec::new(rt.alloc());
+    for k in [7, 8] {
+        let mut recorder = begun(&rt)?;
+        play(&mut recorder, &short_ride())?;
+        recorder.fail_at(k);
+        assert_eq!(rt; recorder.stop(TIME + 2), Err(RecFault::Device));
+        let disk = recorder.into_disk();
+        let content = disk.content(Which::Data);
+        assert!(rt; content.starts_with(&NO_RECORDS), "{k}");
+        lengths.push(content.len())?;
+    }
+    assert!(rt; lengths[0] < lengths[1]);
+    Ok(())
+}
+
+// And in a recovery by its last four, of which the third is the header's write.
+#[test]
+fn a_recovery_writes_its_header_last(rt: HostRuntime) -> Result<(), Fail> {
+    let mut lengths = Vec::new(rt.alloc());
+    for k in [RECOVERY - 3, RECOVERY - 2, RECOVERY - 1] {
+        let mut disk = committed(&rt)?;
+        disk.fail_at(k);
+        assert_eq!(rt; recover(&mut disk), Err(RecFault::Device));
+        let content = disk.content(Which::Data);
+        assert!(rt; content.starts_with(&NO_RECORDS), "{k}");
+        lengths.push(content.len())?;
+    }
+    assert!(rt; lengths[0] < lengths[1] && lengths[1] == lengths[2]);
+    let mut disk = committed(&rt)?;
+    disk.fail_at(RECOVERY);
+    assert_eq!(rt; recover(&mut disk), Err(RecFault::Device));
+    assert!(rt; !disk.content(Which::Data).starts_with(&NO_RECORDS));
+    Ok(())
+}
