@@ -1,4 +1,5 @@
-//! Tests of activities, by their public calls. They stand above their crate, so that no library is proved once more with its tests.
+//! Tests of activities, by the public calls of `fit_activity`. They stand above it, so that no library is proved once more with
+//! its tests.
 #![tactic(auto)]
 
 #[cfg(test)]
