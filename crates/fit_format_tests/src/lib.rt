@@ -1,9 +1,7 @@
-//! Tests of the base types, the grammar, activities and the text of files, by the public calls of their crates. They stand above
-//! these, so that no library is proved once more with its tests.
+//! Tests of the base types, the grammar and the text of files, by the public calls of their crates. They stand above these, so
+//! that no library is proved once more with its tests.
 #![tactic(auto)]
 
-#[cfg(test)]
-mod activity;
 #[cfg(test)]
 mod base;
 #[cfg(test)]

@@ -1,5 +1,5 @@
-//! Tests of the recorder, by its public calls. They stand above its crate, so that no library is proved once more with its
-//! tests.
+//! Tests of the recorder, by the public calls of `fit_recorder`. They stand above it, so that no library is proved once more with
+//! its tests.
 #![tactic(auto)]
 
 #[cfg(test)]

@@ -4,7 +4,7 @@ use Rattle.std.proofs.lemmas.List.{length_push}
 use Rattle.fit_activity.specs.declared.recording.entry.Entry.{Entry}
 use Rattle.fit_activity.specs.Recording.{Recorded, Added}
 use Rattle.fit_activity.specs.Totals.{Kept, AreTotals}
-use Rattle.fit_format_tests.proofs.activity.ride.Goals as goal
+use Rattle.fit_activity_tests.proofs.activity.ride.Goals as goal
 
 pub add-requires : goal.add-requires
 add-requires g c =

@@ -2,8 +2,8 @@
 
 ghost use Rattle.std.specs.Prelude.{◌≡◌, ◌≤◌, length};
 
+use super::messages::empty_file;
 use super::{START, ride};
-use crate::known_files::{EMPTY, FILE_ID, empty_file};
 use arrayvec::ArrayVec;
 use fit_activity::{ActivityFault, Speech, Summary, check_activity, speak_closing, speak_start};
 use fit_base::Arch;
@@ -64,6 +64,17 @@ fn tells_what_is_missing(rt: HostRuntime) -> Result<(), Fail> {
     Ok(())
 }
 
+// A file without messages, and one with a file_id alone.
+const EMPTY: [u8; 16] = [
+    0x0E, 0x10, 0x64, 0x00, 0x00, 0x00, 0x00, 0x00, 0x2E, 0x46, 0x49, 0x54, 0x21, 0xEE, 0x00, 0x00,
+];
+
+const SMALL: [u8; 34] = [
+    0x0E, 0x10, 0x64, 0x00, 0x12, 0x00, 0x00, 0x00, 0x2E, 0x46, 0x49, 0x54, 0xA1, 0x3B, 0x40, 0x00,
+    0x00, 0x00, 0x00, 0x02, 0x00, 0x01, 0x00, 0x04, 0x04, 0x86, 0x00, 0x04, 0x00, 0xCA, 0x9A, 0x3B,
+    0x38, 0x1C,
+];
+
 #[test]
 fn judges_known_files(rt: HostRuntime) -> Result<(), Fail> {
     assert_eq!(rt;
@@ -71,7 +82,7 @@ fn judges_known_files(rt: HostRuntime) -> Result<(), Fail> {
         Err(ActivityFault::NoFileId)
     );
     assert_eq!(rt;
-        check_activity(&decode_file(rt.alloc(), &FILE_ID)?),
+        check_activity(&decode_file(rt.alloc(), &SMALL)?),
         Err(ActivityFault::NoLap)
     );
     Ok(())

@@ -1,7 +1,7 @@
 use Rattle.std.proofs.Common.{◌+◌, ◌≤◌, List, length}
 use Rattle.fit_activity.specs.Recording.{Recorded}
 use Rattle.fit_activity.specs.Totals.{AreTotals}
-use Rattle.fit_format_tests.proofs.activity.ride.Given as goal
+use Rattle.fit_activity_tests.proofs.activity.ride.Given as goal
 
 abbrev pub invariant-loop-entry : goal.invariant-loop-entry
 invariant-loop-entry g l = (list : List Recorded) × AreTotals l.totals list × (length list ≤ l.entry-index + 1)

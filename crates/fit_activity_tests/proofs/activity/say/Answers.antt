@@ -1,6 +1,6 @@
 use Rattle.std.proofs.Common.{ap, sym, ◌∙◌}
 use Rattle.std.specs.Result.{result_err}
-use Rattle.fit_format_tests.proofs.activity.say.Goals as goal
+use Rattle.fit_activity_tests.proofs.activity.say.Goals as goal
 
 pub speak-requires : goal.speak-requires
 speak-requires g c =

@@ -1,15 +1,23 @@
 // What rides say, as bytes and as messages that are read again.
 
 use super::{START, T, ride, say, with_distance, with_heart_rate};
-use crate::known_files::empty_file;
 use fit_activity::{
     Entry, Sample, Speech, SpokenMessage, Sport, Start, entry_of, file_id_of, speak_closing,
     speak_start, sport_of,
 };
-use fit_grammar::{File, Message, PutFault};
+use fit_grammar::{File, Frame, Message, PutFault};
 use std::alloc::Global;
 use std::process::Abort;
 use std::test::Fail;
+
+pub(super) fn empty_file(alloc: Global) -> File {
+    let frame = Frame {
+        header_size: 14,
+        protocol: 0x10,
+        profile: 100,
+    };
+    File::new(alloc, frame)
+}
 
 // Adds what was said, each message with its definition.
 pub(super) fn put(file: &mut File, speech: &Speech) -> Result<(), PutFault> {

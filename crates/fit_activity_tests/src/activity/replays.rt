@@ -2,9 +2,8 @@
 
 ghost use Rattle.std.specs.Prelude.{◌<◌, ◌^◌, length};
 
-use super::messages::{put, put_messages};
+use super::messages::{empty_file, put, put_messages};
 use super::{START, T, ride, say, with_distance, with_heart_rate};
-use crate::known_files::empty_file;
 use fit_activity::{
     Entry, Replay, Sample, Speech, SpokenMessage, Start, Summary, check_activity, speak_closing,
     speak_start,
