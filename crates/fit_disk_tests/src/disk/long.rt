@@ -25,12 +25,12 @@ fn a_file_of_16_mib_is_filled_and_comes_back(rt: HostRuntime) -> Result<(), Fail
     sync(&mut disk, Which::Data)?;
     fill(&mut disk, 0x6B)?;
     assert!(rt; !disk.spent());
-    assert_eq!(rt; disk.content(Which::Data)[16_777_215], 0x6B);
+    assert_eq!(rt; disk.content(Which::Data).last().copied(), Some(0x6B));
     // Each place of it varies.
     cycle(&rt, &mut disk, &[0, 0, 0, 0, 0xA5], 5);
     let content = disk.content(Which::Data);
     assert_eq!(rt; content.len(), 16_777_216);
     assert_eq!(rt; &content[..3], [0xA5, 0, 0].as_slice());
-    assert_eq!(rt; content[16_777_215], 0);
+    assert_eq!(rt; content.last().copied(), Some(0));
     Ok(())
 }
