@@ -6,6 +6,7 @@ mod checking;
 mod command;
 mod event;
 mod fault;
+pub mod laws;
 mod playing;
 mod printing;
 mod reading;
@@ -16,6 +17,7 @@ mod showing;
 mod summary;
 #[cfg(test)]
 mod tests;
+pub mod world;
 
 pub use answer::Answer;
 pub use checking::check_bytes;
