@@ -6,3 +6,8 @@ pub mod ReplayLemmas
 pub mod ClaimLemmas
 pub mod HistoryLemmas
 pub mod StepLemmas
+pub mod CanRunLemmas
+pub mod CountLemmas
+pub mod MemoryLemmas
+pub mod RunLemmas
+pub mod PlainLemmas

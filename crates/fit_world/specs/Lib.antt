@@ -11,3 +11,5 @@ pub mod Riding
 pub mod Histories
 pub mod Standing
 pub mod FaultCode
+pub mod Arranging
+pub mod Choosing

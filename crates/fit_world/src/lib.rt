@@ -26,6 +26,7 @@ mod checking;
 mod command;
 mod event;
 mod fault;
+pub mod laws;
 mod playing;
 mod printing;
 mod reading;
@@ -36,6 +37,7 @@ mod showing;
 mod summary;
 #[cfg(test)]
 mod tests;
+pub mod world;
 
 pub use answer::Answer;
 pub use checking::check_bytes;

@@ -7,6 +7,8 @@ use Rattle.std.specs.List.{cons_option}
 use Rattle.std.specs.Result.{is_ok}
 use Rattle.fit_world.specs.Script.{IsLine, meaning_of, event_of, events_of, IsFirstFault}
 use Rattle.fit_world.specs.declared.event.Event.{Event}
+use Rattle.fit_world.specs.Histories.Runs.{CanRun}
+use Rattle.fit_world.proofs.CanRunLemmas.{events_can}
 use Rattle.fit_world.proofs.ScriptLemmas.{now_at, within_now, events_next}
 use Rattle.fit_world.proofs.script.parse.parse_script.Goals as goal
 use Rattle.fit_world.proofs.script.parse.parse_script.Goals.{in-Some+else-is_err, in_default-found}
@@ -65,3 +67,8 @@ loop-index-preserved c =
                 rw (w.in_default-found.is, w.events-is) (sym (append-nil c.loop-index.events.items))
           ]);
     }
+
+pub returns-clause-counts : goal.returns-clause-counts
+returns-clause-counts c =
+    subst (λ events. All (λ event. CanRun event.command) events) (sym c.loop-index.invariant.events)
+    (events_can 1 (take c.loop-index.index (texts_of c.deref-line-items.result.now)))

@@ -1,0 +1,13 @@
+use Rattle.std.proofs.Common.{◌≡◌, true, false, drop}
+use Rattle.fit_disk.specs.Memory.{memory_story, is_spent}
+use Rattle.fit_world.specs.Riding.{CanGoOn, disk_in}
+use Rattle.fit_world.proofs.RunLemmas.{Leads}
+use Rattle.fit_world.proofs.world.run.Given as goal
+
+abbrev pub invariant-loop-event : goal.invariant-loop-event
+invariant-loop-event l =
+    record {
+      goes_on : CanGoOn true memory_story l.ride;
+      not_spent : is_spent (disk_in l.ride) ≡ false;
+      so_far : Leads l.events (drop l.event-index l.events) l.answers.items l.ride;
+    }

@@ -1,0 +1,13 @@
+use Rattle.std.proofs.Common.{true, subst}
+use Rattle.fit_disk.specs.Memory.{memory_story}
+use Rattle.fit_world.specs.Riding.{CanGoOn}
+use Rattle.fit_world.specs.Standing.{StandsIn}
+use Rattle.fit_world.proofs.MemoryLemmas.{same_stands}
+use Rattle.fit_world.proofs.world.simulated.Ride+Memory.fail_at.Goals as goal
+
+pub returns-in-Riding-clause-goes_on : goal.returns-in-Riding-clause-goes_on
+returns-in-Riding-clause-goes_on c goes = c.fail_at-in-Riding.ensures.same.goes_on (subst (λ ride. CanGoOn true memory_story ride) c.in-Riding.is goes)
+
+pub returns-in-Riding-clause-stands : goal.returns-in-Riding-clause-stands
+returns-in-Riding-clause-stands c history stands =
+    same_stands _ _ c.fail_at-in-Riding.ensures.same history (subst (λ ride. StandsIn true memory_story ride history) c.in-Riding.is stands)

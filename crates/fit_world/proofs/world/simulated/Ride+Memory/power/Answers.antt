@@ -1,0 +1,13 @@
+use Rattle.std.proofs.Common.{refl}
+use Rattle.fit_world.specs.Histories.Table.{ended}
+use Rattle.fit_world.specs.Standing.{Fits}
+use Rattle.fit_world.proofs.MemoryLemmas.{cut_rests}
+use Rattle.fit_world.proofs.world.simulated.Ride+Memory.power.Goals as goal
+
+pub returns-clause-step : goal.returns-clause-step
+returns-clause-step c before stands = record {
+  after = ended before;
+  step = (refl, refl);
+  stands = cut_rests (Fits (ended before)) c.args.choices.now _ _ c.cycle-taken.ensures.now c.cycle-taken.ensures.left
+      (c.into_disk-disk.ensures.rests refl before stands);
+}

@@ -1,0 +1,9 @@
+//! Laws of the definitions in `specs/`. Each is the contract of a function that does nothing.
+
+ghost use Rattle.fit_world.specs.Histories.Plain.{RidesGoWell};
+
+/// Over two empty files, a ride in which no failure is arranged and room is left goes well: each entry and each commit is
+/// done, and the stop leaves a valid file of the whole ride.
+pub fn rides_without_failures_go_well()
+    ensures { RidesGoWell }
+{}

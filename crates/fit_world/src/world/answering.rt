@@ -1,0 +1,37 @@
+// The answer that a reply is, with the file where one was finished.
+
+ghost use Rattle.std.specs.Prelude.{◌≡◌, IfOk};
+ghost use Rattle.fit_world.specs.Histories.Runs.{told_in};
+ghost use Rattle.fit_world.specs.Standing.{told};
+
+use super::NoMemory;
+use crate::answer::Answer;
+use crate::reply::Reply;
+use std::alloc::Global;
+
+// The answer that tells the reply, and of a finished recording the data file.
+pub fn answer_of(alloc: Global, reply: Reply, file: &[u8]) -> Result<Answer, NoMemory>
+    ensures { IfOk result (λ answer. told_in answer ≡ told reply file.now) }
+{
+    match reply {
+        Reply::Done => Ok(Answer::Done),
+        Reply::Stopped => Ok(Answer::Stopped {
+            file: copy(alloc, file)?,
+        }),
+        Reply::Recovered(summary) => Ok(Answer::Recovered {
+            summary,
+            file: copy(alloc, file)?,
+        }),
+        Reply::Refused(fault) => Ok(Answer::Refused(fault)),
+        Reply::NoRecorder => Ok(Answer::NoRecorder),
+    }
+}
+
+fn copy(alloc: Global, bytes: &[u8]) -> Result<Vec<u8>, NoMemory>
+    ensures { IfOk result (λ copied. copied.items ≡ bytes.now) }
+{
+    match Vec::from_slice(alloc, bytes) {
+        Ok(copied) => Ok(copied),
+        Err(_) => Err(NoMemory),
+    }
+}

@@ -1,0 +1,80 @@
+// A ride over the memory disk, whose failures and power cuts can be arranged.
+
+ghost use Rattle.std.specs.Prelude.{◌≡◌, ◌≤◌, true, false, min, length};
+ghost use Rattle.fit_world.specs.declared.command.Command.TheVariants as commands;
+ghost use Rattle.fit_world.specs.declared.reply.Reply.TheVariants as replies;
+
+use crate::ride::Ride;
+use fit_disk::{Memory, Which};
+
+impl Ride<Memory> {
+    ghost use Rattle.fit_disk.specs.Counts.{failing_at, cut_off_at, unplanned};
+    ghost use Rattle.fit_disk.specs.Cycle.{cycled, taken_in};
+    ghost use Rattle.fit_disk.specs.Memory.{memory_story, memory_counts, memory_schedule, is_spent};
+    ghost use Rattle.fit_world.specs.Histories.Table.{History};
+    ghost use Rattle.fit_world.specs.Riding.{CanGoOn, disk_in, is_riding};
+    ghost use Rattle.fit_world.specs.Standing.{StandsIn, GoesBy, content_of};
+
+    /// Lets the k-th call of the disk from now fail, from 1 on. The ride stands where it stood.
+    pub(crate) fn fail_at(&mut self, k: u32)
+        requires { 1 ≤ k }
+        ensures goes_on { CanGoOn true memory_story self.old → CanGoOn true memory_story self.new }
+        ensures stands { (history : History) → StandsIn true memory_story self.old history → StandsIn true memory_story self.new history }
+        ensures counts { memory_counts (disk_in self.new) ≡ memory_counts (disk_in self.old) }
+        ensures schedule { memory_schedule (disk_in self.new) ≡ failing_at k (memory_counts (disk_in self.old)) (memory_schedule (disk_in self.old)) }
+    {
+        match self {
+            Ride::Idle(disk) => disk.fail_at(k),
+            Ride::Riding(recorder) => recorder.fail_at(k),
+        }
+    }
+
+    /// Lets the power go at the k-th call of the disk from now, from 1 on. The ride stands where it stood.
+    pub(crate) fn cut_at(&mut self, k: u32)
+        requires { 1 ≤ k }
+        ensures goes_on { CanGoOn true memory_story self.old → CanGoOn true memory_story self.new }
+        ensures stands { (history : History) → StandsIn true memory_story self.old history → StandsIn true memory_story self.new history }
+        ensures counts { memory_counts (disk_in self.new) ≡ memory_counts (disk_in self.old) }
+        ensures schedule { memory_schedule (disk_in self.new) ≡ cut_off_at k (memory_counts (disk_in self.old)) (memory_schedule (disk_in self.old)) }
+    {
+        match self {
+            Ride::Idle(disk) => disk.cut_at(k),
+            Ride::Riding(recorder) => recorder.cut_at(k),
+        }
+    }
+
+    /// Ends the recorder that runs, lets the power go, and brings it back. What is left of both files is what the choice bytes
+    /// say; it answers how many of them were taken.
+    pub(crate) fn power(self, choices: &[u8]) -> (Ride<Memory>, usize)
+        ensures ended { is_riding result.0 ≡ false }
+        ensures step { (before : History) → StandsIn true memory_story self before → GoesBy true memory_story before commands.Power replies.Done result.0 }
+        ensures left { (memory_story (disk_in result.0)).now ≡ cycled choices.now (memory_story (disk_in self)).now }
+        ensures taken { result.1 ≡ min (taken_in choices.now (memory_story (disk_in self)).now) (length choices.now) }
+        ensures counts { memory_counts (disk_in result.0) ≡ memory_counts (disk_in self) }
+        ensures schedule { memory_schedule (disk_in result.0) ≡ unplanned (memory_counts (disk_in self)) }
+    {
+        let mut disk = self.into_disk();
+        let taken = disk.cycle(choices);
+        (Ride::Idle(disk), taken)
+    }
+
+    /// Whether memory was refused in its disk so far, or the disk's counts of calls are at their last value.
+    pub(crate) fn spent(&self) -> bool
+        ensures { result ≡ is_spent (disk_in self.now) }
+    {
+        match self {
+            Ride::Idle(disk) => disk.spent(),
+            Ride::Riding(recorder) => recorder.spent(),
+        }
+    }
+
+    /// The data file, where no recorder runs; nothing where one does.
+    pub(crate) fn file(&self) -> &[u8]
+        ensures { result.now ≡ content_of memory_story self.now }
+    {
+        match self {
+            Ride::Idle(disk) => disk.content(Which::Data),
+            Ride::Riding(_) => &[],
+        }
+    }
+}

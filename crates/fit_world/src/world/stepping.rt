@@ -1,0 +1,75 @@
+// One event of a ride over the memory disk.
+
+ghost use Rattle.std.specs.Prelude.{◌≡◌, ◌≤◌, true, length};
+ghost use Rattle.fit_disk.specs.Memory.{memory_story, memory_counts, memory_schedule};
+ghost use Rattle.fit_world.specs.Arranging.{Moves};
+ghost use Rattle.fit_world.specs.Choosing.{takes, IsLeftBy};
+ghost use Rattle.fit_world.specs.Histories.Runs.{CanRun};
+ghost use Rattle.fit_world.specs.Histories.Table.{History};
+ghost use Rattle.fit_world.specs.Riding.{CanGoOn, disk_in};
+ghost use Rattle.fit_world.specs.Standing.{StandsIn, GoesBy};
+
+use crate::command::Command;
+use crate::reply::Reply;
+use crate::ride::Ride;
+use fit_activity::Entry;
+use fit_disk::Memory;
+
+// Does what a command asks for. It answers the reply, and how many of the choice bytes were taken.
+pub fn step(
+    mut ride: Ride<Memory>,
+    command: &Command,
+    choices: &[u8],
+) -> (Ride<Memory>, Reply, usize)
+    requires goes_on { CanGoOn true memory_story ride }
+    requires can { CanRun command.now }
+    ensures goes_on { CanGoOn true memory_story result.0 }
+    ensures step { (before : History) → StandsIn true memory_story ride before → GoesBy true memory_story before command.now result.1 result.0 }
+    ensures moves { Moves command.now result.1 (memory_counts (disk_in ride)) (memory_schedule (disk_in ride)) (memory_counts (disk_in result.0)) (memory_schedule (disk_in result.0)) }
+    ensures taken { result.2 ≡ takes command.now choices.now (memory_story (disk_in ride)).now }
+    ensures within { result.2 ≤ length choices.now }
+    ensures left { IsLeftBy command.now choices.now (memory_story (disk_in ride)).now (memory_story (disk_in result.0)).now }
+{
+    match command {
+        Command::Start(start) => {
+            let (ride, reply) = ride.start(*start);
+            (ride, reply, 0)
+        }
+        Command::Entry(Entry::Stop(time)) => {
+            let (ride, reply) = ride.stop(*time);
+            (ride, reply, 0)
+        }
+        Command::Entry(entry) => {
+            let reply = ride.hand(entry);
+            (ride, reply, 0)
+        }
+        Command::Commit => {
+            let reply = ride.commit();
+            (ride, reply, 0)
+        }
+        Command::Restart => {
+            let (ride, reply) = ride.restart();
+            (ride, reply, 0)
+        }
+        Command::Recover => {
+            let (ride, reply) = ride.recover();
+            (ride, reply, 0)
+        }
+        Command::Erase => {
+            let (ride, reply) = ride.erase();
+            (ride, reply, 0)
+        }
+        Command::Fail(k) => {
+            ride.fail_at(*k);
+            (ride, Reply::Done, 0)
+        }
+        Command::Cut(k) => {
+            ride.cut_at(*k);
+            (ride, Reply::Done, 0)
+        }
+        Command::Power => {
+            let (ride, taken) = ride.power(choices);
+            (ride, Reply::Done, taken)
+        }
+    }
+}
