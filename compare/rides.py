@@ -148,7 +148,7 @@ def with_closed_output(fitrec):
 
 def with_little_memory(fitrec):
     """With more and more memory: nothing is recorded and one line says why, until all is."""
-    told = set()
+    told, last = set(), 0
     with tempfile.TemporaryDirectory() as folder, tempfile.NamedTemporaryFile("w") as script:
         script.write(script_of(5000, 5000))
         script.flush()
@@ -160,11 +160,13 @@ def with_little_memory(fitrec):
                 break
             # Where there is no memory for the program itself, it does not start.
             if status == 1:
-                line = re.fullmatch(r"fitrec: (NoMemory|line \d+: Memory)\n|Error: Kind\(OutOfMemory\)\n", err)
+                line = re.fullmatch(r"fitrec: (NoMemory|line (\d+): Memory)\n|Error: Kind\(OutOfMemory\)\n", err)
+                last = max(last, int(line[2]) if line and line[2] else 0)
                 recorded = out != "" or file.exists() and file.stat().st_size > 0
                 told.add(line and (line[1] or "start").split()[0])
                 if recorded or not line:
                     yield f"memory of {limit} bytes: nothing is recorded", (out, err)
+        yield "little memory: at the line that wants it", None if last > 1 else last
         yield "little memory: told", None if {"NoMemory", "line"} <= told and None not in told else told
         yield "little memory: enough", differs((status, out.count(" ok\n"), err), (0, 5002, ""))
 

@@ -4,6 +4,8 @@ use Rattle.fit_world.specs.declared.fault.TellFault.{TellFault}
 use Rattle.fit_world.specs.declared.fault.TellFault.TheVariants.{File, Activity, Output}
 use Rattle.fit_world.specs.declared.reading.ReadFault.{ReadFault}
 use Rattle.fit_world.specs.declared.reading.ReadFault.TheVariants.{Failed, TooLarge, NoMemory}
+use Rattle.fit_world.specs.declared.repairing.RepairFault.{RepairFault}
+use Rattle.fit_world.specs.declared.repairing.RepairFault.TheVariants as repairs
 use Rattle.fit_world.specs.declared.script.fault.ReplayFault.{ReplayFault}
 use Rattle.fit_world.specs.declared.script.fault.ReplayFault.TheVariants.{NoText, Script, OnlySimulate}
 use Rattle.fit_world.specs.declared.script.fault.ScriptFaultKind.{ScriptFaultKind}
@@ -36,3 +38,8 @@ abbrev pub tell_code : TellFault → ℕ
 tell_code (File fault) = 1
 tell_code (Activity fault) = 2
 tell_code Output = 3
+
+-- of why a recording is not made whole again, or not told
+abbrev pub repair_code : RepairFault → ℕ
+repair_code (repairs.Recorder fault) = 1
+repair_code repairs.Output = 2

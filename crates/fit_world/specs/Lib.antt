@@ -8,6 +8,7 @@ pub mod Script
 pub mod Replaying
 pub mod Replying
 pub mod Riding
+pub mod Repairing
 pub mod Histories
 pub mod Standing
 pub mod FaultCode

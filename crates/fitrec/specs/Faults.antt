@@ -1,10 +1,13 @@
 -- What the program says of the faults of the libraries below it.
-use Rattle.std.specs.Prelude.{◌≡◌, ℕ, List, codes}
+use Rattle.std.specs.Prelude.{◌≡◌, ◌⊎◌, ◌≤◌, ℕ, List, codes}
 use Rattle.std.specs.Borrow.{Bor}
 use Rattle.fit_disk.specs.declared.files.OpenFault.{OpenFault}
 use Rattle.fit_disk.specs.declared.files.OpenFault.TheVariants.{Open, Memory}
 use Rattle.fit_world.specs.declared.fault.TellFault.{TellFault}
 use Rattle.fit_world.specs.declared.fault.TellFault.TheVariants as tells
+use Rattle.fit_recorder.specs.Recovering.{IsRecoveryFault}
+use Rattle.fit_world.specs.declared.repairing.RepairFault.{RepairFault}
+use Rattle.fit_world.specs.declared.repairing.RepairFault.TheVariants as repairs
 use Rattle.fit_world.specs.declared.script.fault.ReplayFault.{ReplayFault}
 use Rattle.fit_world.specs.declared.script.fault.ReplayFault.TheVariants as replays
 use Rattle.fitrec.specs.declared.fault.Fault.{Fault}
@@ -27,3 +30,31 @@ IsTellFault (tells.File fault) said = said ≡ faults.File fault
 IsTellFault (tells.Activity fault) said = said ≡ faults.Activity fault
 IsTellFault tells.Output (faults.Write name) = name.now ≡ codes "-"
 IsTellFault tells.Output _ = ⊥
+
+-- of a recording that is not made whole again, or not told
+abbrev pub IsRepairSaid : RepairFault → Fault → Type 0
+IsRepairSaid (repairs.Recorder fault) said = said ≡ faults.Recorder fault
+IsRepairSaid repairs.Output (faults.Write name) = name.now ≡ codes "-"
+IsRepairSaid repairs.Output _ = ⊥
+
+-- ---- what may be said by a whole subcommand
+
+-- of a folder of this name that is to be repaired
+abbrev pub IsFolderFault : Bor (List ℕ) → Fault → Type 0
+IsFolderFault folder (faults.Open name) = name ≡ folder
+IsFolderFault folder faults.NoMemory = Unit {0}
+IsFolderFault folder (faults.Recorder fault) = IsRecoveryFault fault
+IsFolderFault folder (faults.Write name) = name.now ≡ codes "-"
+IsFolderFault folder _ = ⊥
+
+-- of a script and a folder of these names: one that is not opened or not read, lines that are none, or so many refusals, one at least
+abbrev pub IsReplaySaid : Bor (List ℕ) → Bor (List ℕ) → Fault → Type 0
+IsReplaySaid script folder (faults.Open name) = (name ≡ script) ⊎ (name ≡ folder)
+IsReplaySaid script folder (faults.Read name) = name ≡ script
+IsReplaySaid script folder (faults.Write name) = name.now ≡ codes "-"
+IsReplaySaid script folder faults.TooLarge = Unit {0}
+IsReplaySaid script folder faults.NoMemory = Unit {0}
+IsReplaySaid script folder (faults.Script fault) = Unit {0}
+IsReplaySaid script folder (faults.OnlySimulate line) = Unit {0}
+IsReplaySaid script folder (faults.Refused count) = 1 ≤ count
+IsReplaySaid script folder _ = ⊥

@@ -1,13 +1,16 @@
 // The folder of a recording.
 
-ghost use Rattle.std.specs.Prelude.{◌≡◌};
+ghost use Rattle.std.specs.Prelude.{◌≡◌, IfErr};
+ghost use Rattle.fit_disk.specs.declared.files.OpenFault.{OpenFault as WhyNotOpen};
 ghost use Rattle.fitrec.specs.Faults.{fault_of_open};
 
 use crate::fault::Fault;
 use fit_disk::{Files, OpenFault};
 
 /// The files of this folder, made where they are missing.
-pub fn open_folder<'a>(rt: &HostRuntime, name: &'a str) -> Result<Files, Fault<'a>> {
+pub fn open_folder<'a>(rt: &HostRuntime, name: &'a str) -> Result<Files, Fault<'a>>
+    ensures { IfErr result (λ fault. (why : WhyNotOpen) × (fault ≡ fault_of_open name.entry why)) }
+{
     match Files::open(rt, name) {
         Ok(files) => Ok(files),
         Err(fault) => Err(fault_of(name, fault)),

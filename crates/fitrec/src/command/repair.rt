@@ -1,14 +1,11 @@
 // The subcommand `repair`: a recording is made whole again.
 
-ghost use Rattle.std.specs.Io.KnownBytes.{Appends};
-ghost use Rattle.std.specs.Prelude.{◌++◌, codes, OnOk};
-ghost use Rattle.fit_activity.specs.declared.activity.Summary.{Summary};
-ghost use Rattle.fit_world.specs.Summary.{summary_text};
+ghost use Rattle.std.specs.Prelude.{IfErr};
+ghost use Rattle.fitrec.specs.Faults.{IsRepairSaid, IsFolderFault};
 
 use crate::command::folder::open_folder;
 use crate::fault::Fault;
-use fit_recorder::recover;
-use fit_world::print_summary;
+use fit_world::{RepairFault, repair};
 use std::io::Write;
 
 /// Recovers the recording of this folder, and prints what its first session says.
@@ -17,14 +14,21 @@ pub fn repair_folder<'a, O: Write>(
     name: &'a str,
     out: &mut O,
 ) -> Result<(), Fault<'a>>
-    ensures { OnOk result ((summary : Summary) × Appends (O.contents out.old) (O.contents out.new) (summary_text summary ++ codes "\n")) }
+    ensures { IfErr result (IsFolderFault name.entry) }
 {
     let mut files = open_folder(rt, name)?;
-    match recover(&mut files) {
-        Ok(summary) => {
-            print_summary(summary, out)?;
-            Ok(())
-        }
-        Err(fault) => Err(Fault::Recorder(fault)),
+    match repair(&mut files, out) {
+        Ok(()) => Ok(()),
+        Err(fault) => Err(fault_of(fault)),
+    }
+}
+
+// What the program says of a recording that is not made whole again.
+fn fault_of(fault: RepairFault) -> Fault<'static>
+    ensures { IsRepairSaid fault result }
+{
+    match fault {
+        RepairFault::Recorder(fault) => Fault::Recorder(fault),
+        RepairFault::Output => Fault::Write("-"),
     }
 }

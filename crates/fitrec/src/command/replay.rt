@@ -1,7 +1,7 @@
 // The subcommand `replay`: the events of a script, over the files of a folder.
 
-ghost use Rattle.std.specs.Prelude.{◌≡◌};
-ghost use Rattle.fitrec.specs.Faults.{fault_of_replay};
+ghost use Rattle.std.specs.Prelude.{◌≡◌, IfErr};
+ghost use Rattle.fitrec.specs.Faults.{fault_of_replay, IsReplaySaid};
 
 use crate::command::folder::open_folder;
 use crate::command::input::read_file;
@@ -16,7 +16,9 @@ pub fn replay_script<'a, O: Write>(
     script: &'a str,
     folder: &'a str,
     out: &mut O,
-) -> Result<(), Fault<'a>> {
+) -> Result<(), Fault<'a>>
+    ensures { IfErr result (IsReplaySaid script.entry folder.entry) }
+{
     let bytes = read_file(rt, script)?;
     let events = match read_script(rt.alloc(), bytes.as_slice()) {
         Ok(events) => events,
