@@ -15,10 +15,14 @@
 //!     2 stop: ok
 //!     ok records=0 laps=1 sessions=1 start=1000000000 elapsed_ms=1000 timer_ms=1000 distance_cm=-
 //!
-//! (The test `the_example_of_the_crate`.) What is promised is said in the words of `specs/`: `Showing` has what becomes of bytes
-//! that are to be shown, `Checking` of those to be checked, `Reading` what is taken from an input; `Script`, `ScriptWords` and
-//! `ScriptSample` which lines a script has and what each asks for, `Replaying` which of its events are replayed, `Answering` what
-//! may be answered to them, and `Riding` what is known of a ride.
+//! (The test `the_example_of_the_crate`.) `world::run` plays events over a disk in memory whose calls fail and whose power goes where
+//! they say so. Its contract is that over all histories: whatever fails, what was confirmed is recovered.
+//!
+//! What is promised is said in the words of `specs/`. `Histories` is the page to believe: `Table` has where a recording stands and
+//! what may be answered then, `Runs` whole histories. `Standing` says what a power cut may leave of a ride that stands there,
+//! `Riding` and `Replying` what is known of it over any disk. `Showing` has what becomes of bytes that are to be shown, `Checking`
+//! of those to be checked, `Reading` what is taken from an input, `Repairing` what a repair makes of a recording; `Script`,
+//! `ScriptWords` and `ScriptSample` which lines a script has and what each asks for, `Replaying` which of its events are replayed.
 #![tactic(auto)]
 
 mod answer;
