@@ -26,6 +26,7 @@
 #![tactic(auto)]
 
 mod answer;
+mod asking;
 mod checking;
 mod command;
 mod event;

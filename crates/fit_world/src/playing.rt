@@ -1,20 +1,15 @@
 // The events of a script, over a disk.
 
-ghost use Rattle.std.specs.Prelude.{◌≡◌, ◌≤◌, List, All, length, IfOk, IfErr, false};
-ghost use Rattle.fit_activity.specs.Recording.{Recorded};
-ghost use Rattle.fit_world.specs.declared.reply.Reply.TheVariants.{Done};
-ghost use Rattle.fit_world.specs.Replying.{MayReply, rides_on, MayRefuse};
-ghost use Rattle.fit_world.specs.Replaying.{is_simulated, IsReplayed};
-ghost use Rattle.fit_world.specs.Riding.{CanGoOn, is_riding, Handed, MayReplyBehind, RidesOnWith, Begins};
+ghost use Rattle.std.specs.Prelude.{◌≤◌, All, length, IfOk, IfErr};
+ghost use Rattle.fit_world.specs.Replying.{MayRefuse};
+ghost use Rattle.fit_world.specs.Replaying.{IsReplayed};
 ghost use Rattle.fit_world.specs.Showing.{IsOutputFault};
 
-use crate::command::Command;
 use crate::event::Event;
 use crate::fault::TellFault;
 use crate::printing::print;
 use crate::reply::Reply;
 use crate::ride::Ride;
-use fit_activity::Entry;
 use fit_disk::Disk;
 use fit_text::Pen;
 use std::fmt::{self, Formatter};
@@ -36,7 +31,7 @@ pub fn play<D: Disk, O: Write>(
     let mut ride = Ride::Idle(disk);
     let mut refused = 0;
     for event in events {
-        let (next, reply) = run(ride, &event.command);
+        let (next, reply) = ride.ask(&event.command);
         ride = next;
         if let Err(fault) = print(&Replied { event, reply }, &mut pen) {
             return (ride.into_disk(), Err(fault));
@@ -46,35 +41,6 @@ pub fn play<D: Disk, O: Write>(
         }
     }
     (ride.into_disk(), Ok(refused))
-}
-
-// Runs what one event asks for.
-fn run<D: Disk>(mut ride: Ride<D>, command: &Command) -> (Ride<D>, Reply)
-    requires goes_on { CanGoOn D.honest D.story ride }
-    requires replayed { is_simulated command.now ≡ false }
-    ensures goes_on { CanGoOn D.honest D.story result.0 }
-    ensures reply { MayReply (is_riding ride) command.now result.1 }
-    ensures riding { is_riding result.0 ≡ rides_on (is_riding ride) command.now result.1 }
-    ensures behind { (list : List Recorded) → Handed ride list → MayReplyBehind ride list command.now result.1 }
-    ensures handed { (list : List Recorded) → Handed ride list → result.1 ≡ Done → RidesOnWith ride list command.now result.0 }
-    ensures begun { result.1 ≡ Done → Begins command.now result.0 }
-{
-    match command {
-        Command::Start(start) => ride.start(*start),
-        Command::Entry(Entry::Stop(time)) => ride.stop(*time),
-        Command::Entry(entry) => {
-            let reply = ride.hand(entry);
-            (ride, reply)
-        }
-        Command::Commit => {
-            let reply = ride.commit();
-            (ride, reply)
-        }
-        Command::Restart => ride.restart(),
-        Command::Recover => ride.recover(),
-        Command::Erase => ride.erase(),
-        Command::Fail(_) | Command::Cut(_) | Command::Power => unreachable!(),
-    }
 }
 
 // The line for an event.

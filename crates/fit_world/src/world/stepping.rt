@@ -12,7 +12,6 @@ ghost use Rattle.fit_world.specs.Standing.{StandsIn, GoesBy};
 use crate::command::Command;
 use crate::reply::Reply;
 use crate::ride::Ride;
-use fit_activity::Entry;
 use fit_disk::Memory;
 
 // Does what a command asks for. It answers the reply, and how many of the choice bytes were taken.
@@ -31,34 +30,6 @@ pub fn step(
     ensures left { IsLeftBy command.now choices.now (memory_story (disk_in ride)).now (memory_story (disk_in result.0)).now }
 {
     match command {
-        Command::Start(start) => {
-            let (ride, reply) = ride.start(*start);
-            (ride, reply, 0)
-        }
-        Command::Entry(Entry::Stop(time)) => {
-            let (ride, reply) = ride.stop(*time);
-            (ride, reply, 0)
-        }
-        Command::Entry(entry) => {
-            let reply = ride.hand(entry);
-            (ride, reply, 0)
-        }
-        Command::Commit => {
-            let reply = ride.commit();
-            (ride, reply, 0)
-        }
-        Command::Restart => {
-            let (ride, reply) = ride.restart();
-            (ride, reply, 0)
-        }
-        Command::Recover => {
-            let (ride, reply) = ride.recover();
-            (ride, reply, 0)
-        }
-        Command::Erase => {
-            let (ride, reply) = ride.erase();
-            (ride, reply, 0)
-        }
         Command::Fail(k) => {
             ride.fail_at(*k);
             (ride, Reply::Done, 0)
@@ -70,6 +41,10 @@ pub fn step(
         Command::Power => {
             let (ride, taken) = ride.power(choices);
             (ride, Reply::Done, taken)
+        }
+        _ => {
+            let (ride, reply) = ride.ask(command);
+            (ride, reply, 0)
         }
     }
 }

@@ -7,18 +7,18 @@ pub loop-event-preserved : goal.loop-event-preserved
 loop-event-preserved g c =
     elim c.if-not-is_ok.branch [
       | then-not-is_ok w ↦ record {
-        goes_on = c.run-next.ensures.goes_on;
+        goes_on = c.ask-next.ensures.goes_on;
         most = omega (arith, w.refused-is, c.loop-event.invariant.most);
         leads = rw w.refused-is
             (one_refused c.args.events.now c.loop-event.event-index _ _ _ _ _ c.loop-event-test.true c.loop-event.invariant.leads
-            c.run-next.ensures.reply c.run-next.ensures.riding (sym c.is_ok.ensures ∙ w.if-not-is_ok.true));
+            c.ask-next.ensures.reply c.ask-next.ensures.riding (sym c.is_ok.ensures ∙ w.if-not-is_ok.true));
       }
       | else-not-is_ok w ↦ record {
-        goes_on = c.run-next.ensures.goes_on;
+        goes_on = c.ask-next.ensures.goes_on;
         most = omega (arith, w.refused-is, c.loop-event.invariant.most);
         leads = rw w.refused-is
             (one_ok c.args.events.now c.loop-event.event-index _ _ _ _ _ c.loop-event-test.true c.loop-event.invariant.leads
-            c.run-next.ensures.reply c.run-next.ensures.riding (sym c.is_ok.ensures ∙ w.if-not-is_ok.false));
+            c.ask-next.ensures.reply c.ask-next.ensures.riding (sym c.is_ok.ensures ∙ w.if-not-is_ok.false));
       }
     ]
 

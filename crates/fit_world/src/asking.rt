@@ -1,0 +1,52 @@
+// One command after another, whichever it is.
+
+ghost use Rattle.std.specs.Prelude.{◌≡◌, List, IsTrue, false};
+
+use crate::command::Command;
+use crate::reply::Reply;
+use crate::ride::Ride;
+use fit_activity::Entry;
+use fit_disk::Disk;
+
+impl<D: Disk> Ride<D> {
+    ghost use Rattle.fit_activity.specs.Recording.{Recorded};
+    ghost use Rattle.fit_world.specs.declared.reply.Reply.TheVariants.{Done};
+    ghost use Rattle.fit_world.specs.Histories.Table.{History};
+    ghost use Rattle.fit_world.specs.Replaying.{is_simulated};
+    ghost use Rattle.fit_world.specs.Replying.{MayReply, rides_on};
+    ghost use Rattle.fit_world.specs.Riding.{Begins, CanGoOn, Handed, MayReplyBehind, RidesOnWith, disk_in, is_riding};
+    ghost use Rattle.fit_world.specs.Standing.{GoesBy, IsCounted, StandsIn};
+
+    /// Does what a command asks for that arranges no failure of the disk.
+    pub fn ask(mut self, command: &Command) -> (Ride<D>, Reply)
+        requires goes_on { CanGoOn D.honest D.story self }
+        requires replayed { is_simulated command.now ≡ false }
+        ensures goes_on { CanGoOn D.honest D.story result.0 }
+        ensures reply { MayReply (is_riding self) command.now result.1 }
+        ensures riding { is_riding result.0 ≡ rides_on (is_riding self) command.now result.1 }
+        ensures behind { (list : List Recorded) → Handed self list → MayReplyBehind self list command.now result.1 }
+        ensures handed { (list : List Recorded) → Handed self list → result.1 ≡ Done → RidesOnWith self list command.now result.0 }
+        ensures begun { result.1 ≡ Done → Begins command.now result.0 }
+        ensures step { IsTrue D.honest → (before : History) → StandsIn D.honest D.story self before
+            → GoesBy D.honest D.story before command.now result.1 result.0 }
+        ensures counted { IsCounted result.1 (D.counts (disk_in self)) (D.counts (disk_in result.0)) }
+        ensures planned { D.schedule (disk_in result.0) ≡ D.schedule (disk_in self) }
+    {
+        match command {
+            Command::Start(start) => self.start(*start),
+            Command::Entry(Entry::Stop(time)) => self.stop(*time),
+            Command::Entry(entry) => {
+                let reply = self.hand(entry);
+                (self, reply)
+            }
+            Command::Commit => {
+                let reply = self.commit();
+                (self, reply)
+            }
+            Command::Restart => self.restart(),
+            Command::Recover => self.recover(),
+            Command::Erase => self.erase(),
+            Command::Fail(_) | Command::Cut(_) | Command::Power => unreachable!(),
+        }
+    }
+}
