@@ -15,10 +15,10 @@
 //!     2 stop: ok
 //!     ok records=0 laps=1 sessions=1 start=1000000000 elapsed_ms=1000 timer_ms=1000 distance_cm=-
 //!
-//! (The test `the_example_of_the_crate`.) What is promised is said in the words of `specs/`: `Showing` has what becomes of bytes
-//! that are to be shown, `Checking` of those to be checked, `Reading` what is taken from an input; `Script`, `ScriptWords` and
-//! `ScriptSample` which lines a script has and what each asks for, `Replaying` which of its events are replayed, `Answering` what
-//! may be answered to them, and `Riding` what is known of a ride.
+//! (The test `the_example_of_the_crate` of `fit_world_tests`.) What is promised is said in the words of `specs/`: `Showing` has
+//! what becomes of bytes that are to be shown, `Checking` of those to be checked, `Reading` what is taken from an input; `Script`,
+//! `ScriptWords` and `ScriptSample` which lines a script has and what each asks for, `Replaying` which of its events are replayed,
+//! `Answering` what may be answered to them, and `Riding` what is known of a ride.
 #![tactic(auto)]
 
 mod answer;
@@ -35,8 +35,6 @@ mod ride;
 mod script;
 mod showing;
 mod summary;
-#[cfg(test)]
-mod tests;
 pub mod world;
 
 pub use answer::Answer;
