@@ -3,6 +3,8 @@
 #![tactic(auto)]
 
 #[cfg(test)]
+mod direct;
+#[cfg(test)]
 mod failing;
 #[cfg(test)]
 mod histories;
@@ -11,8 +13,14 @@ mod output;
 #[cfg(test)]
 mod power_cuts;
 #[cfg(test)]
+mod random;
+#[cfg(test)]
 mod reading;
 #[cfg(test)]
 mod replays;
 #[cfg(test)]
 mod scripts;
+#[cfg(test)]
+mod sweep;
+#[cfg(test)]
+mod table;
