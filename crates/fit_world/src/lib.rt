@@ -15,7 +15,7 @@
 //!     2 stop: ok
 //!     ok records=0 laps=1 sessions=1 start=1000000000 elapsed_ms=1000 timer_ms=1000 distance_cm=-
 //!
-//! (The test `the_example_of_the_crate`.) `world::run` plays events over a disk in memory whose calls fail and whose power goes where
+//! (The test `the_example_of_the_crate` of `fit_world_tests`.) `world::run` plays events over a disk in memory whose calls fail and whose power goes where
 //! they say so. Its contract is that over all histories: whatever fails, what was confirmed is recovered.
 //!
 //! What is promised is said in the words of `specs/`. `Histories` is the page to believe: `Table` has where a recording stands and
@@ -41,8 +41,6 @@ mod ride;
 mod script;
 mod showing;
 mod summary;
-#[cfg(test)]
-mod tests;
 pub mod world;
 
 pub use answer::Answer;

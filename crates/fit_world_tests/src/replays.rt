@@ -1,9 +1,9 @@
 // Scripts that are played over a disk in memory. The lines are from outside.
 
-use super::failing::Failing;
-use crate::{ReplayFault, ScriptFaultKind, TellFault, check_bytes, play, read_script};
+use crate::failing::Failing;
 use fit_disk::{Memory, Which};
 use fit_recorder::recover;
+use fit_world::{ReplayFault, ScriptFaultKind, TellFault, check_bytes, play, read_script};
 use std::test::Fail;
 
 // Five events, of which each second commits one record more.

@@ -1,10 +1,10 @@
 // Output that fails, and memory that is refused, where a file is shown or checked.
 
-use super::failing::Failing;
-use super::replays::stopped_ride;
-use crate::{TellFault, check_bytes, show_bytes};
+use crate::failing::Failing;
+use crate::replays::stopped_ride;
 use fit_base::Crc;
 use fit_grammar::{FaultKind, FileFault};
+use fit_world::{TellFault, check_bytes, show_bytes};
 use std::test::Fail;
 
 // A file of one message: file_id with a type and a time.

@@ -1,6 +1,6 @@
 // Inputs that are read to their end, or not.
 
-use crate::{ReadFault, read_all};
+use fit_world::{ReadFault, read_all};
 use std::alloc::Global;
 use std::io::{self, Read};
 

@@ -1,10 +1,10 @@
 // Scripts whose events and faults are known from outside.
 
-use crate::ScriptFaultKind::{
+use fit_activity::{Entry, Sample, Sport, Start};
+use fit_world::ScriptFaultKind::{
     BadNumber, ExtraWord, MissingWord, RepeatedKey, UnknownKey, UnknownWord,
 };
-use crate::{Command, Event, ScriptFault, ScriptFaultKind, parse_script};
-use fit_activity::{Entry, Sample, Sport, Start};
+use fit_world::{Command, Event, ScriptFault, ScriptFaultKind, parse_script};
 use std::test::Fail;
 
 // What is wrong with a text that is no script, and in which line.

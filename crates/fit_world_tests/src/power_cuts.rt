@@ -1,7 +1,7 @@
 // Power cuts at each call of the device, in a commit and in a recovery, with all that they may leave as one byte or another.
 
-use super::histories::{answers_to, file_in};
-use crate::Answer;
+use crate::histories::{answers_to, file_in};
+use fit_world::Answer;
 use std::test::Fail;
 
 // How many calls of the device a commit makes.

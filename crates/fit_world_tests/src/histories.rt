@@ -1,7 +1,7 @@
 // Scripts that are run over a disk in memory. The answers, the files and the choice bytes are from outside.
 
-use crate::world::run;
-use crate::{Answer, Reply, parse_script, show_bytes};
+use fit_world::world::run;
+use fit_world::{Answer, Reply, parse_script, show_bytes};
 use std::test::Fail;
 
 // A start, ten samples and no commit.

@@ -1,0 +1,26 @@
+//! Tests of what becomes of bytes and of scripts, by the public calls of `fit_world` and of the libraries below it. They stand
+//! above it, so that no library is proved once more with its tests.
+#![tactic(auto)]
+
+#[cfg(test)]
+mod direct;
+#[cfg(test)]
+mod failing;
+#[cfg(test)]
+mod histories;
+#[cfg(test)]
+mod output;
+#[cfg(test)]
+mod power_cuts;
+#[cfg(test)]
+mod random;
+#[cfg(test)]
+mod reading;
+#[cfg(test)]
+mod replays;
+#[cfg(test)]
+mod scripts;
+#[cfg(test)]
+mod sweep;
+#[cfg(test)]
+mod table;

@@ -1,0 +1,338 @@
+// Scripts of up to forty events that look like chance, with choices that do. Each is run, and each answer is held against the table.
+
+ghost use Rattle.std.specs.Prelude.{◌≤◌};
+
+use crate::direct;
+use crate::table::is_history;
+use fit_recorder::RecFault;
+use fit_world::world::run;
+use fit_world::{Answer, Command, parse_script};
+use std::alloc::Global;
+use std::process::Abort;
+use std::test::Fail;
+
+// How many histories are tried. With a hundred times as many the test takes some minutes, which is more than a test has in the gate.
+const HISTORIES: u32 = 1000;
+
+// How many choice bytes there are at the most.
+const MOST: usize = 1024;
+
+// A row of numbers that look like chance, the same each time.
+#[derive(Drop)]
+struct Noise {
+    last: u32,
+    // The time of the last start, and of the last entry that was meant to fit.
+    start: u32,
+    now: u32,
+    // Whether a recorder runs, where all goes well.
+    rides: bool,
+}
+
+impl Noise {
+    fn next(&mut self) -> u32 {
+        let first = self.last ^ (self.last << 13);
+        let second = first ^ (first >> 17);
+        self.last = second ^ (second << 5);
+        self.last
+    }
+
+    // One of the numbers below this one, and 0 where there are none.
+    fn below(&mut self, end: u32) -> u32 {
+        let drawn = self.next() >> 7;
+        if end == 0 { 0 } else { drawn % end }
+    }
+
+    fn one_in(&mut self, count: u32) -> bool {
+        self.below(count) == 0
+    }
+
+    // A time that often fits.
+    fn time(&mut self) -> u32 {
+        let limit = self.start.saturating_add(4_000_000);
+        match self.below(60) {
+            0 => self.now.saturating_sub(1),
+            1 => limit.saturating_add(1),
+            2 => u32::MAX,
+            3 => 5,
+            4 if self.one_in(4) => limit,
+            _ => {
+                self.now = self.now.saturating_add(self.below(4));
+                self.now
+            }
+        }
+    }
+
+    // One setting of a sample, or none.
+    fn setting(&mut self, alloc: Global) -> Result<String, Fail> {
+        let text = match self.below(14) {
+            0 => format!(in alloc; " lat={} long=-{}", self.below(9), self.below(9))?,
+            1 => format!(in alloc; " alt={}", self.below(65_537).min(65_535))?,
+            2..5 => format!(in alloc; " hr={}", self.below(240))?,
+            5 => format!(in alloc; " hr=255 cad=255")?,
+            6 => format!(in alloc; " cad={} temp=-{}", self.below(200), self.below(20))?,
+            7..11 => format!(in alloc; " dist={}", self.next() >> 12)?,
+            11 => format!(in alloc; " speed={} power={}", self.below(9000), self.below(900))?,
+            12 if self.one_in(3) => format!(in alloc; " temp=127")?,
+            _ => String::new(alloc),
+        };
+        Ok(text)
+    }
+
+    // The line of a start.
+    fn start(&mut self, alloc: Global) -> Result<String, Fail> {
+        let time = self.time();
+        self.start = time;
+        self.rides = true;
+        let sport = match self.below(3) {
+            0 => "generic",
+            1 => "running",
+            _ => "cycling",
+        };
+        Ok(format!(in alloc; "start {time} {} {sport}\n", self.below(1000))?)
+    }
+
+    // The number of a call that is to fail.
+    fn call(&mut self) -> u32 {
+        let most = if self.one_in(2) { 12 } else { 40 };
+        self.below(most).saturating_add(1)
+    }
+
+    // The line of an event that is likely while a recorder runs.
+    fn line_of_a_ride(&mut self, alloc: Global) -> Result<String, Fail> {
+        let line = match self.below(40) {
+            0..19 => {
+                let setting = self.setting(alloc)?;
+                format!(in alloc; "sample {}{setting}\n", self.time())?
+            }
+            19..22 => format!(in alloc; "lap {}\n", self.time())?,
+            22..25 => format!(in alloc; "pause {}\n", self.time())?,
+            25..29 => format!(in alloc; "resume {}\n", self.time())?,
+            29..38 => format!(in alloc; "commit\n")?,
+            _ => {
+                self.rides = false;
+                format!(in alloc; "stop {}\n", self.time())?
+            }
+        };
+        Ok(line)
+    }
+
+    // The line of one that is likely while none runs; each ends the one that does.
+    fn line_between(&mut self, alloc: Global) -> Result<String, Fail> {
+        self.rides = false;
+        let line = match self.below(20) {
+            0..6 => self.start(alloc)?,
+            6..8 => format!(in alloc; "restart\n")?,
+            8..12 => format!(in alloc; "recover\n")?,
+            12..16 => format!(in alloc; "erase\n")?,
+            _ => format!(in alloc; "power\n")?,
+        };
+        Ok(line)
+    }
+
+    // The line of any event.
+    fn line(&mut self, alloc: Global) -> Result<String, Fail> {
+        match self.below(20) {
+            0 => Ok(format!(in alloc; "fail {}\n", self.call())?),
+            1 => Ok(format!(in alloc; "cut {}\n", self.call())?),
+            2 if self.rides => self.line_between(alloc),
+            2 => self.line_of_a_ride(alloc),
+            _ if self.rides => self.line_of_a_ride(alloc),
+            _ => self.line_between(alloc),
+        }
+    }
+
+    // A script, which mostly begins with a start.
+    fn script(&mut self, alloc: Global) -> Result<String, Fail> {
+        self.now = 1_000_000_000;
+        self.start = self.now;
+        self.rides = false;
+        let mut script = String::new(alloc);
+        if !self.one_in(8) {
+            script.push_str(self.start(alloc)?.as_str())?;
+        }
+        for _ in 0..self.below(40) {
+            script.push_str(self.line(alloc)?.as_str())?;
+        }
+        Ok(script)
+    }
+
+    // Fills the choices: all of them an open gate or FF, or noise with many an open gate in it. Answers how many are given.
+    fn choose(&mut self, choices: &mut [u8; MOST]) -> usize
+        ensures { result ≤ 1024 }
+    {
+        let kind = self.below(5);
+        for choice in choices {
+            let [first, second, _, _] = self.next().to_le_bytes();
+            *choice = match kind {
+                0 => 0xA5,
+                1 => 0xFF,
+                2 => first,
+                _ if second % 4 == 0 => 0xA5,
+                _ if second % 4 == 1 => 0,
+                _ => first,
+            };
+        }
+        (self.below(1025) as usize).min(MOST)
+    }
+}
+
+// How often each answer was seen, so that none is left out, and how many calls of the device there were at the least.
+#[derive(Clone, Copy, Debug)]
+struct Seen {
+    done: u32,
+    stopped: u32,
+    recovered: u32,
+    no_recorder: u32,
+    // By their numbers.
+    faults: [u32; 9],
+    refusals: [u32; 9],
+    calls: u64,
+}
+
+const NOTHING: Seen = Seen {
+    done: 0,
+    stopped: 0,
+    recovered: 0,
+    no_recorder: 0,
+    faults: [0; 9],
+    refusals: [0; 9],
+    calls: 0,
+};
+
+// One more of this number.
+fn count_one(counts: &mut [u32; 9], number: u8) {
+    if let Some(count) = counts.get_mut(usize::from(number)) {
+        *count = count.saturating_add(1);
+    }
+}
+
+// How many calls of the device there are at the least where this is answered: those of the description, of a recovery that is done
+// without its slots and items, and one where it failed.
+fn least_calls(command: &Command, answer: &Answer) -> u64 {
+    match (command, answer) {
+        (Command::Start(_), Answer::Done) => 11,
+        (Command::Start(_), Answer::Refused(RecFault::NotEmpty)) => 2,
+        (Command::Entry(_), Answer::Done) => 1,
+        (Command::Commit, Answer::Done) => 5,
+        (Command::Erase, Answer::Done) => 3,
+        (_, Answer::Stopped { .. }) => 9,
+        (_, Answer::Recovered { .. }) => 8,
+        (_, Answer::Refused(RecFault::NothingRecorded)) => 3,
+        (_, Answer::Refused(RecFault::Device)) => 1,
+        _ => 0,
+    }
+}
+
+impl Seen {
+    fn see(&mut self, command: &Command, answer: &Answer) {
+        match answer {
+            Answer::Done => self.done = self.done.saturating_add(1),
+            Answer::Stopped { .. } => self.stopped = self.stopped.saturating_add(1),
+            Answer::Recovered { .. } => self.recovered = self.recovered.saturating_add(1),
+            Answer::NoRecorder => self.no_recorder = self.no_recorder.saturating_add(1),
+            Answer::Refused(fault) => {
+                count_one(&mut self.faults, fault.code());
+                if let RecFault::Refused(refusal) = fault {
+                    count_one(&mut self.refusals, refusal.code());
+                }
+            }
+        }
+        self.calls = self.calls.saturating_add(least_calls(command, answer));
+    }
+
+    // Whether each answer was seen that may come to so few events, and no other: there is room, and nothing is damaged.
+    fn has_all(&self) -> bool {
+        let [
+            _,
+            not_empty,
+            refused,
+            full,
+            journal_full,
+            device,
+            failed,
+            nothing,
+            damaged,
+        ] = self.faults;
+        let [
+            _,
+            time,
+            distance,
+            value,
+            stopped,
+            running,
+            too_long,
+            laps,
+            ended,
+        ] = self.refusals;
+        let few = [
+            not_empty, refused, device, failed, nothing, time, distance, value,
+        ];
+        let more = [
+            stopped,
+            running,
+            too_long,
+            self.done,
+            self.stopped,
+            self.recovered,
+            self.no_recorder,
+        ];
+        few.iter().all(|count| *count > 0)
+            && more.iter().all(|count| *count > 0)
+            && full == 0
+            && journal_full == 0
+            && damaged == 0
+            && laps == 0
+            && ended == 0
+    }
+}
+
+// Runs a script, by `world::run` and by direct calls, and holds each answer against the table.
+fn try_script(
+    rt: &impl Abort,
+    alloc: Global,
+    script: &str,
+    choices: &[u8],
+    seen: &mut Seen,
+) -> Result<(), Fail> {
+    let events = parse_script(alloc, script)?;
+    let answers = run(alloc, events.as_slice(), choices)?;
+    let (_, others) = direct::play(alloc, events.as_slice(), choices)?;
+    assert!(rt;
+        answers.as_slice() == others.as_slice(),
+        "{script}{choices:?}"
+    );
+    assert!(rt;
+        is_history(alloc, &events, &answers)?,
+        "{script}{choices:?}"
+    );
+    for (event, answer) in events.iter().zip(&answers) {
+        seen.see(&event.command, answer);
+    }
+    Ok(())
+}
+
+#[test]
+fn random_histories_go_by_the_table(rt: HostRuntime) -> Result<(), Fail> {
+    let mut noise = Noise {
+        last: 0x2545_F491,
+        start: 0,
+        now: 0,
+        rides: false,
+    };
+    let mut choices = [0; MOST];
+    let mut seen = NOTHING;
+    for _ in 0..HISTORIES {
+        let script = noise.script(rt.alloc())?;
+        let given = noise.choose(&mut choices);
+        try_script(
+            &rt,
+            rt.alloc(),
+            script.as_str(),
+            &choices[..given],
+            &mut seen,
+        )?;
+    }
+    assert!(rt; seen.has_all(), "{seen:?}");
+    assert!(rt; seen.calls > 0, "{seen:?}");
+    Ok(())
+}

@@ -1,0 +1,117 @@
+// A ride in which each call of the device fails in turn, or the power goes at it, and a recovery in which it goes; by `world::run`,
+// and again by direct calls. How many calls there are is that of the description.
+
+use crate::direct;
+use crate::histories::file_in;
+use crate::table::is_history;
+use fit_activity::Summary;
+use fit_world::world::run;
+use fit_world::{Answer, parse_script};
+use std::alloc::Global;
+use std::process::Abort;
+use std::test::Fail;
+
+const RIDE: &str =
+    "start 1000000000 7 running\nsample 1000000000 hr=100\ncommit\nsample 1000000001 hr=101\nlap 1000000002\ncommit\n";
+
+const STOP: &str = "stop 1000000003\n";
+
+// Of the start, three entries, two commits and the stop.
+const RIDE_CALLS: u32 = 11 + 3 + 2 * 5 + 9;
+
+// Of the ride without its stop: two syncs, the size, the head of the journal and four slots of it, the eleven items of the body,
+// and the four calls that close the file.
+const RECOVERY_CALLS: u32 = 2 + 1 + 1 + 4 + 11 + 4;
+
+// The bytes that a power cut leaves where any may be left: none are given, or so many.
+const CHOICES: [&[u8]; 3] = [&[], &[0xA5; 600], &[0xFF; 600]];
+
+// What the ride without its stop says of itself.
+const UNSTOPPED: Summary = Summary {
+    records: 2,
+    laps: 2,
+    sessions: 1,
+    start: Some(1_000_000_000),
+    elapsed_ms: Some(2000),
+    timer_ms: Some(2000),
+    distance_cm: None,
+};
+
+// The answers to the script, which are those of direct calls, and a history. A recovery leaves the file that it tells.
+fn answers_to(
+    rt: &impl Abort,
+    alloc: Global,
+    script: &str,
+    choices: &[u8],
+) -> Result<Vec<Answer>, Fail> {
+    let events = parse_script(alloc, script)?;
+    let answers = run(alloc, events.as_slice(), choices)?;
+    let (file, others) = direct::play(alloc, events.as_slice(), choices)?;
+    assert!(rt; answers.as_slice() == others.as_slice(), "{script}");
+    assert!(rt; is_history(alloc, &events, &answers)?, "{script}");
+    let told = file_in(answers.last());
+    assert!(rt; told.is_empty() || told == file.as_slice(), "{script}");
+    Ok(answers)
+}
+
+fn is_ok(answer: &Answer) -> bool {
+    !matches!(answer, Answer::Refused(_) | Answer::NoRecorder)
+}
+
+// Whether each answer of the ride and its stop, behind a first event, is ok.
+fn went_well(answers: &[Answer]) -> bool {
+    answers.iter().take(8).all(|answer| is_ok(answer))
+}
+
+// Each call of the ride fails once, and then it is recovered.
+fn fail_each_call(rt: &impl Abort, alloc: Global) -> Result<(), Fail> {
+    for k in 1..=RIDE_CALLS + 1 {
+        let script = format!(in alloc; "fail {k}\n{RIDE}{STOP}recover\n")?;
+        let answers = answers_to(rt, alloc, script.as_str(), &[])?;
+        assert_eq!(rt; went_well(&answers), k > RIDE_CALLS, "{k}");
+    }
+    Ok(())
+}
+
+// The power goes at each call of the ride, and then it is recovered.
+fn cut_each_call(rt: &impl Abort, alloc: Global) -> Result<(), Fail> {
+    for choices in CHOICES {
+        for k in 1..=RIDE_CALLS + 1 {
+            let script = format!(in alloc; "cut {k}\n{RIDE}{STOP}power\nrecover\n")?;
+            let answers = answers_to(rt, alloc, script.as_str(), choices)?;
+            assert_eq!(rt; went_well(&answers), k > RIDE_CALLS, "{k}");
+        }
+    }
+    Ok(())
+}
+
+// The power goes at each call of the recovery, and the next one leaves the same file as one that was not cut off.
+fn cut_each_call_of_a_recovery(rt: &impl Abort, alloc: Global) -> Result<(), Fail> {
+    let script = format!(in alloc; "{RIDE}recover\n")?;
+    let whole = answers_to(rt, alloc, script.as_str(), &[])?;
+    let wanted = file_in(whole.last());
+    assert_eq!(rt; wanted.len(), 14 + 72 + 18 + 6 + 87 + 252 + 2);
+    for choices in CHOICES {
+        for k in 1..=RECOVERY_CALLS + 1 {
+            let script = format!(in alloc; "{RIDE}cut {k}\nrecover\npower\nrecover\n")?;
+            let answers = answers_to(rt, alloc, script.as_str(), choices)?;
+            let first = answers.get(7);
+            assert_eq!(rt; first.is_some_and(is_ok), k > RECOVERY_CALLS, "{k}");
+            match answers.last() {
+                Some(Answer::Recovered { summary, file }) => {
+                    assert_eq!(rt; *summary, UNSTOPPED, "{k}");
+                    assert!(rt; file.as_slice() == wanted, "{k}");
+                }
+                _ => assert!(rt; false, "{k}"),
+            }
+        }
+    }
+    Ok(())
+}
+
+#[test]
+fn world_equals_direct_calls(rt: HostRuntime) -> Result<(), Fail> {
+    fail_each_call(&rt, rt.alloc())?;
+    cut_each_call(&rt, rt.alloc())?;
+    cut_each_call_of_a_recovery(&rt, rt.alloc())
+}

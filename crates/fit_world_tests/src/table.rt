@@ -1,0 +1,307 @@
+// The table of histories, said once more and slowly: where a recording stands is a set of claims, each a plain list of what may be
+// recorded and how many of its entries are promised. Nothing here is taken from the code that is tested.
+
+pub mod list;
+pub mod telling;
+
+use fit_activity::{Entry, Refusal, Start, Summary};
+use fit_recorder::RecFault;
+use fit_world::{Answer, Command, Event};
+use list::{Recorded, refusal_of, start_fits, sums_of};
+use std::alloc::Global;
+use std::test::Fail;
+use telling::{Told, told_by, told_of};
+
+// A beginning of the list may be recorded, no shorter than the promise.
+#[derive(Debug, Drop)]
+struct Claim {
+    list: Vec<Recorded>,
+    promise: usize,
+}
+
+// All of this list is recorded.
+fn whole(alloc: Global, list: &[Recorded]) -> Result<Claim, Fail> {
+    Ok(Claim {
+        list: Vec::from_slice(alloc, list)?,
+        promise: list.len(),
+    })
+}
+
+/// Where a recording stands. While a recorder runs there is one claim.
+#[derive(Drop)]
+pub struct Table {
+    alloc: Global,
+    claims: Vec<Claim>,
+    riding: bool,
+    // The device failed in the recorder that runs.
+    broken: bool,
+    // A start was begun since the last erasing.
+    begun: bool,
+    // A power cut was arranged since the power last came back, and a failure behind which no call was broken off.
+    cut: bool,
+    fail: bool,
+}
+
+// Whether a call was broken off by the device.
+fn is_device(answer: &Answer) -> bool {
+    *answer == Answer::Refused(RecFault::Device)
+}
+
+impl Table {
+    /// Two empty files: the one claim is that nothing is recorded.
+    pub fn new(alloc: Global) -> Result<Table, Fail> {
+        let mut claims = Vec::new(alloc);
+        claims.push(whole(alloc, &[])?)?;
+        Ok(Table {
+            alloc,
+            claims,
+            riding: false,
+            broken: false,
+            begun: false,
+            cut: false,
+            fail: false,
+        })
+    }
+
+    /// Whether the answer may come to the command. The recording stands behind it then.
+    pub fn allows(&mut self, command: &Command, answer: &Answer) -> Result<bool, Fail> {
+        if is_device(answer) && !self.cut && !self.fail {
+            return Ok(false);
+        }
+        let allowed = match command {
+            Command::Start(start) => self.start(start, answer)?,
+            Command::Entry(Entry::Stop(time)) => self.stop(*time, answer)?,
+            Command::Entry(entry) => self.hand(entry, answer)?,
+            Command::Commit => self.commit(answer),
+            Command::Restart => self.restart(answer),
+            Command::Recover => self.recover(answer)?,
+            Command::Erase => self.erase(answer)?,
+            Command::Fail(_) | Command::Cut(_) | Command::Power => self.arrange(command, answer),
+        };
+        if is_device(answer) {
+            self.fail = false;
+        }
+        Ok(allowed)
+    }
+
+    // Whether nothing at all may be recorded.
+    fn has_none(&self) -> bool {
+        self.claims.iter().any(|claim| claim.list.is_empty())
+    }
+
+    // From here on all of this list is recorded, and nothing else.
+    fn keep(&mut self, list: &[Recorded]) -> Result<(), Fail> {
+        let mut claims = Vec::new(self.alloc);
+        claims.push(whole(self.alloc, list)?)?;
+        self.claims = claims;
+        Ok(())
+    }
+
+    // The recorder that runs ends.
+    fn end(&mut self) {
+        self.riding = false;
+        self.broken = false;
+    }
+
+    fn restart(&mut self, answer: &Answer) -> bool {
+        self.end();
+        *answer == Answer::Done
+    }
+
+    fn arrange(&mut self, command: &Command, answer: &Answer) -> bool {
+        match command {
+            Command::Fail(_) => self.fail = true,
+            Command::Cut(_) => self.cut = true,
+            _ => {
+                self.end();
+                self.fail = false;
+                self.cut = false;
+            }
+        }
+        *answer == Answer::Done
+    }
+
+    fn start(&mut self, start: &Start, answer: &Answer) -> Result<bool, Fail> {
+        self.end();
+        let fits = start_fits(start);
+        match answer {
+            Answer::Done => {
+                let allowed = fits && self.has_none();
+                self.keep(&[Recorded::Started(*start)])?;
+                self.riding = true;
+                self.begun = true;
+                Ok(allowed)
+            }
+            Answer::Refused(RecFault::Refused(refusal)) => Ok(!fits && *refusal == Refusal::Time),
+            Answer::Refused(RecFault::NotEmpty) => Ok(fits && self.begun),
+            Answer::Refused(RecFault::Device) => {
+                if self.has_none() {
+                    let claim = whole(self.alloc, &[Recorded::Started(*start)])?;
+                    self.claims.push(claim)?;
+                }
+                self.begun = true;
+                Ok(fits)
+            }
+            _ => Ok(false),
+        }
+    }
+
+    // An entry that is no stop. No history here has so many that there is no room.
+    fn hand(&mut self, entry: &Entry, answer: &Answer) -> Result<bool, Fail> {
+        if !self.riding || self.broken {
+            return Ok(self.is_idle(answer));
+        }
+        let Some(claim) = self.claims.first_mut() else {
+            return Ok(false);
+        };
+        let refusal = refusal_of(&claim.list, entry);
+        match answer {
+            Answer::Done => {
+                claim.list.push(Recorded::Added(*entry))?;
+                Ok(refusal.is_none())
+            }
+            Answer::Refused(RecFault::Refused(told)) => Ok(refusal == Some(*told)),
+            Answer::Refused(RecFault::Device) => {
+                self.broken = true;
+                Ok(refusal.is_none())
+            }
+            _ => Ok(false),
+        }
+    }
+
+    // Nor so many commits that the journal is full.
+    fn commit(&mut self, answer: &Answer) -> bool {
+        if !self.riding || self.broken {
+            return self.is_idle(answer);
+        }
+        let Some(claim) = self.claims.first_mut() else {
+            return false;
+        };
+        match answer {
+            Answer::Done => {
+                claim.promise = claim.list.len();
+                true
+            }
+            Answer::Refused(RecFault::Device) => {
+                self.broken = true;
+                true
+            }
+            _ => false,
+        }
+    }
+
+    fn stop(&mut self, time: u32, answer: &Answer) -> Result<bool, Fail> {
+        if !self.riding || self.broken {
+            return Ok(self.is_idle(answer));
+        }
+        let Some(claim) = self.claims.first_mut() else {
+            return Ok(false);
+        };
+        let stop = Entry::Stop(time);
+        let refusal = refusal_of(&claim.list, &stop);
+        if let Answer::Refused(RecFault::Refused(told)) = answer {
+            return Ok(refusal == Some(*told));
+        }
+        claim.list.push(Recorded::Added(stop))?;
+        match answer {
+            Answer::Stopped { file } => {
+                claim.promise = claim.list.len();
+                let is_file = is_file_of(self.alloc, file, &claim.list, &sums_of(&claim.list))?;
+                self.end();
+                Ok(refusal.is_none() && is_file)
+            }
+            Answer::Refused(RecFault::Device) => {
+                self.broken = true;
+                Ok(refusal.is_none())
+            }
+            _ => Ok(false),
+        }
+    }
+
+    // The one answer where no recorder runs, or where the device failed in it.
+    fn is_idle(&self, answer: &Answer) -> bool {
+        match self.riding {
+            false => *answer == Answer::NoRecorder,
+            true => *answer == Answer::Refused(RecFault::Failed),
+        }
+    }
+
+    fn recover(&mut self, answer: &Answer) -> Result<bool, Fail> {
+        self.end();
+        match answer {
+            Answer::Recovered { summary, file } => self.recovered(summary, file),
+            Answer::Refused(RecFault::NothingRecorded) => {
+                let allowed = self.has_none();
+                self.keep(&[])?;
+                Ok(allowed)
+            }
+            Answer::Refused(RecFault::Device) => Ok(true),
+            _ => Ok(false),
+        }
+    }
+
+    // The file is that of a beginning of some claim, no shorter than it promises and not empty. Two beginnings may have one file:
+    // where the last ends with a stop at the time of the entry before it.
+    fn recovered(&mut self, summary: &Summary, file: &[u8]) -> Result<bool, Fail> {
+        let Some(told) = told_by(self.alloc, file)? else {
+            return Ok(false);
+        };
+        let mut kept = Vec::new(self.alloc);
+        for claim in &self.claims {
+            for len in claim.promise.max(1)..claim.list.len().saturating_add(1) {
+                if let Some(beginning) = claim.list.as_slice().get(..len) {
+                    if sums_of(beginning) == *summary && told == told_of(self.alloc, beginning)? {
+                        kept.push(whole(self.alloc, beginning)?)?;
+                    }
+                }
+            }
+        }
+        self.claims = kept;
+        Ok(!self.claims.is_empty())
+    }
+
+    fn erase(&mut self, answer: &Answer) -> Result<bool, Fail> {
+        self.end();
+        match answer {
+            Answer::Done => {
+                self.keep(&[])?;
+                self.begun = false;
+                Ok(true)
+            }
+            Answer::Refused(RecFault::Device) => {
+                let nothing = whole(self.alloc, &[])?;
+                self.claims.push(nothing)?;
+                Ok(true)
+            }
+            _ => Ok(false),
+        }
+    }
+}
+
+// Whether the bytes are a valid file of the list and of what closes it, and say this of themselves.
+fn is_file_of(
+    alloc: Global,
+    file: &[u8],
+    list: &[Recorded],
+    summary: &Summary,
+) -> Result<bool, Fail> {
+    let wanted = told_of(alloc, list)?;
+    match told_by(alloc, file)? {
+        Some(told) => Ok(told == wanted && told.summary == *summary),
+        None => Ok(false),
+    }
+}
+
+/// Whether these answers may come to these events over two empty files.
+pub fn is_history(alloc: Global, events: &[Event], answers: &[Answer]) -> Result<bool, Fail> {
+    if events.len() != answers.len() {
+        return Ok(false);
+    }
+    let mut table = Table::new(alloc)?;
+    for (event, answer) in events.iter().zip(answers) {
+        if !table.allows(&event.command, answer)? {
+            return Ok(false);
+        }
+    }
+    Ok(true)
+}
