@@ -1,8 +1,8 @@
 // The two real files of a recording.
 
 ghost use Rattle.std.proofs.lemmas.Bool.{false≢true};
-ghost use Rattle.std.specs.Prelude.{◌+◌, ◌<◌, ◌≡◌, ◌≤◌, false, true, length, IfOk, IsErr};
-ghost use Rattle.fit_disk.specs.Counts.{unplanned, no_calls, with_failure};
+ghost use Rattle.std.specs.Prelude.{◌+◌, ◌<◌, ◌≡◌, ◌≤◌, false, true, length, IfOk, IsErr, OnOk, OnErr};
+ghost use Rattle.fit_disk.specs.Counts.{unplanned, no_calls, with_failure, CountsCall, CountsRead};
 ghost use Rattle.fit_disk.specs.Events.{fresh};
 
 use crate::tally::Tally;
@@ -67,21 +67,27 @@ impl From<AllocError> for OpenFault {
 
 /// The files `activity.fit` and `activity.frj` of a folder. Nothing is promised of their bytes: what a real disk
 /// has to keep for that is the user's part.
+///
+/// A sync that failed is remembered: every later call fails. The system reports it once, and the next sync would answer
+/// Ok and have written nothing; so only files that are opened anew go on.
 #[derive(Drop)]
 pub struct Files {
     data: File,
     journal: File,
     counts: Tally,
+    // A sync failed.
+    is_lost: bool,
 }
 
 impl Files {
-    ghost use Rattle.fit_disk.specs.Files.{files_counts};
+    ghost use Rattle.fit_disk.specs.Files.{files_counts, is_lost};
 
     /// Opens both files of an existing folder, and makes those that are missing. While they are open a second
     /// `open` of the folder, by any program that locks them, gives `Open`. What the files hold is on the disk then,
     /// and what reads give is what is on the disk.
     pub fn open(rt: &HostRuntime, folder: &str) -> Result<Files, OpenFault>
-        ensures { IfOk result (λ files. files_counts files ≡ no_calls) }
+        ensures counts { IfOk result (λ files. files_counts files ≡ no_calls) }
+        ensures lost { IfOk result (λ files. is_lost files ≡ false) }
     {
         let path = Path::new(folder);
         let data = open_locked(rt, path.join(rt.alloc(), DATA_NAME)?.as_str())?;
@@ -95,6 +101,7 @@ impl Files {
             data,
             journal,
             counts: Tally::new(),
+            is_lost: false,
         })
     }
 
@@ -110,14 +117,28 @@ impl Files {
         requires { self.old.counts.failed < self.old.counts.calls }
         ensures err { IsErr result }
         ensures counts { files_counts self.new ≡ with_failure (files_counts self.old) }
+        ensures lost { is_lost self.new ≡ is_lost self.old }
     {
         self.counts.fail();
         Err(DeviceError)
     }
+
+    // Lets the call that was counted last fail where a sync failed before it.
+    fn unless_lost(&mut self) -> Result<(), DeviceError>
+        requires { self.old.counts.failed < self.old.counts.calls }
+        ensures ok { OnOk result ((is_lost self.old ≡ false) × (files_counts self.new ≡ files_counts self.old)) }
+        ensures err { OnErr result ((is_lost self.old ≡ true) × (files_counts self.new ≡ with_failure (files_counts self.old))) }
+        ensures lost { is_lost self.new ≡ is_lost self.old }
+    {
+        if self.is_lost {
+            return self.failed();
+        }
+        Ok(())
+    }
 }
 
 impl Disk for Files {
-    ghost use Rattle.fit_disk.specs.Files.{files_counts};
+    ghost use Rattle.fit_disk.specs.Files.{files_counts, is_lost, FailsIfLost, FailsSync};
 
     ghost honest = { false };
 
@@ -129,43 +150,72 @@ impl Disk for Files {
 
     ghost sound = { λ _ honest. absurd (false≢true honest) };
 
-    fn size(&mut self, which: Which) -> Result<u64, DeviceError> {
+    fn size(&mut self, which: Which) -> Result<u64, DeviceError>
+        ensures counted { CountsCall result (files_counts self.old) (files_counts self.new) }
+        ensures reads { (files_counts self.new).data_reads ≡ (files_counts self.old).data_reads }
+        ensures lost { FailsIfLost result self.old self.new }
+    {
         self.counts.call()?;
+        self.unless_lost()?;
         match self.file(which).metadata() {
             Ok(found) => Ok(found.len()),
             Err(_) => self.failed(),
         }
     }
 
-    fn read(&mut self, which: Which, at: u64, buffer: &mut [u8]) -> Result<usize, DeviceError> {
+    fn read(&mut self, which: Which, at: u64, buffer: &mut [u8]) -> Result<usize, DeviceError>
+        ensures within { IfOk result (λ count. count ≤ length buffer.old) }
+        ensures counted { CountsCall result (files_counts self.old) (files_counts self.new) }
+        ensures reads { CountsRead which (files_counts self.old) (files_counts self.new) }
+        ensures lost { FailsIfLost result self.old self.new }
+    {
         self.counts.read(which)?;
+        self.unless_lost()?;
         match read_all_at(self.file(which), at, buffer) {
             Ok(count) => Ok(count),
             Err(_) => self.failed(),
         }
     }
 
-    fn write(&mut self, which: Which, at: u64, bytes: &[u8]) -> Result<(), DeviceError> {
+    fn write(&mut self, which: Which, at: u64, bytes: &[u8]) -> Result<(), DeviceError>
+        ensures counted { CountsCall result (files_counts self.old) (files_counts self.new) }
+        ensures reads { (files_counts self.new).data_reads ≡ (files_counts self.old).data_reads }
+        ensures lost { FailsIfLost result self.old self.new }
+    {
         self.counts.call()?;
+        self.unless_lost()?;
         match self.file(which).write_all_at(bytes, at) {
             Ok(()) => Ok(()),
             Err(_) => self.failed(),
         }
     }
 
-    fn cut(&mut self, which: Which, len: u64) -> Result<(), DeviceError> {
+    fn cut(&mut self, which: Which, len: u64) -> Result<(), DeviceError>
+        ensures counted { CountsCall result (files_counts self.old) (files_counts self.new) }
+        ensures reads { (files_counts self.new).data_reads ≡ (files_counts self.old).data_reads }
+        ensures lost { FailsIfLost result self.old self.new }
+    {
         self.counts.call()?;
+        self.unless_lost()?;
         match self.file(which).set_len(len) {
             Ok(()) => Ok(()),
             Err(_) => self.failed(),
         }
     }
 
-    fn sync(&mut self, which: Which) -> Result<(), DeviceError> {
+    fn sync(&mut self, which: Which) -> Result<(), DeviceError>
+        ensures counted { CountsCall result (files_counts self.old) (files_counts self.new) }
+        ensures reads { (files_counts self.new).data_reads ≡ (files_counts self.old).data_reads }
+        ensures lost { FailsSync result self.old self.new }
+    {
         self.counts.call()?;
+        self.unless_lost()?;
         match self.file(which).sync_data() {
             Ok(()) => Ok(()),
-            Err(_) => self.failed(),
+            Err(_) => {
+                self.is_lost = true;
+                self.failed()
+            }
         }
     }
 }
