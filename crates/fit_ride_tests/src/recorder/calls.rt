@@ -3,7 +3,8 @@
 
 ghost use Rattle.std.specs.Prelude.{◌≤◌};
 
-use super::{RUN, SHORT_RIDE, TIME, begun, committed, play, short_ride};
+use super::{RUN, SHORT_RIDE, TIME, begun, committed, one, play, short_ride};
+use fit_activity::Entry;
 use fit_disk::{Disk, Memory, Which};
 use fit_recorder::{RecFault, Recorder, erase, recover};
 use std::test::Fail;
@@ -71,40 +72,55 @@ fn a_recovery_keeps_the_data_first(rt: HostRuntime) -> Result<(), Fail> {
     Ok(())
 }
 
+// How long the data file is behind a call that failed with its header over no records.
+fn unfinished(fault: Result<(), RecFault>, disk: &Memory) -> Option<usize> {
+    let content = disk.content(Which::Data);
+    if fault == Err(RecFault::Device) && content.starts_with(&NO_RECORDS) {
+        Some(content.len())
+    } else {
+        None
+    }
+}
+
+// The same where this call of a stop of the short ride fails.
+fn stopped_until(rt: &HostRuntime, k: u32) -> Result<Option<usize>, Fail>
+    requires { 1 ≤ k }
+{
+    let mut recorder = begun(rt)?;
+    play(&mut recorder, &short_ride())?;
+    recorder.fail_at(k);
+    let fault = one(&mut recorder, &Entry::Stop(TIME + 2));
+    Ok(unfinished(fault, &recorder.into_disk()))
+}
+
 // The closing messages stand behind the body before the header counts them: in a stop by its seventh and its eighth call.
 #[test]
 fn a_stop_writes_its_header_last(rt: HostRuntime) -> Result<(), Fail> {
-    let mut lengths = Vec::new(rt.alloc());
-    for k in [7, 8] {
-        let mut recorder = begun(&rt)?;
-        play(&mut recorder, &short_ride())?;
-        recorder.fail_at(k);
-        assert_eq!(rt; recorder.stop(TIME + 2), Err(RecFault::Device));
-        let disk = recorder.into_disk();
-        let content = disk.content(Which::Data);
-        assert!(rt; content.starts_with(&NO_RECORDS), "{k}");
-        lengths.push(content.len())?;
-    }
-    assert!(rt; lengths[0] < lengths[1]);
+    let before = stopped_until(&rt, 7)?;
+    assert!(rt; before.is_some() && before < stopped_until(&rt, 8)?);
     Ok(())
+}
+
+// And where one of a recovery of that ride fails.
+fn recovered_until(rt: &HostRuntime, k: u32) -> Result<Option<usize>, Fail>
+    requires { 1 ≤ k }
+{
+    let mut disk = committed(rt)?;
+    disk.fail_at(k);
+    let fault = match recover(&mut disk) {
+        Ok(_) => Ok(()),
+        Err(fault) => Err(fault),
+    };
+    Ok(unfinished(fault, &disk))
 }
 
 // And in a recovery by its last four, of which the third is the header's write.
 #[test]
 fn a_recovery_writes_its_header_last(rt: HostRuntime) -> Result<(), Fail> {
-    let mut lengths = Vec::new(rt.alloc());
-    for k in [RECOVERY - 3, RECOVERY - 2, RECOVERY - 1] {
-        let mut disk = committed(&rt)?;
-        disk.fail_at(k);
-        assert_eq!(rt; recover(&mut disk), Err(RecFault::Device));
-        let content = disk.content(Which::Data);
-        assert!(rt; content.starts_with(&NO_RECORDS), "{k}");
-        lengths.push(content.len())?;
-    }
-    assert!(rt; lengths[0] < lengths[1] && lengths[1] == lengths[2]);
-    let mut disk = committed(&rt)?;
-    disk.fail_at(RECOVERY);
-    assert_eq!(rt; recover(&mut disk), Err(RecFault::Device));
-    assert!(rt; !disk.content(Which::Data).starts_with(&NO_RECORDS));
+    let before = recovered_until(&rt, RECOVERY - 3)?;
+    let closed = recovered_until(&rt, RECOVERY - 2)?;
+    assert!(rt; before.is_some() && before < closed);
+    assert_eq!(rt; recovered_until(&rt, RECOVERY - 1)?, closed);
+    assert_eq!(rt; recovered_until(&rt, RECOVERY)?, None);
     Ok(())
 }
