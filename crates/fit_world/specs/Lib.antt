@@ -13,3 +13,6 @@ pub mod Standing
 pub mod FaultCode
 pub mod Arranging
 pub mod Choosing
+pub mod Naming
+pub mod ReplyText
+pub mod Simulating

@@ -13,11 +13,11 @@ use crate::event::Event;
 use crate::fault::TellFault;
 use crate::printing::print;
 use crate::reply::Reply;
+use crate::reply_line::ReplyLine;
 use crate::ride::Ride;
 use fit_activity::Entry;
 use fit_disk::Disk;
 use fit_text::Pen;
-use std::fmt::{self, Formatter};
 use std::io::Write;
 
 /// Runs the events over a disk, and prints the reply to each before the next. It answers how many were not ok, and hands
@@ -38,7 +38,7 @@ pub fn play<D: Disk, O: Write>(
     for event in events {
         let (next, reply) = run(ride, &event.command);
         ride = next;
-        if let Err(fault) = print(&Replied { event, reply }, &mut pen) {
+        if let Err(fault) = print(&ReplyLine { event, reply }, &mut pen) {
             return (ride.into_disk(), Err(fault));
         }
         if !reply.is_ok() {
@@ -74,19 +74,5 @@ fn run<D: Disk>(mut ride: Ride<D>, command: &Command) -> (Ride<D>, Reply)
         Command::Recover => ride.recover(),
         Command::Erase => ride.erase(),
         Command::Fail(_) | Command::Cut(_) | Command::Power => unreachable!(),
-    }
-}
-
-// The line for an event.
-#[derive(Drop)]
-struct Replied<'a> {
-    event: &'a Event,
-    reply: Reply,
-}
-
-impl fmt::Display for Replied<'_> {
-    fn fmt<W: fmt::Write>(&self, f: &mut Formatter<W>) -> fmt::Result {
-        let Replied { event, reply } = self;
-        write!(f, "{} {}: {reply}", event.line, event.command.word())
     }
 }
