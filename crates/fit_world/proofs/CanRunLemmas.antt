@@ -1,5 +1,5 @@
 -- Each event of a script can be run: calls of the device are counted from 1.
-use Rattle.std.proofs.Common.{◌≡◌, ◌+◌, ◌≤◌, ℕ, Bool, true, false, List, [], ◌∷◌, Option, Some, None, codes, nat_lt, if◌then◌else◌, All, refl, arith}
+use Rattle.std.proofs.Common.{◌≡◌, ◌+◌, ◌≤◌, ℕ, Bool, true, false, List, [], ◌∷◌, Option, Some, None, codes, nat_lt, if◌then◌else◌, All, refl}
 use Rattle.std.proofs.lemmas.Bool.{ltb-true}
 use Rattle.std.proofs.lemmas.List.Elements.{All-nil, All-cons}
 use Rattle.std.specs.List.{cons_option}
@@ -10,7 +10,7 @@ use Rattle.fit_world.specs.declared.command.Command.{Command}
 use Rattle.fit_world.specs.declared.command.Command.TheVariants as commands
 use Rattle.fit_world.specs.declared.event.Event.{Event}
 use Rattle.fit_world.specs.Histories.Runs.{CanRun}
-use Rattle.fit_world.specs.Script.{number32, count, alone, only, start_of, sample_of, command_of, is_silent, meaning_of, event_of, events_of}
+use Rattle.fit_world.specs.Script.{number32, count, alone, only, start_of, sample_of, command_of, is_silent, event_of, events_of}
 use Rattle.fit_world.specs.ScriptWords.{words}
 
 abbrev CanRunEvent : Event → Type 0

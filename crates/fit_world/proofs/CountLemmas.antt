@@ -2,7 +2,7 @@
 use Rattle.std.proofs.Common.{◌≡◌, ◌⊎◌, inl, inr, ℕ, zero, suc, ◌+◌, ◌-◌, ◌<◌, ◌≤◌, Bool, true, false, ◌||◌, ◌==◌, IsTrue, Option, None, Some, List, refl, sym, ap, subst, ◌∙◌, true≢false, add-zero, add-suc, arith}
 use Rattle.std.proofs.lemmas.Bool.{or_parts, or_from, eq-eqb, ne_eqb, eqb-false, cases_lt}
 use Rattle.fit_disk.specs.declared.memory.Memory.{Memory}
-use Rattle.fit_disk.specs.Counts.{Counts, Schedule, FailedAsPlanned, HasFailed, failures, is_at, last_count, no_calls}
+use Rattle.fit_disk.specs.Counts.{Counts, Schedule, FailedAsPlanned, failures, is_at, last_count, no_calls}
 use Rattle.fit_disk.specs.Memory.{memory_counts, memory_schedule, was_refused, is_spent}
 use Rattle.fit_recorder.specs.declared.fault.RecFault.TheVariants.{Device}
 use Rattle.fit_world.specs.declared.command.Command.{Command}

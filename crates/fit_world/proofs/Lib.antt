@@ -11,3 +11,4 @@ pub mod CountLemmas
 pub mod MemoryLemmas
 pub mod RunLemmas
 pub mod PlainLemmas
+pub mod HexLemmas

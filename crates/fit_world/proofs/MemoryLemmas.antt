@@ -4,7 +4,6 @@ use Rattle.fit_disk.specs.declared.memory.Memory.{Memory}
 use Rattle.fit_disk.specs.Cycle.{cycled, left_by, taken_by}
 use Rattle.fit_disk.specs.Memory.{memory_story}
 use Rattle.fit_disk.specs.State.{State, Contents, BothLeft, LeavesOnly, seen_in}
-use Rattle.fit_disk.specs.Story.{Story}
 use Rattle.fit_disk.proofs.Leaving.{rest_left}
 use Rattle.fit_recorder.specs.declared.recorder.Recorder.{Recorder}
 use Rattle.fit_recorder.specs.OnMemory.{StandsAsBefore}

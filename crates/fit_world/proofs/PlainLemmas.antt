@@ -1,5 +1,5 @@
 -- A ride in which no failure is arranged goes well: for the law.
-use Rattle.std.proofs.Common.{◌≡◌, ℕ, Bool, true, false, List, [], ◌∷◌, ◌++◌, map, length, None, Some, refl, sym, ap, subst, ◌∙◌, true≢false}
+use Rattle.std.proofs.Common.{◌≡◌, ℕ, false, List, [], ◌∷◌, ◌++◌, map, length, None, Some, refl, sym, ap, subst, ◌∙◌, true≢false}
 use Rattle.std.specs.List.{AllByRecursion}
 use Rattle.fit_activity.specs.declared.recording.entry.Entry.{Entry}
 use Rattle.fit_activity.specs.declared.recording.entry.Entry.TheVariants as entries
@@ -14,7 +14,7 @@ use Rattle.fit_world.specs.declared.event.Event.{Event}
 use Rattle.fit_world.specs.Histories.Arranged.{Arranged, nothing_arranged, MayFail, arranged_after}
 use Rattle.fit_world.specs.Histories.Plain.{IsRide, RodeWell, HadRoom, is_full, command_of, RidesGoWell}
 use Rattle.fit_world.specs.Histories.Runs.{Runs, told_in}
-use Rattle.fit_world.specs.Histories.Table.{History, Idle, Riding, Told, Done, Stopped, Recovered, Fault, NoRecorder, Step, StartStep, HandStep, CommitStep, StopStep, IsFileOf, at_first}
+use Rattle.fit_world.specs.Histories.Table.{History, Riding, Told, Done, Stopped, Fault, Step, StartStep, HandStep, CommitStep, StopStep, at_first}
 
 -- ---- a run as commands and what is told
 

@@ -1,5 +1,5 @@
 -- What a formatter puts by a pen, part by part, and lines one after another: for `printing` and `simulating`.
-use Rattle.std.proofs.Common.{◌≡◌, List, [], ◌∷◌, ◌++◌, ℕ, Option, Some, None, refl, sym, ◌∙◌, append-nil, append_assoc, subst, codes, IfSome}
+use Rattle.std.proofs.Common.{List, [], ◌∷◌, ◌++◌, ℕ, Option, Some, None, refl, sym, ◌∙◌, append-nil, append_assoc, subst, codes, IfSome}
 use Rattle.std.specs.Fmt.{WritesText, with_newline}
 use Rattle.std.specs.List.{FoldsTo, concat}
 use Rattle.fit_text.specs.Pen.{Written, Continues, Took}

@@ -1,12 +1,10 @@
 -- The answers so far, and those that may come to the events that are left: for `world::run`.
-use Rattle.std.proofs.Common.{◌≡◌, ◌<◌, ◌≤◌, ◌+◌, ℕ, Bool, true, false, List, [], ◌∷◌, ◌++◌, length, get_or, drop, inl, inr, refl, sym, ap, subst, ◌∙◌, append_assoc, arith}
+use Rattle.std.proofs.Common.{◌≡◌, ◌<◌, ◌≤◌, ◌+◌, ℕ, true, false, List, [], ◌∷◌, ◌++◌, length, get_or, drop, inl, inr, refl, sym, ap, subst, ◌∙◌, append_assoc}
 use Rattle.std.proofs.lemmas.List.{drop_more, drop_all, append-nil}
 use Rattle.fit_disk.specs.declared.memory.Memory.{Memory}
 use Rattle.fit_disk.specs.Counts.{unplanned, no_calls}
 use Rattle.fit_disk.specs.Events.{fresh}
 use Rattle.fit_disk.specs.Memory.{memory_story, memory_counts, memory_schedule, is_spent}
-use Rattle.fit_disk.specs.State.{LeavesOnly}
-use Rattle.fit_disk.specs.Stored.{at_rest}
 use Rattle.fit_disk.specs.Story.{Story}
 use Rattle.fit_disk.proofs.Leaving.{rest_left}
 use Rattle.fit_world.specs.declared.answer.Answer.{Answer}
@@ -19,7 +17,7 @@ use Rattle.fit_world.specs.Histories.Arranged.{Arranged, nothing_arranged, MayFa
 use Rattle.fit_world.specs.Histories.Runs.{Runs, IsHistory, told_in}
 use Rattle.fit_world.specs.Histories.Table.{History, Step, Told, at_first}
 use Rattle.fit_world.specs.Riding.{disk_in}
-use Rattle.fit_world.specs.Standing.{StandsIn, GoesBy, Rests, Fits, content_of, told}
+use Rattle.fit_world.specs.Standing.{StandsIn, GoesBy, Rests, content_of, told}
 use Rattle.fit_world.proofs.CountLemmas.{moved}
 
 -- The ride stands in a history behind these answers: with any answers that may come from there to the events that are left,

@@ -16,3 +16,4 @@ pub mod Choosing
 pub mod Naming
 pub mod ReplyText
 pub mod Simulating
+pub mod Hexadecimal

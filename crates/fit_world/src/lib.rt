@@ -23,6 +23,7 @@
 
 mod answer;
 mod checking;
+mod choices;
 mod command;
 mod event;
 mod fault;
@@ -44,6 +45,7 @@ pub mod world;
 
 pub use answer::Answer;
 pub use checking::check_bytes;
+pub use choices::read_choices;
 pub use command::Command;
 pub use event::Event;
 pub use fault::TellFault;

@@ -7,6 +7,8 @@ use Rattle.fit_world.specs.declared.fault.TellFault.{TellFault}
 use Rattle.fit_world.specs.declared.fault.TellFault.TheVariants as tells
 use Rattle.fit_world.specs.declared.script.fault.ReplayFault.{ReplayFault}
 use Rattle.fit_world.specs.declared.script.fault.ReplayFault.TheVariants as replays
+use Rattle.fit_world.specs.declared.simulating.SimulateFault.{SimulateFault}
+use Rattle.fit_world.specs.declared.simulating.SimulateFault.TheVariants as simulations
 use Rattle.fitrec.specs.declared.fault.Fault.{Fault}
 use Rattle.fitrec.specs.declared.fault.Fault.TheVariants as faults
 
@@ -27,3 +29,11 @@ IsTellFault (tells.File fault) said = said ≡ faults.File fault
 IsTellFault (tells.Activity fault) said = said ≡ faults.Activity fault
 IsTellFault tells.Output (faults.Write name) = name.now ≡ codes "-"
 IsTellFault tells.Output _ = ⊥
+
+-- of a script of this name that is not simulated, or not to the end of its lines
+abbrev pub IsSimulateFault : Bor (List ℕ) → SimulateFault → Fault → Type 0
+IsSimulateFault name simulations.NoText said = said ≡ faults.Read name
+IsSimulateFault name (simulations.Script fault) said = said ≡ faults.Script fault
+IsSimulateFault name simulations.NoMemory said = said ≡ faults.NoMemory
+IsSimulateFault name simulations.Output (faults.Write out) = out.now ≡ codes "-"
+IsSimulateFault name simulations.Output _ = ⊥
