@@ -18,10 +18,10 @@ pub fn put_line<L: Display, O: io::Write>(line: &L, pen: &mut Pen<'_, O>) -> Res
     ensures fault { IfErr result IsOutputFault }
     ensures line { OnOk result (IfSome (L.output line.now) (λ text. Took pen.old (text ++ codes "\n") pen.new)) }
 {
-    match writeln!(pen, "{line}") {
-        Ok(()) => Ok(()),
-        Err(_) => Err(TellFault::Output),
-    }
+    let Ok(()) = writeln!(pen, "{line}") else {
+        return Err(TellFault::Output);
+    };
+    Ok(())
 }
 
 /// Hands over all that was put, and flushes the writer.

@@ -7,3 +7,4 @@ mod power_cuts;
 mod reading;
 mod replays;
 mod scripts;
+mod simulations;
