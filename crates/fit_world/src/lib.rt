@@ -2,7 +2,8 @@
 //! disk.
 //!
 //! `read_all` reads an input whole. `show_bytes` and `check_bytes` tell what a file holds. `read_script` reads the events of a
-//! script, and `play` runs them over any `Disk`, by a `Ride`, which answers each `Command`:
+//! script, and `play` runs them over any `Disk`, by a `Ride`, which answers each `Command`. `simulate` runs a script over the memory
+//! disk, whose failures and power cuts it arranges. So
 //!
 //!     let events = read_script(alloc, b"start 1000000000 7 running\nstop 1000000001\n")?;
 //!     let (disk, played) = play(Memory::new(alloc), events.as_slice(), &mut out);
@@ -18,7 +19,8 @@
 //! (The test `the_example_of_the_crate`.) What is promised is said in the words of `specs/`: `Showing` has what becomes of bytes
 //! that are to be shown, `Checking` of those to be checked, `Reading` what is taken from an input; `Script`, `ScriptWords` and
 //! `ScriptSample` which lines a script has and what each asks for, `Replaying` which of its events are replayed, `Answering` what
-//! may be answered to them, and `Riding` what is known of a ride.
+//! may be answered to them, and `Riding` what is known of a ride; `Simulating` has what is printed of a script that is simulated,
+//! and `ReplyText` and `Naming` its lines.
 #![tactic(auto)]
 
 mod answer;
