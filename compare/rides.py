@@ -23,6 +23,14 @@ def run(*words, **how):
     return done.returncode, done.stdout, done.stderr
 
 
+def run_unread(*words):
+    """The status and the errors of a run whose output nobody reads."""
+    with subprocess.Popen(words, stdout=subprocess.PIPE, stderr=subprocess.PIPE, text=True) as running:
+        running.stdout.close()
+        said = running.stderr.read()
+    return running.returncode, said
+
+
 def differs(is_, wanted):
     return None if is_ == wanted else (is_, wanted)
 
@@ -121,7 +129,7 @@ def with_full_output(fitrec):
         script.write(script_of(2, 1))
         script.flush()
         file = pathlib.Path(folder) / "activity.fit"
-        for words in (["replay", script.name, folder], ["repair", folder], ["check", file]):
+        for words in (["replay", script.name, folder], ["repair", folder], ["check", file], ["simulate", script.name]):
             with open("/dev/full", "w") as full:
                 done = subprocess.run([fitrec, *words], stdout=full, stderr=subprocess.PIPE, text=True)
             yield "full output: told", differs((done.returncode, done.stderr), (1, "fitrec: cannot write -\n"))
@@ -143,6 +151,7 @@ def with_closed_output(fitrec):
         yield "closed output: told", differs((running.returncode, said), (1, "fitrec: cannot write -\n"))
         kept = committed(map(str.rstrip, answers))[1]
         records = re.match(r"ok records=(\d+) ", run(fitrec, "repair", folder)[1])
+        yield "closed output of a simulation: told", differs(run_unread(fitrec, "simulate", script.name), (1, "fitrec: cannot write -\n"))
         yield "closed output: kept", None if records and kept <= int(records[1]) < 20000 else (records, kept)
 
 
@@ -171,6 +180,28 @@ def with_little_memory(fitrec):
         yield "little memory: enough", differs((status, out.count(" ok\n"), err), (0, 5002, ""))
 
 
+def with_little_memory_simulated(fitrec):
+    """With more and more memory: no answer is printed and one line says why, until all are."""
+    told = set()
+    with tempfile.NamedTemporaryFile("w") as script:
+        script.write(script_of(5000, 1000) + "power\nrecover\n")
+        script.flush()
+        for limit in range(1 << 20, 1 << 26, 1 << 15):
+            status, out, err = run(fitrec, "simulate", script.name,
+                                   preexec_fn=lambda: resource.setrlimit(resource.RLIMIT_AS, (limit, limit)))
+            if status == 0:
+                break
+            # Where there is no memory for the program itself, it does not start.
+            if status == 1:
+                line = re.fullmatch(r"fitrec: (NoMemory|line \d+: Memory)\n|Error: Kind\(OutOfMemory\)\n", err)
+                told.add(line and (line[1] or "start").split()[0])
+                if out or not line:
+                    yield f"memory of {limit} bytes: nothing is simulated", (out, err)
+        yield "little memory, simulated: told", None if {"NoMemory", "line"} <= told and None not in told else told
+        records = out.splitlines()[-1:] == ["5008 recover: ok records=5000 laps=1 sessions=1 start=1000000000 elapsed_ms=4999000 timer_ms=4999000 distance_cm=3499300"]
+        yield "little memory, simulated: enough", differs((status, out.count(": ok\n"), records, err), (0, 5007, True, ""))
+
+
 def check(fitrec):
     yield from rides(fitrec)
     yield from on_a_full_disk(fitrec)
@@ -178,6 +209,7 @@ def check(fitrec):
     yield from with_full_output(fitrec)
     yield from with_closed_output(fitrec)
     yield from with_little_memory(fitrec)
+    yield from with_little_memory_simulated(fitrec)
 
 
 def rides(fitrec):

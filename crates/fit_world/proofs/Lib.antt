@@ -12,3 +12,4 @@ pub mod MemoryLemmas
 pub mod RunLemmas
 pub mod PlainLemmas
 pub mod AskLemmas
+pub mod HexLemmas

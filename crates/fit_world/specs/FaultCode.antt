@@ -10,6 +10,8 @@ use Rattle.fit_world.specs.declared.script.fault.ReplayFault.{ReplayFault}
 use Rattle.fit_world.specs.declared.script.fault.ReplayFault.TheVariants.{NoText, Script, OnlySimulate}
 use Rattle.fit_world.specs.declared.script.fault.ScriptFaultKind.{ScriptFaultKind}
 use Rattle.fit_world.specs.declared.script.fault.ScriptFaultKind.TheVariants.{UnknownWord, MissingWord, ExtraWord, BadNumber, UnknownKey, RepeatedKey, Memory}
+use Rattle.fit_world.specs.declared.simulating.SimulateFault.{SimulateFault}
+use Rattle.fit_world.specs.declared.simulating.SimulateFault.TheVariants as simulations
 
 -- of what is wrong with a line of a script
 abbrev pub script_code : ScriptFaultKind → ℕ
@@ -26,6 +28,13 @@ abbrev pub replay_code : ReplayFault → ℕ
 replay_code NoText = 1
 replay_code (Script fault) = 2
 replay_code (OnlySimulate line) = 3
+
+-- of why a script is not simulated
+abbrev pub simulate_code : SimulateFault → ℕ
+simulate_code simulations.NoText = 1
+simulate_code (simulations.Script fault) = 2
+simulate_code simulations.NoMemory = 3
+simulate_code simulations.Output = 4
 
 -- of why an input was not read
 abbrev pub read_code : ReadFault → ℕ

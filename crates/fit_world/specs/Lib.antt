@@ -14,3 +14,7 @@ pub mod Standing
 pub mod FaultCode
 pub mod Arranging
 pub mod Choosing
+pub mod Naming
+pub mod ReplyText
+pub mod Simulating
+pub mod Hexadecimal

@@ -1,5 +1,8 @@
 // What the simulated disk's ride answers to an event.
 
+ghost use Rattle.std.specs.Prelude.{◌≡◌};
+
+use crate::reply::Reply;
 use fit_activity::Summary;
 use fit_recorder::RecFault;
 
@@ -16,4 +19,21 @@ pub enum Answer {
     Refused(RecFault),
     /// It needs a recorder, and none runs.
     NoRecorder,
+}
+
+impl Answer {
+    ghost use Rattle.fit_world.specs.Simulating.{reply_in};
+
+    /// The answer without its file.
+    pub fn reply(&self) -> Reply
+        ensures { result ≡ reply_in self.now }
+    {
+        match self {
+            Answer::Done => Reply::Done,
+            Answer::Stopped { .. } => Reply::Stopped,
+            Answer::Recovered { summary, .. } => Reply::Recovered(*summary),
+            Answer::Refused(fault) => Reply::Refused(*fault),
+            Answer::NoRecorder => Reply::NoRecorder,
+        }
+    }
 }

@@ -2,7 +2,8 @@
 //! disk.
 //!
 //! `read_all` reads an input whole. `show_bytes` and `check_bytes` tell what a file holds. `read_script` reads the events of a
-//! script, and `play` runs them over any `Disk`, by a `Ride`, which answers each `Command`:
+//! script, and `play` runs them over any `Disk`, by a `Ride`, which answers each `Command`. `simulate` runs a script over the memory
+//! disk, whose failures and power cuts it arranges. So
 //!
 //!     let events = read_script(alloc, b"start 1000000000 7 running\nstop 1000000001\n")?;
 //!     let (disk, played) = play(Memory::new(alloc), events.as_slice(), &mut out);
@@ -15,36 +16,42 @@
 //!     2 stop: ok
 //!     ok records=0 laps=1 sessions=1 start=1000000000 elapsed_ms=1000 timer_ms=1000 distance_cm=-
 //!
-//! (The test `the_example_of_the_crate` of `fit_world_tests`.) `world::run` plays events over a disk in memory whose calls fail and whose power goes where
-//! they say so. Its contract is that over all histories: whatever fails, what was confirmed is recovered.
+//! (The test `the_example_of_the_crate` of `fit_world_tests`.) `world::run` plays events over a disk in memory whose calls fail and
+//! whose power goes where they say so. Its contract is that over all histories: whatever fails, what was confirmed is recovered.
 //!
 //! What is promised is said in the words of `specs/`. `Histories` is the page to believe: `Table` has where a recording stands and
 //! what may be answered then, `Runs` whole histories. `Standing` says what a power cut may leave of a ride that stands there,
 //! `Riding` and `Replying` what is known of it over any disk. `Showing` has what becomes of bytes that are to be shown, `Checking`
 //! of those to be checked, `Reading` what is taken from an input, `Repairing` what a repair makes of a recording; `Script`,
-//! `ScriptWords` and `ScriptSample` which lines a script has and what each asks for, `Replaying` which of its events are replayed.
+//! `ScriptWords` and `ScriptSample` which lines a script has and what each asks for, `Replaying` which of its events are replayed,
+//! `Simulating` what is printed of a script that is simulated, and `ReplyText` and `Naming` its lines.
 #![tactic(auto)]
 
 mod answer;
 mod asking;
 mod checking;
+mod choices;
 mod command;
 mod event;
 mod fault;
 pub mod laws;
+mod naming;
 mod playing;
 mod printing;
 mod reading;
 mod repairing;
 mod reply;
+mod reply_line;
 mod ride;
 mod script;
 mod showing;
+mod simulating;
 mod summary;
 pub mod world;
 
 pub use answer::Answer;
 pub use checking::check_bytes;
+pub use choices::read_choices;
 pub use command::Command;
 pub use event::Event;
 pub use fault::TellFault;
@@ -56,4 +63,5 @@ pub use reply::Reply;
 pub use ride::Ride;
 pub use script::{ReplayFault, ScriptFault, ScriptFaultKind, parse_script, read_script};
 pub use showing::show_bytes;
+pub use simulating::{SimulateFault, simulate};
 pub use summary::SummaryLine;

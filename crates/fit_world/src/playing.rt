@@ -8,11 +8,10 @@ ghost use Rattle.fit_world.specs.Showing.{IsOutputFault};
 use crate::event::Event;
 use crate::fault::TellFault;
 use crate::printing::print;
-use crate::reply::Reply;
+use crate::reply_line::ReplyLine;
 use crate::ride::Ride;
 use fit_disk::Disk;
 use fit_text::Pen;
-use std::fmt::{self, Formatter};
 use std::io::Write;
 
 /// Runs the events over a disk, and prints the reply to each before the next. It answers how many were not ok, and hands
@@ -33,7 +32,7 @@ pub fn play<D: Disk, O: Write>(
     for event in events {
         let (next, reply) = ride.ask(&event.command);
         ride = next;
-        if let Err(fault) = print(&Replied { event, reply }, &mut pen) {
+        if let Err(fault) = print(&ReplyLine { event, reply }, &mut pen) {
             return (ride.into_disk(), Err(fault));
         }
         if !reply.is_ok() {
@@ -41,18 +40,4 @@ pub fn play<D: Disk, O: Write>(
         }
     }
     (ride.into_disk(), Ok(refused))
-}
-
-// The line for an event.
-#[derive(Drop)]
-struct Replied<'a> {
-    event: &'a Event,
-    reply: Reply,
-}
-
-impl fmt::Display for Replied<'_> {
-    fn fmt<W: fmt::Write>(&self, f: &mut Formatter<W>) -> fmt::Result {
-        let Replied { event, reply } = self;
-        write!(f, "{} {}: {reply}", event.line, event.command.word())
-    }
 }

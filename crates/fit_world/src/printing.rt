@@ -13,16 +13,37 @@ use fit_text::Pen;
 use std::fmt::{Display, Write};
 use std::io;
 
+/// Puts a line, with its end.
+pub fn put_line<L: Display, O: io::Write>(line: &L, pen: &mut Pen<'_, O>) -> Result<(), TellFault>
+    ensures fault { IfErr result IsOutputFault }
+    ensures line { OnOk result (IfSome (L.output line.now) (λ text. Took pen.old (text ++ codes "\n") pen.new)) }
+{
+    let Ok(()) = writeln!(pen, "{line}") else {
+        return Err(TellFault::Output);
+    };
+    Ok(())
+}
+
+/// Hands over all that was put, and flushes the writer.
+pub fn flush<O: io::Write>(pen: &mut Pen<'_, O>) -> Result<(), TellFault>
+    ensures fault { IfErr result IsOutputFault }
+    ensures none { OnOk result (pen.new.waiting ≡ []) }
+    ensures all { OnOk result (Took pen.old [] pen.new) }
+{
+    match pen.flush() {
+        Ok(()) => Ok(()),
+        Err(_) => Err(TellFault::Output),
+    }
+}
+
 /// Prints a line, to the last byte.
 pub fn print<L: Display, O: io::Write>(line: &L, pen: &mut Pen<'_, O>) -> Result<(), TellFault>
     ensures fault { IfErr result IsOutputFault }
     ensures none { OnOk result (pen.new.waiting ≡ []) }
     ensures line { OnOk result (IfSome (L.output line.now) (λ text. Took pen.old (text ++ codes "\n") pen.new)) }
 {
-    if writeln!(pen, "{line}").is_err() || pen.flush().is_err() {
-        return Err(TellFault::Output);
-    }
-    Ok(())
+    put_line(line, pen)?;
+    flush(pen)
 }
 
 /// Prints the line of a summary.

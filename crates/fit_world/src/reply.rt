@@ -2,6 +2,7 @@
 
 ghost use Rattle.std.specs.Prelude.{◌≡◌};
 
+use crate::naming::FaultName;
 use crate::summary::SummaryLine;
 use fit_activity::Summary;
 use fit_recorder::RecFault;
@@ -63,11 +64,16 @@ impl From<Result<Summary, RecFault>> for Reply {
 }
 
 impl fmt::Display for Reply {
+    ghost use Rattle.std.specs.Prelude.{Some};
+    ghost use Rattle.fit_world.specs.ReplyText.{reply_text};
+
+    ghost output = { λ reply. Some (reply_text reply) };
+
     fn fmt<W: Write>(&self, f: &mut Formatter<W>) -> fmt::Result {
         match self {
             Reply::Done | Reply::Stopped => f.write_str("ok"),
             Reply::Recovered(summary) => write!(f, "{}", SummaryLine(*summary)),
-            Reply::Refused(fault) => write!(f, "{fault:?}"),
+            Reply::Refused(fault) => write!(f, "{}", FaultName(*fault)),
             Reply::NoRecorder => f.write_str("NoRecorder"),
         }
     }

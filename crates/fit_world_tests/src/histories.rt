@@ -1,7 +1,7 @@
 // Scripts that are run over a disk in memory. The answers, the files and the choice bytes are from outside.
 
 use fit_world::world::run;
-use fit_world::{Answer, Reply, parse_script, show_bytes};
+use fit_world::{Answer, parse_script, show_bytes};
 use std::test::Fail;
 
 // A start, ten samples and no commit.
@@ -48,17 +48,6 @@ pub fn answers_to(rt: &HostRuntime, script: &str, choices: &[u8]) -> Option<Vec<
     run(rt.alloc(), events.as_slice(), choices).ok()
 }
 
-// What an answer says, but for its file.
-fn reply_in(answer: &Answer) -> Reply {
-    match answer {
-        Answer::Done => Reply::Done,
-        Answer::Stopped { .. } => Reply::Stopped,
-        Answer::Recovered { summary, .. } => Reply::Recovered(*summary),
-        Answer::Refused(fault) => Reply::Refused(*fault),
-        Answer::NoRecorder => Reply::NoRecorder,
-    }
-}
-
 // The file of an answer.
 pub fn file_in(answer: Option<&Answer>) -> &[u8] {
     match answer {
@@ -72,7 +61,7 @@ fn text_of(rt: &HostRuntime, script: &str, choices: &[u8]) -> Result<String, Fai
     let mut text = String::new(rt.alloc());
     if let Some(answers) = answers_to(rt, script, choices) {
         for answer in &answers {
-            let line = format!(in rt.alloc(); "{}\n", reply_in(answer))?;
+            let line = format!(in rt.alloc(); "{}\n", answer.reply())?;
             text.push_str(line.as_str())?;
         }
     }

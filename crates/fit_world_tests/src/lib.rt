@@ -21,6 +21,8 @@ mod replays;
 #[cfg(test)]
 mod scripts;
 #[cfg(test)]
+mod simulations;
+#[cfg(test)]
 mod sweep;
 #[cfg(test)]
 mod table;

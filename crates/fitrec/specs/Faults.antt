@@ -10,6 +10,8 @@ use Rattle.fit_world.specs.declared.repairing.RepairFault.{RepairFault}
 use Rattle.fit_world.specs.declared.repairing.RepairFault.TheVariants as repairs
 use Rattle.fit_world.specs.declared.script.fault.ReplayFault.{ReplayFault}
 use Rattle.fit_world.specs.declared.script.fault.ReplayFault.TheVariants as replays
+use Rattle.fit_world.specs.declared.simulating.SimulateFault.{SimulateFault}
+use Rattle.fit_world.specs.declared.simulating.SimulateFault.TheVariants as simulations
 use Rattle.fitrec.specs.declared.fault.Fault.{Fault}
 use Rattle.fitrec.specs.declared.fault.Fault.TheVariants as faults
 
@@ -36,6 +38,14 @@ abbrev pub IsRepairSaid : RepairFault → Fault → Type 0
 IsRepairSaid (repairs.Recorder fault) said = said ≡ faults.Recorder fault
 IsRepairSaid repairs.Output (faults.Write name) = name.now ≡ codes "-"
 IsRepairSaid repairs.Output _ = ⊥
+
+-- of a script of this name that is not simulated, or not to the end of its lines
+abbrev pub IsSimulateFault : Bor (List ℕ) → SimulateFault → Fault → Type 0
+IsSimulateFault name simulations.NoText said = said ≡ faults.Read name
+IsSimulateFault name (simulations.Script fault) said = said ≡ faults.Script fault
+IsSimulateFault name simulations.NoMemory said = said ≡ faults.NoMemory
+IsSimulateFault name simulations.Output (faults.Write out) = out.now ≡ codes "-"
+IsSimulateFault name simulations.Output _ = ⊥
 
 -- ---- what may be said by a whole subcommand
 

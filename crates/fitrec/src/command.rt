@@ -12,6 +12,7 @@ mod input;
 mod repair;
 mod replay;
 mod show;
+mod simulate;
 mod words;
 
 use crate::fault::Fault;
@@ -20,6 +21,7 @@ use clap::error::ErrorKind;
 use repair::repair_folder;
 use replay::replay_script;
 use show::show_file;
+use simulate::simulate_script;
 use std::convert::AsStr;
 use std::io::Write;
 use words::{Request, read_words};
@@ -42,6 +44,10 @@ pub fn command<S: AsStr, O: Write, E: Write>(
             status(replay_script(rt, script, folder, out), err)
         }
         Ok(Request::Repair { folder }) => status(repair_folder(rt, folder, out), err),
+        Ok(Request::Simulate { script, choices }) => {
+            let done = simulate_script(rt, script, choices.as_slice(), out);
+            status(done, err)
+        }
         Err(refusal) => match refusal.kind() {
             ErrorKind::OutOfMemory => status(Err(Fault::NoMemory), err),
             _ => {

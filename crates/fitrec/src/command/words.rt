@@ -2,15 +2,18 @@
 
 use clap::error::ErrorKind;
 use clap::{Arg, ArgAction, ArgMatches, Command};
+use fit_world::read_choices;
 use std::alloc::Global;
 use std::convert::AsStr;
 
 /// What a command line asks for.
+#[derive(Drop)]
 pub enum Request<'a> {
     Show { file: &'a str, utc: bool },
     Check { file: &'a str },
     Replay { script: &'a str, folder: &'a str },
     Repair { folder: &'a str },
+    Simulate { script: &'a str, choices: Vec<u8> },
 }
 
 /// Reads the words behind the program's name.
@@ -24,11 +27,17 @@ pub fn read_words<'a, S: AsStr>(alloc: Global, words: &'a [S]) -> Result<Request
         .arg(file_argument(alloc))?;
     let replay = Command::new(alloc, "replay")
         .about("Records a ride into a folder, as a script tells it")
-        .arg(argument(alloc, "SCRIPT", "The path of a script"))?
+        .arg(script_argument(alloc))?
         .arg(folder_argument(alloc))?;
     let repair = Command::new(alloc, "repair")
         .about("Makes the recording of a folder whole again, and sums it up in one line")
         .arg(folder_argument(alloc))?;
+    let simulate = Command::new(alloc, "simulate")
+        .about(
+            "Runs a script over a disk in memory, whose calls fail and whose power goes where it says so",
+        )
+        .arg(choices_option(alloc))?
+        .arg(script_argument(alloc))?;
     let mut fitrec = Command::new(alloc, "fitrec")
         .no_binary_name(true)
         .about(
@@ -38,10 +47,18 @@ pub fn read_words<'a, S: AsStr>(alloc: Global, words: &'a [S]) -> Result<Request
         .subcommand(show)?
         .subcommand(check)?
         .subcommand(replay)?
-        .subcommand(repair)?;
+        .subcommand(repair)?
+        .subcommand(simulate)?;
     let matches = fitrec.try_get_matches_from_mut(words)?;
     if let Some((name, of_name)) = matches.subcommand() {
-        if let Some(request) = request_of(name, of_name) {
+        let word = of_name.get_str("choices").unwrap_or("");
+        let Some(choices) = read_choices(alloc, word)? else {
+            let why = format!(in alloc;
+                "invalid value '{word}' for '--choices <HEX>': it is no even number of hexadecimal digits"
+            )?;
+            return Err(fitrec.error(ErrorKind::ValueValidation, why.as_str())?);
+        };
+        if let Some(request) = request_of(name, of_name, choices) {
             return Ok(request);
         }
     }
@@ -49,7 +66,7 @@ pub fn read_words<'a, S: AsStr>(alloc: Global, words: &'a [S]) -> Result<Request
 }
 
 // What a subcommand of this name asks for.
-fn request_of<'a>(name: &str, matches: &ArgMatches<'a>) -> Option<Request<'a>> {
+fn request_of<'a>(name: &str, matches: &ArgMatches<'a>, choices: Vec<u8>) -> Option<Request<'a>> {
     match name {
         "show" => Some(Request::Show {
             file: matches.get_str("FILE")?,
@@ -65,6 +82,10 @@ fn request_of<'a>(name: &str, matches: &ArgMatches<'a>) -> Option<Request<'a>> {
         "repair" => Some(Request::Repair {
             folder: matches.get_str("FOLDER")?,
         }),
+        "simulate" => Some(Request::Simulate {
+            script: matches.get_str("SCRIPT")?,
+            choices,
+        }),
         _ => None,
     }
 }
@@ -76,8 +97,20 @@ fn utc_option<'a>(alloc: Global) -> Arg<'a> {
         .action(ArgAction::SetTrue)
 }
 
+fn choices_option<'a>(alloc: Global) -> Arg<'a> {
+    Arg::new(alloc, "choices")
+        .long("choices")
+        .value_name("HEX")
+        .help("Says what a power cut leaves, two digits a byte; missing bytes are 00")
+        .action(ArgAction::Set)
+}
+
 fn file_argument<'a>(alloc: Global) -> Arg<'a> {
     argument(alloc, "FILE", "The path of a FIT file")
+}
+
+fn script_argument<'a>(alloc: Global) -> Arg<'a> {
+    argument(alloc, "SCRIPT", "The path of a script")
 }
 
 fn folder_argument<'a>(alloc: Global) -> Arg<'a> {

@@ -1,0 +1,14 @@
+-- Bytes that a word spells.
+use Rattle.std.specs.Prelude.{ℕ, ◌*◌, ◌+◌, List, [], ◌∷◌, Option, Some, None}
+use Rattle.hex.specs.Hex.{hex_digit_value}
+
+-- a byte of two digits, before the bytes of the others, if all of them are digits
+abbrev pub byte_before : Option ℕ → Option ℕ → Option (List ℕ) → Option (List ℕ)
+byte_before (Some high) (Some low) (Some bytes) = Some ((high * 16 + low) ∷ bytes)
+byte_before high low bytes = None
+
+-- hexadecimal digits of either case, two a byte
+abbrev pub bytes_of : List ℕ → Option (List ℕ)
+bytes_of [] = Some []
+bytes_of (digit ∷ []) = None
+bytes_of (high ∷ low ∷ digits) = byte_before (hex_digit_value high) (hex_digit_value low) (bytes_of digits)

@@ -1,0 +1,25 @@
+-- The lines that say what is replied to events.
+use Rattle.std.specs.Prelude.{ℕ, List, [], ◌∷◌, ◌++◌, codes, decimal}
+use Rattle.fit_world.specs.declared.event.Event.{Event}
+use Rattle.fit_world.specs.declared.reply.Reply.{Reply}
+use Rattle.fit_world.specs.declared.reply.Reply.TheVariants.{Done, Stopped, Recovered, Refused, NoRecorder}
+use Rattle.fit_world.specs.Naming.{fault_name}
+use Rattle.fit_world.specs.Replaying.{word_of}
+use Rattle.fit_world.specs.Summary.{summary_text}
+
+abbrev pub reply_text : Reply → List ℕ
+reply_text Done = codes "ok"
+reply_text Stopped = codes "ok"
+reply_text (Recovered summary) = summary_text summary
+reply_text (Refused fault) = fault_name fault
+reply_text NoRecorder = codes "NoRecorder"
+
+-- the number of the event's line, its word, and the reply
+abbrev pub line_text : Event → Reply → List ℕ
+line_text event reply = decimal event.line ++ codes " " ++ word_of event.command ++ codes ": " ++ reply_text reply
+
+-- a line for each event, with its end
+abbrev pub lines_text : List Event → List Reply → List ℕ
+lines_text [] replies = []
+lines_text (event ∷ events) [] = []
+lines_text (event ∷ events) (reply ∷ replies) = (line_text event reply ++ codes "\n") ++ lines_text events replies
