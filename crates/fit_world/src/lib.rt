@@ -18,7 +18,7 @@
 //!
 //! (The test `the_example_of_the_crate`.) What is promised is said in the words of `specs/`: `Showing` has what becomes of bytes
 //! that are to be shown, `Checking` of those to be checked, `Reading` what is taken from an input; `Script`, `ScriptWords` and
-//! `ScriptSample` which lines a script has and what each asks for, `Replaying` which of its events are replayed, `Answering` what
+//! `ScriptSample` which lines a script has and what each asks for, `Replaying` which of its events are replayed, `Replying` what
 //! may be answered to them, and `Riding` what is known of a ride; `Simulating` has what is printed of a script that is simulated,
 //! and `ReplyText` and `Naming` its lines.
 #![tactic(auto)]
