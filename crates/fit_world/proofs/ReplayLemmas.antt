@@ -1,44 +1,83 @@
--- How many events were refused, one event further: for `playing`.
-use Rattle.std.proofs.Common.{◌≡◌, ◌<◌, ◌≤◌, ◌+◌, ℕ, Bool, true, false, List, [], ◌∷◌, length, get_or, drop, subst, arith}
+-- How many events were refused and which lines were put, one event further: for `playing`.
+use Rattle.std.proofs.Common.{◌≡◌, ◌<◌, ◌≤◌, ◌+◌, ℕ, Bool, true, false, List, [], ◌∷◌, ◌++◌, Ok, length, get_or, drop, refl, ◌∙◌, append-nil, append_assoc, subst, arith, codes, sym}
 use Rattle.std.proofs.lemmas.List.{drop_more, drop_all}
+use Rattle.fit_text.proofs.PenLemmas.{continues_none, continues_then, puts_written}
+use Rattle.fit_text.specs.Pen.{Written, Continues, Took}
 use Rattle.fit_world.specs.declared.event.Event.{Event}
 use Rattle.fit_world.specs.declared.reply.Reply.{Reply}
-use Rattle.fit_world.specs.Replying.{is_ok, MayReply, rides_on, MayReplyAll, refusals, MayRefuse}
+use Rattle.fit_world.specs.Replying.{is_ok, MayReply, rides_on, MayReplyAll, refusals}
+use Rattle.fit_world.specs.ReplyText.{line_text, lines_text, AreTold}
 
--- so many were refused before the events that are left: with any answers to these it is known of all
-abbrev pub LeadsTo : List Event → Bool → List Event → ℕ → Type 0
-LeadsTo events riding left refused = (rest : List Reply) → MayReplyAll riding left rest → MayRefuse events (refused + refusals rest)
+-- these may be replied to all events, so many of them are refusals, and this is their text
+pub record Counted (events : List Event) (refused : ℕ) (text : List ℕ) : Type 0 where
+  pub replies : List Reply
+  pub may : MayReplyAll false events replies
+  pub counted : refused ≡ refusals replies
+  pub lines : text ≡ lines_text events replies
 
-behind_ok : (events left : List Event) (riding next : Bool) (event : Event) (reply : Reply) (refused : ℕ) →
-    LeadsTo events riding (event ∷ left) refused → MayReply riding event.command reply → next ≡ rides_on riding event.command reply →
-    is_ok reply ≡ true → LeadsTo events next left refused
-behind_ok events left riding next event reply refused leads may is ok rest all =
-    rw ok at (leads (reply ∷ rest) (may, rw is at all))
+-- So many were refused before the events that are left, and a pen was put their lines: with any replies to the events that are
+-- left it is known of all.
+pub record LeadsTo (events : List Event) (riding : Bool) (left : List Event) (refused : ℕ) (old new : Written) : Type 0 where
+  pub text : List ℕ
+  pub put : Took old text new
+  pub leads : (rest : List Reply) → MayReplyAll riding left rest → Counted events (refused + refusals rest) (text ++ lines_text left rest)
 
-behind_refused : (events left : List Event) (riding next : Bool) (event : Event) (reply : Reply) (refused : ℕ) →
-    LeadsTo events riding (event ∷ left) refused → MayReply riding event.command reply → next ≡ rides_on riding event.command reply →
-    is_ok reply ≡ false → LeadsTo events next left (refused + 1)
-behind_refused events left riding next event reply refused leads may is not_ok rest all =
-    let whole : MayRefuse events (refused + (refusals rest + 1)) = rw not_ok at (leads (reply ∷ rest) (may, rw is at all)) in
-    subst (MayRefuse events) (omega arith) whole
+-- before the first event
+pub none_yet : (events : List Event) (pen : Written) → LeadsTo events false events 0 pen pen
+none_yet events pen = record {
+  text = [];
+  put = (refl, continues_none pen);
+  leads = λ rest all. record { replies = rest; may = all; counted = omega arith; lines = refl };
+}
 
-pub one_ok : (events : List Event) (i : ℕ) (d : Event) (riding next : Bool) (reply : Reply) (refused : ℕ) → i < length events →
-    LeadsTo events riding (drop i events) refused → MayReply riding (get_or events i d).command reply →
-    next ≡ rides_on riding (get_or events i d).command reply → is_ok reply ≡ true → LeadsTo events next (drop (i + 1) events) refused
-one_ok events i d riding next reply refused within leads =
-    behind_ok events (drop (i + 1) events) riding next (get_or events i d) reply refused
-    (subst (λ left. LeadsTo events riding left refused) (drop_more events i d within) leads)
+behind : (events left : List Event) (riding next : Bool) (event : Event) (reply : Reply) (refused now : ℕ) (o m n : Written) →
+    LeadsTo events riding (event ∷ left) refused o m → MayReply riding event.command reply → next ≡ rides_on riding event.command reply →
+    ((rest : List Reply) → now + refusals rest ≡ refused + refusals (reply ∷ rest)) → Took m (line_text event reply ++ codes "\n") n →
+    LeadsTo events next left now o n
+behind events left riding next event reply refused now o m n known may is counts put =
+    let line : List ℕ = line_text event reply ++ codes "\n" in
+    record {
+      text = known.text ++ line;
+      put = (put.0 ∙ known.put.0, continues_then o m n known.text line known.put.1 put.1);
+      leads = λ rest all.
+          let told = known.leads (reply ∷ rest) (may, rw is at all) in
+          record {
+            replies = told.replies;
+            may = told.may;
+            counted = counts rest ∙ told.counted;
+            lines = append_assoc known.text line (lines_text left rest) ∙ told.lines;
+          };
+    }
 
-pub one_refused : (events : List Event) (i : ℕ) (d : Event) (riding next : Bool) (reply : Reply) (refused : ℕ) → i < length events →
-    LeadsTo events riding (drop i events) refused → MayReply riding (get_or events i d).command reply →
+-- one event more
+pub one_ok : (events : List Event) (i : ℕ) (d : Event) (riding next : Bool) (reply : Reply) (refused : ℕ) (o m n : Written) →
+    i < length events → LeadsTo events riding (drop i events) refused o m → MayReply riding (get_or events i d).command reply →
+    next ≡ rides_on riding (get_or events i d).command reply → is_ok reply ≡ true →
+    Took m (line_text (get_or events i d) reply ++ codes "\n") n → LeadsTo events next (drop (i + 1) events) refused o n
+one_ok events i d riding next reply refused o m n within known may is ok put =
+    behind events (drop (i + 1) events) riding next (get_or events i d) reply refused refused o m n
+    (subst (λ left. LeadsTo events riding left refused o m) (drop_more events i d within) known) may is (λ rest. rw ok refl) put
+
+pub one_refused : (events : List Event) (i : ℕ) (d : Event) (riding next : Bool) (reply : Reply) (refused : ℕ) (o m n : Written) →
+    i < length events → LeadsTo events riding (drop i events) refused o m → MayReply riding (get_or events i d).command reply →
     next ≡ rides_on riding (get_or events i d).command reply → is_ok reply ≡ false →
-    LeadsTo events next (drop (i + 1) events) (refused + 1)
-one_refused events i d riding next reply refused within leads =
-    behind_refused events (drop (i + 1) events) riding next (get_or events i d) reply refused
-    (subst (λ left. LeadsTo events riding left refused) (drop_more events i d within) leads)
+    Took m (line_text (get_or events i d) reply ++ codes "\n") n → LeadsTo events next (drop (i + 1) events) (refused + 1) o n
+one_refused events i d riding next reply refused o m n within known may is not_ok put =
+    behind events (drop (i + 1) events) riding next (get_or events i d) reply refused (refused + 1) o m n
+    (subst (λ left. LeadsTo events riding left refused o m) (drop_more events i d within) known) may is (λ rest. rw not_ok (omega arith)) put
 
-pub at_the_end : (events : List Event) (i : ℕ) (riding : Bool) (refused : ℕ) → length events ≤ i →
-    LeadsTo events riding (drop i events) refused → MayRefuse events refused
-at_the_end events i riding refused past leads =
-    let end = subst (λ left. LeadsTo events riding left refused) (drop_all i events past) leads in
-    subst (MayRefuse events) (omega arith) (end [] tt)
+-- behind the last event, where nothing waits
+pub at_the_end : (events : List Event) (i : ℕ) (riding : Bool) (refused : ℕ) (o n : Written) → length events ≤ i → o.waiting ≡ [] →
+    n.waiting ≡ [] → LeadsTo events riding (drop i events) refused o n → AreTold events refused o.held n.held
+at_the_end events i riding refused o n past none_before none known =
+    let end = subst (λ left. LeadsTo events riding left refused o n) (drop_all i events past) known in
+    let told = end.leads [] tt in
+    let whole : end.text ≡ lines_text events told.replies = sym (append-nil end.text) ∙ told.lines in
+    record {
+      replies = told.replies;
+      may = told.may;
+      counted = omega (arith, told.counted);
+      printed =
+          (puts_written {E = ℕ} o n (Ok (tt {0})) (lines_text events told.replies) none_before none
+          (record { same = end.put.0; all = subst (Continues o n) whole end.put.1; beginning = tt })).all;
+    }

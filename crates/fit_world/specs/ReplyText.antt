@@ -1,10 +1,12 @@
 -- The lines that say what is replied to events.
-use Rattle.std.specs.Prelude.{ℕ, List, [], ◌∷◌, ◌++◌, codes, decimal}
+use Rattle.std.specs.Prelude.{◌≡◌, ℕ, false, List, [], ◌∷◌, ◌++◌, Option, codes, decimal}
+use Rattle.std.specs.Io.KnownBytes.{Appends}
 use Rattle.fit_world.specs.declared.event.Event.{Event}
 use Rattle.fit_world.specs.declared.reply.Reply.{Reply}
 use Rattle.fit_world.specs.declared.reply.Reply.TheVariants.{Done, Stopped, Recovered, Refused, NoRecorder}
 use Rattle.fit_world.specs.Naming.{fault_name}
 use Rattle.fit_world.specs.Replaying.{word_of}
+use Rattle.fit_world.specs.Replying.{MayReplyAll, refusals}
 use Rattle.fit_world.specs.Summary.{summary_text}
 
 abbrev pub reply_text : Reply → List ℕ
@@ -23,3 +25,11 @@ abbrev pub lines_text : List Event → List Reply → List ℕ
 lines_text [] replies = []
 lines_text (event ∷ events) [] = []
 lines_text (event ∷ events) (reply ∷ replies) = (line_text event reply ++ codes "\n") ++ lines_text events replies
+
+-- Replies that may come to these events, where no recorder runs before them, were printed, a line for each event; and so many of
+-- them are refusals.
+pub record AreTold (events : List Event) (refused : ℕ) (old new : Option (List ℕ)) : Type 0 where
+  pub replies : List Reply
+  pub may : MayReplyAll false events replies
+  pub counted : refused ≡ refusals replies
+  pub printed : Appends old new (lines_text events replies)

@@ -1,4 +1,4 @@
--- What is replied to a command, and how many replies to events may be refusals.
+-- What is replied to a command, and how many replies are refusals.
 use Rattle.std.specs.Prelude.{◌≡◌, ◌↔◌, ℕ, ◌+◌, Bool, true, false, List, [], ◌∷◌, None, Result, Ok, Err, if◌then◌else◌}
 use Rattle.fit_activity.specs.declared.activity.Summary.{Summary}
 use Rattle.fit_activity.specs.declared.recording.start.Start.{Start}
@@ -91,7 +91,3 @@ MayReplyAll riding _ _ = ⊥
 abbrev pub refusals : List Reply → ℕ
 refusals [] = 0
 refusals (reply ∷ replies) = if is_ok reply then refusals replies else refusals replies + 1
-
--- so many of the replies to these events may be refusals, where no recorder runs before them
-abbrev pub MayRefuse : List Event → ℕ → Type 0
-MayRefuse events refused = (replies : List Reply) × MayReplyAll false events replies × (refused ≡ refusals replies)

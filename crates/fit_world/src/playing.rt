@@ -1,7 +1,7 @@
 // The events of a script, over a disk.
 
-ghost use Rattle.std.specs.Prelude.{◌≤◌, All, length, IfOk, IfErr};
-ghost use Rattle.fit_world.specs.Replying.{MayRefuse};
+ghost use Rattle.std.specs.Prelude.{◌≡◌, ◌≤◌, [], All, length, IfOk, IfErr};
+ghost use Rattle.fit_world.specs.ReplyText.{AreTold};
 ghost use Rattle.fit_world.specs.Replaying.{IsReplayed};
 ghost use Rattle.fit_world.specs.Showing.{IsOutputFault};
 
@@ -23,16 +23,34 @@ pub fn play<D: Disk, O: Write>(
 ) -> (D, Result<usize, TellFault>)
     requires { All IsReplayed events.now }
     ensures most { IfOk result.1 (λ refused. refused ≤ length events.now) }
-    ensures refused { IfOk result.1 (MayRefuse events.now) }
+    ensures told { IfOk result.1 (λ refused. AreTold events.now refused (O.contents out.old) (O.contents out.new)) }
     ensures fault { IfErr result.1 IsOutputFault }
 {
     let mut pen = Pen::new(out);
+    let played = play_by(disk, events, &mut pen);
+    let _ = pen.into_writer();
+    played
+}
+
+// The same by a pen for which nothing waits.
+fn play_by<D: Disk, O: Write>(
+    disk: D,
+    events: &[Event],
+    pen: &mut Pen<'_, O>,
+) -> (D, Result<usize, TellFault>)
+    requires replayed { All IsReplayed events.now }
+    requires waits { pen.old.waiting ≡ [] }
+    ensures most { IfOk result.1 (λ refused. refused ≤ length events.now) }
+    ensures same { IfOk result.1 (λ _. pen.new.name ≡ pen.old.name) }
+    ensures told { IfOk result.1 (λ refused. AreTold events.now refused pen.old.held pen.new.held) }
+    ensures fault { IfErr result.1 IsOutputFault }
+{
     let mut ride = Ride::Idle(disk);
     let mut refused = 0;
     for event in events {
         let (next, reply) = ride.ask(&event.command);
         ride = next;
-        if let Err(fault) = print(&ReplyLine { event, reply }, &mut pen) {
+        if let Err(fault) = print(&ReplyLine { event, reply }, pen) {
             return (ride.into_disk(), Err(fault));
         }
         if !reply.is_ok() {
