@@ -21,6 +21,7 @@
 enum { DESCRIPTORS = 1024, ABOVE_ALL_OTHERS = 200 };
 
 static const char *names[DESCRIPTORS];
+static struct stat folder;
 static const char *kind = "";
 static unsigned long number, seen;
 static int error, most = -1, told = -1;
@@ -41,15 +42,25 @@ __attribute__((constructor)) static void begin(void) {
     syscall(SYS_close, log);
 }
 
-/* What the path is: one of the two files, a folder, or nothing that is told of. */
+/* Keeps in mind the folder that a file at this path is in. */
+static void lies_in_folder(const char *path) {
+    char above[4096];
+    const char *slash = strrchr(path, '/');
+    snprintf(above, sizeof above, "%.*s", slash ? (int)(slash + 1 - path) : 1, slash ? path : ".");
+    stat(above, &folder);
+}
+
+/* What the path is: one of the two files, their folder, another one, or nothing that is told of. */
 static const char *named(const char *path, int file) {
     struct stat found;
     const char *slash = strrchr(path, '/'), *last = slash ? slash + 1 : path;
-    if (!strcmp(last, "activity.fit"))
-        return "data";
-    if (!strcmp(last, "activity.frj"))
-        return "journal";
-    return file >= 0 && !fstat(file, &found) && S_ISDIR(found.st_mode) ? "folder" : NULL;
+    if (!strcmp(last, "activity.fit") || !strcmp(last, "activity.frj")) {
+        lies_in_folder(path);
+        return strcmp(last, "activity.fit") ? "journal" : "data";
+    }
+    if (file < 0 || fstat(file, &found) || !S_ISDIR(found.st_mode))
+        return NULL;
+    return found.st_dev == folder.st_dev && found.st_ino == folder.st_ino ? "folder" : "another";
 }
 
 static const char *name_of(int file) {
