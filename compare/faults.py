@@ -128,6 +128,17 @@ def the_calls(told):
         yield "an erasing", differs((said, calls_of(log)), ((0, answers("erase: ok"), ""), OPENING + ERASING))
 
 
+def before_an_opening(told):
+    """What is no file is seen before it is opened, and not opened."""
+    with room(*STOPPED) as (script, new):
+        for name, calls in (("activity.fit", []), ("activity.frj", OPENING[:2])):
+            folder = new()
+            os.mkfifo(pathlib.Path(folder) / name)
+            said, log = told.run("replay", script, folder)
+            want = (1, "", "fitrec: cannot open %s\n" % folder), calls
+            yield "a pipe is not opened", differs((said, calls_of(log)), want)
+
+
 # How many syncs each line of a script makes, behind the three of opening, and what it answers before any of them fails.
 SYNCS = [("start", START, 5, "ok"), ("sample", SAMPLES[0], 0, "ok"), ("commit", "commit", 3, "ok"),
          ("sample", SAMPLES[1], 0, "ok"), ("stop", STOP, 4, "ok"), ("recover", "recover", 3, TWO.strip()),
@@ -184,14 +195,15 @@ def calls_that_go_wrong(told):
             folder = shutil.copytree(cut_off, new(), dirs_exist_ok=True)
             return told.run("repair", folder, **wrong)[0], folder
 
-        for call in ("read", "write", "cut", "size"):
+        for call in ("read", "write", "cut", "size", "sync"):
             for number in range(1, sum(line.startswith(call) for line in log) + 1):
                 if call in ("read", "write"):
                     said, folder = repair(call=call, number=number, errno=errno.EINTR)
                     yield "an interrupted " + call, differs((said, holds(folder)), want)
                 said, folder = repair(call=call, number=number, errno=errno.EIO)
-                # The first two sizes belong to the opening of the files.
-                line = "cannot open " + folder if call == "size" and number < 3 else "Device"
+                # The first two sizes belong to the opening of the files, and the first three syncs.
+                is_opening = number <= {"size": 2, "sync": 3}.get(call, 0)
+                line = "cannot open " + folder if is_opening else "Device"
                 yield "a %s that failed" % call, differs(said, (1, "", "fitrec: %s\n" % line))
                 said = run(told.fitrec, "repair", folder)
                 yield "a repair behind a %s that failed" % call, differs((said, holds(folder)), want)
@@ -257,6 +269,31 @@ def with_a_lock(fitrec):
         yield "locked no more", differs(run(fitrec, "repair", folder), (0, ONE, ""))
 
 
+def with_other_things(fitrec):
+    """What stands at the name of a file is looked at before it is opened: a pipe holds nothing up, a link that points nowhere is
+    not made into a file, and one to a file is followed."""
+    with room(*STOPPED) as (script, new):
+        for name in ("activity.fit", "activity.frj"):
+            piped, linked, nowhere, other = (pathlib.Path(new()) for _ in range(4))
+            os.mkfifo(piped / name)
+            os.mkfifo(other / "pipe")
+            (linked / name).symlink_to(other / "pipe")
+            (nowhere / name).symlink_to(other / "missing")
+            for folder in (piped, linked, nowhere):
+                for words in (["replay", script, folder], ["repair", folder]):
+                    said = run(fitrec, *words)
+                    # A repair opens nothing where the other file is missing.
+                    is_none = words[0] == "repair" and not all(os.path.lexists(folder / it) for it in ("activity.fit", "activity.frj"))
+                    line = "NothingRecorded" if is_none else "cannot open %s" % folder
+                    yield "something else at the name of a file", differs(said, (1, "", "fitrec: %s\n" % line))
+            yield "a link that points nowhere", differs((other / "missing").exists(), False)
+            (linked / name).unlink()
+            (linked / name).symlink_to(other / "file")
+            (other / "file").touch()
+            yield "a link to a file", differs(run(fitrec, "replay", script, linked)[0], 0)
+            yield "a link to a file: check", differs(run(fitrec, "check", linked / "activity.fit"), (0, TWO, ""))
+
+
 def with_much_behind_a_commit(fitrec):
     """What stands behind the last commit is cut off, however much that is."""
     with room() as (script, new):
@@ -282,13 +319,13 @@ def without_a_name(fitrec):
 
 def check(fitrec):
     """Yields a name and a difference, or None, for each look."""
-    parts = [at_each_size, with_closed_streams, with_a_lock, with_much_behind_a_commit, without_a_name]
+    parts = [at_each_size, with_closed_streams, with_a_lock, with_other_things, with_much_behind_a_commit, without_a_name]
     with library() as made:
         if made is None:
             print("skipped: calls that are told, fail, fall short or are interrupted, since there is no compiler cc here")
         else:
             told = Told(fitrec, made)
-            for part in (the_calls, failed_syncs, calls_that_go_wrong):
+            for part in (the_calls, before_an_opening, failed_syncs, calls_that_go_wrong):
                 for name, difference in part(told):
                     yield "faults: " + name, difference
     for part in parts:

@@ -147,7 +147,7 @@ def memory(fitrec):
             if said[0] == 0:
                 break
             continue
-        line = re.fullmatch(r"fitrec: (?:(NoMemory)|Memory at (\d+))\n|Error: Kind\(OutOfMemory\)\n", said[2])
+        line = re.fullmatch(r"fitrec: (?:(NoMemory)|Memory at (\d+))\n", said[2])
         good = line and said[1] == "" and int(line[2] or 0) >= place
         place = int(line[2] or 0) if line else place
         told.add("at an item" if place else "at once")

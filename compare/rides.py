@@ -169,7 +169,7 @@ def with_little_memory(fitrec):
                 break
             # Where there is no memory for the program itself, it does not start.
             if status == 1:
-                line = re.fullmatch(r"fitrec: (NoMemory|line (\d+): Memory)\n|Error: Kind\(OutOfMemory\)\n", err)
+                line = re.fullmatch(r"fitrec: (NoMemory|line (\d+): Memory)\n", err)
                 last = max(last, int(line[2]) if line and line[2] else 0)
                 recorded = out != "" or file.exists() and file.stat().st_size > 0
                 told.add(line and (line[1] or "start").split()[0])
@@ -193,7 +193,7 @@ def with_little_memory_simulated(fitrec):
                 break
             # Where there is no memory for the program itself, it does not start.
             if status == 1:
-                line = re.fullmatch(r"fitrec: (NoMemory|line \d+: Memory)\n|Error: Kind\(OutOfMemory\)\n", err)
+                line = re.fullmatch(r"fitrec: (NoMemory|line \d+: Memory)\n", err)
                 told.add(line and (line[1] or "start").split()[0])
                 if out or not line:
                     yield f"memory of {limit} bytes: nothing is simulated", (out, err)
@@ -202,8 +202,51 @@ def with_little_memory_simulated(fitrec):
         yield "little memory, simulated: enough", differs((status, out.count(": ok\n"), records, err), (0, 5007, True, ""))
 
 
+# The fields of a sample: the key, its value and its bytes.
+FIELDS = [("lat", 566012345, 4), ("long", 102345678, 4), ("alt", 2655, 2), ("hr", 92, 1), ("cad", 80, 1), ("dist", 310, 4),
+          ("speed", 3100, 2), ("power", 210, 2), ("temp", -3, 1)]
+
+
+def of_room_and_slots(fitrec):
+    """A ride whose records have no more room, and one whose journal has but the slot that is kept for the stop."""
+    lines, answers, length, kept = ["start 1000000000 7 cycling"], ["start: ok"], 72, 0
+    while length + 96 <= 16776704 or len(lines) == kept + 1:
+        # Of five kinds of samples each finds the definitions of the other four in force, and is written with its own.
+        left_out = 2 + len(lines) % 5
+        fields = [field for at, field in enumerate(FIELDS) if at != left_out]
+        words = " ".join("%s=%d" % field[:2] for field in fields)
+        lines.append("sample %d %s" % (1000000000 + len(lines), words))
+        is_taken = length + 96 <= 16776704
+        answers.append("sample: ok" if is_taken else "sample: Full")
+        kept += is_taken
+        length += is_taken * (6 + 3 + 3 * len(fields) + 5 + sum(size for _, _, size in fields))
+    lines += ["lap %d" % (1000000000 + len(lines)), "commit", "stop %d" % (1000000000 + len(lines))]
+    answers += ["lap: Full", "commit: ok", "stop: ok"]
+    with tempfile.TemporaryDirectory() as folder, tempfile.NamedTemporaryFile("w") as script:
+        script.write("\n".join(lines))
+        script.flush()
+        want = (1, "".join("%d %s\n" % row for row in enumerate(answers, 1)), "fitrec: 2 refused\n")
+        yield "no room: answers", None if (said := run(fitrec, "replay", script.name, folder)) == want else (said[0], said[2])
+        file = pathlib.Path(folder) / "activity.fit"
+        # Behind the header the records, the stop under the definition of the start, the closing messages and the checksum.
+        yield "no room: size", differs(file.stat().st_size, 14 + length + 7 + 230 + 2)
+        said = run(fitrec, "check", file)
+        yield "no room: checked", differs((said[0], said[1].split()[:2]), (0, ["ok", "records=%d" % kept]))
+    # The start takes the first of 4,096 slots, and the last is kept for the stop.
+    commits = ["commit: ok"] * 4094 + ["commit: JournalFull"] * 2
+    with tempfile.TemporaryDirectory() as folder, tempfile.NamedTemporaryFile("w") as script:
+        script.write("start 1000000000 7 running\n" + "commit\n" * len(commits) + "stop 1000000001\n")
+        script.flush()
+        answers = ["start: ok", *commits, "stop: ok"]
+        want = (1, "".join("%d %s\n" % row for row in enumerate(answers, 1)), "fitrec: 2 refused\n")
+        yield "no slot: answers", None if (said := run(fitrec, "replay", script.name, folder)) == want else (said[0], said[2])
+        said = run(fitrec, "repair", folder)
+        yield "no slot: repaired", differs(said[1].split()[:2], ["ok", "records=0"])
+
+
 def check(fitrec):
     yield from rides(fitrec)
+    yield from of_room_and_slots(fitrec)
     yield from on_a_full_disk(fitrec)
     yield from with_files_that_may_not_grow(fitrec)
     yield from with_full_output(fitrec)

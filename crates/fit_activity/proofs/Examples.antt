@@ -4,9 +4,9 @@ use Rattle.fit_activity.specs.declared.recording.start.Sport.TheVariants.{Runnin
 use Rattle.fit_activity.specs.declared.recording.entry.Entry.{Entry}
 use Rattle.fit_activity.specs.declared.recording.entry.Entry.TheVariants.{Sample, Lap, Pause, Resume, Stop}
 use Rattle.fit_activity.specs.declared.recording.refusal.Refusal.TheVariants.{Time, Distance, Value, TimerStopped, TimerRunning, TooLong}
-use Rattle.fit_activity.specs.Recording.{Recorded, Started, Added}
-use Rattle.fit_activity.specs.Stretch.{lap_at, lap_of, session_of}
-use Rattle.fit_activity.specs.Refusal.{refusal_of}
+use Rattle.fit_activity.specs.Rides.Recording.{Recorded, Started, Added}
+use Rattle.fit_activity.specs.Rides.Stretch.{lap_at, lap_of, session_of}
+use Rattle.fit_activity.specs.Rides.Refusal.{refusal_of}
 
 abbrev start : Recorded
 start = Started (record { time = 1000000000; serial = 7; sport = Running })

@@ -1,17 +1,6 @@
-pub mod Pushed
-pub mod Timing
-pub mod Added
-pub mod Judged
-pub mod Summed
-pub mod Spelled
-pub mod Said
-pub mod Heeded
-pub mod OneOf
-pub mod Recognised
-pub mod Identified
-pub mod Retold
-pub mod Counted
-pub mod Bounded
-pub mod Finished
-pub mod Passed
-pub mod Examples
+-- A folder for each theorem. Public are the lemmas that proofs of the crates above cite.
+pub mod RunningTotals
+mod Spelling
+pub mod OneList
+pub mod FinishedActivity
+mod Examples

@@ -45,7 +45,7 @@ pub enum ActivityFault {
 }
 
 impl ActivityFault {
-    ghost use Rattle.fit_activity.specs.Activity.{activity_fault_code};
+    ghost use Rattle.fit_activity.specs.Files.Activity.{activity_fault_code};
 
     /// The number of the fault.
     pub fn code(&self) -> u8

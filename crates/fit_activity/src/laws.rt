@@ -1,18 +1,20 @@
 //! Laws of the definitions in `specs/`. Each is the contract of a function that does nothing.
 
 ghost use Rattle.std.specs.Prelude.{◌≡◌, ◌++◌, List, Ok};
-ghost use Rattle.fit_activity.specs.Recording.{Recorded};
-ghost use Rattle.fit_activity.specs.Refusal.{Allowed};
-ghost use Rattle.fit_activity.specs.Speaking.{spoken, closing};
-ghost use Rattle.fit_activity.specs.Activity.{activity_in};
-ghost use Rattle.fit_activity.specs.Finished.{summary_of_list};
+ghost use Rattle.fit_activity.specs.Rides.Recording.{Recorded};
+ghost use Rattle.fit_activity.specs.Rides.Refusal.{Allowed};
+ghost use Rattle.fit_activity.specs.Messages.RideMessages.{spoken, closing};
+ghost use Rattle.fit_activity.specs.Files.Activity.{activity_in};
+ghost use Rattle.fit_activity.specs.Files.Finished.{summary_of_list};
 
 /// No two recordings say the same messages.
 pub fn messages_have_one_list()
-    ensures { (list other : List Recorded) → Allowed list → Allowed other → spoken list ≡ spoken other → list ≡ other }
+    ensures { (list other : List Recorded) → Allowed list → Allowed other → spoken list ≡ spoken other
+        → list ≡ other }
 {}
 
 /// The finished file of a recording is an activity, and says of itself what the recording adds up to.
 pub fn recordings_are_activities()
-    ensures { (list : List Recorded) → Allowed list → activity_in (spoken list ++ closing list) ≡ Ok (summary_of_list list) }
+    ensures { (list : List Recorded) → Allowed list
+        → activity_in (spoken list ++ closing list) ≡ Ok (summary_of_list list) }
 {}

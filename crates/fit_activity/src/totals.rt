@@ -34,9 +34,9 @@ pub struct Totals {
 
 impl Model for Totals {
     ghost use Rattle.std.specs.Prelude.{◌≤◌};
-    ghost use Rattle.fit_activity.specs.Totals.{Kept, KeepsTime};
+    ghost use Rattle.fit_activity.specs.Rides.RunningTotals.{TotalsState, KeepsTime};
 
-    ghost Value = { Kept };
+    ghost Value = { TotalsState };
 
     ghost view = { λ t. record {
       start = t.start;
@@ -52,12 +52,12 @@ impl Model for Totals {
 }
 
 impl Totals {
-    ghost use Rattle.fit_activity.specs.Recording.{Recorded, Started, Added, EntryFits, entry_time, is_lap};
-    ghost use Rattle.fit_activity.specs.Timer.{runs_now};
-    ghost use Rattle.fit_activity.specs.Stretch.{end_time, lap_of, lap_at, session_of, activity_of};
-    ghost use Rattle.fit_activity.specs.Refusal.{start_refusal, refusal_of, has_stopped};
-    ghost use Rattle.fit_activity.specs.Totals.{AreTotals, KeepsTime};
-    ghost use Rattle.fit_activity.specs.Step.{totals_after, lap_by, SumsHaveRoom, refusal_by, refusal_by_kind, refusal_by_values};
+    ghost use Rattle.fit_activity.specs.Rides.Recording.{Recorded, Started, Added, EntryFits, entry_time, is_lap};
+    ghost use Rattle.fit_activity.specs.Rides.Timer.{runs_now};
+    ghost use Rattle.fit_activity.specs.Rides.Stretch.{end_time, lap_of, lap_at, session_of, activity_of};
+    ghost use Rattle.fit_activity.specs.Rides.Refusal.{start_refusal, refusal_of, has_stopped};
+    ghost use Rattle.fit_activity.specs.Rides.RunningTotals.{AreTotals, KeepsTime};
+    ghost use Rattle.fit_activity.specs.Private.Step.{totals_after, lap_by, SumsHaveRoom, refusal_by, refusal_by_kind, refusal_by_values};
 
     /// The totals of a start, whose `check` was Ok.
     pub fn start(start: &Start) -> Totals
@@ -78,7 +78,8 @@ impl Totals {
 
     /// Whether the entry may stand behind the recording so far; else why not.
     pub fn check(&self, entry: &Entry) -> Result<(), Refusal>
-        ensures first { (list : List Recorded) → AreTotals self.now list → result_err result ≡ refusal_of list entry.now }
+        ensures first { (list : List Recorded) → AreTotals self.now list
+            → result_err result ≡ refusal_of list entry.now }
         // As its types say.
         ensures fits { EntryFits entry.now }
     {
@@ -130,8 +131,10 @@ impl Totals {
 
     /// Adds an entry, whose `check` was Ok. A recording has fewer than 4,294,967,296 entries, its start among them.
     pub fn add(&mut self, entry: &Entry)
-        requires { (list : List Recorded) × AreTotals self.old list × (refusal_of list entry.now ≡ None) × (length list < 2 ^ 32) }
-        ensures { (list : List Recorded) → AreTotals self.old list → AreTotals self.new (list ++ Added entry.now ∷ []) }
+        requires { (list : List Recorded) × AreTotals self.old list × (refusal_of list entry.now ≡ None)
+            × (length list < 2 ^ 32) }
+        ensures { (list : List Recorded) → AreTotals self.old list
+            → AreTotals self.new (list ++ Added entry.now ∷ []) }
     {
         self.step(in_range(entry));
     }

@@ -1,8 +1,8 @@
 // Rides that are known from outside, and what they are refused for, add up to and say.
 
 ghost use Rattle.std.specs.Prelude.{◌≡◌, ◌+◌, ◌≤◌, ◌<◌, ◌^◌, List, None, length};
-ghost use Rattle.fit_activity.specs.Recording.{Recorded};
-ghost use Rattle.fit_activity.specs.Totals.{AreTotals};
+ghost use Rattle.fit_activity.specs.Rides.Recording.{Recorded};
+ghost use Rattle.fit_activity.specs.Rides.RunningTotals.{AreTotals};
 
 use fit_activity::{Entry, Refusal, Sample, Speech, Sport, Start, Totals, speak};
 use std::process::Abort;

@@ -1,10 +1,11 @@
+-- Public are the lemmas that proofs of the crates above cite.
 pub mod Register
-pub mod Blocks
-pub mod Entries
+mod Blocks
+mod Entries
 pub mod Sums
 pub mod Numbers
-pub mod Powers
+mod Powers
 pub mod Signs
-pub mod Fields
+mod Fields
 pub mod Values
 mod Examples

@@ -1,7 +1,8 @@
-pub mod Leaving
+-- Public are the lemmas that proofs of the crates above cite: a run of calls goes on by one call, and what a power cut leaves.
 pub mod Moments
-pub mod Sound
-pub mod Cycling
-pub mod Joining
-pub mod Halves
-pub mod Records
+pub mod Leaving
+mod Sound
+mod Cycling
+mod Joining
+mod Halves
+mod Records

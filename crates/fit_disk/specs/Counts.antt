@@ -49,6 +49,11 @@ pub record Schedule : Type 0 where
   pub cut : Option ℕ
   pub since : Counts
 
+-- what a disk knows of its calls: those that were made, and those that are to fail
+pub record Log : Type 0 where
+  pub counts : Counts
+  pub schedule : Schedule
+
 -- the call of that number is the one that is to fail
 abbrev pub is_at : Option ℕ → ℕ → Bool
 is_at None number = false

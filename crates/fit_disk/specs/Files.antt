@@ -2,7 +2,7 @@
 use Rattle.std.specs.Prelude.{◌≡◌, Bool, true, ◌&&◌, ◌||◌, nat_lt, Result, IsErr, is_err}
 use Rattle.fit_disk.specs.declared.files.Files.{Files}
 use Rattle.fit_disk.specs.Counts.{Counts, last_count}
-use Rattle.fit_disk.specs.Clock.{counts_of}
+use Rattle.fit_disk.specs.CallSchedule.{counts_of}
 
 abbrev pub files_counts : Files → Counts
 files_counts files = counts_of files.counts

@@ -10,7 +10,7 @@ pub mod Half
 pub mod Events
 pub mod Recorded
 pub mod Store
-pub mod Clock
+pub mod CallSchedule
 pub mod Memory
 pub mod Files
 pub mod Code

@@ -1,41 +1,44 @@
 -- What a memory disk shows.
 use Rattle.std.specs.Prelude.{◌≡◌, ℕ, true, Result, IsErr, is_err, OnErr, Bool, ◌||◌, ◌==◌}
-use Rattle.fit_disk.specs.declared.clock.Clock.{Clock}
+use Rattle.fit_disk.specs.declared.call_schedule.CallSchedule.{CallSchedule}
 use Rattle.fit_disk.specs.declared.disk.Which.{Which}
 use Rattle.fit_disk.specs.declared.memory.Memory.{Memory}
 use Rattle.fit_disk.specs.Stored.{write_begun, cut_begun}
 use Rattle.fit_disk.specs.State.{file_of, seen_in}
 use Rattle.fit_disk.specs.Story.{Story, then_file, seen_of}
-use Rattle.fit_disk.specs.Counts.{Counts, Schedule, must_fail, last_count}
-use Rattle.fit_disk.specs.Clock.{counts_of, schedule_by}
+use Rattle.fit_disk.specs.Counts.{Counts, Log, Schedule, must_fail, last_count}
+use Rattle.fit_disk.specs.CallSchedule.{counts_of, schedule_by}
 use Rattle.fit_disk.specs.Store.{story_in}
 
-abbrev pub clock_counts : Clock → Counts
-clock_counts clock = counts_of clock.counts
+abbrev pub schedule_counts : CallSchedule → Counts
+schedule_counts call_schedule = counts_of call_schedule.counts
 
-abbrev pub clock_schedule : Clock → Schedule
-clock_schedule clock = schedule_by clock.fail clock.cut clock.since
+abbrev pub schedule_value : CallSchedule → Schedule
+schedule_value call_schedule = schedule_by call_schedule.fail call_schedule.cut call_schedule.since
 
 abbrev pub memory_story : Memory → Story
 memory_story m = story_in m.store
 
 abbrev pub memory_counts : Memory → Counts
-memory_counts m = clock_counts m.clock
+memory_counts m = schedule_counts m.call_schedule
 
 abbrev pub memory_schedule : Memory → Schedule
-memory_schedule m = clock_schedule m.clock
+memory_schedule m = schedule_value m.call_schedule
+
+abbrev pub memory_log : Memory → Log
+memory_log m = record { counts = memory_counts m; schedule = memory_schedule m }
 
 -- a growth was refused in it
 abbrev pub was_refused : Memory → Bool
-was_refused m = m.clock.was_refused
+was_refused m = m.call_schedule.was_refused
 
 -- a growth was refused in its last call
 abbrev pub is_refused : Memory → Bool
-is_refused m = m.clock.is_refused
+is_refused m = m.call_schedule.is_refused
 
 -- a growth was refused in it, or its counts are at their last value
 abbrev pub is_spent : Memory → Bool
-is_spent m = was_refused m || (m.clock.counts.calls == last_count)
+is_spent m = was_refused m || (m.call_schedule.counts.calls == last_count)
 
 -- A call fails where it must and where memory was refused in it, and nowhere else. A refusal is told from then on.
 pub record FailsByCause {T E : Type 0} (result : Result T E) (old new : Memory) : Type 0 where

@@ -1,8 +1,16 @@
 -- Several calls of a disk, counted together.
-use Rattle.std.specs.Prelude.{◌≡◌, ℕ, ◌+◌}
-use Rattle.fit_disk.specs.Counts.{Counts}
+use Rattle.std.specs.Prelude.{◌≡◌, ℕ, ◌+◌, ◌≤◌}
+use Rattle.fit_disk.specs.Counts.{Counts, Log, HasFailed}
 
 -- so many calls were made, and none of them failed
 pub record AllWent (made : ℕ) (old new : Counts) : Type 0 where
   pub calls : new.calls ≡ old.calls + made
   pub failed : new.failed ≡ old.failed
+
+-- What a run of calls did: no more than so many were made; where one is told to have failed, one did; else none; and
+-- what is arranged to fail is as it was.
+pub record Ran (most : ℕ) (Failed : Type 0) (old new : Log) : Type 0 where
+  pub at_most : new.counts.calls ≤ old.counts.calls + most
+  pub cause : Failed → HasFailed old.counts new.counts
+  pub went : (Failed → ⊥) → new.counts.failed ≡ old.counts.failed
+  pub planned : new.schedule ≡ old.schedule

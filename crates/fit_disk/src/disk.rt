@@ -1,7 +1,7 @@
 // The trait that recorder and recovery are proved over.
 
 ghost use Rattle.std.specs.Prelude.{◌≡◌, ◌≤◌, Bool, IsTrue, IfOk, length};
-ghost use Rattle.fit_disk.specs.Counts.{Counts, Schedule, CountsCall, CountsRead};
+ghost use Rattle.fit_disk.specs.Counts.{Log, CountsCall, CountsRead};
 
 /// One of the two files of a recording.
 #[derive(Clone, Copy, Debug, PartialEq, Eq)]
@@ -21,60 +21,59 @@ pub trait Disk {
     ghost use Rattle.fit_disk.specs.Calls.{ReadsAt, Wrote, Shortened, Synced, IsSound};
 
     /// Reads give what was written or left, and a successful sync keeps. Of a disk that is not honest nothing
-    /// is known but its counts and its schedule.
+    /// is known but its log.
     ghost honest: { Bool };
 
     /// The state of both files now, and the earlier ones.
     ghost story: { Self → Story };
 
-    /// The calls made, the reads of the data file among them, and the calls that failed.
-    ghost counts: { Self → Counts };
-
-    /// Which calls are arranged to fail. No call of the trait changes it.
-    ghost schedule: { Self → Schedule };
+    /// The calls made, the reads of the data file among them, and the calls that failed; and which calls are
+    /// arranged to fail. No call of the trait changes what is arranged.
+    ghost log: { Self → Log };
 
     /// The length of a file in bytes.
     fn size(&mut self, which: Which) -> Result<u64, DeviceError>
         ensures size { IsTrue honest → IfOk result (λ size. size ≡ length (seen_of which (story self.old))) }
         ensures same { IsTrue honest → story self.new ≡ story self.old }
-        ensures counted { CountsCall result (counts self.old) (counts self.new) }
-        ensures reads { (counts self.new).data_reads ≡ (counts self.old).data_reads }
-        ensures planned { schedule self.new ≡ schedule self.old };
+        ensures counted { CountsCall result (log self.old).counts (log self.new).counts }
+        ensures reads { (log self.new).counts.data_reads ≡ (log self.old).counts.data_reads }
+        ensures planned { (log self.new).schedule ≡ (log self.old).schedule };
 
     /// Reads from a place on into the front of the buffer, and answers how many bytes: on an honest disk as
     /// many as the buffer and the file have.
     fn read(&mut self, which: Which, at: u64, buffer: &mut [u8]) -> Result<usize, DeviceError>
         ensures within { IfOk result (λ count. count ≤ length buffer.old) }
-        ensures bytes { IsTrue honest → IfOk result (ReadsAt (seen_of which (story self.old)) at (length buffer.old) buffer.new) }
+        ensures bytes { IsTrue honest
+            → IfOk result (ReadsAt (seen_of which (story self.old)) at (length buffer.old) buffer.new) }
         ensures same { IsTrue honest → story self.new ≡ story self.old }
-        ensures counted { CountsCall result (counts self.old) (counts self.new) }
-        ensures reads { CountsRead which (counts self.old) (counts self.new) }
-        ensures planned { schedule self.new ≡ schedule self.old };
+        ensures counted { CountsCall result (log self.old).counts (log self.new).counts }
+        ensures reads { CountsRead which (log self.old).counts (log self.new).counts }
+        ensures planned { (log self.new).schedule ≡ (log self.old).schedule };
 
     /// Writes bytes at a place, over what is there and past the end. Until a sync a crash may leave any bytes
     /// in that range. A write that failed may have been done in part.
     fn write(&mut self, which: Which, at: u64, bytes: &[u8]) -> Result<(), DeviceError>
         requires { IsTrue honest → at ≤ length (seen_of which (story self.old)) }
         ensures wrote { IsTrue honest → Wrote which at bytes.now result (story self.old) (story self.new) }
-        ensures counted { CountsCall result (counts self.old) (counts self.new) }
-        ensures reads { (counts self.new).data_reads ≡ (counts self.old).data_reads }
-        ensures planned { schedule self.new ≡ schedule self.old };
+        ensures counted { CountsCall result (log self.old).counts (log self.new).counts }
+        ensures reads { (log self.new).counts.data_reads ≡ (log self.old).counts.data_reads }
+        ensures planned { (log self.new).schedule ≡ (log self.old).schedule };
 
     /// Cuts a file to a length in bytes. A cut that failed may have been done in part.
     fn cut(&mut self, which: Which, len: u64) -> Result<(), DeviceError>
         requires { IsTrue honest → len ≤ length (seen_of which (story self.old)) }
         ensures shortened { IsTrue honest → Shortened which len result (story self.old) (story self.new) }
-        ensures counted { CountsCall result (counts self.old) (counts self.new) }
-        ensures reads { (counts self.new).data_reads ≡ (counts self.old).data_reads }
-        ensures planned { schedule self.new ≡ schedule self.old };
+        ensures counted { CountsCall result (log self.old).counts (log self.new).counts }
+        ensures reads { (log self.new).counts.data_reads ≡ (log self.old).counts.data_reads }
+        ensures planned { (log self.new).schedule ≡ (log self.old).schedule };
 
     /// Waits until all that reads give of the file is kept. A sync that failed keeps nothing new and loses
     /// nothing.
     fn sync(&mut self, which: Which) -> Result<(), DeviceError>
         ensures synced { IsTrue honest → Synced which result (story self.old) (story self.new) }
-        ensures counted { CountsCall result (counts self.old) (counts self.new) }
-        ensures reads { (counts self.new).data_reads ≡ (counts self.old).data_reads }
-        ensures planned { schedule self.new ≡ schedule self.old };
+        ensures counted { CountsCall result (log self.old).counts (log self.new).counts }
+        ensures reads { (log self.new).counts.data_reads ≡ (log self.old).counts.data_reads }
+        ensures planned { (log self.new).schedule ≡ (log self.old).schedule };
 
     /// What reads give may itself be left.
     ghost sound: { (disk : Self) → IsTrue honest → IsSound (story disk).now };

@@ -5,10 +5,10 @@ ghost use Rattle.std.specs.Prelude.{◌+◌, ◌<◌, ◌≡◌, ◌≤◌, fals
 ghost use Rattle.fit_disk.specs.Counts.{unplanned, no_calls, with_failure, CountsCall, CountsRead};
 ghost use Rattle.fit_disk.specs.Events.{fresh};
 
-use crate::tally::Tally;
+use crate::call_counts::CallCounts;
 use crate::{DeviceError, Disk, Which};
 use std::alloc::AllocError;
-use std::fs::{File, OpenOptions};
+use std::fs::{self, File, OpenOptions};
 use std::io::{self, ErrorKind};
 use std::os::fd::AsRawFd;
 use std::os::unix::fs::FileExt;
@@ -74,7 +74,7 @@ impl From<AllocError> for OpenFault {
 pub struct Files {
     data: File,
     journal: File,
-    counts: Tally,
+    counts: CallCounts,
     // A sync failed.
     is_lost: bool,
 }
@@ -93,16 +93,25 @@ impl Files {
         let data = open_locked(rt, path.join(rt.alloc(), DATA_NAME)?.as_str())?;
         let journal = open_locked(rt, path.join(rt.alloc(), JOURNAL_NAME)?.as_str())?;
         // The name of a file that was made is on the disk only once the folder is synced.
-        let named = if folder.is_empty() { "." } else { folder };
-        File::open(rt, named)?.sync_all()?;
+        File::open(rt, path_of(folder))?.sync_all()?;
         data.sync_all()?;
         journal.sync_all()?;
         Ok(Files {
             data,
             journal,
-            counts: Tally::new(),
+            counts: CallCounts::new(),
             is_lost: false,
         })
+    }
+
+    /// Whether one of the files is missing in an existing folder. Then nothing is recorded there.
+    pub fn is_one_missing(rt: &HostRuntime, folder: &str) -> Result<bool, OpenFault> {
+        fs::metadata(rt, path_of(folder))?;
+        let path = Path::new(folder);
+        Ok(
+            is_missing(rt, path.join(rt.alloc(), DATA_NAME)?.as_str())?
+                || is_missing(rt, path.join(rt.alloc(), JOURNAL_NAME)?.as_str())?,
+        )
     }
 
     fn file(&self, which: Which) -> &File {
@@ -126,8 +135,10 @@ impl Files {
     // Lets the call that was counted last fail where a sync failed before it.
     fn unless_lost(&mut self) -> Result<(), DeviceError>
         requires { self.old.counts.failed < self.old.counts.calls }
-        ensures ok { OnOk result ((is_lost self.old ≡ false) × (files_counts self.new ≡ files_counts self.old)) }
-        ensures err { OnErr result ((is_lost self.old ≡ true) × (files_counts self.new ≡ with_failure (files_counts self.old))) }
+        ensures ok { OnOk result ((is_lost self.old ≡ false)
+            × (files_counts self.new ≡ files_counts self.old)) }
+        ensures err { OnErr result ((is_lost self.old ≡ true)
+            × (files_counts self.new ≡ with_failure (files_counts self.old))) }
         ensures lost { is_lost self.new ≡ is_lost self.old }
     {
         if self.is_lost {
@@ -144,9 +155,7 @@ impl Disk for Files {
 
     ghost story = { λ _. fresh };
 
-    ghost counts = { files_counts };
-
-    ghost schedule = { λ _. unplanned no_calls };
+    ghost log = { λ files. record { counts = files_counts files; schedule = unplanned no_calls } };
 
     ghost sound = { λ _ honest. absurd (false≢true honest) };
 
@@ -253,10 +262,32 @@ fn open_locked(rt: &HostRuntime, path: &str) -> io::Result<File> {
     Ok(file)
 }
 
+// Opens the file at the end of a path, or makes one where nothing is there. A link that points nowhere is not made into a file.
 fn open_or_make(rt: &HostRuntime, path: &str) -> io::Result<File> {
-    OpenOptions::new()
-        .read(true)
-        .write(true)
-        .create(true)
-        .open(rt, path)
+    if is_missing(rt, path)? {
+        return OpenOptions::new()
+            .read(true)
+            .write(true)
+            .create_new(true)
+            .open(rt, path);
+    }
+    // A pipe or a terminal might hold up an open for ever.
+    if !fs::metadata(rt, path)?.is_file() {
+        return Err(ErrorKind::Unsupported.into());
+    }
+    OpenOptions::new().read(true).write(true).open(rt, path)
+}
+
+// Whether nothing is there, not even a link.
+fn is_missing(rt: &HostRuntime, path: &str) -> io::Result<bool> {
+    match fs::symlink_metadata(rt, path) {
+        Ok(_) => Ok(false),
+        Err(error) if error.kind() == ErrorKind::NotFound => Ok(true),
+        Err(error) => Err(error),
+    }
+}
+
+// The folder without a name is the one that the program runs in.
+fn path_of(folder: &str) -> &str {
+    if folder.is_empty() { "." } else { folder }
 }

@@ -58,7 +58,8 @@ impl Half {
         requires within { at ≤ vec_len self.old.seen }
         requires room { HasRoom self.old (at + length bytes.now) }
         ensures begun { (file : Stored) → IsHalf self.old file → IsHalf self.new
-            (write_begun at (length bytes.now) (if is_done then over at bytes.now file.seen else file.seen) file) }
+            (write_begun at (length bytes.now) (if is_done then over at bytes.now file.seen
+            else file.seen) file) }
         ensures greatest { self.new.greatest ≡ max self.old.greatest (at + length bytes.now) }
     {
         add_range(&mut self.written, at, bytes.len());
@@ -89,8 +90,10 @@ impl Half {
 
     // Leaves what a power cut does for these choice bytes, and answers how many of them it took.
     pub(crate) fn cycle(&mut self, choices: &[u8]) -> usize
-        ensures left { (file : Stored) → IsHalf self.old file → IsHalf self.new (at_rest (left_by file choices.now)) }
-        ensures taken { (file : Stored) → IsHalf self.old file → result ≡ min (taken_by file choices.now) (length choices.now) }
+        ensures left { (file : Stored) → IsHalf self.old file
+            → IsHalf self.new (at_rest (left_by file choices.now)) }
+        ensures taken { (file : Stored) → IsHalf self.old file
+            → result ≡ min (taken_by file choices.now) (length choices.now) }
         ensures within { result ≤ length choices.now }
         ensures greatest { self.new.greatest ≤ self.old.greatest }
     {

@@ -1,7 +1,8 @@
 //! The disk under a recording: two files, what reads of them give, and what a power cut may leave.
 #![tactic(auto)]
 
-mod clock;
+mod call_counts;
+mod call_schedule;
 mod disk;
 mod event;
 mod files;
@@ -9,7 +10,6 @@ mod half;
 mod memory;
 mod ranges;
 mod store;
-mod tally;
 
 pub use disk::{DeviceError, Disk, Which};
 pub use files::{Files, OpenFault};

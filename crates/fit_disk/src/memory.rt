@@ -7,9 +7,9 @@ ghost use Rattle.fit_disk.specs.Cycle.{cycled, taken_in};
 ghost use Rattle.fit_disk.specs.Events.{fresh};
 ghost use Rattle.fit_disk.specs.Calls.{ReadsAt, Wrote, Shortened, Synced};
 ghost use Rattle.fit_disk.specs.Counts.{FailedAsPlanned, CountsCall, CountsRead, failing_at, cut_off_at, unplanned, no_calls, last_count};
-ghost use Rattle.fit_disk.specs.Clock.{counts_of, schedule_by};
+ghost use Rattle.fit_disk.specs.CallSchedule.{counts_of, schedule_by};
 
-use crate::clock::Clock;
+use crate::call_schedule::CallSchedule;
 use crate::store::Store;
 use crate::{DeviceError, Disk, Which};
 use std::alloc::Global;
@@ -19,10 +19,11 @@ use std::alloc::Global;
 #[derive(Drop)]
 pub struct Memory {
     store: Store,
-    clock: Clock,
+    call_schedule: CallSchedule,
     /// Unless memory was refused, as many calls have failed since the schedule was made as it says.
-    pub ghost planned: { clock.was_refused ≡ false
-        → FailedAsPlanned (counts_of clock.counts) (schedule_by clock.fail clock.cut clock.since) },
+    pub ghost planned: { call_schedule.was_refused ≡ false
+        → FailedAsPlanned (counts_of call_schedule.counts)
+        (schedule_by call_schedule.fail call_schedule.cut call_schedule.since) },
 }
 
 impl Memory {
@@ -38,7 +39,7 @@ impl Memory {
     {
         Memory {
             store: Store::new(alloc),
-            clock: Clock::new(),
+            call_schedule: CallSchedule::new(),
         }
     }
 
@@ -54,7 +55,7 @@ impl Memory {
         ensures spent { result ≡ is_spent self.now }
         ensures below { result ≡ false → (memory_counts self.now).calls < last_count }
     {
-        self.clock.is_spent()
+        self.call_schedule.is_spent()
     }
 
     /// Lets the k-th call from now fail, from 1 on, and later ones go on.
@@ -62,11 +63,12 @@ impl Memory {
         requires { 1 ≤ k }
         ensures story { memory_story self.new ≡ memory_story self.old }
         ensures counts { memory_counts self.new ≡ memory_counts self.old }
-        ensures schedule { memory_schedule self.new ≡ failing_at k (memory_counts self.old) (memory_schedule self.old) }
+        ensures schedule { memory_schedule self.new
+            ≡ failing_at k (memory_counts self.old) (memory_schedule self.old) }
         ensures refused { was_refused self.new ≡ was_refused self.old }
         ensures last { is_refused self.new ≡ is_refused self.old }
     {
-        self.clock.fail_at(k);
+        self.call_schedule.fail_at(k);
     }
 
     /// Lets the power go at the k-th call from now, from 1 on: that call and all later ones fail until `cycle`.
@@ -75,11 +77,12 @@ impl Memory {
         requires { 1 ≤ k }
         ensures story { memory_story self.new ≡ memory_story self.old }
         ensures counts { memory_counts self.new ≡ memory_counts self.old }
-        ensures schedule { memory_schedule self.new ≡ cut_off_at k (memory_counts self.old) (memory_schedule self.old) }
+        ensures schedule { memory_schedule self.new
+            ≡ cut_off_at k (memory_counts self.old) (memory_schedule self.old) }
         ensures refused { was_refused self.new ≡ was_refused self.old }
         ensures last { is_refused self.new ≡ is_refused self.old }
     {
-        self.clock.cut_at(k);
+        self.call_schedule.cut_at(k);
     }
 
     /// Leaves of both files what a power cut does for these choice bytes, brings the power back, and drops what
@@ -87,7 +90,8 @@ impl Memory {
     pub fn cycle(&mut self, choices: &[u8]) -> usize
         ensures now { (memory_story self.new).now ≡ cycled choices.now (memory_story self.old).now }
         ensures story { (memory_story self.new ≡ memory_story self.old)
-            ⊎ (memory_story self.new ≡ then_state (cycled choices.now (memory_story self.old).now) (memory_story self.old)) }
+            ⊎ (memory_story self.new
+            ≡ then_state (cycled choices.now (memory_story self.old).now) (memory_story self.old)) }
         ensures left { BothLeft (memory_story self.old).now (seen_in (memory_story self.new).now) }
         ensures taken { result ≡ min (taken_in choices.now (memory_story self.old).now) (length choices.now) }
         ensures counts { memory_counts self.new ≡ memory_counts self.old }
@@ -95,23 +99,22 @@ impl Memory {
         ensures refused { was_refused self.new ≡ was_refused self.old }
         ensures last { is_refused self.new ≡ is_refused self.old }
     {
-        self.clock.drop_plans();
+        self.call_schedule.drop_plans();
         self.store.cycle(choices)
     }
 }
 
 impl Disk for Memory {
-    ghost use Rattle.fit_disk.specs.Memory.{memory_story, memory_counts, memory_schedule, was_refused, is_refused, FailsByCause, FailsCleanly, write_failed, cut_failed};
+    ghost use Rattle.fit_disk.specs.Memory.{memory_story, memory_counts, memory_schedule, memory_log, was_refused, is_refused, FailsByCause, FailsCleanly, write_failed, cut_failed};
 
     ghost honest = { true };
 
     ghost story = { memory_story };
 
-    ghost counts = { memory_counts };
+    ghost log = { memory_log };
 
-    ghost schedule = { memory_schedule };
-
-    ghost sound = { λ m _. record { data_left = m.store.in_data.sound; journal_left = m.store.in_journal.sound } };
+    ghost sound = { λ m _.
+        record { data_left = m.store.in_data.sound; journal_left = m.store.in_journal.sound } };
 
     fn size(&mut self, which: Which) -> Result<u64, DeviceError>
         ensures size { IfOk result (λ size. size ≡ length (seen_of which (memory_story self.old))) }
@@ -123,13 +126,14 @@ impl Disk for Memory {
         ensures refused { was_refused self.new ≡ was_refused self.old }
         ensures last { is_refused self.new ≡ false }
     {
-        self.clock.call()?;
+        self.call_schedule.call()?;
         Ok(self.store.content(which).len() as u64)
     }
 
     fn read(&mut self, which: Which, at: u64, buffer: &mut [u8]) -> Result<usize, DeviceError>
         ensures within { IfOk result (λ count. count ≤ length buffer.old) }
-        ensures bytes { IfOk result (ReadsAt (seen_of which (memory_story self.old)) at (length buffer.old) buffer.new) }
+        ensures bytes { IfOk result
+            (ReadsAt (seen_of which (memory_story self.old)) at (length buffer.old) buffer.new) }
         ensures same { memory_story self.new ≡ memory_story self.old }
         ensures counted { CountsCall result (memory_counts self.old) (memory_counts self.new) }
         ensures reads { CountsRead which (memory_counts self.old) (memory_counts self.new) }
@@ -138,41 +142,43 @@ impl Disk for Memory {
         ensures refused { was_refused self.new ≡ was_refused self.old }
         ensures last { is_refused self.new ≡ false }
     {
-        self.clock.read(which)?;
+        self.call_schedule.read(which)?;
         Ok(copy_from(self.store.content(which), at, buffer))
     }
 
     fn write(&mut self, which: Which, at: u64, bytes: &[u8]) -> Result<(), DeviceError>
         requires { at ≤ length (seen_of which (memory_story self.old)) }
         ensures wrote { Wrote which at bytes.now result (memory_story self.old) (memory_story self.new) }
-        ensures begun { is_refused self.new ≡ false → OnErr result (memory_story self.new ≡ write_failed which at (length bytes.now) (memory_story self.old)) }
+        ensures begun { is_refused self.new ≡ false → OnErr result (memory_story self.new
+            ≡ write_failed which at (length bytes.now) (memory_story self.old)) }
         ensures cause { FailsByCause result self.old self.new }
         ensures clean { FailsCleanly result self.old self.new }
         ensures counted { CountsCall result (memory_counts self.old) (memory_counts self.new) }
         ensures reads { (memory_counts self.new).data_reads ≡ (memory_counts self.old).data_reads }
         ensures planned { memory_schedule self.new ≡ memory_schedule self.old }
     {
-        let answer = self.clock.call();
+        let answer = self.call_schedule.call();
         match self.store.write(which, at as usize, bytes, answer.is_ok()) {
             Ok(()) => answer,
-            Err(_) => self.clock.refuse(answer),
+            Err(_) => self.call_schedule.refuse(answer),
         }
     }
 
     fn cut(&mut self, which: Which, len: u64) -> Result<(), DeviceError>
         requires { len ≤ length (seen_of which (memory_story self.old)) }
         ensures shortened { Shortened which len result (memory_story self.old) (memory_story self.new) }
-        ensures begun { is_refused self.new ≡ false → OnErr result (memory_story self.new ≡ cut_failed which len (memory_story self.old)) }
+        ensures begun { is_refused self.new ≡ false
+            → OnErr result (memory_story self.new ≡ cut_failed which len (memory_story self.old)) }
         ensures cause { FailsByCause result self.old self.new }
         ensures clean { FailsCleanly result self.old self.new }
         ensures counted { CountsCall result (memory_counts self.old) (memory_counts self.new) }
         ensures reads { (memory_counts self.new).data_reads ≡ (memory_counts self.old).data_reads }
         ensures planned { memory_schedule self.new ≡ memory_schedule self.old }
     {
-        let answer = self.clock.call();
+        let answer = self.call_schedule.call();
         match self.store.cut(which, len as usize, answer.is_ok()) {
             Ok(()) => answer,
-            Err(_) => self.clock.refuse(answer),
+            Err(_) => self.call_schedule.refuse(answer),
         }
     }
 
@@ -184,9 +190,9 @@ impl Disk for Memory {
         ensures reads { (memory_counts self.new).data_reads ≡ (memory_counts self.old).data_reads }
         ensures planned { memory_schedule self.new ≡ memory_schedule self.old }
     {
-        let answer = self.clock.call();
+        let answer = self.call_schedule.call();
         if answer.is_ok() && self.store.sync(which).is_err() {
-            return self.clock.refuse(answer);
+            return self.call_schedule.refuse(answer);
         }
         answer
     }

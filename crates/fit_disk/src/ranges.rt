@@ -9,7 +9,8 @@ ghost use Rattle.fit_disk.specs.Cycle.{is_beside, is_outside};
 pub(crate) fn add_range(ranges: &mut Vec<(usize, usize)>, at: usize, count: usize)
     requires room { vec_len ranges.old < vec_capacity ranges.old }
     requires fits { at + count < 2 ^ 64 }
-    ensures { (place : ℕ) → is_outside place ranges.new.items ≡ is_outside place ((at, count) ∷ ranges.old.items) }
+    ensures { (place : ℕ)
+        → is_outside place ranges.new.items ≡ is_outside place ((at, count) ∷ ranges.old.items) }
 {
     let range = (at, count);
     let Some(last) = ranges.pop() else {
@@ -28,7 +29,8 @@ pub(crate) fn add_range(ranges: &mut Vec<(usize, usize)>, at: usize, count: usiz
 // Both ranges as one, where the second begins within the first or right at its end.
 fn joined(first: (usize, usize), second: (usize, usize)) -> Option<(usize, usize)>
     requires { second.0 + second.1 < 2 ^ 64 }
-    ensures { IfSome result (λ both. (place : ℕ) → is_beside place both ≡ (is_beside place second && is_beside place first)) }
+    ensures { IfSome result (λ both.
+        (place : ℕ) → is_beside place both ≡ (is_beside place second && is_beside place first)) }
 {
     let (first_at, first_count) = first;
     let (at, count) = second;

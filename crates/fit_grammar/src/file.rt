@@ -160,7 +160,8 @@ impl File {
         ensures undefined { IsErrOf result PutFault.UndefinedLocal ↔ IsUndefined self.old local }
         ensures length { IsErrOf result PutFault.Length ↔ HasWrongLength self.old local offset content.now }
         ensures too_long { IsErrOf result PutFault.TooLong
-            ↔ (CanHold self.old local offset content.now × IsTooLong self.old (Data local offset content.now)) }
+            ↔ (CanHold self.old local offset content.now
+            × IsTooLong self.old (Data local offset content.now)) }
     {
         let Some(definition) = self.table.get(local) else {
             return Err(PutFault::UndefinedLocal);

@@ -64,7 +64,8 @@ pub enum Step<'a> {
 pub fn least_length(window: &[u8], table: &Table) -> Result<usize, ItemFault>
     ensures answer { result ≡ least_length_of (definition_in table.now) window.now }
     // What that says of each item that the window begins.
-    ensures holds { (i : AnyItem) (rest : List ℕ) → Spells i (window.now ++ rest) → IsDefinedBy (definition_in table.now) i
+    ensures holds { (i : AnyItem) (rest : List ℕ) → Spells i (window.now ++ rest)
+        → IsDefinedBy (definition_in table.now) i
         → IfOk result (λ n. IsLeastLength n (length window.now) (length (window.now ++ rest))) }
 {
     length_at(window, table)
@@ -103,7 +104,8 @@ pub fn next_item<'a>(window: &'a [u8], table: &'a Table) -> Step<'a>
     // What each answer says of the window.
     ensures step { IsStep (definition_in table.now) window.now result }
     // Where each answer comes.
-    ensures item { (i : AnyItem) (used : ℕ) → ItemAtFront (definition_in table.now) window.now i used → IsStepItem result i used }
+    ensures item { (i : AnyItem) (used : ℕ) → ItemAtFront (definition_in table.now) window.now i used
+        → IsStepItem result i used }
     ensures more { ItemBegun (definition_in table.now) window.now → result ≡ Step.NeedMore }
     ensures undefined { (l : ℕ) → ShowsUndefined (definition_in table.now) window.now l
         → result ≡ Step.Refused (ItemFault.UndefinedLocal l) }
@@ -128,7 +130,8 @@ pub(crate) fn step_under<'a>(
     definition: Option<DefinitionMessage<'a>>,
 ) -> Step<'a>
     requires { 1 ≤ length window.now }
-    ensures { (f : ℕ → Option AnyDefinition) → f (local_of (head_of (slice_index window.now 0))) ≡ definition.entry
+    ensures { (f : ℕ → Option AnyDefinition)
+        → f (local_of (head_of (slice_index window.now 0))) ≡ definition.entry
         → IsStep f window.now result }
 {
     match read_head(window[0]) {

@@ -36,7 +36,8 @@ impl<'a> Model for Message<'a> {
     ghost view = { λ m. let time = option_map low_first m.time in
         record { compressed = time; message = message_under m.definition time m.content.now } };
 
-    ghost invariant = { λ m. (content_size m.definition ≡ length m.content.now) × IfSome m.time (λ bytes. length bytes ≡ 4) };
+    ghost invariant = { λ m. (content_size m.definition ≡ length m.content.now)
+        × IfSome m.time (λ bytes. length bytes ≡ 4) };
 }
 
 impl<'a> Message<'a> {

@@ -1,16 +1,6 @@
-pub mod KeptLemmas
-pub mod StoreLemmas
-pub mod BeginLemmas
-pub mod FinishLemmas
-pub mod SpellLemmas
-pub mod WriteLemmas
-pub mod BodyStanding
-pub mod RecorderLemmas
-pub mod AnswerLemmas
-pub mod StartLemmas
-pub mod ClosingLemmas
-pub mod SettleLemmas
-pub mod BodyLemmas
-pub mod RecoverLemmas
-pub mod LawLemmas
-pub mod EraseLemmas
+-- A folder for each theorem. Public are the lemmas that proofs of the crates above cite.
+pub mod Commit
+mod Start
+pub mod FinishedFile
+pub mod RecoveredList
+mod ErasedFiles

@@ -29,7 +29,7 @@ pub enum RecFault {
 }
 
 impl RecFault {
-    ghost use Rattle.fit_recorder.specs.FaultCode.{fault_code};
+    ghost use Rattle.fit_recorder.specs.Calls.FaultCode.{fault_code};
 
     /// Its number, 1 to 8.
     pub fn code(&self) -> u8

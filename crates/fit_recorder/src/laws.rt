@@ -2,13 +2,13 @@
 
 ghost use Rattle.std.specs.Prelude.{◌≡◌, ◌⊎◌, IsTrue, List, Result, Err};
 ghost use Rattle.fit_activity.specs.declared.activity.Summary.{Summary};
-ghost use Rattle.fit_activity.specs.Recording.{Recorded};
+ghost use Rattle.fit_activity.specs.Rides.Recording.{Recorded};
 ghost use Rattle.fit_disk.specs.State.{Contents, LeavesOnly};
 ghost use Rattle.fit_disk.specs.Story.{Story};
-ghost use Rattle.fit_recorder.specs.Begun.{IsNothing};
-ghost use Rattle.fit_recorder.specs.Body.{StandsFor};
-ghost use Rattle.fit_recorder.specs.Recording.{StandsAt, disk_of};
-ghost use Rattle.fit_recorder.specs.Recovering.{RecoveryAnswers, RecoversList};
+ghost use Rattle.fit_recorder.specs.Files.NothingRecorded.{IsNothing};
+ghost use Rattle.fit_recorder.specs.Files.Body.{StandsFor};
+ghost use Rattle.fit_recorder.specs.Calls.Recorder.{StandsAt, disk_of};
+ghost use Rattle.fit_recorder.specs.Calls.Recovery.{RecoveryAnswers, RecoversList};
 ghost use Rattle.fit_recorder.specs.declared.fault.RecFault.{RecFault};
 ghost use Rattle.fit_recorder.specs.declared.fault.RecFault.TheVariants.{Device};
 ghost use Rattle.fit_recorder.specs.declared.recorder.Recorder.{Recorder};
@@ -17,19 +17,23 @@ use fit_disk::Disk;
 
 /// No two files stand for two recordings, nor for one and for none.
 pub fn files_stand_for_one_list()
-    ensures one { (list other : List Recorded) (contents : Contents) → StandsFor list contents → StandsFor other contents → list ≡ other }
-    ensures not_nothing { (list : List Recorded) (contents : Contents) → StandsFor list contents → IsNothing contents → ⊥ }
+    ensures one { (list other : List Recorded) (contents : Contents) → StandsFor list contents
+        → StandsFor other contents → list ≡ other }
+    ensures not_nothing { (list : List Recorded) (contents : Contents) → StandsFor list contents
+        → IsNothing contents → ⊥ }
 {}
 
 /// Where the files stand for a recording, a recovery in which no call of the device fails answers `Ok`, with the finished
 /// file of just that recording.
 pub fn what_stands_is_recovered()
-    ensures { (list : List Recorded) (contents : Contents) (story : Story) (result : Result Summary RecFault) → StandsFor list contents
+    ensures { (list : List Recorded) (contents : Contents) (story : Story) (result : Result Summary RecFault)
+        → StandsFor list contents
         → RecoveryAnswers contents story result → (result ≡ Err Device) ⊎ RecoversList list story result }
 {}
 
 /// Whatever a power cut leaves of the disk of a recorder stands for the entries that are committed.
 pub fn what_is_committed_stands<D: Disk>()
-    ensures { IsTrue D.honest → (recorder : Recorder D) (list committed : List Recorded) → StandsAt D.honest D.story recorder list committed
+    ensures { IsTrue D.honest → (recorder : Recorder D) (list committed : List Recorded)
+        → StandsAt D.honest D.story recorder list committed
         → LeavesOnly (StandsFor committed) (D.story (disk_of recorder)).now }
 {}

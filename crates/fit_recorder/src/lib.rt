@@ -14,20 +14,22 @@
 //!     assert_eq!(rt; summary.laps, 2);
 //!
 //! (The test `the_example_of_the_crate` of `fit_ride_tests`.) What is promised over every disk that keeps what it synced is
-//! said in the words of `specs/`: `Body`, `Begun`, `Kept` and `Finished` have what files stand for, `Recording`, `Starting` and
-//! `Answers` what a recorder does, `Recovering` and `Erasing` the rest. `laws` has what follows from the definitions alone.
+//! said in the words of `specs/`: `Files` has what the two files stand for and what a finished file is, `Calls` what each call
+//! answers and what a crash inside it may leave. `laws` has what follows from the definitions alone.
 #![tactic(auto)]
 
 mod body;
 mod closing;
 mod erasing;
 mod fault;
+mod finishing;
 mod header;
 pub mod laws;
+mod limits;
 mod recorder;
+mod recording_files;
 mod recovery;
 mod spelling;
-mod store;
 
 pub use erasing::erase;
 pub use fault::RecFault;

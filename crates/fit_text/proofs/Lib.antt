@@ -1,7 +1,8 @@
+-- Public are the lemmas that proofs of the crates above cite.
 pub mod PenLemmas
-pub mod DecimalLemmas
-pub mod NameLemmas
-pub mod PlanLemmas
-pub mod TextLemmas
-pub mod FieldLemmas
-pub mod DateLemmas
+mod DecimalLemmas
+mod NameLemmas
+mod PlanLemmas
+mod TextLemmas
+mod FieldLemmas
+mod DateLemmas

@@ -34,7 +34,11 @@ pub struct Pen<'a, W: Write> {
 impl<'a, W: Write> Model for Pen<'a, W> {
     ghost Value = { Written };
 
-    ghost view = { λ p. record { name = p.out.ghost_name; held = W.contents p.out.now; waiting = take p.len p.bytes } };
+    ghost view = { λ p. record {
+      name = p.out.ghost_name;
+      held = W.contents p.out.now;
+      waiting = take p.len p.bytes;
+    } };
 
     ghost invariant = { λ p. p.len ≤ SIZE };
 }

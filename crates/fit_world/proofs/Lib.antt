@@ -1,15 +1,4 @@
-pub mod PrintLemmas
-pub mod ReadingLemmas
-pub mod ScriptLemmas
-pub mod RideLemmas
-pub mod ReplayLemmas
-pub mod ClaimLemmas
-pub mod HistoryLemmas
-pub mod StepLemmas
-pub mod CanRunLemmas
-pub mod CountLemmas
-pub mod MemoryLemmas
-pub mod RunLemmas
-pub mod PlainLemmas
-pub mod AskLemmas
-pub mod HexLemmas
+-- A folder for each theorem. No crate above has proofs.
+mod Histories
+mod Simulation
+mod Told

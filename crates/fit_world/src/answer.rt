@@ -22,7 +22,7 @@ pub enum Answer {
 }
 
 impl Answer {
-    ghost use Rattle.fit_world.specs.Simulating.{reply_in};
+    ghost use Rattle.fit_world.specs.Printed.Simulation.{reply_in};
 
     /// The answer without its file.
     pub fn reply(&self) -> Reply

@@ -9,13 +9,13 @@ use fit_activity::Entry;
 use fit_disk::Disk;
 
 impl<D: Disk> Ride<D> {
-    ghost use Rattle.fit_activity.specs.Recording.{Recorded};
+    ghost use Rattle.fit_activity.specs.Rides.Recording.{Recorded};
     ghost use Rattle.fit_world.specs.declared.reply.Reply.TheVariants.{Done};
     ghost use Rattle.fit_world.specs.Histories.Table.{History};
-    ghost use Rattle.fit_world.specs.Replaying.{is_simulated};
-    ghost use Rattle.fit_world.specs.Replying.{MayReply, rides_on};
-    ghost use Rattle.fit_world.specs.Riding.{Begins, CanGoOn, Handed, MayReplyBehind, RidesOnWith, disk_in, is_riding};
-    ghost use Rattle.fit_world.specs.Standing.{GoesBy, IsCounted, StandsIn};
+    ghost use Rattle.fit_world.specs.Scripts.Replayed.{is_simulated};
+    ghost use Rattle.fit_world.specs.Rides.Replies.{MayReply, rides_on};
+    ghost use Rattle.fit_world.specs.Rides.Ride.{HasBegun, CanGoOn, Handed, MayReplyBehind, RidesOnWith, disk_in, is_riding};
+    ghost use Rattle.fit_world.specs.Rides.Standing.{GoesBy, IsCounted, StandsIn};
 
     /// Does what a command asks for that arranges no failure of the disk.
     pub fn ask(mut self, command: &Command) -> (Ride<D>, Reply)
@@ -24,13 +24,15 @@ impl<D: Disk> Ride<D> {
         ensures goes_on { CanGoOn D.honest D.story result.0 }
         ensures reply { MayReply (is_riding self) command.now result.1 }
         ensures riding { is_riding result.0 ≡ rides_on (is_riding self) command.now result.1 }
-        ensures behind { (list : List Recorded) → Handed self list → MayReplyBehind self list command.now result.1 }
-        ensures handed { (list : List Recorded) → Handed self list → result.1 ≡ Done → RidesOnWith self list command.now result.0 }
-        ensures begun { result.1 ≡ Done → Begins command.now result.0 }
+        ensures behind { (list : List Recorded) → Handed self list
+            → MayReplyBehind self list command.now result.1 }
+        ensures handed { (list : List Recorded) → Handed self list → result.1 ≡ Done
+            → RidesOnWith self list command.now result.0 }
+        ensures begun { result.1 ≡ Done → HasBegun command.now result.0 }
         ensures step { IsTrue D.honest → (before : History) → StandsIn D.honest D.story self before
             → GoesBy D.honest D.story before command.now result.1 result.0 }
-        ensures counted { IsCounted result.1 (D.counts (disk_in self)) (D.counts (disk_in result.0)) }
-        ensures planned { D.schedule (disk_in result.0) ≡ D.schedule (disk_in self) }
+        ensures counted { IsCounted result.1 (D.log (disk_in self)).counts (D.log (disk_in result.0)).counts }
+        ensures planned { (D.log (disk_in result.0)).schedule ≡ (D.log (disk_in self)).schedule }
     {
         match command {
             Command::Start(start) => self.start(*start),

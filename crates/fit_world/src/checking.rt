@@ -1,6 +1,6 @@
 // Whether the file that bytes are is an activity, and what it says of itself.
 
-ghost use Rattle.fit_world.specs.Checking.{ChecksBytes};
+ghost use Rattle.fit_world.specs.Printed.Checked.{ChecksBytes};
 
 use crate::fault::TellFault;
 use crate::printing::print_summary;

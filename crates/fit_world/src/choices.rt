@@ -1,7 +1,7 @@
 // Choice bytes that are written as a word.
 
 ghost use Rattle.std.specs.Prelude.{◌≡◌, IfOk, option_map};
-ghost use Rattle.fit_world.specs.Hexadecimal.{bytes_of};
+ghost use Rattle.fit_world.specs.Simulation.Hexadecimal.{bytes_of};
 
 use hex::FromHexError;
 use std::alloc::{AllocError, Global};

@@ -1,7 +1,7 @@
 // What is asked of a recording.
 
 ghost use Rattle.std.specs.Prelude.{◌≡◌};
-ghost use Rattle.fit_world.specs.Replaying.{is_simulated, word_of};
+ghost use Rattle.fit_world.specs.Scripts.Replayed.{is_simulated, word_of};
 
 use fit_activity::{Entry, Start};
 

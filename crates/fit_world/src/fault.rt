@@ -17,7 +17,7 @@ pub enum TellFault {
 }
 
 impl TellFault {
-    ghost use Rattle.fit_world.specs.FaultCode.{tell_code};
+    ghost use Rattle.fit_world.specs.Calls.FaultCode.{tell_code};
 
     /// The number of the fault, 1 to 3: the first that holds is answered.
     pub fn code(&self) -> u8

@@ -20,11 +20,9 @@
 //! whose power goes where they say so. Its contract is that over all histories: whatever fails, what was confirmed is recovered.
 //!
 //! What is promised is said in the words of `specs/`. `Histories` is the page to believe: `Table` has where a recording stands and
-//! what may be answered then, `Runs` whole histories. `Standing` says what a power cut may leave of a ride that stands there,
-//! `Riding` and `Replying` what is known of it over any disk. `Showing` has what becomes of bytes that are to be shown, `Checking`
-//! of those to be checked, `Reading` what is taken from an input, `Repairing` what a repair makes of a recording; `Script`,
-//! `ScriptWords` and `ScriptSample` which lines a script has and what each asks for, `Replaying` which of its events are replayed,
-//! `Simulating` what is printed of a script that is simulated, and `ReplyText` and `Naming` its lines.
+//! what may be answered then, `Runs` whole histories. `Rides` has what is known of a ride over any disk, and where it stands in
+//! a history; `Scripts` which lines a script has and what each asks for; `Printed` what is printed of files, scripts and their
+//! answers; `Simulation` what is arranged of the memory disk; and `Calls` what is taken from an input.
 #![tactic(auto)]
 
 mod answer;

@@ -14,7 +14,7 @@ struct RefusalName(Refusal);
 
 impl fmt::Display for FaultName {
     ghost use Rattle.std.specs.Prelude.{Some};
-    ghost use Rattle.fit_world.specs.Naming.{fault_name};
+    ghost use Rattle.fit_world.specs.Printed.Names.{fault_name};
 
     ghost output = { λ fault. Some (fault_name fault.0) };
 
@@ -34,7 +34,7 @@ impl fmt::Display for FaultName {
 
 impl fmt::Display for RefusalName {
     ghost use Rattle.std.specs.Prelude.{Some};
-    ghost use Rattle.fit_world.specs.Naming.{refusal_name};
+    ghost use Rattle.fit_world.specs.Printed.Names.{refusal_name};
 
     ghost output = { λ refusal. Some (refusal_name refusal.0) };
 

@@ -1,9 +1,10 @@
 // The events of a script, over a disk.
 
 ghost use Rattle.std.specs.Prelude.{◌≡◌, ◌≤◌, [], All, length, IfOk, IfErr};
-ghost use Rattle.fit_world.specs.ReplyText.{AreTold};
-ghost use Rattle.fit_world.specs.Replaying.{IsReplayed};
-ghost use Rattle.fit_world.specs.Showing.{IsOutputFault};
+ghost use Rattle.fit_world.specs.Printed.ReplyLines.{AreTold};
+ghost use Rattle.fit_world.specs.Scripts.Replayed.{IsReplayed};
+ghost use Rattle.fit_world.specs.Printed.Shown.{IsOutputFault};
+ghost use Rattle.fit_world.specs.Rides.Played.{LeavesBehind, BreaksOff};
 
 use crate::event::Event;
 use crate::fault::TellFault;
@@ -23,7 +24,11 @@ pub fn play<D: Disk, O: Write>(
 ) -> (D, Result<usize, TellFault>)
     requires { All IsReplayed events.now }
     ensures most { IfOk result.1 (λ refused. refused ≤ length events.now) }
-    ensures told { IfOk result.1 (λ refused. AreTold events.now refused (O.contents out.old) (O.contents out.new)) }
+    ensures told { IfOk result.1 (λ refused.
+        AreTold events.now (LeavesBehind D.honest (D.story disk) (D.story result.0) events.now) refused
+        (O.contents out.old) (O.contents out.new)) }
+    ensures broken_off { IfErr result.1 (λ _.
+        BreaksOff D.honest (D.story disk) (D.story result.0) events.now) }
     ensures fault { IfErr result.1 IsOutputFault }
 {
     let mut pen = Pen::new(out);
@@ -42,7 +47,11 @@ fn play_by<D: Disk, O: Write>(
     requires waits { pen.old.waiting ≡ [] }
     ensures most { IfOk result.1 (λ refused. refused ≤ length events.now) }
     ensures same { IfOk result.1 (λ _. pen.new.name ≡ pen.old.name) }
-    ensures told { IfOk result.1 (λ refused. AreTold events.now refused pen.old.held pen.new.held) }
+    ensures told { IfOk result.1 (λ refused.
+        AreTold events.now (LeavesBehind D.honest (D.story disk) (D.story result.0) events.now) refused
+        pen.old.held pen.new.held) }
+    ensures broken_off { IfErr result.1 (λ _.
+        BreaksOff D.honest (D.story disk) (D.story result.0) events.now) }
     ensures fault { IfErr result.1 IsOutputFault }
 {
     let mut ride = Ride::Idle(disk);

@@ -3,8 +3,8 @@
 ghost use Rattle.std.specs.Io.KnownBytes.{Appends};
 ghost use Rattle.std.specs.Prelude.{◌≡◌, ◌++◌, [], codes, IfErr, IfSome, OnOk};
 ghost use Rattle.fit_text.specs.Pen.{Took};
-ghost use Rattle.fit_world.specs.Showing.{IsOutputFault};
-ghost use Rattle.fit_world.specs.Summary.{summary_text};
+ghost use Rattle.fit_world.specs.Printed.Shown.{IsOutputFault};
+ghost use Rattle.fit_world.specs.Printed.Summary.{summary_text};
 
 use crate::fault::TellFault;
 use crate::summary::SummaryLine;
@@ -16,7 +16,8 @@ use std::io;
 /// Puts a line, with its end.
 pub fn put_line<L: Display, O: io::Write>(line: &L, pen: &mut Pen<'_, O>) -> Result<(), TellFault>
     ensures fault { IfErr result IsOutputFault }
-    ensures line { OnOk result (IfSome (L.output line.now) (λ text. Took pen.old (text ++ codes "\n") pen.new)) }
+    ensures line { OnOk result
+        (IfSome (L.output line.now) (λ text. Took pen.old (text ++ codes "\n") pen.new)) }
 {
     let Ok(()) = writeln!(pen, "{line}") else {
         return Err(TellFault::Output);
@@ -40,7 +41,8 @@ pub fn flush<O: io::Write>(pen: &mut Pen<'_, O>) -> Result<(), TellFault>
 pub fn print<L: Display, O: io::Write>(line: &L, pen: &mut Pen<'_, O>) -> Result<(), TellFault>
     ensures fault { IfErr result IsOutputFault }
     ensures none { OnOk result (pen.new.waiting ≡ []) }
-    ensures line { OnOk result (IfSome (L.output line.now) (λ text. Took pen.old (text ++ codes "\n") pen.new)) }
+    ensures line { OnOk result
+        (IfSome (L.output line.now) (λ text. Took pen.old (text ++ codes "\n") pen.new)) }
 {
     put_line(line, pen)?;
     flush(pen)
@@ -51,7 +53,8 @@ pub fn print<L: Display, O: io::Write>(line: &L, pen: &mut Pen<'_, O>) -> Result
 #[inline(never)]
 pub fn print_summary<O: io::Write>(summary: Summary, out: &mut O) -> Result<(), TellFault>
     ensures fault { IfErr result IsOutputFault }
-    ensures line { OnOk result (Appends (O.contents out.old) (O.contents out.new) (summary_text summary ++ codes "\n")) }
+    ensures line { OnOk result
+        (Appends (O.contents out.old) (O.contents out.new) (summary_text summary ++ codes "\n")) }
 {
     let mut pen = Pen::new(out);
     let done = print(&SummaryLine(summary), &mut pen);

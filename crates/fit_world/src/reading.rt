@@ -1,7 +1,7 @@
 // Reading a whole input into memory.
 
 ghost use Rattle.std.specs.Prelude.{◌≡◌, ◌<◌, ◌≤◌, length, vec_len, Err, IfOk, IfErr, IfSome};
-ghost use Rattle.fit_world.specs.Reading.{ReadsAll, Refuses};
+ghost use Rattle.fit_world.specs.Calls.Reading.{ReadsAll, Refuses};
 
 use std::alloc::Global;
 use std::io::Read;
@@ -20,7 +20,7 @@ pub enum ReadFault {
 }
 
 impl ReadFault {
-    ghost use Rattle.fit_world.specs.FaultCode.{read_code};
+    ghost use Rattle.fit_world.specs.Calls.FaultCode.{read_code};
 
     /// The number of the fault, 1 to 3.
     pub fn code(&self) -> u8
@@ -38,9 +38,11 @@ impl ReadFault {
 pub fn read_all<T: Read>(alloc: Global, from: &mut T, most: usize) -> Result<Vec<u8>, ReadFault>
     ensures all { IfOk result (λ bytes. IfSome (T.remaining from.old) (λ known. bytes.items ≡ known)) }
     ensures most { IfOk result (λ bytes. vec_len bytes ≤ most) }
-    ensures too_large { result ≡ Err ReadFault.TooLarge → IfSome (T.remaining from.old) (λ known. most < length known) }
+    ensures too_large { result ≡ Err ReadFault.TooLarge
+        → IfSome (T.remaining from.old) (λ known. most < length known) }
     // What was taken from the input.
-    ensures taken { IfOk result (λ bytes. ReadsAll most (T.remaining from.old) (T.remaining from.new) bytes.items) }
+    ensures taken { IfOk result
+        (λ bytes. ReadsAll most (T.remaining from.old) (T.remaining from.new) bytes.items) }
     ensures refused { IfErr result (Refuses most (T.remaining from.old) (T.remaining from.new)) }
 {
     let mut bytes = Vec::new(alloc);

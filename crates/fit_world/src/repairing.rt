@@ -2,10 +2,10 @@
 
 ghost use Rattle.std.specs.Io.KnownBytes.{Appends};
 ghost use Rattle.std.specs.Prelude.{◌≡◌, ◌++◌, codes, IsTrue, IfErr, OnOk, IsErrOf};
-ghost use Rattle.fit_disk.specs.Counts.{HasFailed};
+ghost use Rattle.fit_disk.specs.Runs.{Ran};
 ghost use Rattle.fit_disk.specs.State.{seen_in};
 ghost use Rattle.fit_recorder.specs.declared.fault.RecFault.TheVariants as recording;
-ghost use Rattle.fit_world.specs.Repairing.{Repairs, IsRepairFault};
+ghost use Rattle.fit_world.specs.Printed.Repaired.{Repairs, IsRepairFault};
 ghost use Rattle.fit_world.specs.declared.repairing.RepairFault.TheVariants as faults;
 
 use crate::printing::print_summary;
@@ -23,7 +23,7 @@ pub enum RepairFault {
 }
 
 impl RepairFault {
-    ghost use Rattle.fit_world.specs.FaultCode.{repair_code};
+    ghost use Rattle.fit_world.specs.Calls.FaultCode.{repair_code};
 
     /// The number of the fault, 1 or 2.
     pub fn code(&self) -> u8
@@ -38,10 +38,12 @@ impl RepairFault {
 
 /// Recovers the recording of a disk, and prints what its first session says. Nothing is printed where it was not recovered.
 pub fn repair<D: Disk, O: Write>(disk: &mut D, out: &mut O) -> Result<(), RepairFault>
-    ensures repaired { IsTrue D.honest → Repairs (seen_in (D.story disk.old).now) (D.story disk.new) (O.contents out.old) (O.contents out.new) result }
+    ensures repaired { IsTrue D.honest
+        → Repairs (seen_in (D.story disk.old).now) (D.story disk.new) (O.contents out.old)
+        (O.contents out.new) result }
     ensures fault { IfErr result IsRepairFault }
-    ensures cause { IsErrOf result (faults.Recorder recording.Device) → HasFailed (D.counts disk.old) (D.counts disk.new) }
-    ensures went { (IsErrOf result (faults.Recorder recording.Device) → ⊥) → (D.counts disk.new).failed ≡ (D.counts disk.old).failed }
+    ensures ran { Ran 16781321 (IsErrOf result (faults.Recorder recording.Device)) (D.log disk.old)
+        (D.log disk.new) }
 {
     match recover(disk) {
         Ok(summary) => match print_summary(summary, out) {

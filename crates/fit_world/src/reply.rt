@@ -24,7 +24,7 @@ pub enum Reply {
 }
 
 impl Reply {
-    ghost use Rattle.fit_world.specs.Replying.{is_ok};
+    ghost use Rattle.fit_world.specs.Rides.Replies.{is_ok};
 
     /// Whether what the command asks for was done.
     pub fn is_ok(&self) -> bool
@@ -38,7 +38,7 @@ impl Reply {
 }
 
 impl From<Result<(), RecFault>> for Reply {
-    ghost use Rattle.fit_world.specs.Replying.{reply_of};
+    ghost use Rattle.fit_world.specs.Rides.Replies.{reply_of};
 
     ghost from_gives = { λ done reply. reply ≡ reply_of done };
 
@@ -51,7 +51,7 @@ impl From<Result<(), RecFault>> for Reply {
 }
 
 impl From<Result<Summary, RecFault>> for Reply {
-    ghost use Rattle.fit_world.specs.Replying.{recovered_of};
+    ghost use Rattle.fit_world.specs.Rides.Replies.{recovered_of};
 
     ghost from_gives = { λ done reply. reply ≡ recovered_of done };
 
@@ -65,7 +65,7 @@ impl From<Result<Summary, RecFault>> for Reply {
 
 impl fmt::Display for Reply {
     ghost use Rattle.std.specs.Prelude.{Some};
-    ghost use Rattle.fit_world.specs.ReplyText.{reply_text};
+    ghost use Rattle.fit_world.specs.Printed.ReplyLines.{reply_text};
 
     ghost output = { λ reply. Some (reply_text reply) };
 

@@ -13,7 +13,7 @@ pub struct ReplyLine<'a> {
 
 impl fmt::Display for ReplyLine<'_> {
     ghost use Rattle.std.specs.Prelude.{Some};
-    ghost use Rattle.fit_world.specs.ReplyText.{line_text};
+    ghost use Rattle.fit_world.specs.Printed.ReplyLines.{line_text};
 
     ghost output = { λ line. Some (line_text line.event.now line.reply) };
 

@@ -21,14 +21,14 @@ pub enum Ride<D: Disk> {
 impl<D: Disk> Ride<D> {
     ghost use Rattle.std.specs.Prelude.{List};
     ghost use Rattle.fit_activity.specs.declared.recording.entry.Entry.TheVariants.{Stop};
-    ghost use Rattle.fit_activity.specs.Recording.{Recorded, Started, Added, is_stop};
+    ghost use Rattle.fit_activity.specs.Rides.Recording.{Recorded, Started, Added, is_stop};
     ghost use Rattle.fit_recorder.specs.declared.fault.RecFault.TheVariants.{Device, Failed};
-    ghost use Rattle.fit_recorder.specs.Answers.{HandAnswers, CommitAnswers, StopAnswers};
+    ghost use Rattle.fit_recorder.specs.Calls.Answers.{HandAnswers, CommitAnswers, StopAnswers};
     ghost use Rattle.fit_world.specs.declared.reply.Reply.TheVariants.{Done, Stopped, Refused, NoRecorder};
     ghost use Rattle.fit_world.specs.Histories.Table.{History, ended};
-    ghost use Rattle.fit_world.specs.Replying.{Replies, RepliesStart, RepliesRecovery, RepliesErasing, is_ok};
-    ghost use Rattle.fit_world.specs.Riding.{CanGoOn, Handed, disk_in, is_broken, is_riding, said_len, slots_of};
-    ghost use Rattle.fit_world.specs.Standing.{StandsIn, GoesBy, IsCounted, Rests};
+    ghost use Rattle.fit_world.specs.Rides.Replies.{Replies, RepliesStart, RepliesRecovery, RepliesErasing, is_ok};
+    ghost use Rattle.fit_world.specs.Rides.Ride.{CanGoOn, Handed, disk_in, is_broken, is_riding, said_len, slots_of};
+    ghost use Rattle.fit_world.specs.Rides.Standing.{StandsIn, GoesBy, IsCounted, Rests};
 
     /// Begins a recording, behind the end of the recorder that runs. None runs where it is refused.
     pub fn start(self, start: Start) -> (Ride<D>, Reply)
@@ -39,8 +39,8 @@ impl<D: Disk> Ride<D> {
         ensures riding { is_riding result.0 ≡ is_ok result.1 }
         ensures step { IsTrue D.honest → (before : History) → StandsIn D.honest D.story self before
             → GoesBy D.honest D.story before (commands.Start start) result.1 result.0 }
-        ensures counted { IsCounted result.1 (D.counts (disk_in self)) (D.counts (disk_in result.0)) }
-        ensures planned { D.schedule (disk_in result.0) ≡ D.schedule (disk_in self) }
+        ensures counted { IsCounted result.1 (D.log (disk_in self)).counts (D.log (disk_in result.0)).counts }
+        ensures planned { (D.log (disk_in result.0)).schedule ≡ (D.log (disk_in self)).schedule }
     {
         match Recorder::start(self.into_disk(), start) {
             Ok(recorder) => (Ride::Riding(recorder), Reply::Done),
@@ -55,15 +55,17 @@ impl<D: Disk> Ride<D> {
         ensures goes_on { CanGoOn D.honest D.story self.new }
         ensures replies { (list : List Recorded) → Handed self.old list
             → Replies (HandAnswers list (said_len self.old) entry.now) result }
-        ensures handed { (list : List Recorded) → Handed self.old list → result ≡ Done → Handed self.new (list ++ Added entry.now ∷ []) }
+        ensures handed { (list : List Recorded) → Handed self.old list → result ≡ Done
+            → Handed self.new (list ++ Added entry.now ∷ []) }
         ensures none { (result ≡ NoRecorder) ↔ (is_riding self.old ≡ false) }
         ensures riding { is_riding self.new ≡ is_riding self.old }
         ensures failed { is_broken self.old ≡ true → result ≡ Refused Failed }
         ensures broken { is_riding self.old ≡ true → result ≡ Refused Device → is_broken self.new ≡ true }
         ensures step { IsTrue D.honest → (before : History) → StandsIn D.honest D.story self.old before
             → GoesBy D.honest D.story before (commands.Entry entry.now) result self.new }
-        ensures counted { IsCounted result (D.counts (disk_in self.old)) (D.counts (disk_in self.new)) }
-        ensures planned { D.schedule (disk_in self.new) ≡ D.schedule (disk_in self.old) }
+        ensures counted { IsCounted result (D.log (disk_in self.old)).counts
+            (D.log (disk_in self.new)).counts }
+        ensures planned { (D.log (disk_in self.new)).schedule ≡ (D.log (disk_in self.old)).schedule }
     {
         match self {
             Ride::Idle(_) => Reply::NoRecorder,
@@ -77,7 +79,8 @@ impl<D: Disk> Ride<D> {
         ensures goes_on { CanGoOn D.honest D.story self.new }
         ensures replies { (list : List Recorded) → Handed self.old list
             → Replies (CommitAnswers list (slots_of self.old)) result }
-        ensures handed { (list : List Recorded) → Handed self.old list → result ≡ Done → Handed self.new list }
+        ensures handed { (list : List Recorded) → Handed self.old list → result ≡ Done
+            → Handed self.new list }
         ensures made { result ≡ Done → slots_of self.new ≡ slots_of self.old + 1 }
         ensures none { (result ≡ NoRecorder) ↔ (is_riding self.old ≡ false) }
         ensures riding { is_riding self.new ≡ is_riding self.old }
@@ -85,8 +88,9 @@ impl<D: Disk> Ride<D> {
         ensures broken { is_riding self.old ≡ true → result ≡ Refused Device → is_broken self.new ≡ true }
         ensures step { IsTrue D.honest → (before : History) → StandsIn D.honest D.story self.old before
             → GoesBy D.honest D.story before commands.Commit result self.new }
-        ensures counted { IsCounted result (D.counts (disk_in self.old)) (D.counts (disk_in self.new)) }
-        ensures planned { D.schedule (disk_in self.new) ≡ D.schedule (disk_in self.old) }
+        ensures counted { IsCounted result (D.log (disk_in self.old)).counts
+            (D.log (disk_in self.new)).counts }
+        ensures planned { (D.log (disk_in self.new)).schedule ≡ (D.log (disk_in self.old)).schedule }
     {
         match self {
             Ride::Idle(_) => Reply::NoRecorder,
@@ -98,7 +102,8 @@ impl<D: Disk> Ride<D> {
     pub fn stop(self, time: u32) -> (Ride<D>, Reply)
         requires { CanGoOn D.honest D.story self }
         ensures goes_on { CanGoOn D.honest D.story result.0 }
-        ensures replies { (list : List Recorded) → Handed self list → Replies (StopAnswers list time) result.1 }
+        ensures replies { (list : List Recorded) → Handed self list
+            → Replies (StopAnswers list time) result.1 }
         ensures none { (result.1 ≡ NoRecorder) ↔ (is_riding self ≡ false) }
         ensures not_done { result.1 ≢ Done }
         ensures ended { result.1 ≡ Stopped → is_riding result.0 ≡ false }
@@ -107,8 +112,8 @@ impl<D: Disk> Ride<D> {
         ensures broken { is_riding self ≡ true → result.1 ≡ Refused Device → is_broken result.0 ≡ true }
         ensures step { IsTrue D.honest → (before : History) → StandsIn D.honest D.story self before
             → GoesBy D.honest D.story before (commands.Entry (Stop time)) result.1 result.0 }
-        ensures counted { IsCounted result.1 (D.counts (disk_in self)) (D.counts (disk_in result.0)) }
-        ensures planned { D.schedule (disk_in result.0) ≡ D.schedule (disk_in self) }
+        ensures counted { IsCounted result.1 (D.log (disk_in self)).counts (D.log (disk_in result.0)).counts }
+        ensures planned { (D.log (disk_in result.0)).schedule ≡ (D.log (disk_in self)).schedule }
     {
         match self {
             Ride::Idle(disk) => (Ride::Idle(disk), Reply::NoRecorder),
@@ -136,8 +141,8 @@ impl<D: Disk> Ride<D> {
         ensures ended { is_riding result.0 ≡ false }
         ensures step { IsTrue D.honest → (before : History) → StandsIn D.honest D.story self before
             → GoesBy D.honest D.story before commands.Recover result.1 result.0 }
-        ensures counted { IsCounted result.1 (D.counts (disk_in self)) (D.counts (disk_in result.0)) }
-        ensures planned { D.schedule (disk_in result.0) ≡ D.schedule (disk_in self) }
+        ensures counted { IsCounted result.1 (D.log (disk_in self)).counts (D.log (disk_in result.0)).counts }
+        ensures planned { (D.log (disk_in result.0)).schedule ≡ (D.log (disk_in self)).schedule }
     {
         let mut disk = self.into_disk();
         let reply = recover(&mut disk).into();
@@ -150,8 +155,8 @@ impl<D: Disk> Ride<D> {
         ensures ended { is_riding result.0 ≡ false }
         ensures step { IsTrue D.honest → (before : History) → StandsIn D.honest D.story self before
             → GoesBy D.honest D.story before commands.Erase result.1 result.0 }
-        ensures counted { IsCounted result.1 (D.counts (disk_in self)) (D.counts (disk_in result.0)) }
-        ensures planned { D.schedule (disk_in result.0) ≡ D.schedule (disk_in self) }
+        ensures counted { IsCounted result.1 (D.log (disk_in self)).counts (D.log (disk_in result.0)).counts }
+        ensures planned { (D.log (disk_in result.0)).schedule ≡ (D.log (disk_in self)).schedule }
     {
         let mut disk = self.into_disk();
         let reply = erase(&mut disk).into();
@@ -161,7 +166,8 @@ impl<D: Disk> Ride<D> {
     /// The disk, behind the end of the recorder that runs. What was not committed is not promised.
     pub fn into_disk(self) -> D
         ensures disk { result ≡ disk_in self }
-        ensures rests { IsTrue D.honest → (before : History) → StandsIn D.honest D.story self before → Rests (ended before) (D.story result) }
+        ensures rests { IsTrue D.honest → (before : History) → StandsIn D.honest D.story self before
+            → Rests (ended before) (D.story result) }
     {
         match self {
             Ride::Idle(disk) => disk,

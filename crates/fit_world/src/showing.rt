@@ -2,7 +2,7 @@
 
 ghost use Rattle.std.specs.Prelude.{IfErr};
 ghost use Rattle.fit_grammar.specs.Calls.Output.{WritesText};
-ghost use Rattle.fit_world.specs.Showing.{ShowsBytes, IsOutputFault};
+ghost use Rattle.fit_world.specs.Printed.Shown.{ShowsBytes, IsOutputFault};
 ghost use Rattle.fit_text.specs.Text.{text_of};
 
 use crate::fault::TellFault;

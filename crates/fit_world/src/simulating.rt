@@ -3,9 +3,9 @@
 ghost use Rattle.std.specs.Io.KnownBytes.{Appends};
 ghost use Rattle.std.specs.Prelude.{◌≡◌, [], map, IfErr, OnOk};
 ghost use Rattle.fit_text.specs.Pen.{Took};
-ghost use Rattle.fit_world.specs.ReplyText.{lines_text};
-ghost use Rattle.fit_world.specs.Showing.{IsOutputFault};
-ghost use Rattle.fit_world.specs.Simulating.{Simulates, reply_in};
+ghost use Rattle.fit_world.specs.Printed.ReplyLines.{lines_text};
+ghost use Rattle.fit_world.specs.Printed.Shown.{IsOutputFault};
+ghost use Rattle.fit_world.specs.Printed.Simulation.{Simulates, reply_in};
 
 use crate::answer::Answer;
 use crate::event::Event;
@@ -33,7 +33,7 @@ pub enum SimulateFault {
 }
 
 impl SimulateFault {
-    ghost use Rattle.fit_world.specs.FaultCode.{simulate_code};
+    ghost use Rattle.fit_world.specs.Calls.FaultCode.{simulate_code};
 
     /// The number of the fault, 1 to 4: the first that holds is answered.
     pub fn code(&self) -> u8
@@ -83,7 +83,9 @@ fn print_answers<O: Write>(
     out: &mut O,
 ) -> Result<(), TellFault>
     ensures fault { IfErr result IsOutputFault }
-    ensures lines { OnOk result (Appends (O.contents out.old) (O.contents out.new) (lines_text events.now (map reply_in answers.now))) }
+    ensures lines { OnOk result
+        (Appends (O.contents out.old) (O.contents out.new)
+        (lines_text events.now (map reply_in answers.now))) }
 {
     let mut pen = Pen::new(out);
     let done = put_answers(events, answers, &mut pen);

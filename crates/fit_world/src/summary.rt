@@ -13,7 +13,7 @@ struct OrDash(Option<u32>);
 
 impl fmt::Display for OrDash {
     ghost use Rattle.std.specs.Prelude.{Some};
-    ghost use Rattle.fit_world.specs.Summary.{or_dash};
+    ghost use Rattle.fit_world.specs.Printed.Summary.{or_dash};
 
     ghost output = { λ number. Some (or_dash number.0) };
 
@@ -27,7 +27,7 @@ impl fmt::Display for OrDash {
 
 impl fmt::Display for SummaryLine {
     ghost use Rattle.std.specs.Prelude.{Some};
-    ghost use Rattle.fit_world.specs.Summary.{summary_text};
+    ghost use Rattle.fit_world.specs.Printed.Summary.{summary_text};
 
     ghost output = { λ line. Some (summary_text line.0) };
 

@@ -2,7 +2,7 @@
 
 ghost use Rattle.std.specs.Prelude.{◌≤◌, true, IfOk};
 ghost use Rattle.fit_disk.specs.Memory.{memory_story};
-ghost use Rattle.fit_recorder.specs.Recording.{GoesOn};
+ghost use Rattle.fit_recorder.specs.Calls.Recorder.{GoesOn};
 
 use fit_activity::{Entry, Start};
 use fit_disk::{Memory, Which};

@@ -11,7 +11,8 @@ pub struct Failing {
     // How many calls come before the refused one.
     pub calls: usize,
     pub recovers: bool,
-    pub flushes: bool,
+    // How many flushes come before the one that is refused.
+    pub flushes: usize,
 }
 
 impl Failing {
@@ -21,7 +22,7 @@ impl Failing {
             step,
             calls,
             recovers: false,
-            flushes: true,
+            flushes: usize::MAX,
         }
     }
 }
@@ -40,9 +41,11 @@ impl Write for Failing {
     }
 
     fn flush(&mut self) -> io::Result<()> {
-        match self.flushes {
-            true => Ok(()),
-            false => Err(io::Error::from(io::ErrorKind::BrokenPipe)),
+        let is_refused = self.flushes == 0;
+        self.flushes = self.flushes.wrapping_sub(1);
+        match is_refused {
+            false => Ok(()),
+            true => Err(io::Error::from(io::ErrorKind::BrokenPipe)),
         }
     }
 }

@@ -1,7 +1,7 @@
 // Scripts that are run over a disk in memory. The answers, the files and the choice bytes are from outside.
 
 use fit_world::world::run;
-use fit_world::{Answer, parse_script, show_bytes};
+use fit_world::{Answer, check_bytes, parse_script, show_bytes};
 use std::test::Fail;
 
 // A start, ten samples and no commit.
@@ -165,5 +165,35 @@ fn a_call_that_fails_ends_the_recording(rt: HostRuntime) -> Result<(), Fail> {
 fn an_entry_needs_a_recorder(rt: HostRuntime) -> Result<(), Fail> {
     let text = text_of(&rt, "sample 1000000000\n", &[])?;
     assert_eq!(rt; text.as_str(), "NoRecorder\n");
+    Ok(())
+}
+
+// A ride of three hundred samples and a stop, of which each minute is made safe: each event is done, and none is left out.
+#[test]
+fn a_run_goes_on_to_its_last_event(rt: HostRuntime) -> Result<(), Fail> {
+    let mut script = format!(in rt.alloc(); "start 1000000000 7 running\n")?;
+    for second in 1..=300u32 {
+        let sample = format!(in rt.alloc(); "sample {}\n", 1_000_000_000 + second)?;
+        script.push_str(sample.as_str())?;
+        if second % 60 == 0 {
+            script.push_str("commit\n")?;
+        }
+    }
+    script.push_str("stop 1000000301\n")?;
+    let Some(answers) = answers_to(&rt, script.as_str(), &[]) else {
+        return Ok(assert!(rt; false));
+    };
+    assert_eq!(rt; answers.len(), 307);
+    let done = answers
+        .iter()
+        .filter(|answer| **answer == Answer::Done)
+        .count();
+    assert_eq!(rt; done, 306);
+    let mut out = Vec::new(rt.alloc());
+    check_bytes(rt.alloc(), file_in(answers.last()), &mut out)?;
+    assert_eq!(rt;
+        out.as_slice(),
+        b"ok records=300 laps=1 sessions=1 start=1000000000 elapsed_ms=301000 timer_ms=301000 distance_cm=-\n".as_slice()
+    );
     Ok(())
 }

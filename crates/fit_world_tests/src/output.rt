@@ -84,7 +84,7 @@ fn says_what_output_does(rt: HostRuntime) -> Result<(), Fail> {
     let done = show_bytes(rt.alloc(), bytes, false, &mut none);
     assert!(rt; is_told(done, text, &none) && none.held.is_empty());
     let mut kept = Failing::new(rt.alloc(), usize::MAX, usize::MAX);
-    kept.flushes = false;
+    kept.flushes = 0;
     let done = show_bytes(rt.alloc(), bytes, false, &mut kept);
     assert_eq!(rt; done, Err(TellFault::Output));
     assert_eq!(rt; kept.held.as_slice(), text);
@@ -112,7 +112,7 @@ fn a_check_says_where_its_output_fails(rt: HostRuntime) -> Result<(), Fail> {
         assert!(rt; calls < 11 || out.held.as_slice() == text, "{calls}");
     }
     let mut kept = Failing::new(rt.alloc(), usize::MAX, usize::MAX);
-    kept.flushes = false;
+    kept.flushes = 0;
     let done = check_bytes(rt.alloc(), bytes.as_slice(), &mut kept);
     assert!(rt; is_told(done, text, &kept));
     Ok(())

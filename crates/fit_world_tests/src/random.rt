@@ -4,15 +4,19 @@ ghost use Rattle.std.specs.Prelude.{◌≤◌};
 
 use crate::direct;
 use crate::table::is_history;
+use fit_disk::{Memory, Which};
 use fit_recorder::RecFault;
 use fit_world::world::run;
-use fit_world::{Answer, Command, parse_script};
+use fit_world::{Answer, Command, parse_script, play, read_script, simulate};
 use std::alloc::Global;
 use std::process::Abort;
 use std::test::Fail;
 
 // How many histories are tried. A hundred times as many take a minute, which is more than a test has in the gate.
 const HISTORIES: u32 = 10_000;
+
+// How many scripts are replayed.
+const REPLAYS: u32 = 2_000;
 
 // How many choice bytes there are at the most.
 const MOST: usize = 256;
@@ -335,5 +339,54 @@ fn random_histories_go_by_the_table(rt: HostRuntime) -> Result<(), Fail> {
     }
     assert!(rt; seen.has_all(), "{seen:?}");
     assert!(rt; seen.calls > 100_000, "{seen:?}");
+    Ok(())
+}
+
+// The lines of a script but those that speak of a disk whose failures are arranged.
+fn replayed_lines(alloc: Global, script: &str) -> Result<String, Fail> {
+    let mut text = String::new(alloc);
+    for line in script.lines() {
+        let is_simulated = line.starts_with("fail")
+            || line.starts_with("cut")
+            || line.starts_with("power");
+        if !is_simulated {
+            text.push_str(line)?;
+            text.push_str("\n")?;
+        }
+    }
+    Ok(text)
+}
+
+// Replays a script, and runs it by `world::run` and by direct calls: the lines, the refusals and the files are the same.
+fn try_replay(rt: &impl Abort, alloc: Global, script: &str) -> Result<(), Fail> {
+    let events = read_script(alloc, script.as_bytes())?;
+    let mut replayed = Vec::new(alloc);
+    let (disk, played) = play(Memory::new(alloc), events.as_slice(), &mut replayed);
+    let mut simulated = Vec::new(alloc);
+    simulate(alloc, script.as_bytes(), &[], &mut simulated)?;
+    let (file, answers) = direct::play(alloc, events.as_slice(), &[])?;
+    let refused = answers
+        .iter()
+        .filter(|answer| !answer.reply().is_ok())
+        .count();
+    assert_eq!(rt; played, Ok(refused), "{script}");
+    assert!(rt; replayed.as_slice() == simulated.as_slice(), "{script}");
+    assert!(rt; disk.content(Which::Data) == file.as_slice(), "{script}");
+    Ok(())
+}
+
+#[test]
+fn random_replays_say_and_leave_what_a_run_does(rt: HostRuntime) -> Result<(), Fail> {
+    let mut noise = Noise {
+        last: 0x9E37_79B9,
+        start: 0,
+        now: 0,
+        rides: false,
+    };
+    for _ in 0..REPLAYS {
+        let script = noise.script(rt.alloc())?;
+        let lines = replayed_lines(rt.alloc(), script.as_str())?;
+        try_replay(&rt, rt.alloc(), lines.as_str())?;
+    }
     Ok(())
 }

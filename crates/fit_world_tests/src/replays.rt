@@ -76,9 +76,14 @@ fn a_replay_ends_where_its_output_fails(rt: HostRuntime) {
         assert!(rt; keeps(&rt, &mut out, kept), "{answered}");
     }
     let mut out = Failing::new(rt.alloc(), usize::MAX, usize::MAX);
-    out.flushes = false;
+    out.flushes = 0;
     assert!(rt; keeps(&rt, &mut out, 0));
     assert_eq!(rt; out.held.as_slice(), b"1 start: ok\n".as_slice());
+    // The flush of the third line alone fails: later ones would go well.
+    let mut out = Failing::new(rt.alloc(), usize::MAX, usize::MAX);
+    out.flushes = 2;
+    assert!(rt; keeps(&rt, &mut out, 1));
+    assert_eq!(rt; out.held.as_slice(), &TWO_COMMITS_ANSWERS.as_bytes()[..38]);
 }
 
 // The bytes are no text, a line is none of a script, or an event is only simulated: the first of these is told.

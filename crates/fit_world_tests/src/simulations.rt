@@ -36,7 +36,7 @@ fn a_simulation_says_where_its_output_fails(rt: HostRuntime) {
         }
     }
     let mut kept = Failing::new(rt.alloc(), usize::MAX, usize::MAX);
-    kept.flushes = false;
+    kept.flushes = 0;
     let done = simulate(rt.alloc(), CUT_OFF.as_bytes(), &CHOICES, &mut kept);
     assert_eq!(rt; done, Err(SimulateFault::Output));
     assert_eq!(rt; kept.held.as_slice(), text);

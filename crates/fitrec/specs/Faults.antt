@@ -5,7 +5,7 @@ use Rattle.fit_disk.specs.declared.files.OpenFault.{OpenFault}
 use Rattle.fit_disk.specs.declared.files.OpenFault.TheVariants.{Open, Memory}
 use Rattle.fit_world.specs.declared.fault.TellFault.{TellFault}
 use Rattle.fit_world.specs.declared.fault.TellFault.TheVariants as tells
-use Rattle.fit_recorder.specs.Recovering.{IsRecoveryFault}
+use Rattle.fit_recorder.specs.Calls.Recovery.{IsRecoveryFault}
 use Rattle.fit_world.specs.declared.repairing.RepairFault.{RepairFault}
 use Rattle.fit_world.specs.declared.repairing.RepairFault.TheVariants as repairs
 use Rattle.fit_world.specs.declared.script.fault.ReplayFault.{ReplayFault}

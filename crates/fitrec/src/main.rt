@@ -26,18 +26,22 @@ use std::{env, io};
 fn main(rt: HostRuntime) -> io::Result<ExitCode> {
     let mut out = rt.stdout();
     let mut err = rt.stderr();
-    let args = match env::args(&rt) {
-        Ok(args) => args,
+    let status = match words_of(&rt) {
+        Ok(words) => command::command(&rt, words.as_slice(), &mut out, &mut err),
         Err(fault) => {
             let line = match fault.kind() {
                 ErrorKind::InvalidData => "the command line is not UTF-8",
                 _ => "NoMemory",
             };
             let _ = writeln!(err, "fitrec: {line}");
-            return Ok(ExitCode::from(1));
+            1
         }
     };
-    let words: Vec<String> = args.skip(1).collect(rt.alloc())?;
-    let status = command::command(&rt, words.as_slice(), &mut out, &mut err);
     Ok(ExitCode::from(status))
+}
+
+// The words behind the program's name.
+fn words_of(rt: &HostRuntime) -> io::Result<Vec<String>> {
+    let words = env::args(rt)?.skip(1).collect(rt.alloc())?;
+    Ok(words)
 }

@@ -2,7 +2,7 @@
 
 ghost use Rattle.std.specs.Prelude.{◌≡◌};
 ghost use Rattle.fit_grammar.specs.Format.Message.{messages_of};
-ghost use Rattle.fit_activity.specs.Activity.{activity_in};
+ghost use Rattle.fit_activity.specs.Files.Activity.{activity_in};
 
 use crate::activity::seen::Seen;
 use crate::activity::{ActivityFault, Summary};

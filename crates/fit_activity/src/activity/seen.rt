@@ -1,7 +1,7 @@
 // What a pass over messages keeps of those that it has seen.
 
 ghost use Rattle.std.specs.Prelude.{◌≡◌, ◌+◌, ◌<◌, ◌^◌, []};
-ghost use Rattle.fit_activity.specs.Seen.{session_values as values_of_session};
+ghost use Rattle.fit_activity.specs.Private.Seen.{session_values as values_of_session};
 
 use crate::activity::field_value::{uint32_of, value_of};
 use crate::activity::{ActivityFault, Summary};
@@ -33,7 +33,7 @@ pub(crate) struct SessionValues {
 }
 
 impl Seen {
-    ghost use Rattle.fit_activity.specs.Seen.{seen_of, seen_with, first_seen, session_seen, counted, judged};
+    ghost use Rattle.fit_activity.specs.Private.Seen.{seen_of, seen_with, first_seen, session_seen, counted, judged};
 
     // No messages.
     pub(crate) fn new() -> Seen

@@ -4,38 +4,40 @@ ghost use Rattle.std.specs.Prelude.{◌≡◌, ◌↔◌, [], IsTrue, IfSome, Fi
 ghost use Rattle.std.specs.Int.{w8, w32};
 ghost use Rattle.std.specs.List.{AllByRecursion};
 ghost use Rattle.fit_base.specs.declared.base.BaseType.TheVariants as types;
-ghost use Rattle.fit_activity.specs.Told.{told as told_field, ToldFits};
-ghost use Rattle.fit_activity.specs.Reader.{Reads, ReadsSigned};
+ghost use Rattle.fit_activity.specs.Messages.ProfileField.{profile_field as told_field, ProfileFieldFits};
+ghost use Rattle.fit_activity.specs.Private.Reader.{Reads, ReadsSigned};
 
-use crate::speaking::told::Told;
+use crate::speaking::profile_field::ProfileField;
 use fit_base::BaseType;
 use std::marker::Model;
 
 // The fields that are left.
 #[derive(Drop)]
 pub(crate) struct Reader<'a> {
-    rest: &'a [Told],
+    rest: &'a [ProfileField],
 }
 
 impl<'a> Model for Reader<'a> {
     ghost use Rattle.std.specs.Prelude.{List};
     ghost use Rattle.std.specs.List.{AllByRecursion};
-    ghost use Rattle.fit_activity.specs.declared.speaking.told.Told.{Told as AnyTold};
-    ghost use Rattle.fit_activity.specs.Told.{ToldFits};
+    ghost use Rattle.fit_activity.specs.declared.speaking.profile_field.ProfileField.{ProfileField as AnyProfileField};
+    ghost use Rattle.fit_activity.specs.Messages.ProfileField.{ProfileFieldFits};
 
-    ghost Value = { List AnyTold };
+    ghost Value = { List AnyProfileField };
 
     ghost view = { λ r. r.rest.now };
 
-    ghost invariant = { λ r. AllByRecursion ToldFits r.rest.now };
+    ghost invariant = { λ r. AllByRecursion ProfileFieldFits r.rest.now };
 }
 
 impl<'a> Reader<'a> {
-    pub(crate) fn new(told: &'a [Told]) -> Self
-        requires { AllByRecursion ToldFits told.now }
-        ensures { result ≡ told.now }
+    pub(crate) fn new(profile_fields: &'a [ProfileField]) -> Self
+        requires { AllByRecursion ProfileFieldFits profile_fields.now }
+        ensures { result ≡ profile_fields.now }
     {
-        Reader { rest: told }
+        Reader {
+            rest: profile_fields,
+        }
     }
 
     // Whether none are left.
@@ -48,7 +50,7 @@ impl<'a> Reader<'a> {
     // Takes the next field, where it has this number and type.
     fn next(&mut self, number: u8, base: BaseType) -> Option<u32>
         ensures read { Reads number base self.old result self.new }
-        ensures fits { IfSome result (λ value. ToldFits (told_field number base value)) }
+        ensures fits { IfSome result (λ value. ProfileFieldFits (told_field number base value)) }
     {
         let [first, others @ ..] = self.rest else {
             return None;

@@ -24,7 +24,7 @@ pub enum Refusal {
 }
 
 impl Refusal {
-    ghost use Rattle.fit_activity.specs.Refusal.{refusal_code};
+    ghost use Rattle.fit_activity.specs.Rides.Refusal.{refusal_code};
 
     /// The number of the refusal.
     pub fn code(&self) -> u8

@@ -2,14 +2,14 @@
 
 ghost use Rattle.std.specs.Prelude.{◌≡◌};
 ghost use Rattle.std.specs.Result.{result_err};
-ghost use Rattle.fit_activity.specs.Recording.{StartFits, SampleFits, EntryFits};
-ghost use Rattle.fit_activity.specs.Refusal.{start_refusal, first_invalid_in, invalid_field_of};
+ghost use Rattle.fit_activity.specs.Rides.Recording.{StartFits, SampleFits, EntryFits};
+ghost use Rattle.fit_activity.specs.Rides.Refusal.{start_refusal, first_invalid_in, invalid_field_of};
 
 use crate::recording::entry::{Entry, Sample};
 use crate::recording::refusal::Refusal;
 use crate::recording::start::Start;
 use crate::speaking::fields::sample_fields;
-use crate::speaking::told::Told;
+use crate::speaking::profile_field::ProfileField;
 
 impl Start {
     /// Whether a recording may start so: the time has to be at least 0x10000000, the first calendar time, and not
@@ -36,7 +36,7 @@ pub(crate) fn invalid_field(sample: &Sample) -> Option<u8>
 }
 
 // The number of the first field that holds its invalid value.
-fn first_invalid(fields: &[Option<Told>]) -> Option<u8>
+fn first_invalid(fields: &[Option<ProfileField>]) -> Option<u8>
     ensures { result ≡ first_invalid_in fields.now }
 {
     let mut rest = fields;

@@ -13,7 +13,7 @@ pub enum Sport {
 }
 
 impl Sport {
-    ghost use Rattle.fit_activity.specs.Spoken.{sport_number};
+    ghost use Rattle.fit_activity.specs.Messages.ProfileMessage.{sport_number};
 
     /// The number of the sport in the profile: 0, 1 or 2.
     pub fn number(self) -> u8

@@ -2,129 +2,129 @@
 
 ghost use Rattle.std.specs.Prelude.{◌≡◌, ◌∷◌, IfSome};
 ghost use Rattle.std.specs.List.{AllByRecursion};
-ghost use Rattle.fit_activity.specs.Told.{ToldFits, OptionFits};
-ghost use Rattle.fit_activity.specs.Spoken.{sample_options, file_id_told, sport_told, event_told, lap_told, session_told, activity_told};
+ghost use Rattle.fit_activity.specs.Messages.ProfileField.{ProfileFieldFits, OptionFits};
+ghost use Rattle.fit_activity.specs.Messages.ProfileMessage.{sample_options, file_id_message, sport_message, event_message, lap_message, session_message, activity_message};
 
 use crate::recording::entry::Sample;
 use crate::recording::start::Sport;
-use crate::speaking::told::Told;
+use crate::speaking::profile_field::ProfileField;
 use crate::totals::summary::{ActivitySummary, LapSummary, SessionSummary};
 
 // The fields of a sample in the order of their numbers, each where it has one.
-pub(crate) fn sample_fields(sample: &Sample) -> [Option<Told>; 9]
+pub(crate) fn sample_fields(sample: &Sample) -> [Option<ProfileField>; 9]
     ensures fields { result ≡ sample_options sample.now }
     ensures fit { AllByRecursion OptionFits result }
 {
     [
-        Told::maybe_sint32(0, sample.lat),
-        Told::maybe_sint32(1, sample.long),
-        Told::maybe_uint16(2, sample.altitude),
-        Told::maybe_uint8(3, sample.heart_rate),
-        Told::maybe_uint8(4, sample.cadence),
-        Told::maybe_uint32(5, sample.distance),
-        Told::maybe_uint16(6, sample.speed),
-        Told::maybe_uint16(7, sample.power),
-        Told::maybe_sint8(13, sample.temperature),
+        ProfileField::maybe_sint32(0, sample.lat),
+        ProfileField::maybe_sint32(1, sample.long),
+        ProfileField::maybe_uint16(2, sample.altitude),
+        ProfileField::maybe_uint8(3, sample.heart_rate),
+        ProfileField::maybe_uint8(4, sample.cadence),
+        ProfileField::maybe_uint32(5, sample.distance),
+        ProfileField::maybe_uint16(6, sample.speed),
+        ProfileField::maybe_uint16(7, sample.power),
+        ProfileField::maybe_sint8(13, sample.temperature),
     ]
 }
 
-pub(crate) fn file_id_fields(time: u32, serial: u32) -> [Told; 5]
-    ensures fields { result ≡ (file_id_told time serial).fields }
-    ensures fit { AllByRecursion ToldFits result }
+pub(crate) fn file_id_fields(time: u32, serial: u32) -> [ProfileField; 5]
+    ensures fields { result ≡ (file_id_message time serial).fields }
+    ensures fit { AllByRecursion ProfileFieldFits result }
 {
     [
-        Told::enumeration(0, 4),
-        Told::uint16(1, 255),
-        Told::uint16(2, 1),
-        Told::uint32z(3, serial),
-        Told::uint32(4, time),
+        ProfileField::enumeration(0, 4),
+        ProfileField::uint16(1, 255),
+        ProfileField::uint16(2, 1),
+        ProfileField::uint32z(3, serial),
+        ProfileField::uint32(4, time),
     ]
 }
 
-pub(crate) fn sport_fields(sport: Sport) -> [Told; 2]
-    ensures fields { result ≡ (sport_told sport).fields }
-    ensures fit { AllByRecursion ToldFits result }
+pub(crate) fn sport_fields(sport: Sport) -> [ProfileField; 2]
+    ensures fields { result ≡ (sport_message sport).fields }
+    ensures fit { AllByRecursion ProfileFieldFits result }
 {
     [
-        Told::enumeration(0, sport.number()),
-        Told::enumeration(1, 0),
+        ProfileField::enumeration(0, sport.number()),
+        ProfileField::enumeration(1, 0),
     ]
 }
 
 // An event of the timer.
-pub(crate) fn event_fields(time: u32, event_type: u8) -> [Told; 3]
-    ensures fields { result ≡ (event_told time event_type).fields }
-    ensures fit { AllByRecursion ToldFits result }
+pub(crate) fn event_fields(time: u32, event_type: u8) -> [ProfileField; 3]
+    ensures fields { result ≡ (event_message time event_type).fields }
+    ensures fit { AllByRecursion ProfileFieldFits result }
 {
     [
-        Told::uint32(253, time),
-        Told::enumeration(0, 0),
-        Told::enumeration(1, event_type),
+        ProfileField::uint32(253, time),
+        ProfileField::enumeration(0, 0),
+        ProfileField::enumeration(1, event_type),
     ]
 }
 
-pub(crate) fn lap_fields(lap: &LapSummary, trigger: u8) -> [Told; 15]
-    ensures fields { result ≡ (lap_told lap.now trigger).fields }
-    ensures fit { AllByRecursion ToldFits result }
+pub(crate) fn lap_fields(lap: &LapSummary, trigger: u8) -> [ProfileField; 15]
+    ensures fields { result ≡ (lap_message lap.now trigger).fields }
+    ensures fit { AllByRecursion ProfileFieldFits result }
 {
     let stretch = &lap.stretch;
     [
-        Told::uint16(254, lap.index),
-        Told::uint32(253, stretch.end),
-        Told::enumeration(0, 9),
-        Told::enumeration(1, 1),
-        Told::uint32(2, stretch.start),
-        Told::uint32(7, stretch.elapsed),
-        Told::uint32(8, stretch.timer),
-        Told::uint32_or_invalid(9, stretch.distance),
-        Told::uint16_or_invalid(13, stretch.average_speed),
-        Told::uint16_or_invalid(14, stretch.greatest_speed),
-        Told::uint8_or_invalid(15, stretch.average_heart_rate),
-        Told::uint8_or_invalid(16, stretch.greatest_heart_rate),
-        Told::uint16_or_invalid(19, stretch.average_power),
-        Told::uint16_or_invalid(20, stretch.greatest_power),
-        Told::enumeration(24, trigger),
+        ProfileField::uint16(254, lap.index),
+        ProfileField::uint32(253, stretch.end),
+        ProfileField::enumeration(0, 9),
+        ProfileField::enumeration(1, 1),
+        ProfileField::uint32(2, stretch.start),
+        ProfileField::uint32(7, stretch.elapsed),
+        ProfileField::uint32(8, stretch.timer),
+        ProfileField::uint32_or_invalid(9, stretch.distance),
+        ProfileField::uint16_or_invalid(13, stretch.average_speed),
+        ProfileField::uint16_or_invalid(14, stretch.greatest_speed),
+        ProfileField::uint8_or_invalid(15, stretch.average_heart_rate),
+        ProfileField::uint8_or_invalid(16, stretch.greatest_heart_rate),
+        ProfileField::uint16_or_invalid(19, stretch.average_power),
+        ProfileField::uint16_or_invalid(20, stretch.greatest_power),
+        ProfileField::enumeration(24, trigger),
     ]
 }
 
-pub(crate) fn session_fields(session: &SessionSummary) -> [Told; 19]
-    ensures fields { result ≡ (session_told session.now).fields }
-    ensures fit { AllByRecursion ToldFits result }
+pub(crate) fn session_fields(session: &SessionSummary) -> [ProfileField; 19]
+    ensures fields { result ≡ (session_message session.now).fields }
+    ensures fit { AllByRecursion ProfileFieldFits result }
 {
     let stretch = &session.stretch;
     [
-        Told::uint16(254, 0),
-        Told::uint32(253, stretch.end),
-        Told::enumeration(0, 8),
-        Told::enumeration(1, 1),
-        Told::uint32(2, stretch.start),
-        Told::enumeration(5, session.sport.number()),
-        Told::enumeration(6, 0),
-        Told::uint32(7, stretch.elapsed),
-        Told::uint32(8, stretch.timer),
-        Told::uint32_or_invalid(9, stretch.distance),
-        Told::uint16_or_invalid(14, stretch.average_speed),
-        Told::uint16_or_invalid(15, stretch.greatest_speed),
-        Told::uint8_or_invalid(16, stretch.average_heart_rate),
-        Told::uint8_or_invalid(17, stretch.greatest_heart_rate),
-        Told::uint16_or_invalid(20, stretch.average_power),
-        Told::uint16_or_invalid(21, stretch.greatest_power),
-        Told::uint16(25, 0),
-        Told::uint16(26, session.laps),
-        Told::enumeration(28, 0),
+        ProfileField::uint16(254, 0),
+        ProfileField::uint32(253, stretch.end),
+        ProfileField::enumeration(0, 8),
+        ProfileField::enumeration(1, 1),
+        ProfileField::uint32(2, stretch.start),
+        ProfileField::enumeration(5, session.sport.number()),
+        ProfileField::enumeration(6, 0),
+        ProfileField::uint32(7, stretch.elapsed),
+        ProfileField::uint32(8, stretch.timer),
+        ProfileField::uint32_or_invalid(9, stretch.distance),
+        ProfileField::uint16_or_invalid(14, stretch.average_speed),
+        ProfileField::uint16_or_invalid(15, stretch.greatest_speed),
+        ProfileField::uint8_or_invalid(16, stretch.average_heart_rate),
+        ProfileField::uint8_or_invalid(17, stretch.greatest_heart_rate),
+        ProfileField::uint16_or_invalid(20, stretch.average_power),
+        ProfileField::uint16_or_invalid(21, stretch.greatest_power),
+        ProfileField::uint16(25, 0),
+        ProfileField::uint16(26, session.laps),
+        ProfileField::enumeration(28, 0),
     ]
 }
 
-pub(crate) fn activity_fields(activity: ActivitySummary) -> [Told; 6]
-    ensures fields { result ≡ (activity_told activity).fields }
-    ensures fit { AllByRecursion ToldFits result }
+pub(crate) fn activity_fields(activity: ActivitySummary) -> [ProfileField; 6]
+    ensures fields { result ≡ (activity_message activity).fields }
+    ensures fit { AllByRecursion ProfileFieldFits result }
 {
     [
-        Told::uint32(253, activity.time),
-        Told::uint32(0, activity.timer),
-        Told::uint16(1, 1),
-        Told::enumeration(2, 0),
-        Told::enumeration(3, 26),
-        Told::enumeration(4, 1),
+        ProfileField::uint32(253, activity.time),
+        ProfileField::uint32(0, activity.timer),
+        ProfileField::uint16(1, 1),
+        ProfileField::enumeration(2, 0),
+        ProfileField::enumeration(3, 26),
+        ProfileField::enumeration(4, 1),
     ]
 }

@@ -3,9 +3,9 @@
 ghost use Rattle.std.specs.Prelude.{◌≡◌, ◌+◌, ◌≤◌, ◌<◌, ◌++◌, ◌∷◌, [], length};
 ghost use Rattle.std.specs.List.{AllByRecursion};
 ghost use Rattle.fit_base.specs.declared.base.BaseType.TheVariants as types;
-ghost use Rattle.fit_activity.specs.Told.{told, field_definition, field_content, content_length, present, ToldFits, OptionFits};
+ghost use Rattle.fit_activity.specs.Messages.ProfileField.{profile_field, field_definition, field_content, content_length, present, ProfileFieldFits, OptionFits};
 
-use crate::speaking::told::Told;
+use crate::speaking::profile_field::ProfileField;
 use arrayvec::ArrayVec;
 use fit_base::Arch;
 use fit_grammar::{Definition, FieldDefinition};
@@ -38,7 +38,7 @@ impl Model for Speech {
 }
 
 impl SpokenMessage {
-    ghost use Rattle.fit_activity.specs.Speech.{spelled, CanPut, HasPut, CanSay};
+    ghost use Rattle.fit_activity.specs.Messages.MessageBytes.{spelled, CanPut, HasPut, CanSay};
 
     // No message yet.
     fn new() -> SpokenMessage {
@@ -65,8 +65,8 @@ impl SpokenMessage {
     }
 
     // A field more.
-    fn put(&mut self, field: &Told)
-        requires fits { ToldFits field.now }
+    fn put(&mut self, field: &ProfileField)
+        requires fits { ProfileFieldFits field.now }
         requires few { length self.old.definition.fields.items < 255 }
         requires short { length self.old.content.items + content_length (field.now ∷ []) ≤ 41 }
         ensures fields { self.new.definition ≡ record self.old.definition {
@@ -85,7 +85,7 @@ impl SpokenMessage {
     }
 
     // These fields more.
-    fn put_all(&mut self, fields: &[Told])
+    fn put_all(&mut self, fields: &[ProfileField])
         requires { CanPut self.old fields.now }
         ensures { HasPut self.old fields.now self.new }
     {
@@ -97,7 +97,7 @@ impl SpokenMessage {
     }
 
     // Those of the fields that are there.
-    fn put_present(&mut self, fields: &[Option<Told>])
+    fn put_present(&mut self, fields: &[Option<ProfileField>])
         requires { CanPut self.old (present fields.now) }
         ensures { HasPut self.old (present fields.now) self.new }
     {
@@ -112,7 +112,7 @@ impl SpokenMessage {
     }
 
     // The message of these fields.
-    fn say(&mut self, local: u8, global: u16, fields: &[Told])
+    fn say(&mut self, local: u8, global: u16, fields: &[ProfileField])
         requires { CanSay fields.now }
         ensures { self.new ≡ spelled (record { local = local; global = global; fields = fields.now }) }
     {
@@ -121,19 +121,26 @@ impl SpokenMessage {
     }
 
     // The record of this time and of the fields that are there.
-    fn say_record(&mut self, time: u32, fields: &[Option<Told>])
+    fn say_record(&mut self, time: u32, fields: &[Option<ProfileField>])
         requires fit { AllByRecursion OptionFits fields.now }
         requires few { length fields.now ≤ 9 }
-        ensures { self.new ≡ spelled (record { local = 0; global = 20; fields = told 253 types.Uint32 time ∷ present fields.now }) }
+        ensures { self.new
+            ≡ spelled
+            (record {
+              local = 0;
+              global = 20;
+              fields = profile_field 253 types.Uint32 time
+                  ∷ present fields.now;
+            }) }
     {
         self.begin(0, 20);
-        self.put(&Told::uint32(253, time));
+        self.put(&ProfileField::uint32(253, time));
         self.put_present(fields);
     }
 }
 
 impl Speech {
-    ghost use Rattle.fit_activity.specs.Speech.{spelled, relabelled, CanSay};
+    ghost use Rattle.fit_activity.specs.Messages.MessageBytes.{spelled, relabelled, CanSay};
 
     /// No messages.
     pub fn new() -> Speech
@@ -173,24 +180,31 @@ impl Speech {
     }
 
     // A message more.
-    pub(crate) fn say(&mut self, local: u8, global: u16, fields: &[Told])
+    pub(crate) fn say(&mut self, local: u8, global: u16, fields: &[ProfileField])
         requires room { length self.old < 4 }
         requires fields { CanSay fields.now }
-        ensures { self.new ≡ self.old ++ spelled (record { local = local; global = global; fields = fields.now }) ∷ [] }
+        ensures { self.new ≡ self.old
+            ++ spelled (record { local = local; global = global; fields = fields.now }) ∷ [] }
     {
         self.slots[self.count].say(local, global, fields);
         self.count += 1;
     }
 
     // A record more.
-    pub(crate) fn say_record(&mut self, time: u32, fields: &[Option<Told>])
+    pub(crate) fn say_record(&mut self, time: u32, fields: &[Option<ProfileField>])
         requires room { length self.old < 4 }
         requires fit { AllByRecursion OptionFits fields.now }
         requires few { length fields.now ≤ 9 }
         ensures said { self.new ≡ self.old
-            ++ spelled (record { local = 0; global = 20; fields = told 253 types.Uint32 time ∷ present fields.now }) ∷ [] }
+            ++ spelled
+            (record {
+              local = 0;
+              global = 20;
+              fields = profile_field 253 types.Uint32 time
+                  ∷ present fields.now;
+            }) ∷ [] }
         // As its type says.
-        ensures fits { ToldFits (told 253 types.Uint32 time) }
+        ensures fits { ProfileFieldFits (profile_field 253 types.Uint32 time) }
     {
         self.slots[self.count].say_record(time, fields);
         self.count += 1;

@@ -17,8 +17,8 @@ pub(crate) struct Clock {
 }
 
 impl Clock {
-    ghost use Rattle.fit_activity.specs.Totals.{KeepsTime};
-    ghost use Rattle.fit_activity.specs.Step.{clock_at, clock_until, clock_switched, clock_lapped};
+    ghost use Rattle.fit_activity.specs.Rides.RunningTotals.{KeepsTime};
+    ghost use Rattle.fit_activity.specs.Private.Step.{clock_at, clock_until, clock_switched, clock_lapped};
 
     // The clock of a start.
     pub(crate) fn at(time: u32) -> Clock

@@ -1,8 +1,8 @@
 // What the samples of a stretch add up to.
 
 ghost use Rattle.std.specs.Prelude.{◌≡◌, ◌+◌, ◌≤◌, ◌<◌, ◌^◌};
-ghost use Rattle.fit_activity.specs.Stretch.{speed_over};
-ghost use Rattle.fit_activity.specs.Step.{sums_at, sums_with, SumsHaveRoom, stretch_by, in_one_byte as small};
+ghost use Rattle.fit_activity.specs.Rides.Stretch.{speed_over};
+ghost use Rattle.fit_activity.specs.Private.Step.{sums_at, sums_with, SumsHaveRoom, stretch_by, in_one_byte as small};
 
 use crate::recording::entry::Sample;
 use crate::totals::summary::Stretch;

@@ -1,7 +1,7 @@
 // The sum, the count and the greatest of some values.
 
 ghost use Rattle.std.specs.Prelude.{◌≡◌, ◌<◌, ◌+◌, ◌^◌, IfSome};
-ghost use Rattle.fit_activity.specs.Step.{tally_with, greater_of, average_of};
+ghost use Rattle.fit_activity.specs.Private.Step.{tally_with, greater_of, average_of};
 
 // The sum, the count and the greatest of some values.
 #[derive(Clone, Copy, Debug, PartialEq, Eq)]

@@ -57,7 +57,8 @@ fn hears_a_ride_again(rt: HostRuntime) -> Result<(), PutFault> {
     for count in 0..10 {
         let replay = replay(&told(&rt, rt.alloc(), &entries[..count])?);
         let replay = replay.expect(&rt, "each message is heard");
-        let totals = replay.totals().expect(&rt, "a start and entries");
+        let told = replay.into_recording();
+        let (totals, _) = told.expect(&rt, "a start and entries");
         let wanted = ride(&rt, &entries[..count]);
         assert_eq!(rt; totals.session(), wanted.session());
         assert_eq!(rt; totals.lap(), wanted.lap());
@@ -81,7 +82,8 @@ fn summaries(
     let mut speech = Speech::new();
     speak_closing(&ride(rt, entries), &mut speech);
     put(&mut file, &speech)?;
-    Ok((replay.summary(), check_activity(&file).ok()))
+    let told = replay.into_recording().map(|(_, summary)| summary);
+    Ok((told, check_activity(&file).ok()))
 }
 
 #[test]
@@ -186,8 +188,7 @@ fn hears_starts(rt: HostRuntime) -> Result<(), PutFault> {
     let mut file = empty_file(rt.alloc());
     put_messages(&mut file, &speech.messages()[..2])?;
     let begun = replay(&file).expect(&rt, "each message is heard");
-    assert!(rt; begun.totals().is_none());
-    assert!(rt; begun.summary().is_none());
+    assert!(rt; begun.into_recording().is_none());
 
     // The timer starts at another time.
     let later = Start {

@@ -38,7 +38,8 @@ impl<'a> Latest<'a> {
     pub(crate) fn take(&mut self, definition: &DefinitionMessage<'a>)
         requires { definition.now.local < 16 }
         ensures taken { definition_in self.new definition.now.local ≡ Some definition.now }
-        ensures others { (l : ℕ) → l ≢ definition.now.local → definition_in self.new l ≡ definition_in self.old l }
+        ensures others { (l : ℕ) → l ≢ definition.now.local
+            → definition_in self.new l ≡ definition_in self.old l }
     {
         self.slots[definition.local() as usize] = Some(definition.bytes());
     }

@@ -142,7 +142,8 @@ fn whole_length(file: &File, window: &[u8], left: usize) -> Result<usize, FaultK
 // What stands behind the records, which end here: the checksum, and nothing behind it.
 fn check_end(bytes: &[u8], end: usize) -> Result<(), FileFault>
     requires { end ≤ length bytes.now }
-    ensures right { OnOk result ((length bytes.now ≡ end + 2) × IsClosing (take end bytes.now) (drop end bytes.now)) }
+    ensures right { OnOk result
+        ((length bytes.now ≡ end + 2) × IsClosing (take end bytes.now) (drop end bytes.now)) }
     ensures shown { IfErr result (λ fault. EndShows bytes.now end fault.kind fault.place) }
 {
     let (front, rest) = bytes.split_at(end);
@@ -193,7 +194,8 @@ pub fn decode_file(alloc: Global, bytes: &[u8]) -> Result<File, FileFault>
     // What is read is what the bytes say.
     ensures file { IfOk result (FileOf bytes.now) }
     // A file is read, unless memory runs out.
-    ensures taken { (v : FileValue) → FileOf bytes.now v → IfErr result (λ fault. fault.kind ≡ FaultKind.Memory) }
+    ensures taken { (v : FileValue) → FileOf bytes.now v
+        → IfErr result (λ fault. fault.kind ≡ FaultKind.Memory) }
     // What is no file is refused so.
     ensures refused { IfErr result (IsFaultOf bytes.now) }
 {

@@ -38,7 +38,8 @@ fn put_header<W: Write>(
     frame: Frame,
     size: u32,
 ) -> Result<(), WriteFailed>
-    ensures { WritesChecked (W.contents out.old) (W.contents out.new) checksum.old checksum.new result (encoded_header frame size) }
+    ensures { WritesChecked (W.contents out.old) (W.contents out.new) checksum.old checksum.new result
+        (encoded_header frame size) }
 {
     let front = header_front(frame, size);
     if frame.header_size != 14 {
@@ -72,7 +73,8 @@ pub fn header_front(frame: Frame, size: u32) -> [u8; 12]
 
 // Hands over the bytes, and takes them into the checksum.
 fn put_checked<W: Write>(out: &mut W, checksum: &mut Crc, bytes: &[u8]) -> Result<(), WriteFailed>
-    ensures { WritesChecked (W.contents out.old) (W.contents out.new) checksum.old checksum.new result bytes.now }
+    ensures { WritesChecked (W.contents out.old)
+        (W.contents out.new) checksum.old checksum.new result bytes.now }
 {
     checksum.add(bytes);
     put(out, bytes)

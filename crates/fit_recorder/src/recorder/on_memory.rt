@@ -8,31 +8,33 @@ use fit_disk::Memory;
 impl Recorder<Memory> {
     ghost use Rattle.fit_disk.specs.Counts.{failing_at, cut_off_at};
     ghost use Rattle.fit_disk.specs.Memory.{memory_counts, memory_schedule, is_spent};
-    ghost use Rattle.fit_recorder.specs.OnMemory.{StandsAsBefore};
-    ghost use Rattle.fit_recorder.specs.Recording.{disk_of};
+    ghost use Rattle.fit_recorder.specs.Calls.OnMemory.{StandsAsBefore};
+    ghost use Rattle.fit_recorder.specs.Calls.Recorder.{disk_of};
 
     /// Lets the k-th call of the disk from now fail, from 1 on. No content and no promise changes.
     pub fn fail_at(&mut self, k: u32)
         requires { 1 ≤ k }
         ensures same { StandsAsBefore self.old self.new }
-        ensures schedule { memory_schedule (disk_of self.new) ≡ failing_at k (memory_counts (disk_of self.old)) (memory_schedule (disk_of self.old)) }
+        ensures schedule { memory_schedule (disk_of self.new)
+            ≡ failing_at k (memory_counts (disk_of self.old)) (memory_schedule (disk_of self.old)) }
     {
-        self.store.disk.fail_at(k);
+        self.files.disk.fail_at(k);
     }
 
     /// Lets the power go at the k-th call of the disk from now, from 1 on. No content and no promise changes.
     pub fn cut_at(&mut self, k: u32)
         requires { 1 ≤ k }
         ensures same { StandsAsBefore self.old self.new }
-        ensures schedule { memory_schedule (disk_of self.new) ≡ cut_off_at k (memory_counts (disk_of self.old)) (memory_schedule (disk_of self.old)) }
+        ensures schedule { memory_schedule (disk_of self.new)
+            ≡ cut_off_at k (memory_counts (disk_of self.old)) (memory_schedule (disk_of self.old)) }
     {
-        self.store.disk.cut_at(k);
+        self.files.disk.cut_at(k);
     }
 
     /// Whether a growth was refused in its disk so far, or the counts of calls are at their last value.
     pub fn spent(&self) -> bool
         ensures { result ≡ is_spent (disk_of self.now) }
     {
-        self.store.disk.spent()
+        self.files.disk.spent()
     }
 }

@@ -3,7 +3,7 @@
 
 ghost use Rattle.std.specs.Prelude.{◌≤◌};
 
-use super::{RUN, SHORT_RIDE, TIME, begun, committed, one, play, short_ride};
+use super::{RUN, SHORT_RIDE, TIME, begun, committed, copy_of, one, play, short_ride};
 use fit_activity::Entry;
 use fit_disk::{Disk, Memory, Which};
 use fit_recorder::{RecFault, Recorder, erase, recover};
@@ -54,6 +54,64 @@ fn an_erasing_of_nothing_makes_three_calls(rt: HostRuntime) -> Result<(), Fail> 
         assert_eq!(rt; erase(&mut disk), expected);
         disk.cycle(&[]);
         assert_eq!(rt; disk.content(Which::Journal), [0x46, 0x52].as_slice());
+    }
+    Ok(())
+}
+
+// Behind its two syncs a recovery that finds nothing ends with the size of an empty data file, and with the head of a journal
+// that is none; one that finds damage ends there too.
+#[test]
+fn a_recovery_that_finds_no_ride_ends_early(rt: HostRuntime) -> Result<(), Fail> {
+    let cases: [(&[u8], &[u8], [(u32, RecFault); 2]); 3] = [
+        (
+            b"",
+            b"FRJ1",
+            [(3, RecFault::Device), (4, RecFault::NothingRecorded)],
+        ),
+        (
+            b"data",
+            b"FRJ1",
+            [(4, RecFault::Device), (5, RecFault::NothingRecorded)],
+        ),
+        (
+            b"data",
+            b"FRJ1....",
+            [(4, RecFault::Device), (5, RecFault::Damaged)],
+        ),
+    ];
+    for (data, journal, answers) in cases {
+        for (k, expected) in answers {
+            let mut disk = copy_of(rt.alloc(), data, journal)?;
+            disk.cut_at(k);
+            assert_eq!(rt; recover(&mut disk), Err(expected));
+        }
+    }
+    Ok(())
+}
+
+// A start keeps the data file before it asks for its size: where that fails, a power cut leaves what was written.
+#[test]
+fn a_start_keeps_the_data_first(rt: HostRuntime) -> Result<(), Fail> {
+    let mut disk = Memory::new(rt.alloc());
+    disk.write(Which::Data, 0, b"data")?;
+    disk.fail_at(2);
+    let (mut disk, fault) = match Recorder::start(disk, RUN) {
+        Ok(recorder) => (recorder.into_disk(), None),
+        Err((disk, fault)) => (disk, Some(fault)),
+    };
+    assert_eq!(rt; fault, Some(RecFault::Device));
+    disk.cycle(&[]);
+    assert_eq!(rt; disk.content(Which::Data), b"data".as_slice());
+    Ok(())
+}
+
+// Where the journal has no mark nothing is written there, and it is kept once more.
+#[test]
+fn an_erasing_without_a_mark_makes_seven_calls(rt: HostRuntime) -> Result<(), Fail> {
+    for (k, expected) in [(7, Err(RecFault::Device)), (8, Ok(()))] {
+        let mut disk = copy_of(rt.alloc(), b"data", b"")?;
+        disk.cut_at(k);
+        assert_eq!(rt; erase(&mut disk), expected);
     }
     Ok(())
 }

@@ -3,7 +3,7 @@
 
 ghost use Rattle.std.specs.Prelude.{◌≤◌, true};
 ghost use Rattle.fit_disk.specs.Memory.{memory_story};
-ghost use Rattle.fit_recorder.specs.Recording.{GoesOn};
+ghost use Rattle.fit_recorder.specs.Calls.Recorder.{GoesOn};
 
 use super::stopping::full_sample;
 use super::{RUN, TIME, copy_of, entries_told, heart_rate, one};

@@ -2,7 +2,7 @@
 
 ghost use Rattle.std.specs.Prelude.{◌≤◌, true};
 ghost use Rattle.fit_disk.specs.Memory.{memory_story};
-ghost use Rattle.fit_recorder.specs.Recording.{GoesOn};
+ghost use Rattle.fit_recorder.specs.Calls.Recorder.{GoesOn};
 
 use super::{
     RUN, SHORT_RIDE, START_RECORDS, TIME, begun, heart_rate, play, ride, short_ride, value_in,

@@ -35,7 +35,9 @@ pub fn dates_of(utc: bool, global: u16) -> &'static [u8]
 
 /// The time that a field of this number holds, where it is shown as a date: these are the numbers of the fields that are.
 pub fn date_in(dates: &[u8], number: u8, value: &FieldValue<'_>) -> Option<u32>
-    ensures { result ≡ date_in dates.now (record { number = number; base = value.now.base; values = values_of value.now }) }
+    ensures { result
+        ≡ date_in dates.now
+        (record { number = number; base = value.now.base; values = values_of value.now }) }
 {
     if !dates.contains(&number) {
         return None;

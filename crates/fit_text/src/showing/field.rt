@@ -24,7 +24,8 @@ pub fn put_shown<W: Write>(
     value: &FieldValue<'_>,
 ) -> Result<(), WriteFailed>
     ensures { Puts pen.old pen.new result (let field : MessageField = record
-        { number = number; base = value.now.base; values = values_of value.now } in shown_text (date_in dates.now field) field) }
+        { number = number; base = value.now.base; values = values_of value.now } in
+        shown_text (date_in dates.now field) field) }
 {
     match date_in(dates, number, value) {
         Some(time) => put_date(pen, time),

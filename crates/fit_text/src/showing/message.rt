@@ -25,7 +25,8 @@ pub fn put_message<W: Write>(
 ) -> Result<(), WriteFailed>
     requires { IsPlanOf message.now.definition plan.now columns.now }
     ensures { Puts pen.old pen.new result
-        (message_text plan.now.utc number (message_under message.now.definition time message.now.content.now)) }
+        (message_text plan.now.utc number
+        (message_under message.now.definition time message.now.content.now)) }
 {
     pen.room()?;
     pen.add_number(number);

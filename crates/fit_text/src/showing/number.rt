@@ -20,7 +20,8 @@ pub fn put_numbers<W: Write>(
 ) -> Result<(), WriteFailed>
     requires known { base_type field.now.base ≡ Some base }
     ensures { Puts pen.old pen.new result
-        (numbers_text base (numbers field.now.arch (value_size field.now) (count_of field.now) field.now.bytes)) }
+        (numbers_text base
+        (numbers field.now.arch (value_size field.now) (count_of field.now) field.now.bytes)) }
 {
     for i in 0..field.count() {
         put_next(pen, base, field, i)?;

@@ -124,7 +124,8 @@ fn add_columns(
 )
     requires short { are_short (field_rows names.now) ≡ true }
     requires room { length columns.old.items + length fields.now ≤ COLUMNS }
-    ensures { (own : List AnyColumn) × (columns.new.items ≡ columns.old.items ++ own) × AreColumns (field_rows names.now) dates.now fields.now own }
+    ensures { (own : List AnyColumn) × (columns.new.items ≡ columns.old.items ++ own)
+        × AreColumns (field_rows names.now) dates.now fields.now own }
 {
     let mut rest = fields;
     while let [field, others @ ..] = rest {

@@ -50,7 +50,8 @@ impl Plans {
         requires { local < 16 }
         ensures utc { self.new.utc ≡ self.old.utc }
         ensures some { IsSome (slice_index_or self.new.slots local None) }
-        ensures plans { (definition_for : ℕ → Option AnyDefinition) → definition_for local ≡ Some definition.now
+        ensures plans { (definition_for : ℕ → Option AnyDefinition)
+            → definition_for local ≡ Some definition.now
             → ArePlansFor definition_for self.old → ArePlansFor definition_for self.new }
     {
         if self.slots[usize::from(local)].is_none() {
@@ -63,7 +64,8 @@ impl Plans {
         requires { local < 16 }
         ensures utc { self.new.utc ≡ self.old.utc }
         ensures some { IsSome (slice_index_or self.new.slots local None) }
-        ensures plans { (definition_for : ℕ → Option AnyDefinition) → definition_for local ≡ Some definition.now
+        ensures plans { (definition_for : ℕ → Option AnyDefinition)
+            → definition_for local ≡ Some definition.now
             → ArePlansFor definition_for self.old → ArePlansFor definition_for self.new }
     {
         self.make_room(definition.fields.len());
@@ -90,7 +92,8 @@ impl Plans {
     pub fn get(&self, local: u8) -> (&Plan, &[Column])
         requires { (d : AnyDefinition) × IsPlanAt self.now local d }
         ensures plan { slice_index_or self.now.slots local None ≡ Some result.0.now }
-        ensures columns { result.1.now ≡ slice_range self.now.columns.items result.0.now.first result.0.now.end }
+        ensures columns { result.1.now
+            ≡ slice_range self.now.columns.items result.0.now.first result.0.now.end }
     {
         match self.slots.get(usize::from(local)) {
             Some(Some(plan)) => (plan, &self.columns.as_slice()[plan.first..plan.end]),

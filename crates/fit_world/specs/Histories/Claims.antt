@@ -1,7 +1,7 @@
 -- Claims: which lists of entries may be recorded, and how many entries of each are promised.
 use Rattle.std.specs.Prelude.{◌≡◌, ◌⊎◌, ◌||◌, ℕ, ◌≤◌, Bool, true, false, List, [], ◌∷◌, ◌++◌, length, if◌then◌else◌}
 use Rattle.fit_activity.specs.declared.recording.start.Start.{Start}
-use Rattle.fit_activity.specs.Recording.{Recorded, Started}
+use Rattle.fit_activity.specs.Rides.Recording.{Recorded, Started}
 
 -- the entries of a list may be recorded, and at least the first so many are
 pub record Claim : Type 0 where

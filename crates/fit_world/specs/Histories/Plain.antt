@@ -3,8 +3,8 @@ use Rattle.std.specs.Prelude.{◌≡◌, Bool, true, false, List, [], ◌∷◌,
 use Rattle.std.specs.List.{AllByRecursion}
 use Rattle.fit_activity.specs.declared.recording.entry.Entry.TheVariants.{Stop}
 use Rattle.fit_activity.specs.declared.recording.start.Start.{Start}
-use Rattle.fit_activity.specs.Recording.{Recorded, Started, Added}
-use Rattle.fit_activity.specs.Refusal.{refusal_of, start_refusal}
+use Rattle.fit_activity.specs.Rides.Recording.{Recorded, Started, Added}
+use Rattle.fit_activity.specs.Rides.Refusal.{refusal_of, start_refusal}
 use Rattle.fit_recorder.specs.declared.fault.RecFault.TheVariants.{Full, JournalFull}
 use Rattle.fit_world.specs.declared.answer.Answer.{Answer}
 use Rattle.fit_world.specs.declared.command.Command.{Command}

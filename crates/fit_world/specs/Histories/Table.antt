@@ -5,10 +5,10 @@ use Rattle.fit_activity.specs.declared.activity.Summary.{Summary}
 use Rattle.fit_activity.specs.declared.recording.entry.Entry.{Entry}
 use Rattle.fit_activity.specs.declared.recording.entry.Entry.TheVariants.{Stop}
 use Rattle.fit_activity.specs.declared.recording.start.Start.{Start}
-use Rattle.fit_activity.specs.Finished.{summary_of_list}
-use Rattle.fit_activity.specs.Recording.{Recorded, Started, Added}
-use Rattle.fit_activity.specs.Refusal.{Allowed, refusal_of, start_refusal}
-use Rattle.fit_activity.specs.Speaking.{spoken, closing}
+use Rattle.fit_activity.specs.Files.Finished.{summary_of_list}
+use Rattle.fit_activity.specs.Rides.Recording.{Recorded, Started, Added}
+use Rattle.fit_activity.specs.Rides.Refusal.{Allowed, refusal_of, start_refusal}
+use Rattle.fit_activity.specs.Messages.RideMessages.{spoken, closing}
 use Rattle.fit_recorder.specs.declared.fault.RecFault.{RecFault}
 use Rattle.fit_recorder.specs.declared.fault.RecFault.TheVariants.{NotEmpty, Refused, Full, JournalFull, Device, Failed, NothingRecorded}
 use Rattle.fit_world.specs.declared.command.Command.{Command}

@@ -2,7 +2,7 @@
 
 ghost use Rattle.std.specs.Prelude.{◌≡◌, map, option_map, if◌then◌else◌};
 ghost use Rattle.std.specs.Result.{result_ok};
-ghost use Rattle.fit_world.specs.Script.{number32, count, sport_named, alone, only, start_of, sample_of, entry_of, command_of};
+ghost use Rattle.fit_world.specs.Scripts.Script.{number32, count, sport_named, alone, only, start_of, sample_of, entry_of, command_of};
 ghost use Rattle.fit_world.specs.declared.command.Command.TheVariants as commands;
 
 use crate::command::Command;

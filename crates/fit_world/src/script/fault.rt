@@ -22,7 +22,7 @@ pub enum ScriptFaultKind {
 }
 
 impl ScriptFaultKind {
-    ghost use Rattle.fit_world.specs.FaultCode.{script_code};
+    ghost use Rattle.fit_world.specs.Calls.FaultCode.{script_code};
 
     /// The number of the kind, 1 to 7.
     pub fn code(&self) -> u8
@@ -60,7 +60,7 @@ pub enum ReplayFault {
 }
 
 impl ReplayFault {
-    ghost use Rattle.fit_world.specs.FaultCode.{replay_code};
+    ghost use Rattle.fit_world.specs.Calls.FaultCode.{replay_code};
 
     /// The number of the fault, 1 to 3: the first that holds is answered.
     pub fn code(&self) -> u8

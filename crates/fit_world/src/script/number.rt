@@ -2,7 +2,7 @@
 
 ghost use Rattle.std.specs.Prelude.{◌≡◌, ◌≤◌, ◌<◌, ◌+◌, ◌^◌, ◌≤ℤ◌, pos, neg_ℤ, IfOk};
 ghost use Rattle.std.specs.Result.{result_ok};
-ghost use Rattle.fit_world.specs.ScriptWords.{number, signed_number};
+ghost use Rattle.fit_world.specs.Scripts.Words.{number, signed_number};
 
 use crate::script::fault::ScriptFaultKind;
 

@@ -2,8 +2,8 @@
 
 ghost use Rattle.std.specs.Prelude.{◌≡◌, All, IfOk, IfErr, IfNone};
 ghost use Rattle.std.specs.Str.Lines.{lines};
-ghost use Rattle.fit_world.specs.Script.{events_of};
-ghost use Rattle.fit_world.specs.Replaying.{IsReplayed, first_simulated, IsReplayFault};
+ghost use Rattle.fit_world.specs.Scripts.Script.{events_of};
+ghost use Rattle.fit_world.specs.Scripts.Replayed.{IsReplayed, first_simulated, IsReplayFault};
 
 use crate::event::Event;
 use crate::script::fault::ReplayFault;

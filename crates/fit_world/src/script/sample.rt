@@ -4,7 +4,7 @@ ghost use Rattle.std.specs.Prelude.{◌≡◌, ◌==◌, ◌≤◌, length, Some
 ghost use Rattle.std.specs.List.{list_any, position, position_or_len};
 ghost use Rattle.std.specs.Result.{result_ok};
 ghost use Rattle.std.specs.Str.{bytes_eq};
-ghost use Rattle.fit_world.specs.ScriptSample.{key_in, value_in, has_number, is_new_setting, are_settings, sample_at, with_setting};
+ghost use Rattle.fit_world.specs.Scripts.Sample.{key_in, value_in, has_number, is_new_setting, are_settings, sample_at, with_setting};
 
 use crate::script::fault::ScriptFaultKind;
 use crate::script::number::{number, signed_number};
@@ -75,7 +75,8 @@ fn stands_in(key: &[u8], settings: &[&[u8]]) -> bool
 
 // A sample with the number of this key.
 fn with_setting(sample: Sample, key: &[u8], value: &[u8]) -> Result<Sample, ScriptFaultKind>
-    ensures { result_ok result ≡ (if has_number key.now value.now then Some (with_setting sample key.now value.now) else None) }
+    ensures { result_ok result
+        ≡ (if has_number key.now value.now then Some (with_setting sample key.now value.now) else None) }
 {
     if key == b"lat".as_slice() {
         let lat = Some(signed_number(value, 2_147_483_647)?);

@@ -2,7 +2,7 @@
 
 ghost use Rattle.std.specs.Prelude.{◌≡◌, map, IfOk};
 ghost use Rattle.std.specs.Str.Lines.{lines};
-ghost use Rattle.fit_world.specs.ScriptWords.{words};
+ghost use Rattle.fit_world.specs.Scripts.Words.{words};
 
 use std::alloc::{AllocError, Global};
 

@@ -2,7 +2,7 @@
 
 ghost use Rattle.std.specs.Prelude.{◌≡◌, IfOk};
 ghost use Rattle.fit_world.specs.Histories.Runs.{told_in};
-ghost use Rattle.fit_world.specs.Standing.{told};
+ghost use Rattle.fit_world.specs.Rides.Standing.{told};
 
 use super::NoMemory;
 use crate::answer::Answer;

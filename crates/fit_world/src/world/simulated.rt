@@ -12,16 +12,18 @@ impl Ride<Memory> {
     ghost use Rattle.fit_disk.specs.Cycle.{cycled, taken_in};
     ghost use Rattle.fit_disk.specs.Memory.{memory_story, memory_counts, memory_schedule, is_spent};
     ghost use Rattle.fit_world.specs.Histories.Table.{History};
-    ghost use Rattle.fit_world.specs.Riding.{CanGoOn, disk_in, is_riding};
-    ghost use Rattle.fit_world.specs.Standing.{StandsIn, GoesBy, content_of};
+    ghost use Rattle.fit_world.specs.Rides.Ride.{CanGoOn, disk_in, is_riding};
+    ghost use Rattle.fit_world.specs.Rides.Standing.{StandsIn, GoesBy, content_of};
 
     /// Lets the k-th call of the disk from now fail, from 1 on. The ride stands where it stood.
     pub(crate) fn fail_at(&mut self, k: u32)
         requires { 1 ≤ k }
         ensures goes_on { CanGoOn true memory_story self.old → CanGoOn true memory_story self.new }
-        ensures stands { (history : History) → StandsIn true memory_story self.old history → StandsIn true memory_story self.new history }
+        ensures stands { (history : History) → StandsIn true memory_story self.old history
+            → StandsIn true memory_story self.new history }
         ensures counts { memory_counts (disk_in self.new) ≡ memory_counts (disk_in self.old) }
-        ensures schedule { memory_schedule (disk_in self.new) ≡ failing_at k (memory_counts (disk_in self.old)) (memory_schedule (disk_in self.old)) }
+        ensures schedule { memory_schedule (disk_in self.new)
+            ≡ failing_at k (memory_counts (disk_in self.old)) (memory_schedule (disk_in self.old)) }
     {
         match self {
             Ride::Idle(disk) => disk.fail_at(k),
@@ -33,9 +35,11 @@ impl Ride<Memory> {
     pub(crate) fn cut_at(&mut self, k: u32)
         requires { 1 ≤ k }
         ensures goes_on { CanGoOn true memory_story self.old → CanGoOn true memory_story self.new }
-        ensures stands { (history : History) → StandsIn true memory_story self.old history → StandsIn true memory_story self.new history }
+        ensures stands { (history : History) → StandsIn true memory_story self.old history
+            → StandsIn true memory_story self.new history }
         ensures counts { memory_counts (disk_in self.new) ≡ memory_counts (disk_in self.old) }
-        ensures schedule { memory_schedule (disk_in self.new) ≡ cut_off_at k (memory_counts (disk_in self.old)) (memory_schedule (disk_in self.old)) }
+        ensures schedule { memory_schedule (disk_in self.new)
+            ≡ cut_off_at k (memory_counts (disk_in self.old)) (memory_schedule (disk_in self.old)) }
     {
         match self {
             Ride::Idle(disk) => disk.cut_at(k),
@@ -47,9 +51,12 @@ impl Ride<Memory> {
     /// say; it answers how many of them were taken.
     pub(crate) fn power(self, choices: &[u8]) -> (Ride<Memory>, usize)
         ensures ended { is_riding result.0 ≡ false }
-        ensures step { (before : History) → StandsIn true memory_story self before → GoesBy true memory_story before commands.Power replies.Done result.0 }
-        ensures left { (memory_story (disk_in result.0)).now ≡ cycled choices.now (memory_story (disk_in self)).now }
-        ensures taken { result.1 ≡ min (taken_in choices.now (memory_story (disk_in self)).now) (length choices.now) }
+        ensures step { (before : History) → StandsIn true memory_story self before
+            → GoesBy true memory_story before commands.Power replies.Done result.0 }
+        ensures left { (memory_story (disk_in result.0)).now
+            ≡ cycled choices.now (memory_story (disk_in self)).now }
+        ensures taken { result.1
+            ≡ min (taken_in choices.now (memory_story (disk_in self)).now) (length choices.now) }
         ensures counts { memory_counts (disk_in result.0) ≡ memory_counts (disk_in self) }
         ensures schedule { memory_schedule (disk_in result.0) ≡ unplanned (memory_counts (disk_in self)) }
     {

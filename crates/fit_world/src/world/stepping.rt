@@ -2,12 +2,12 @@
 
 ghost use Rattle.std.specs.Prelude.{◌≡◌, ◌≤◌, true, length};
 ghost use Rattle.fit_disk.specs.Memory.{memory_story, memory_counts, memory_schedule};
-ghost use Rattle.fit_world.specs.Arranging.{Moves};
-ghost use Rattle.fit_world.specs.Choosing.{takes, IsLeftBy};
+ghost use Rattle.fit_world.specs.Simulation.Arranging.{Moves};
+ghost use Rattle.fit_world.specs.Simulation.Choices.{takes, IsLeftBy};
 ghost use Rattle.fit_world.specs.Histories.Runs.{CanRun};
 ghost use Rattle.fit_world.specs.Histories.Table.{History};
-ghost use Rattle.fit_world.specs.Riding.{CanGoOn, disk_in};
-ghost use Rattle.fit_world.specs.Standing.{StandsIn, GoesBy};
+ghost use Rattle.fit_world.specs.Rides.Ride.{CanGoOn, disk_in};
+ghost use Rattle.fit_world.specs.Rides.Standing.{StandsIn, GoesBy};
 
 use crate::command::Command;
 use crate::reply::Reply;
@@ -23,11 +23,14 @@ pub fn step(
     requires goes_on { CanGoOn true memory_story ride }
     requires can { CanRun command.now }
     ensures goes_on { CanGoOn true memory_story result.0 }
-    ensures step { (before : History) → StandsIn true memory_story ride before → GoesBy true memory_story before command.now result.1 result.0 }
-    ensures moves { Moves command.now result.1 (memory_counts (disk_in ride)) (memory_schedule (disk_in ride)) (memory_counts (disk_in result.0)) (memory_schedule (disk_in result.0)) }
+    ensures step { (before : History) → StandsIn true memory_story ride before
+        → GoesBy true memory_story before command.now result.1 result.0 }
+    ensures moves { Moves command.now result.1 (memory_counts (disk_in ride)) (memory_schedule (disk_in ride))
+        (memory_counts (disk_in result.0)) (memory_schedule (disk_in result.0)) }
     ensures taken { result.2 ≡ takes command.now choices.now (memory_story (disk_in ride)).now }
     ensures within { result.2 ≤ length choices.now }
-    ensures left { IsLeftBy command.now choices.now (memory_story (disk_in ride)).now (memory_story (disk_in result.0)).now }
+    ensures left { IsLeftBy command.now choices.now (memory_story (disk_in ride)).now
+        (memory_story (disk_in result.0)).now }
 {
     match command {
         Command::Fail(k) => {

@@ -17,6 +17,17 @@ pub fn open_folder<'a>(rt: &HostRuntime, name: &'a str) -> Result<Files, Fault<'
     }
 }
 
+/// The files of this folder, or nothing where one of them is missing.
+pub fn open_recorded<'a>(rt: &HostRuntime, name: &'a str) -> Result<Option<Files>, Fault<'a>>
+    ensures { IfErr result (λ fault. (why : WhyNotOpen) × (fault ≡ fault_of_open name.entry why)) }
+{
+    match Files::is_one_missing(rt, name) {
+        Ok(true) => Ok(None),
+        Ok(false) => Ok(Some(open_folder(rt, name)?)),
+        Err(fault) => Err(fault_of(name, fault)),
+    }
+}
+
 // What the program says of a folder of this name that is not opened.
 fn fault_of<'a>(name: &'a str, fault: OpenFault) -> Fault<'a>
     ensures { result ≡ fault_of_open name.entry fault }

@@ -1,7 +1,7 @@
 // The file that a subcommand reads.
 
 ghost use Rattle.std.specs.Prelude.{◌≡◌, ◌<◌, ◌↔◌, IsTrue, IfOk, IfErr};
-ghost use Rattle.fit_world.specs.Reading.{ReadsAll};
+ghost use Rattle.fit_world.specs.Calls.Reading.{ReadsAll};
 ghost use Rattle.fitrec.specs.Reading.{fault_of_read, IsReadFault, IsFileFault};
 
 use crate::fault::Fault;
@@ -36,8 +36,10 @@ fn is_too_large(size: u64) -> bool
 
 // All bytes of the input of this name.
 fn read_input<'a, T: Read>(alloc: Global, name: &'a str, from: &mut T) -> Result<Vec<u8>, Fault<'a>>
-    ensures all { IfOk result (λ bytes. ReadsAll 268435456 (T.remaining from.old) (T.remaining from.new) bytes.items) }
-    ensures refused { IfErr result (IsReadFault 268435456 (T.remaining from.old) (T.remaining from.new) name.entry) }
+    ensures all { IfOk result
+        (λ bytes. ReadsAll 268435456 (T.remaining from.old) (T.remaining from.new) bytes.items) }
+    ensures refused { IfErr result
+        (IsReadFault 268435456 (T.remaining from.old) (T.remaining from.new) name.entry) }
 {
     match read_all(alloc, from, MOST_BYTES) {
         Ok(bytes) => Ok(bytes),

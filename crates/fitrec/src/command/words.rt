@@ -40,6 +40,7 @@ pub fn read_words<'a, S: AsStr>(alloc: Global, words: &'a [S]) -> Result<Request
         .arg(script_argument(alloc))?;
     let mut fitrec = Command::new(alloc, "fitrec")
         .no_binary_name(true)
+        .bin_name("fitrec")?
         .about(
             "Records rides as FIT files, and reads the FIT files of sports watches and bicycle computers",
         )

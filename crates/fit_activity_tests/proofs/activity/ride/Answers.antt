@@ -2,8 +2,8 @@ use Rattle.std.proofs.Common.{ℕ, ◌+◌, ◌≤◌, List, [], ◌++◌, ◌�
 use Rattle.std.specs.Result.{result_err}
 use Rattle.std.proofs.lemmas.List.{length_push}
 use Rattle.fit_activity.specs.declared.recording.entry.Entry.{Entry}
-use Rattle.fit_activity.specs.Recording.{Recorded, Added}
-use Rattle.fit_activity.specs.Totals.{Kept, AreTotals}
+use Rattle.fit_activity.specs.Rides.Recording.{Recorded, Added}
+use Rattle.fit_activity.specs.Rides.RunningTotals.{TotalsState, AreTotals}
 use Rattle.fit_activity_tests.proofs.activity.ride.Goals as goal
 
 pub add-requires : goal.add-requires
@@ -16,7 +16,7 @@ add-requires g c =
     )
 
 -- the list with an entry more
-more : (totals : Kept) (list : List Recorded) (e : Entry) (n : ℕ) → AreTotals totals (list ++ Added e ∷ []) → length list ≤ n + 1
+more : (totals : TotalsState) (list : List Recorded) (e : Entry) (n : ℕ) → AreTotals totals (list ++ Added e ∷ []) → length list ≤ n + 1
     → (x : List Recorded) × AreTotals totals x × (length x ≤ n + 1 + 1)
 more totals list e n are few = (list ++ Added e ∷ [], are, omega (arith, few, length_push list (Added e)))
 

@@ -1,4 +1,4 @@
-use Rattle.fit_recorder.proofs.LawLemmas.{one_list, not_nothing}
+use Rattle.fit_recorder.proofs.RecoveredList.OneList.{one_list, not_nothing}
 use Rattle.fit_recorder.proofs.laws.files_stand_for_one_list.Goals as goal
 
 pub returns-clause-one : goal.returns-clause-one

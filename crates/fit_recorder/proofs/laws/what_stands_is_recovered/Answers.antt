@@ -1,4 +1,4 @@
-use Rattle.fit_recorder.proofs.LawLemmas.{is_recovered}
+use Rattle.fit_recorder.proofs.RecoveredList.OneList.{is_recovered}
 use Rattle.fit_recorder.proofs.laws.what_stands_is_recovered.Goals as goal
 
 pub returns : goal.returns

@@ -1,6 +1,6 @@
 use Rattle.std.proofs.Common.{true}
 use Rattle.fit_disk.specs.Memory.{memory_story}
-use Rattle.fit_recorder.specs.Recording.{GoesOn}
+use Rattle.fit_recorder.specs.Calls.Recorder.{GoesOn}
 use Rattle.fit_ride_tests.proofs.recorder.the_last_slot_is_kept.Given as goal
 
 -- the recorder goes on

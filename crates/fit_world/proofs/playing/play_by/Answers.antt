@@ -1,5 +1,6 @@
-use Rattle.std.proofs.Common.{sym, ◌∙◌, arith}
-use Rattle.fit_world.proofs.ReplayLemmas.{none_yet, one_ok, one_refused, at_the_end}
+use Rattle.std.proofs.Common.{[], ◌∷◌, ◌++◌, ◌+◌, drop, sym, ◌∙◌, arith}
+use Rattle.fit_world.proofs.Histories.Played.{not_begun, rode_on, all_left, some_left}
+use Rattle.fit_world.proofs.Told.Replayed.{none_yet, one_ok, one_refused, at_the_end}
 use Rattle.fit_world.proofs.playing.play_by.Goals as goal
 use Rattle.fit_world.proofs.playing.play_by.Goals.{then-not-is_ok, else-not-is_ok}
 
@@ -7,7 +8,8 @@ pub loop-event-init : goal.loop-event-init
 loop-event-init g c = record {
   goes_on = tt;
   most = omega arith;
-  leads = none_yet c.args.events.now c.args.pen.now;
+  so_far =
+      ([], none_yet c.args.events.now c.args.pen.now, not_begun g.D.Disk.honest g.D.Disk.story c.args.disk c.args.events.now);
   waits = c.requires.waits;
 }
 
@@ -16,29 +18,51 @@ loop-event-preserved g c =
     let known = c.loop-event.invariant in
     let ran = c.ask-next.ensures in
     let line = c.in_default.ensures.line in
+    let said = known.so_far.0 in
+    let rode =
+    rode_on g.D.Disk.honest g.D.Disk.story (g.D.Disk.story c.args.disk) c.args.events.now c.loop-event.event-index _ said c.loop-event.ride
+    c.ask-next.result.0 c.ask-next.result.1 c.loop-event-test.true known.so_far.2 ran.step in
     elim c.if-not-is_ok.branch [
       | then-not-is_ok w ↦ record {
         goes_on = ran.goes_on;
         most = omega (arith, w.refused-is, known.most);
-        leads = rw w.refused-is
-            (one_refused c.args.events.now c.loop-event.event-index _ _ _ _ _ _ _ _ c.loop-event-test.true known.leads ran.reply ran.riding
-            (sym c.is_ok.ensures ∙ w.if-not-is_ok.true) line);
+        so_far = rw w.refused-is (
+          said ++ c.ask-next.result.1 ∷ [],
+          one_refused c.args.events.now c.loop-event.event-index _ _ _ said _ _ _ _ _ c.loop-event-test.true known.so_far.1 ran.reply ran.riding
+              (sym c.is_ok.ensures ∙ w.if-not-is_ok.true) line,
+          rode,
+        );
         waits = c.in_default.ensures.none;
       }
       | else-not-is_ok w ↦ record {
         goes_on = ran.goes_on;
         most = omega (arith, w.refused-is, known.most);
-        leads = rw w.refused-is
-            (one_ok c.args.events.now c.loop-event.event-index _ _ _ _ _ _ _ _ c.loop-event-test.true known.leads ran.reply ran.riding
-            (sym c.is_ok.ensures ∙ w.if-not-is_ok.false) line);
+        so_far = rw w.refused-is (
+          said ++ c.ask-next.result.1 ∷ [],
+          one_ok c.args.events.now c.loop-event.event-index _ _ _ said _ _ _ _ _ c.loop-event-test.true known.so_far.1 ran.reply ran.riding
+              (sym c.is_ok.ensures ∙ w.if-not-is_ok.false) line,
+          rode,
+        );
         waits = c.in_default.ensures.none;
       }
     ]
 
 pub returns-clause-same : goal.returns-clause-same
-returns-clause-same g c = c.loop-event.invariant.leads.put.0
+returns-clause-same g c = c.loop-event.invariant.so_far.1.put.0
 
 pub returns-clause-told : goal.returns-clause-told
 returns-clause-told g c =
-    at_the_end c.args.events.now c.loop-event.event-index _ _ _ _ c.loop-event-test.false c.requires.waits c.loop-event.invariant.waits
-    c.loop-event.invariant.leads
+    let so_far = c.loop-event.invariant.so_far in
+    at_the_end c.args.events.now c.loop-event.event-index _ so_far.0 _ _ _ _ c.loop-event-test.false c.requires.waits
+    c.loop-event.invariant.waits so_far.1
+    (all_left g.D.Disk.honest g.D.Disk.story (g.D.Disk.story c.args.disk) _ c.args.events.now c.loop-event.event-index so_far.0 c.loop-event.ride
+    c.loop-event-test.false so_far.2 c.into_disk-2.ensures.rests)
+
+pub returns-in-Err-clause-broken_off : goal.returns-in-Err-clause-broken_off
+returns-in-Err-clause-broken_off g c =
+    let so_far = c.loop-event.invariant.so_far in
+    some_left g.D.Disk.honest g.D.Disk.story (g.D.Disk.story c.args.disk) _ c.args.events.now (drop (c.loop-event.event-index + 1) c.args.events.now)
+    (so_far.0 ++ c.ask-next.result.1 ∷ []) c.ask-next.result.0
+    (rode_on g.D.Disk.honest g.D.Disk.story (g.D.Disk.story c.args.disk) c.args.events.now c.loop-event.event-index _ so_far.0 c.loop-event.ride
+    c.ask-next.result.0 c.ask-next.result.1 c.loop-event-test.true so_far.2 c.ask-next.ensures.step)
+    c.into_disk.ensures.rests

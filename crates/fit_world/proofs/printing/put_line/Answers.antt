@@ -1,4 +1,4 @@
-use Rattle.fit_world.proofs.PrintLemmas.{line_put}
+use Rattle.fit_world.proofs.Told.Printed.{line_put}
 use Rattle.fit_world.proofs.printing.put_line.Goals as goal
 
 pub returns-clause-line : goal.returns-clause-line

@@ -2,12 +2,12 @@ use Rattle.std.proofs.Common.{◌≡◌, ◌<◌, ◌≤◌, ◌+◌, ◌++◌, 
 use Rattle.std.proofs.lemmas.List.{drop_more, drop_all}
 use Rattle.fit_text.proofs.PenLemmas.{Leaves}
 use Rattle.fit_text.specs.Pen.{Written, Took}
-use Rattle.fit_world.proofs.PrintLemmas.{line_left, lines_flushed}
+use Rattle.fit_world.proofs.Told.Printed.{line_left, lines_flushed}
 use Rattle.fit_world.specs.declared.answer.Answer.{Answer}
 use Rattle.fit_world.specs.declared.event.Event.{Event}
 use Rattle.fit_world.specs.declared.reply.Reply.{Reply}
-use Rattle.fit_world.specs.ReplyText.{line_text, lines_text}
-use Rattle.fit_world.specs.Simulating.{reply_in}
+use Rattle.fit_world.specs.Printed.ReplyLines.{line_text, lines_text}
+use Rattle.fit_world.specs.Printed.Simulation.{reply_in}
 use Rattle.fit_world.proofs.simulating.put_answers.Goals as goal
 use Rattle.fit_world.proofs.simulating.put_answers.Goals.{else-loop-index-test, then-loop-index-test+in_default}
 

@@ -1,7 +1,7 @@
 use Rattle.std.proofs.Common.{drop, map}
 use Rattle.fit_text.proofs.PenLemmas.{Leaves}
-use Rattle.fit_world.specs.ReplyText.{lines_text}
-use Rattle.fit_world.specs.Simulating.{reply_in}
+use Rattle.fit_world.specs.Printed.ReplyLines.{lines_text}
+use Rattle.fit_world.specs.Printed.Simulation.{reply_in}
 use Rattle.fit_world.proofs.simulating.put_answers.Given as goal
 
 abbrev pub invariant-loop-index : goal.invariant-loop-index

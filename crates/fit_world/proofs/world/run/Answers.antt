@@ -1,6 +1,6 @@
 use Rattle.std.proofs.Common.{◌+◌, drop, sym, subst, ◌∙◌}
-use Rattle.fit_world.proofs.CountLemmas.{unspent_first}
-use Rattle.fit_world.proofs.RunLemmas.{Leads, first_leads, leads_on, at_the_end}
+use Rattle.fit_world.proofs.Simulation.Counts.{unspent_first}
+use Rattle.fit_world.proofs.Histories.Runs.{Leads, first_leads, leads_on, at_the_end}
 use Rattle.fit_world.proofs.world.run.Goals as goal
 
 pub loop-event-init : goal.loop-event-init

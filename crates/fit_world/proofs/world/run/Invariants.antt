@@ -1,7 +1,7 @@
 use Rattle.std.proofs.Common.{◌≡◌, true, false, drop}
 use Rattle.fit_disk.specs.Memory.{memory_story, is_spent}
-use Rattle.fit_world.specs.Riding.{CanGoOn, disk_in}
-use Rattle.fit_world.proofs.RunLemmas.{Leads}
+use Rattle.fit_world.specs.Rides.Ride.{CanGoOn, disk_in}
+use Rattle.fit_world.proofs.Histories.Runs.{Leads}
 use Rattle.fit_world.proofs.world.run.Given as goal
 
 abbrev pub invariant-loop-event : goal.invariant-loop-event

@@ -1,6 +1,6 @@
 use Rattle.std.proofs.Common.{true, IfOk}
 use Rattle.fit_disk.specs.Memory.{memory_story}
-use Rattle.fit_recorder.specs.Recording.{GoesOn}
+use Rattle.fit_recorder.specs.Calls.Recorder.{GoesOn}
 use Rattle.fit_world_tests.proofs.direct.play.Given as goal
 
 -- the recorder goes on, where one runs

@@ -1,8 +1,8 @@
 use Rattle.std.proofs.Common.{◌++◌, ◌∷◌, [], ◌<◌, ◌^◌, length, refl, ap, sym, ◌∙◌, arith, append-nil, append_assoc}
-use Rattle.fit_activity.specs.Activity.{activity_in}
-use Rattle.fit_activity.specs.Seen.{seen_with, judged}
-use Rattle.fit_activity.proofs.Counted.{few_messages}
-use Rattle.fit_activity.proofs.Passed.{seen-push, count-room}
+use Rattle.fit_activity.specs.Files.Activity.{activity_in}
+use Rattle.fit_activity.specs.Private.Seen.{seen_with, judged}
+use Rattle.fit_activity.proofs.FinishedActivity.Counted.{few_messages}
+use Rattle.fit_activity.proofs.FinishedActivity.Passed.{seen-push, count-room}
 use Rattle.fit_activity.proofs.activity.checking.check_activity.Goals as goal
 
 pub loop-message-init : goal.loop-message-init

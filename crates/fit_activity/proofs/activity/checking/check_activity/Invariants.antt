@@ -1,6 +1,6 @@
 use Rattle.std.proofs.Common.{◌≡◌, ◌++◌, List}
 use Rattle.fit_grammar.specs.Format.Message.{Message}
-use Rattle.fit_activity.specs.Seen.{seen_of}
+use Rattle.fit_activity.specs.Private.Seen.{seen_of}
 use Rattle.fit_activity.proofs.activity.checking.check_activity.Given as goal
 
 abbrev pub invariant-loop-message : goal.invariant-loop-message

@@ -1,5 +1,5 @@
 use Rattle.std.proofs.Common.{◌≡◌, length}
-use Rattle.fit_activity.specs.Refusal.{first_invalid_in}
+use Rattle.fit_activity.specs.Rides.Refusal.{first_invalid_in}
 use Rattle.fit_activity.proofs.recording.rules.first_invalid.Given as goal
 
 abbrev pub invariant-loop-rest : goal.invariant-loop-rest

@@ -1,9 +1,9 @@
 use Rattle.std.proofs.Common.{◌≡◌, None, [], ◌∷◌, ◌++◌, ap, sym, ◌∙◌, subst}
-use Rattle.fit_activity.specs.Recording.{Added}
-use Rattle.fit_activity.specs.Totals.{AreTotals}
-use Rattle.fit_activity.specs.Step.{refusal_by, totals_after}
-use Rattle.fit_activity.proofs.Added.{AreTotals-push, sums-room, open-few}
-use Rattle.fit_activity.proofs.Judged.{refusal-kept}
+use Rattle.fit_activity.specs.Rides.Recording.{Added}
+use Rattle.fit_activity.specs.Rides.RunningTotals.{AreTotals}
+use Rattle.fit_activity.specs.Private.Step.{refusal_by, totals_after}
+use Rattle.fit_activity.proofs.RunningTotals.Added.{AreTotals-push, sums-room, open-few}
+use Rattle.fit_activity.proofs.RunningTotals.Judged.{refusal-kept}
 use Rattle.fit_activity.proofs.totals.Totals.add.Goals as goal
 
 pub step-requires-clause-whole : goal.step-requires-clause-whole

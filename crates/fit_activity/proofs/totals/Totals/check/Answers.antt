@@ -1,6 +1,6 @@
 use Rattle.std.proofs.Common.{ap, ◌∙◌}
-use Rattle.fit_activity.specs.Step.{refusal_by}
-use Rattle.fit_activity.proofs.Judged.{refusal-kept}
+use Rattle.fit_activity.specs.Private.Step.{refusal_by}
+use Rattle.fit_activity.proofs.RunningTotals.Judged.{refusal-kept}
 use Rattle.fit_activity.proofs.totals.Totals.check.Goals as goal
 
 pub returns-clause-first : goal.returns-clause-first

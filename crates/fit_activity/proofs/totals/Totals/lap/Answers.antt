@@ -1,6 +1,6 @@
 use Rattle.std.proofs.Common.{ap, ◌∙◌}
-use Rattle.fit_activity.specs.Step.{lap_by}
-use Rattle.fit_activity.proofs.Summed.{lap-now}
+use Rattle.fit_activity.specs.Private.Step.{lap_by}
+use Rattle.fit_activity.proofs.RunningTotals.Summed.{lap-now}
 use Rattle.fit_activity.proofs.totals.Totals.lap.Goals as goal
 
 pub returns : goal.returns

@@ -1,7 +1,7 @@
 use Rattle.std.proofs.Common.{ap, ◌∙◌, subst}
-use Rattle.fit_activity.specs.Totals.{KeepsTime}
-use Rattle.fit_activity.specs.Step.{lap_by, clock_until}
-use Rattle.fit_activity.proofs.Summed.{lap-later}
+use Rattle.fit_activity.specs.Rides.RunningTotals.{KeepsTime}
+use Rattle.fit_activity.specs.Private.Step.{lap_by, clock_until}
+use Rattle.fit_activity.proofs.RunningTotals.Summed.{lap-later}
 use Rattle.fit_activity.proofs.totals.Totals.lap_at.Goals as goal
 
 pub returns : goal.returns

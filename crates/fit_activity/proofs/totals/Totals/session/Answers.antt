@@ -1,6 +1,6 @@
 use Rattle.std.proofs.Common.{ap, ◌∙◌, ◌+◌}
-use Rattle.fit_activity.specs.Step.{session_by}
-use Rattle.fit_activity.proofs.Summed.{session_from, session-kept}
+use Rattle.fit_activity.specs.Private.Step.{session_by}
+use Rattle.fit_activity.proofs.RunningTotals.Summed.{session_from, session-kept}
 use Rattle.fit_activity.proofs.totals.Totals.session.Goals as goal
 
 pub returns : goal.returns

@@ -1,8 +1,8 @@
 use Rattle.std.proofs.Common.{◌∷◌, [], None, ap, sym, ◌∙◌, subst}
-use Rattle.fit_activity.specs.Recording.{Started}
-use Rattle.fit_activity.specs.Totals.{AreTotals}
-use Rattle.fit_activity.specs.Step.{totals_from, clock_at, sums_at}
-use Rattle.fit_activity.proofs.Added.{AreTotals-start}
+use Rattle.fit_activity.specs.Rides.Recording.{Started}
+use Rattle.fit_activity.specs.Rides.RunningTotals.{AreTotals}
+use Rattle.fit_activity.specs.Private.Step.{totals_from, clock_at, sums_at}
+use Rattle.fit_activity.proofs.RunningTotals.Added.{AreTotals-start}
 use Rattle.fit_activity.proofs.totals.Totals.start.Goals as goal
 
 pub returns : goal.returns

@@ -1,7 +1,7 @@
 use Rattle.fit_disk.specs.Story.{seen_of}
 use Rattle.fit_disk.specs.declared.disk.Which.TheVariants.{Data}
-use Rattle.fit_world.proofs.HistoryLemmas.{erase_goes}
-use Rattle.fit_world.proofs.StepLemmas.{idle_goes}
+use Rattle.fit_world.proofs.Histories.Idle.{erase_goes}
+use Rattle.fit_world.proofs.Histories.Riding.{idle_goes}
 use Rattle.fit_world.proofs.ride.Ride.erase.Goals as goal
 
 pub returns-clause-step : goal.returns-clause-step

@@ -1,4 +1,4 @@
-use Rattle.fit_world.proofs.StepLemmas.{ended_rests}
+use Rattle.fit_world.proofs.Histories.Riding.{ended_rests}
 use Rattle.fit_world.proofs.ride.Ride.into_disk.Goals as goal
 
 pub returns-in-Riding-clause-rests : goal.returns-in-Riding-clause-rests

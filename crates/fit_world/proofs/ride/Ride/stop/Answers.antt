@@ -1,4 +1,4 @@
-use Rattle.fit_world.proofs.StepLemmas.{stop_goes, stop_done}
+use Rattle.fit_world.proofs.Histories.Riding.{stop_goes, stop_done}
 use Rattle.fit_world.proofs.ride.Ride.stop.Goals as goal
 
 pub returns-in-Ok-clause-replies : goal.returns-in-Ok-clause-replies
@@ -10,12 +10,12 @@ pub returns-in-Ok-clause-step : goal.returns-in-Ok-clause-step
 returns-in-Ok-clause-step g c honest before stands =
     let here = rw c.in-Riding.is at stands in
     let stop = c.stop.ensures in
-    stop_done g.D.Disk.honest g.D.Disk.story c.in-Riding.recorder c.stop.new.self c.stop.result stop.same stop.failed stop.gone c.args.time stop.answers stop.ok (stop.finished honest) (stop.any_moment honest)
+    stop_done g.D.Disk.honest g.D.Disk.story c.in-Riding.recorder c.stop.new.self c.stop.result stop.behind.same stop.behind.failed stop.behind.gone c.args.time stop.answers stop.ok (stop.finished honest) (stop.any_moment honest)
     before c.into_disk.result tt c.in-Ok.is c.into_disk.ensures.disk here
 
 pub returns-in-Err-clause-step : goal.returns-in-Err-clause-step
 returns-in-Err-clause-step g c honest before stands =
     let here = rw c.in-Riding.is at stands in
     let stop = c.stop.ensures in
-    stop_goes g.D.Disk.honest g.D.Disk.story c.in-Riding.recorder c.stop.new.self c.stop.result stop.same stop.failed stop.gone c.args.time stop.answers stop.ok (stop.finished honest) (stop.any_moment honest)
+    stop_goes g.D.Disk.honest g.D.Disk.story c.in-Riding.recorder c.stop.new.self c.stop.result stop.behind.same stop.behind.failed stop.behind.gone c.args.time stop.answers stop.ok (stop.finished honest) (stop.any_moment honest)
     before c.in-Err.fault c.in-Err.is here

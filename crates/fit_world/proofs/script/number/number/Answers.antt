@@ -9,7 +9,7 @@ use Rattle.std.proofs.lemmas.Str.Parse.{digits_value-take-le}
 use Rattle.std.specs.Char.{is_ascii_digit, digit_value}
 use Rattle.std.specs.List.{list_all}
 use Rattle.std.specs.Str.Parse.{digits_value}
-use Rattle.fit_world.specs.ScriptWords.{is_numeral, number}
+use Rattle.fit_world.specs.Scripts.Words.{is_numeral, number}
 use Rattle.fit_world.proofs.script.number.number.Goals as goal
 
 none_at : (b : Bool) (n : ℕ) → (b ≡ true → ⊥) → None ≡ (if b then Some n else None)

@@ -5,11 +5,11 @@ use Rattle.std.proofs.lemmas.List.Elements.{All-more}
 use Rattle.std.proofs.lemmas.Result.{err_from_is_err_and}
 use Rattle.std.specs.List.{cons_option}
 use Rattle.std.specs.Result.{is_ok}
-use Rattle.fit_world.specs.Script.{IsLine, meaning_of, event_of, events_of, IsFirstFault}
+use Rattle.fit_world.specs.Scripts.Script.{IsLine, meaning_of, event_of, events_of, IsFirstFault}
 use Rattle.fit_world.specs.declared.event.Event.{Event}
 use Rattle.fit_world.specs.Histories.Runs.{CanRun}
-use Rattle.fit_world.proofs.CanRunLemmas.{events_can}
-use Rattle.fit_world.proofs.ScriptLemmas.{now_at, within_now, events_next}
+use Rattle.fit_world.proofs.Simulation.CanRun.{events_can}
+use Rattle.fit_world.proofs.Told.Scripts.{now_at, within_now, events_next}
 use Rattle.fit_world.proofs.script.parse.parse_script.Goals as goal
 use Rattle.fit_world.proofs.script.parse.parse_script.Goals.{in-Some+else-is_err, in_default-found}
 

@@ -1,5 +1,5 @@
 use Rattle.std.proofs.Common.{◌≡◌, All, map, take}
-use Rattle.fit_world.specs.Script.{IsLine, events_of}
+use Rattle.fit_world.specs.Scripts.Script.{IsLine, events_of}
 use Rattle.fit_world.proofs.script.parse.parse_script.Given as goal
 
 abbrev pub invariant-loop-index : goal.invariant-loop-index

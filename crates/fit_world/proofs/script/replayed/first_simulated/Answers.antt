@@ -2,7 +2,7 @@ use Rattle.std.proofs.Common.{◌≡◌, ◌+◌, ◌<◌, All, List, ℕ, lengt
 use Rattle.std.proofs.lemmas.List.{take_all}
 use Rattle.std.proofs.lemmas.List.Elements.{All-more}
 use Rattle.fit_world.specs.declared.event.Event.{Event}
-use Rattle.fit_world.specs.Replaying.{is_simulated, IsReplayed, first_simulated}
+use Rattle.fit_world.specs.Scripts.Replayed.{is_simulated, IsReplayed, first_simulated}
 use Rattle.fit_world.proofs.script.replayed.first_simulated.Goals as goal
 
 first_later : (events : List Event) (i : ℕ) (d : Event) → i < length events → is_simulated (get_or events i d).command ≡ false →

@@ -1,5 +1,5 @@
 use Rattle.std.proofs.Common.{◌≡◌, All, take, drop}
-use Rattle.fit_world.specs.Replaying.{IsReplayed, first_simulated}
+use Rattle.fit_world.specs.Scripts.Replayed.{IsReplayed, first_simulated}
 use Rattle.fit_world.proofs.script.replayed.first_simulated.Given as goal
 
 abbrev pub invariant-loop-event : goal.invariant-loop-event

@@ -2,8 +2,8 @@ use Rattle.std.proofs.Common.{◌≡◌, ◌<◌, ◌+◌, ◌∙◌, ℕ, Bool,
 use Rattle.std.specs.List.{take-map}
 use Rattle.std.specs.Result.{result_ok}
 use Rattle.fit_activity.specs.declared.recording.entry.Sample.{Sample}
-use Rattle.fit_world.specs.ScriptSample.{key_in, value_in, are_settings, is_new_setting, sample_at, with_setting}
-use Rattle.fit_world.proofs.ScriptLemmas.{now_at, within_now, no_settings, settings_more, sample_next}
+use Rattle.fit_world.specs.Scripts.Sample.{key_in, value_in, are_settings, is_new_setting, sample_at, with_setting}
+use Rattle.fit_world.proofs.Told.Scripts.{now_at, within_now, no_settings, settings_more, sample_next}
 use Rattle.fit_world.proofs.script.sample.sample_at.Goals as goal
 
 refused : {E : Type 0} (result : Result Sample E) → IsErr result → result_ok result ≡ None

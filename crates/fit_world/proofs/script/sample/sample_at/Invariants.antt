@@ -1,5 +1,5 @@
 use Rattle.std.proofs.Common.{◌≡◌, true, take, map}
-use Rattle.fit_world.specs.ScriptSample.{are_settings, sample_at}
+use Rattle.fit_world.specs.Scripts.Sample.{are_settings, sample_at}
 use Rattle.fit_world.proofs.script.sample.sample_at.Given as goal
 
 abbrev pub invariant-loop-index : goal.invariant-loop-index

@@ -1,7 +1,7 @@
 use Rattle.std.proofs.Common.{refl, arith}
 use Rattle.fit_disk.specs.Memory.{memory_story}
-use Rattle.fit_world.specs.Riding.{disk_in}
-use Rattle.fit_world.proofs.AskLemmas.{asks}
+use Rattle.fit_world.specs.Rides.Ride.{disk_in}
+use Rattle.fit_world.proofs.Simulation.Asking.{asks}
 use Rattle.fit_world.proofs.world.stepping.step.Goals as goal
 
 pub returns-in_default : goal.returns-in_default

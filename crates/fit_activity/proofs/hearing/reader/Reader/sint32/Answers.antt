@@ -1,7 +1,7 @@
 use Rattle.std.proofs.Common.{subst}
 use Rattle.fit_base.specs.declared.base.BaseType.TheVariants.{Sint32}
-use Rattle.fit_activity.specs.Reader.{Reads}
-use Rattle.fit_activity.proofs.Heeded.{signed-none}
+use Rattle.fit_activity.specs.Private.Reader.{Reads}
+use Rattle.fit_activity.proofs.OneList.Heeded.{signed-none}
 use Rattle.fit_activity.proofs.hearing.reader.Reader.sint32.Goals as goal
 
 pub returns-in-None : goal.returns-in-None

@@ -1,8 +1,8 @@
 use Rattle.std.proofs.Common.{subst}
 use Rattle.std.specs.List.{AllByRecursion}
-use Rattle.fit_activity.specs.Told.{OptionFits}
-use Rattle.fit_activity.specs.Spoken.{sample_options}
-use Rattle.fit_activity.proofs.Spelled.{present-fit}
+use Rattle.fit_activity.specs.Messages.ProfileField.{OptionFits}
+use Rattle.fit_activity.specs.Messages.ProfileMessage.{sample_options}
+use Rattle.fit_activity.proofs.Spelling.Fields.{present-fit}
 use Rattle.fit_activity.proofs.speaking.speech.Speech.say_sample.Goals as goal
 
 pub returns-clause-fits : goal.returns-clause-fits

@@ -1,5 +1,5 @@
 use Rattle.std.proofs.Common.{◌∙◌}
-use Rattle.fit_activity.proofs.Said.{said-fields}
+use Rattle.fit_activity.proofs.Spelling.Messages.{said-fields}
 use Rattle.fit_activity.proofs.speaking.speech.Speech.say_sport.Goals as goal
 
 pub returns-clause-said : goal.returns-clause-said

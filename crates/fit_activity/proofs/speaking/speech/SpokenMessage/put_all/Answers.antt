@@ -1,4 +1,4 @@
-use Rattle.fit_activity.proofs.Spelled.{putting-none, putting-next, putting-first, putting-all}
+use Rattle.fit_activity.proofs.Spelling.Fields.{putting-none, putting-next, putting-first, putting-all}
 use Rattle.fit_activity.proofs.speaking.speech.SpokenMessage.put_all.Goals as goal
 
 pub loop-rest-init : goal.loop-rest-init

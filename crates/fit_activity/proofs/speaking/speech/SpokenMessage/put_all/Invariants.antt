@@ -1,5 +1,5 @@
 use Rattle.std.proofs.Common.{length}
-use Rattle.fit_activity.proofs.Spelled.{IsPutting}
+use Rattle.fit_activity.proofs.Spelling.Fields.{IsPutting}
 use Rattle.fit_activity.proofs.speaking.speech.SpokenMessage.put_all.Given as goal
 
 abbrev pub invariant-loop-rest : goal.invariant-loop-rest

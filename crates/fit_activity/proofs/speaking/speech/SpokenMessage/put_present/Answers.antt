@@ -1,5 +1,5 @@
 use Rattle.std.proofs.Common.{None, Some, subst, arith}
-use Rattle.fit_activity.proofs.Spelled.{IsPutting, putting-none, putting-one, putting-can, putting-end, present-first}
+use Rattle.fit_activity.proofs.Spelling.Fields.{IsPutting, putting-none, putting-one, putting-can, putting-end, present-first}
 use Rattle.fit_activity.proofs.speaking.speech.SpokenMessage.put_present.Goals as goal
 
 pub loop-rest-init : goal.loop-rest-init

@@ -1,6 +1,6 @@
 use Rattle.std.proofs.Common.{length}
-use Rattle.fit_activity.specs.Told.{present}
-use Rattle.fit_activity.proofs.Spelled.{IsPutting}
+use Rattle.fit_activity.specs.Messages.ProfileField.{present}
+use Rattle.fit_activity.proofs.Spelling.Fields.{IsPutting}
 use Rattle.fit_activity.proofs.speaking.speech.SpokenMessage.put_present.Given as goal
 
 abbrev pub invariant-loop-rest : goal.invariant-loop-rest

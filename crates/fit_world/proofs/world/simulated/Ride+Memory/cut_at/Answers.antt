@@ -1,8 +1,8 @@
 use Rattle.std.proofs.Common.{true, subst}
 use Rattle.fit_disk.specs.Memory.{memory_story}
-use Rattle.fit_world.specs.Riding.{CanGoOn}
-use Rattle.fit_world.specs.Standing.{StandsIn}
-use Rattle.fit_world.proofs.MemoryLemmas.{same_stands}
+use Rattle.fit_world.specs.Rides.Ride.{CanGoOn}
+use Rattle.fit_world.specs.Rides.Standing.{StandsIn}
+use Rattle.fit_world.proofs.Simulation.Memory.{same_stands}
 use Rattle.fit_world.proofs.world.simulated.Ride+Memory.cut_at.Goals as goal
 
 pub returns-in-Riding-clause-goes_on : goal.returns-in-Riding-clause-goes_on

@@ -1,7 +1,7 @@
 use Rattle.std.proofs.Common.{refl}
 use Rattle.fit_world.specs.Histories.Table.{ended}
-use Rattle.fit_world.specs.Standing.{Fits}
-use Rattle.fit_world.proofs.MemoryLemmas.{cut_rests}
+use Rattle.fit_world.specs.Rides.Standing.{Fits}
+use Rattle.fit_world.proofs.Simulation.Memory.{cut_rests}
 use Rattle.fit_world.proofs.world.simulated.Ride+Memory.power.Goals as goal
 
 pub returns-clause-step : goal.returns-clause-step

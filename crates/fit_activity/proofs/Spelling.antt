@@ -1,0 +1,3 @@
+-- What is spelled reads as the message that was told.
+pub mod Fields
+pub mod Messages

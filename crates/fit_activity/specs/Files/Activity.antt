@@ -1,0 +1,76 @@
+-- What makes a file an activity, and what its first session says (FIT profile: activity files).
+use Rattle.std.specs.Prelude.{ℕ, Bool, false, List, [], ◌∷◌, Option, Some, None, Result, Ok, Err, ◌==◌, not, count_by, find, option_and_then, if◌then◌else◌}
+use Rattle.fit_base.specs.declared.base.BaseType.{BaseType}
+use Rattle.fit_base.specs.declared.base.BaseType.TheVariants.{Enum, Uint32}
+use Rattle.fit_base.specs.Base.{row_of}
+use Rattle.fit_grammar.specs.Format.Message.{Message, MessageField}
+use Rattle.fit_activity.specs.Messages.ProfileField.{one_of}
+use Rattle.fit_activity.specs.declared.activity.Summary.{Summary}
+use Rattle.fit_activity.specs.declared.activity.ActivityFault.{ActivityFault}
+use Rattle.fit_activity.specs.declared.activity.ActivityFault.TheVariants.{NoFileId, NotActivity, NoLap, NoSession, NoActivity}
+
+abbrev pub has_global : ℕ → Message → Bool
+has_global global m = m.global == global
+
+-- the value of a field of this base type and one value, that is not invalid
+abbrev pub value_in : BaseType → MessageField → Option ℕ
+value_in base field =
+    if field.base == (row_of base).code
+    then option_and_then (λ value. if value == (row_of base).invalid then None else Some value) (one_of field.values)
+    else None
+
+-- the same of the first field of this number
+abbrev pub value_of : BaseType → ℕ → Message → Option ℕ
+value_of base number m = option_and_then (value_in base) (find (λ field. field.number == number) m.fields)
+
+-- the first message is a file_id
+abbrev pub begins_with_file_id : List Message → Bool
+begins_with_file_id [] = false
+begins_with_file_id (m ∷ messages) = has_global 0 m
+
+-- its field type is that of an activity, 4
+abbrev pub is_four : Option ℕ → Bool
+is_four (Some value) = value == 4
+is_four None = false
+
+abbrev pub is_activity_file : List Message → Bool
+is_activity_file [] = false
+is_activity_file (m ∷ messages) = is_four (value_of Enum 0 m)
+
+-- how many messages have this global number
+abbrev pub count_of : ℕ → List Message → ℕ
+count_of global messages = count_by (has_global global) messages
+
+-- a value of the first session
+abbrev pub session_value : ℕ → List Message → Option ℕ
+session_value number messages = option_and_then (value_of Uint32 number) (find (has_global 18) messages)
+
+abbrev pub summary_of : List Message → Summary
+summary_of messages =
+    record {
+      records = count_of 20 messages;
+      laps = count_of 19 messages;
+      sessions = count_of 18 messages;
+      start = session_value 2 messages;
+      elapsed_ms = session_value 7 messages;
+      timer_ms = session_value 8 messages;
+      distance_cm = session_value 9 messages;
+    }
+
+-- the first fault that the messages have, else the summary
+abbrev pub activity_in : List Message → Result Summary ActivityFault
+activity_in messages =
+    if not (begins_with_file_id messages) then Err NoFileId
+    else if not (is_activity_file messages) then Err NotActivity
+    else if count_of 19 messages == 0 then Err NoLap
+    else if count_of 18 messages == 0 then Err NoSession
+    else if count_of 34 messages == 0 then Err NoActivity
+    else Ok (summary_of messages)
+
+-- the number of a fault
+abbrev pub activity_fault_code : ActivityFault → ℕ
+activity_fault_code NoFileId = 1
+activity_fault_code NotActivity = 2
+activity_fault_code NoLap = 3
+activity_fault_code NoSession = 4
+activity_fault_code NoActivity = 5

@@ -1,0 +1,49 @@
+// The fields of a message, where each has one value.
+
+ghost use Rattle.std.specs.Prelude.{◌≡◌, ◌≤◌, List, Some, IfSome, IsSomeAnd, length, map};
+ghost use Rattle.std.specs.List.{AllByRecursion};
+ghost use Rattle.fit_grammar.specs.Calls.LentField.{field_view};
+ghost use Rattle.fit_activity.specs.declared.speaking.profile_field.ProfileField.{ProfileField as AnyProfileField};
+ghost use Rattle.fit_activity.specs.Messages.ProfileField.{message_field, ProfileFieldFits, IsShort};
+
+use crate::hearing::one_value::one_value;
+use crate::speaking::profile_field::ProfileField;
+use arrayvec::ArrayVec;
+use fit_base::BaseType;
+use fit_grammar::{Field, Fields};
+
+// The fields, where each has one value of at most four bytes, and they are as few as any entry's message has.
+pub(crate) fn profile_fields_in(fields: Fields) -> Option<ArrayVec<ProfileField, 15>>
+    ensures some { IfSome result (λ profile_fields. map message_field profile_fields.items ≡ fields.entry) }
+    ensures fit { IfSome result (λ profile_fields. AllByRecursion ProfileFieldFits profile_fields.items) }
+    ensures only { (profile_fields : List AnyProfileField) → AllByRecursion IsShort profile_fields
+        → length profile_fields ≤ 15 → map message_field profile_fields ≡ fields.entry
+        → IsSomeAnd result (λ found. found.items ≡ profile_fields) }
+{
+    let mut profile_fields = ArrayVec::new();
+    for field in fields {
+        if profile_fields.is_full() {
+            return None;
+        }
+        profile_fields.push(profile_field_of(&field)?);
+    }
+    Some(profile_fields)
+}
+
+// The one value of a field, where it has at most four bytes.
+fn profile_field_of(field: &Field) -> Option<ProfileField>
+    ensures some { IfSome result (λ profile_fields. message_field profile_fields ≡ field_view field.now) }
+    ensures fits { IfSome result ProfileFieldFits }
+    ensures only { (profile_fields : AnyProfileField) → IsShort profile_fields
+        → message_field profile_fields ≡ field_view field.now → result ≡ Some profile_fields }
+{
+    let base = BaseType::of(field.value.base())?;
+    if base.size() > 4 {
+        return None;
+    }
+    Some(ProfileField {
+        number: field.number,
+        base,
+        value: u32::try_from(one_value(&field.value)?).ok()?,
+    })
+}

@@ -1,0 +1,7 @@
+-- Entries are written and committed: at each moment what was committed stays.
+pub mod Kept
+pub mod Files
+pub mod Spelling
+pub mod Writing
+pub mod Standing
+pub mod Answers

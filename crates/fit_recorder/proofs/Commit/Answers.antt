@@ -1,0 +1,81 @@
+-- What a call of a recorder answers, put together from its parts.
+use Rattle.std.proofs.Common.{◌≡◌, ◌⊎◌, inl, inr, ℕ, ◌+◌, ◌<◌, ◌≤◌, Bool, true, false, List, None, Result, Ok, Err, sym, ◌∙◌, subst}
+use Rattle.std.specs.Prelude.{OnOk, OnErr, IfErr, IsTrue, ◌↔◌}
+use Rattle.std.proofs.lemmas.Bool.{cases_lt}
+use Rattle.fit_activity.specs.declared.recording.entry.Entry.{Entry}
+use Rattle.fit_activity.specs.declared.recording.entry.Entry.TheVariants.{Stop}
+use Rattle.fit_activity.specs.Rides.Recording.{Recorded}
+use Rattle.fit_activity.specs.Rides.RunningTotals.{AreTotals, TotalsState}
+use Rattle.fit_activity.specs.Rides.Refusal.{refusal_of, has_stopped}
+use Rattle.fit_recorder.specs.declared.fault.RecFault.{RecFault}
+use Rattle.fit_recorder.specs.declared.fault.RecFault.TheVariants.{Device}
+use Rattle.fit_recorder.proofs.Commit.Standing.{going_on}
+use Rattle.fit_disk.specs.Story.{Story}
+use Rattle.fit_recorder.specs.Private.State.{RecorderState, IsAt}
+use Rattle.fit_recorder.specs.declared.recorder.Recorder.{Recorder}
+use Rattle.fit_recorder.specs.Calls.Recorder.{Behind, has_failed}
+use Rattle.fit_recorder.specs.Calls.Answers.{HandAnswers, CommitAnswers, StopAnswers}
+
+-- a recorder in which no call failed stands somewhere
+pub not_failed : {P : Type 0} (failed : Bool) → failed ≡ false → (failed ≡ true) ⊎ P → P
+not_failed failed is (inl other) = let clash : false ≡ true = sym is ∙ other in absurd cc
+not_failed failed is (inr at) = at
+
+-- and one whose list has no stop stands where its calls go on
+pub not_ended : {P : Type 0} (totals : TotalsState) → ((list : List Recorded) → AreTotals totals list → has_stopped list ≡ false)
+    → ((list : List Recorded) × (AreTotals totals list × (has_stopped list ≡ true))) ⊎ P → P
+not_ended totals going (inl ended) = let clash : true ≡ false = sym ended.1.1 ∙ going ended.0 ended.1.0 in absurd cc
+not_ended totals going (inr at) = at
+
+pub open_before : (totals : TotalsState) (list : List Recorded) (e : Entry) → AreTotals totals list → refusal_of list e ≡ None → has_stopped list ≡ false
+open_before totals list e are none = sym are.stopped ∙ going_on totals list e are none
+
+-- nor has one in which an entry is not refused
+pub not_refused : (honest : Bool) (memory : RecorderState) (story : Story) (failed : Bool) (e : Entry) → failed ≡ false → ((list : List Recorded) → AreTotals memory.totals list → None ≡ refusal_of list e)
+    → (failed ≡ true) ⊎ (((list : List Recorded) × (AreTotals memory.totals list × (has_stopped list ≡ true))) ⊎ ((list : List Recorded) × (committed : List Recorded) × IsAt honest memory story list committed))
+    → (list : List Recorded) × (committed : List Recorded) × IsAt honest memory story list committed × (refusal_of list e ≡ None) × (has_stopped list ≡ false)
+not_refused honest memory story failed e is none goes =
+    let at = not_ended memory.totals (λ list totals. open_before memory.totals list e totals (sym (none list totals))) (not_failed failed is goes) in
+    let not = sym (none at.0 at.2.totals) in
+    (at.0, at.1, at.2, not, open_before memory.totals at.0 e at.2.totals not)
+
+pub hand_answers : (list : List Recorded) (len : ℕ) (e : Entry) (result : Result (Unit {0}) RecFault) → refusal_of list e ≡ None → len + 96 ≤ 16776704 → IfErr result (λ fault. fault ≡ Device) → HandAnswers list len e result
+hand_answers list len e (Ok done) none room device = (none, room)
+hand_answers list len e (Err fault) none room device = subst (λ fault. HandAnswers list len e (Err fault)) (sym device) (none, room)
+
+pub stop_answers : (list : List Recorded) (time : ℕ) (result : Result (Unit {0}) RecFault) → refusal_of list (Stop time) ≡ None → IfErr result (λ fault. fault ≡ Device) → StopAnswers list time result
+stop_answers list time (Ok done) none device = none
+stop_answers list time (Err fault) none device = subst (λ fault. StopAnswers list time (Err fault)) (sym device) none
+
+pub commit_answers : (list : List Recorded) (open_slots : ℕ) (result : Result (Unit {0}) RecFault) → has_stopped list ≡ false → open_slots < 4095 → IfErr result (λ fault. fault ≡ Device) → CommitAnswers list open_slots result
+commit_answers list open_slots (Ok done) going room device = (going, room)
+commit_answers list open_slots (Err fault) going room device = subst (λ fault. CommitAnswers list open_slots (Err fault)) (sym device) (going, room)
+
+-- the last slot is not reached
+pub room : (open_slots : ℕ) → IsTrue false ↔ (4095 ≤ open_slots) → open_slots < 4095
+room open_slots test = by_order (cases_lt open_slots 4095)
+  where
+    by_order : (open_slots < 4095) ⊎ (4095 ≤ open_slots) → open_slots < 4095
+    by_order (inl less) = less
+    by_order (inr more) = let is : false ≡ true = test.1 more in absurd cc
+
+-- a recorder goes on after an Ok, and after a fault has failed
+pub goes_by : {T E : Type 0} (A P Q G : Type 0) (result : Result T E) → OnOk result (A × P) → OnErr result Q → (P → G) → (Q → G) → G
+goes_by A P Q G (Ok x) ok err on_ok on_err = on_ok ok.1
+goes_by A P Q G (Err e) ok err on_ok on_err = on_err err
+
+-- what stands behind a call that only the device can have refused
+pub behind_call : {D : Type 0} (old new : Recorder D) (result : Result (Unit {0}) RecFault) → has_failed old ≡ false → IfErr result (λ fault. fault ≡ Device)
+    → OnOk result (has_failed new ≡ false) → OnErr result (has_failed new ≡ true) → Behind result old new
+behind_call old new (Ok done) not device going gone = record {
+  failed = λ failed. (let clash : false ≡ true = sym not ∙ failed in absurd cc);
+  going = going;
+  gone = λ none. absurd cc;
+  same = tt;
+}
+behind_call old new (Err fault) not device going gone = record {
+  failed = λ failed. (let clash : false ≡ true = sym not ∙ failed in absurd cc);
+  going = going;
+  gone = λ _. gone;
+  same = inl device;
+}

@@ -1,0 +1,4 @@
+-- A stop and a recovery leave a finished file.
+pub mod Closing
+pub mod Finish
+pub mod Stands

@@ -1,0 +1,8 @@
+-- What the public calls say: where a recorder stands, what it answers, and what a crash inside a call may leave.
+pub mod Recorder
+pub mod Answers
+pub mod Start
+pub mod Recovery
+pub mod Erasing
+pub mod FaultCode
+pub mod OnMemory

@@ -1,0 +1,10 @@
+-- What private functions and proofs speak of.
+pub mod OneMessage
+pub mod Spelled
+pub mod State
+pub mod RecordingFiles
+pub mod BodyRead
+pub mod Begun
+pub mod BodyHeard
+pub mod Length
+pub mod Closing

@@ -1,0 +1,99 @@
+-- The replies so far are steps of a history: for `playing`.
+use Rattle.std.proofs.Common.{◌≡◌, ◌<◌, ◌≤◌, ◌+◌, ℕ, Bool, List, [], ◌∷◌, ◌++◌, length, get_or, drop, refl, sym, subst, ◌∙◌, append_assoc}
+use Rattle.std.specs.Prelude.{IsTrue}
+use Rattle.std.proofs.lemmas.List.{drop_more, drop_all, append-nil}
+use Rattle.fit_disk.specs.Story.{Story}
+use Rattle.fit_world.specs.declared.command.Command.{Command}
+use Rattle.fit_world.specs.declared.event.Event.{Event}
+use Rattle.fit_world.specs.declared.reply.Reply.{Reply}
+use Rattle.fit_world.specs.declared.ride.Ride.{Ride}
+use Rattle.fit_world.specs.declared.ride.Ride.TheVariants as rides
+use Rattle.fit_world.specs.Histories.Claims.{Claim}
+use Rattle.fit_world.specs.Histories.Table.{History, Idle, Step, ended}
+use Rattle.fit_world.specs.Rides.Played.{GoesTo, Leaves, LeavesBehind, BreaksOff}
+use Rattle.fit_world.specs.Rides.Standing.{StandsIn, GoesBy, Rests, content_of, told}
+
+-- one step more
+goes_on : (before middle after : History) (event : Event) (reply : Reply) (file : List ℕ) (events : List Event) (replies : List Reply) →
+    GoesTo before events replies middle → Step middle event.command (told reply file) after →
+    GoesTo before (events ++ event ∷ []) (replies ++ reply ∷ []) after
+goes_on before middle after event reply file [] [] goes step = (file, after, subst (λ h. Step h event.command (told reply file) after) goes step, refl)
+goes_on before middle after event reply file (first ∷ events) (said ∷ replies) goes step =
+    (goes.0, goes.1, goes.2, goes_on goes.1 middle after event reply file events replies goes.3 step)
+goes_on before middle after event reply file [] (said ∷ replies) goes step = absurd goes
+goes_on before middle after event reply file (first ∷ events) [] goes step = absurd goes
+
+module _ {D : Type 0} (honest : Bool) (story : D → Story) where
+  -- the ride stands where the history does behind these replies
+  pub record Stood (before : History) (played : List Event) (said : List Reply) (ride : Ride D) : Type 0 where
+    pub after : History
+    pub goes : GoesTo before played said after
+    pub stands : StandsIn honest story ride after
+
+  -- these were replied to a beginning of the events, from any history that the disk was as
+  pub record Rode (old : Story) (events left : List Event) (said : List Reply) (ride : Ride D) : Type 0 where
+    pub played : List Event
+    pub begins : events ≡ played ++ left
+    pub stood : IsTrue honest → (claims : List Claim) (begun : Bool) → Rests (Idle claims begun) old → Stood (Idle claims begun) played said ride
+
+  -- before the first event
+  pub not_begun : (disk : D) (events : List Event) → Rode (story disk) events events [] (rides.Idle disk)
+  not_begun disk events = record {
+    played = [];
+    begins = refl;
+    stood = λ sound claims begun rests. record { after = Idle claims begun; goes = refl; stands = rests };
+  }
+
+  behind : (old : Story) (events left : List Event) (event : Event) (said : List Reply) (ride next : Ride D) (reply : Reply) →
+      Rode old events (event ∷ left) said ride →
+      (IsTrue honest → (before : History) → StandsIn honest story ride before → GoesBy honest story before event.command reply next) →
+      Rode old events left (said ++ reply ∷ []) next
+  behind old events left event said ride next reply known step = record {
+    played = known.played ++ event ∷ [];
+    begins = known.begins ∙ sym (append_assoc known.played (event ∷ []) left);
+    stood = λ sound claims begun rests.
+        let stood = known.stood sound claims begun rests in
+        let by = step sound stood.after stood.stands in
+        record {
+          after = by.after;
+          goes = goes_on (Idle claims begun) stood.after by.after event reply (content_of story next) known.played said stood.goes by.step;
+          stands = by.stands;
+        };
+  }
+
+  -- one event more
+  pub rode_on : (old : Story) (events : List Event) (i : ℕ) (d : Event) (said : List Reply) (ride next : Ride D) (reply : Reply) →
+      i < length events → Rode old events (drop i events) said ride →
+      (IsTrue honest → (before : History) → StandsIn honest story ride before → GoesBy honest story before (get_or events i d).command reply next) →
+      Rode old events (drop (i + 1) events) (said ++ reply ∷ []) next
+  rode_on old events i d said ride next reply within known =
+      behind old events (drop (i + 1) events) (get_or events i d) said ride next reply
+      (subst (λ left. Rode old events left said ride) (drop_more events i d within) known)
+
+  -- where the ride is ended, this is left of the events that were played
+  left_of : (old new : Story) (events left : List Event) (said : List Reply) (ride : Ride D) → (known : Rode old events left said ride) →
+      (IsTrue honest → (before : History) → StandsIn honest story ride before → Rests (ended before) new) →
+      LeavesBehind honest old new known.played said
+  left_of old new events left said ride known ends sound claims begun rests =
+      let stood = known.stood sound claims begun rests in
+      record { after = stood.after; goes = stood.goes; rests = ends sound stood.after stood.stands }
+
+  -- behind the last event
+  pub all_left : (old new : Story) (events : List Event) (i : ℕ) (said : List Reply) (ride : Ride D) → length events ≤ i →
+      Rode old events (drop i events) said ride → (IsTrue honest → (before : History) → StandsIn honest story ride before → Rests (ended before) new) →
+      LeavesBehind honest old new events said
+  all_left old new events i said ride past known ends =
+      let end = subst (λ left. Rode old events left said ride) (drop_all i events past) known in
+      let all : events ≡ end.played = end.begins ∙ append-nil end.played in
+      subst (λ played. LeavesBehind honest old new played said) (sym all) (left_of old new events [] said ride end ends)
+
+  -- behind any
+  pub some_left : (old new : Story) (events left : List Event) (said : List Reply) (ride : Ride D) → Rode old events left said ride →
+      (IsTrue honest → (before : History) → StandsIn honest story ride before → Rests (ended before) new) → BreaksOff honest old new events
+  some_left old new events left said ride known ends = record {
+    played = known.played;
+    left = left;
+    begins = known.begins;
+    replies = said;
+    leaves = left_of old new events left said ride known ends;
+  }

@@ -1,0 +1,260 @@
+-- The calls of a recorder that runs, as steps of its ride's history.
+use Rattle.std.proofs.Common.{◌≡◌, ◌≢◌, ◌⊎◌, ⊎_elim, ℕ, ◌≤◌, Bool, true, false, true≢false, List, [], ◌∷◌, ◌++◌, length, None, Result, Ok, Err, refl, sym, ◌∙◌, ap, subst, arith, append_assoc, length-append}
+use Rattle.std.specs.Prelude.{OnOk, IfErr, IsErrOf}
+use Rattle.std.proofs.lemmas.List.{append-nil}
+use Rattle.fit_activity.specs.declared.recording.entry.Entry.{Entry}
+use Rattle.fit_activity.specs.declared.recording.entry.Entry.TheVariants.{Sample, Lap, Pause, Resume, Stop}
+use Rattle.fit_activity.specs.declared.recording.start.Start.{Start}
+use Rattle.fit_activity.specs.Rides.Recording.{Recorded, Started, Added, is_stop}
+use Rattle.fit_activity.specs.Rides.Refusal.{start_refusal}
+use Rattle.fit_disk.specs.declared.disk.Which.TheVariants.{Data}
+use Rattle.fit_disk.specs.State.{LeavesOnly}
+use Rattle.fit_disk.specs.Story.{Story, Throughout, seen_of}
+use Rattle.fit_disk.proofs.Moments.{at_end}
+use Rattle.fit_recorder.specs.declared.fault.RecFault.{RecFault}
+use Rattle.fit_recorder.specs.declared.fault.RecFault.TheVariants.{NotEmpty, Refused, Full, JournalFull, Device, Failed, NothingRecorded, Damaged}
+use Rattle.fit_recorder.specs.declared.recorder.Recorder.{Recorder}
+use Rattle.fit_recorder.specs.Calls.Answers.{HandAnswers, CommitAnswers, StopAnswers}
+use Rattle.fit_recorder.specs.Files.Body.{StandsFor}
+use Rattle.fit_recorder.specs.Files.Finished.{IsFinished}
+use Rattle.fit_recorder.specs.Calls.Recorder.{StandsAt, WasHanded, HasEnded, disk_of, has_failed, data_len, open_slots}
+use Rattle.fit_recorder.proofs.Commit.Standing.{has_stopped-push}
+use Rattle.fit_world.specs.declared.command.Command.{Command}
+use Rattle.fit_world.specs.declared.command.Command.TheVariants as commands
+use Rattle.fit_world.specs.declared.reply.Reply.{Reply}
+use Rattle.fit_world.specs.declared.reply.Reply.TheVariants as replies
+use Rattle.fit_world.specs.declared.ride.Ride.TheVariants as rides
+use Rattle.fit_world.specs.Histories.Claims.{has_none, whole}
+use Rattle.fit_world.specs.Histories.Table.{History, Idle, Riding, Told, Done, Fault, claims_of, ended, Step, HandStep, EntryStep}
+use Rattle.fit_world.specs.Rides.Replies.{reply_of}
+use Rattle.fit_world.specs.Rides.Standing.{told, Rests, RidesOn, StandsIn, GoesBy}
+use Rattle.fit_world.proofs.Histories.Claims.{keeps_front}
+use Rattle.fit_world.proofs.Histories.Idle.{GoesIdle, file_seen, finished_rests}
+
+-- what a power cut leaves of a ride that is broken off: a beginning of its list
+front_rests : (list committed rest : List Recorded) (promise : ℕ) (failed : Bool) (story : Story) → list ≡ committed ++ rest → promise ≡ length committed
+    → LeavesOnly (StandsFor committed) story.now → Rests (Riding list promise failed) story
+front_rests list committed rest promise failed story begins promised stands contents left =
+    record { keeps = keeps_front list committed rest promise contents begins (omega (arith, promised)) (stands contents left); empty = λ unbegun. absurd (true≢false unbegun) }
+
+-- or all of it
+either_rests : (list committed rest : List Recorded) (promise : ℕ) (failed : Bool) (story : Story) → list ≡ committed ++ rest → promise ≡ length committed
+    → LeavesOnly (λ c. StandsFor committed c ⊎ StandsFor list c) story.now → Rests (Riding list promise failed) story
+either_rests list committed rest promise failed story begins promised stands contents left =
+    let few : promise ≤ length list = omega (arith, promised, ap (λ (list : List Recorded). length list) begins, length-append committed rest) in
+    record {
+      keeps = ⊎_elim
+          (λ front. keeps_front list committed rest promise contents begins (omega (arith, promised)) front)
+          (λ all. keeps_front list list [] promise contents (sym (append-nil list)) few all) (stands contents left);
+      empty = λ unbegun. absurd (true≢false unbegun);
+    }
+
+-- a step of an entry that is no stop
+entry_step : (before after : History) (entry : Entry) (answer : Told) → is_stop (Added entry) ≡ false → HandStep before entry answer after → EntryStep before entry answer after
+entry_step before after (Sample s) answer other step = step
+entry_step before after (Lap time) answer other step = step
+entry_step before after (Pause time) answer other step = step
+entry_step before after (Resume time) answer other step = step
+entry_step before after (Stop time) answer other step = absurd (true≢false other)
+
+module _ {D : Type 0} (honest : Bool) (story : D → Story) where
+  -- no recorder runs behind it
+  pub idle_goes : (before : History) (command : Command) (reply : Reply) (disk : D) → GoesIdle (λ after. Step before command (told reply (seen_of Data (story disk))) after) (story disk)
+      → GoesBy honest story before command reply (rides.Idle disk)
+  idle_goes before command reply disk goes = record { after = Idle goes.claims goes.begun; step = goes.step; stands = goes.rests }
+
+  -- a recorder has begun
+  pub started_goes : (before : History) (start : Start) (recorder : Recorder D) → has_none (claims_of before) ≡ true → start_refusal start ≡ None
+      → StandsAt honest story recorder (Started start ∷ []) (Started start ∷ []) → has_failed recorder ≡ false
+      → GoesBy honest story before (commands.Start start) replies.Done (rides.Riding recorder)
+  started_goes before start recorder none allowed stands going =
+      record {
+        after = Riding (Started start ∷ []) 1 false;
+        step = (none, allowed, refl);
+        stands = record { committed = Started start ∷ []; rest = []; begins = refl; promised = refl; stands = stands; going = going; no_stop = refl };
+      }
+
+  -- what is left of a ride is left of it when it has ended
+  pub ended_fits : (before : History) (at : Story) → Rests before at → Rests (ended before) at
+  ended_fits before at rests contents left = record { keeps = (rests contents left).keeps; empty = (rests contents left).empty }
+
+  -- the recorder that runs ends
+  pub ended_rests : (before : History) (recorder : Recorder D) → StandsIn honest story (rides.Riding recorder) before
+      → ((list committed : List Recorded) → StandsAt honest story recorder list committed → LeavesOnly (StandsFor committed) (story (disk_of recorder)).now) → Rests (ended before) (story (disk_of recorder))
+  ended_rests (Idle claims begun) recorder none left = absurd none
+  ended_rests (Riding list promise false) recorder on left =
+      ended_fits (Riding list promise false) (story (disk_of recorder)) (front_rests list on.committed on.rest promise false (story (disk_of recorder)) on.begins on.promised (left list on.committed on.stands))
+  ended_rests (Riding list promise true) recorder broken left = ended_fits (Riding list promise true) (story (disk_of recorder)) broken.1
+
+  module _ (old new : Recorder D) (result : Result (Unit {0}) RecFault) (same : IfErr result (λ fault. (fault ≡ Device) ⊎ (new ≡ old)))
+      (failed : has_failed old ≡ true → IsErrOf result Failed) (gone : IsErrOf result Device → has_failed new ≡ true) where
+    -- it has not changed where it was refused
+    unchanged : (fault : RecFault) → result ≡ Err fault → fault ≢ Device → new ≡ old
+    unchanged fault is other = ⊎_elim (λ device. absurd (other device)) (λ kept. kept) (rw is at same)
+
+    -- a recorder in which a call failed answers Failed, and nothing else
+    still_failed : (list : List Recorded) (promise : ℕ) (command : Command) → StandsIn honest story (rides.Riding old) (Riding list promise true)
+        → ((after : History) → after ≡ Riding list promise true → Step (Riding list promise true) command (Fault Failed) after)
+        → GoesBy honest story (Riding list promise true) command (reply_of result) (rides.Riding new)
+    still_failed list promise command broken step = by result refl
+      where
+        by : (r : Result (Unit {0}) RecFault) → result ≡ r → GoesBy honest story (Riding list promise true) command (reply_of r) (rides.Riding new)
+        by (Ok done) is = let clash : Ok done ≡ Err Failed = sym is ∙ failed broken.0 in absurd cc
+        by (Err fault) is =
+            let same_err : Err fault ≡ Err Failed = sym is ∙ failed broken.0 in
+            let told : fault ≡ Failed = cc in
+            let kept : new ≡ old = unchanged fault is (λ device. absurd cc) in
+            rw told record { after = Riding list promise true; step = step (Riding list promise true) refl; stands = subst (λ recorder. StandsIn honest story (rides.Riding recorder) (Riding list promise true)) (sym kept) broken }
+
+    -- a refusal that changes nothing
+    kept_goes : (list : List Recorded) (promise : ℕ) (command : Command) (fault : RecFault) → result ≡ Err fault → fault ≢ Device → RidesOn honest story old list promise
+        → Step (Riding list promise false) command (Fault fault) (Riding list promise false) → GoesBy honest story (Riding list promise false) command (replies.Refused fault) (rides.Riding new)
+    kept_goes list promise command fault is other on step =
+        record { after = Riding list promise false; step = step; stands = subst (λ recorder. RidesOn honest story recorder list promise) (sym (unchanged fault is other)) on }
+
+    -- ---- an entry that is no stop
+
+    module _ (entry : Entry) (other : is_stop (Added entry) ≡ false)
+        (answers : (list : List Recorded) → WasHanded old list → has_failed old ≡ false → HandAnswers list (data_len old) entry result)
+        (ok : (list committed : List Recorded) → StandsAt honest story old list committed → OnOk result ((has_failed new ≡ false) × StandsAt honest story new (list ++ Added entry ∷ []) committed))
+        (moments : (list committed : List Recorded) → StandsAt honest story old list committed → Throughout (StandsFor committed) (story (disk_of old)) (story (disk_of new))) where
+      hand_refused : (list : List Recorded) (promise : ℕ) → RidesOn honest story old list promise → (fault : RecFault) → result ≡ Err fault → HandAnswers list (data_len old) entry (Err fault)
+          → GoesBy honest story (Riding list promise false) (commands.Entry entry) (replies.Refused fault) (rides.Riding new)
+      hand_refused list promise on (Refused refusal) is none =
+          kept_goes list promise (commands.Entry entry) (Refused refusal) is (λ device. absurd cc) on (entry_step (Riding list promise false) (Riding list promise false) entry (Fault (Refused refusal)) other (none, refl))
+      hand_refused list promise on Full is full =
+          kept_goes list promise (commands.Entry entry) Full is (λ device. absurd cc) on (entry_step (Riding list promise false) (Riding list promise false) entry (Fault Full) other (full.0, refl))
+      hand_refused list promise on Device is none =
+          record {
+            after = Riding list promise true;
+            step = entry_step (Riding list promise false) (Riding list promise true) entry (Fault Device) other (none.0, refl);
+            stands = (
+              gone is,
+              front_rests list on.committed on.rest promise true (story (disk_of new)) on.begins on.promised
+                  (at_end (StandsFor on.committed) (story (disk_of old)) (story (disk_of new)) (moments list on.committed on.stands)),
+            );
+          }
+      hand_refused list promise on NotEmpty is none = absurd none
+      hand_refused list promise on JournalFull is none = absurd none
+      hand_refused list promise on Failed is none = absurd none
+      hand_refused list promise on NothingRecorded is none = absurd none
+      hand_refused list promise on Damaged is none = absurd none
+
+      hand_on : (list : List Recorded) (promise : ℕ) → RidesOn honest story old list promise → (r : Result (Unit {0}) RecFault) → result ≡ r
+          → GoesBy honest story (Riding list promise false) (commands.Entry entry) (reply_of r) (rides.Riding new)
+      hand_on list promise on (Ok done) is =
+          let now = rw is at ok list on.committed on.stands in
+          let more : List Recorded = list ++ Added entry ∷ [] in
+          record {
+            after = Riding more promise false;
+            step = entry_step (Riding list promise false) (Riding more promise false) entry Done other (now.1.totals.allowed, refl);
+            stands = record {
+              committed = on.committed;
+              rest = on.rest ++ Added entry ∷ [];
+              begins = ap (λ (list : List Recorded). list ++ Added entry ∷ []) on.begins ∙ append_assoc on.committed on.rest (Added entry ∷ []);
+              promised = on.promised;
+              stands = now.1;
+              going = now.0;
+              no_stop = has_stopped-push list (Added entry) ∙ other;
+            };
+          }
+      hand_on list promise on (Err fault) is = hand_refused list promise on fault is (rw is at answers list on.stands.totals on.going)
+
+      pub hand_goes : (before : History) → StandsIn honest story (rides.Riding old) before → GoesBy honest story before (commands.Entry entry) (reply_of result) (rides.Riding new)
+      hand_goes (Idle claims begun) none = absurd none
+      hand_goes (Riding list promise false) on = hand_on list promise on result refl
+      hand_goes (Riding list promise true) broken =
+          still_failed list promise (commands.Entry entry) broken (λ after is. entry_step (Riding list promise true) after entry (Fault Failed) other is)
+
+    -- ---- a commit
+
+    module _ (answers : (list : List Recorded) → WasHanded old list → has_failed old ≡ false → CommitAnswers list (open_slots old) result)
+        (ok : (list committed : List Recorded) → StandsAt honest story old list committed → OnOk result ((has_failed new ≡ false) × StandsAt honest story new list list))
+        (moments : (list committed : List Recorded) → StandsAt honest story old list committed → Throughout (λ c. StandsFor committed c ⊎ StandsFor list c) (story (disk_of old)) (story (disk_of new))) where
+      commit_refused : (list : List Recorded) (promise : ℕ) → RidesOn honest story old list promise → (fault : RecFault) → result ≡ Err fault → CommitAnswers list (open_slots old) (Err fault)
+          → GoesBy honest story (Riding list promise false) commands.Commit (replies.Refused fault) (rides.Riding new)
+      commit_refused list promise on (Refused refusal) is stopped = absurd (true≢false (sym stopped.1 ∙ on.no_stop))
+      commit_refused list promise on JournalFull is full = kept_goes list promise commands.Commit JournalFull is (λ device. absurd cc) on refl
+      commit_refused list promise on Device is none =
+          record {
+            after = Riding list promise true;
+            step = refl;
+            stands = (
+              gone is,
+              either_rests list on.committed on.rest promise true (story (disk_of new)) on.begins on.promised
+                  (at_end (λ c. StandsFor on.committed c ⊎ StandsFor list c) (story (disk_of old)) (story (disk_of new)) (moments list on.committed on.stands)),
+            );
+          }
+      commit_refused list promise on Full is none = absurd none
+      commit_refused list promise on NotEmpty is none = absurd none
+      commit_refused list promise on Failed is none = absurd none
+      commit_refused list promise on NothingRecorded is none = absurd none
+      commit_refused list promise on Damaged is none = absurd none
+
+      commit_on : (list : List Recorded) (promise : ℕ) → RidesOn honest story old list promise → (r : Result (Unit {0}) RecFault) → result ≡ r
+          → GoesBy honest story (Riding list promise false) commands.Commit (reply_of r) (rides.Riding new)
+      commit_on list promise on (Ok done) is =
+          let now = rw is at ok list on.committed on.stands in
+          record {
+            after = Riding list (length list) false;
+            step = refl;
+            stands = record { committed = list; rest = []; begins = sym (append-nil list); promised = refl; stands = now.1; going = now.0; no_stop = on.no_stop };
+          }
+      commit_on list promise on (Err fault) is = commit_refused list promise on fault is (rw is at answers list on.stands.totals on.going)
+
+      pub commit_goes : (before : History) → StandsIn honest story (rides.Riding old) before → GoesBy honest story before commands.Commit (reply_of result) (rides.Riding new)
+      commit_goes (Idle claims begun) none = absurd none
+      commit_goes (Riding list promise false) on = commit_on list promise on result refl
+      commit_goes (Riding list promise true) broken = still_failed list promise commands.Commit broken (λ after is. is)
+
+    -- ---- a stop
+
+    module _ (time : ℕ) (answers : (list : List Recorded) → WasHanded old list → has_failed old ≡ false → StopAnswers list time result)
+        (ok : (list : List Recorded) → WasHanded old list → OnOk result ((has_failed new ≡ false) × HasEnded new (list ++ Added (Stop time) ∷ [])))
+        (finished : (list committed : List Recorded) → StandsAt honest story old list committed → OnOk result (IsFinished (list ++ Added (Stop time) ∷ []) (story (disk_of new))))
+        (moments : (list committed : List Recorded) → StandsAt honest story old list committed
+        → Throughout (λ c. StandsFor committed c ⊎ StandsFor (list ++ Added (Stop time) ∷ []) c) (story (disk_of old)) (story (disk_of new))) where
+      stop_refused : (list : List Recorded) (promise : ℕ) → RidesOn honest story old list promise → (fault : RecFault) → result ≡ Err fault → StopAnswers list time (Err fault)
+          → GoesBy honest story (Riding list promise false) (commands.Entry (Stop time)) (replies.Refused fault) (rides.Riding new)
+      stop_refused list promise on (Refused refusal) is none = kept_goes list promise (commands.Entry (Stop time)) (Refused refusal) is (λ device. absurd cc) on (none, refl)
+      stop_refused list promise on Device is none =
+          let more : List Recorded = list ++ Added (Stop time) ∷ [] in
+          record {
+            after = Riding more promise true;
+            step = (none, refl);
+            stands = (
+              gone is,
+              either_rests more on.committed (on.rest ++ Added (Stop time) ∷ []) promise true (story (disk_of new))
+                  (ap (λ (list : List Recorded). list ++ Added (Stop time) ∷ []) on.begins ∙ append_assoc on.committed on.rest (Added (Stop time) ∷ [])) on.promised
+                  (at_end (λ c. StandsFor on.committed c ⊎ StandsFor more c) (story (disk_of old)) (story (disk_of new)) (moments list on.committed on.stands)),
+            );
+          }
+      stop_refused list promise on Full is none = absurd none
+      stop_refused list promise on JournalFull is none = absurd none
+      stop_refused list promise on NotEmpty is none = absurd none
+      stop_refused list promise on Failed is none = absurd none
+      stop_refused list promise on NothingRecorded is none = absurd none
+      stop_refused list promise on Damaged is none = absurd none
+
+      -- a recorder goes on where the stop is not done
+      pub stop_goes : (before : History) (fault : RecFault) → result ≡ Err fault → StandsIn honest story (rides.Riding old) before
+          → GoesBy honest story before (commands.Entry (Stop time)) (replies.Refused fault) (rides.Riding new)
+      stop_goes (Idle claims begun) fault is none = absurd none
+      stop_goes (Riding list promise false) fault is on = stop_refused list promise on fault is (rw is at answers list on.stands.totals on.going)
+      stop_goes (Riding list promise true) fault is broken =
+          rw is at still_failed list promise (commands.Entry (Stop time)) broken (λ after same. same)
+
+      -- and none where it is
+      pub stop_done : (before : History) (disk : D) (done : Unit {0}) → result ≡ Ok done → disk ≡ disk_of new → StandsIn honest story (rides.Riding old) before
+          → GoesBy honest story before (commands.Entry (Stop time)) replies.Stopped (rides.Idle disk)
+      stop_done (Idle claims begun) disk done is same none = absurd none
+      stop_done (Riding list promise true) disk done is same broken = let clash : Ok done ≡ Err Failed = sym is ∙ failed broken.0 in absurd cc
+      stop_done (Riding list promise false) disk done is same on =
+          let more : List Recorded = list ++ Added (Stop time) ∷ [] in
+          let file : IsFinished more (story disk) = subst (λ disk. IsFinished more (story disk)) (sym same) (rw is at finished list on.committed on.stands) in
+          let ended = rw is at ok list on.stands.totals in
+          record {
+            after = Idle (whole more ∷ []) true;
+            step = (ended.1.0.allowed, file_seen more (story disk) file, refl);
+            stands = finished_rests more (story disk) true (λ unbegun. true≢false unbegun) file;
+          }

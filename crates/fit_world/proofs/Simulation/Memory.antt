@@ -1,0 +1,47 @@
+-- A ride over the memory disk: where it stands when a failure is arranged, and behind a power cut.
+use Rattle.std.proofs.Common.{◌≡◌, true, false, ℕ, List, drop, sym, ap, subst, ◌∙◌}
+use Rattle.fit_disk.specs.declared.memory.Memory.{Memory}
+use Rattle.fit_disk.specs.Cycle.{cycled, left_by, taken_by}
+use Rattle.fit_disk.specs.Memory.{memory_story}
+use Rattle.fit_disk.specs.State.{State, Contents, BothLeft, LeavesOnly, seen_in}
+use Rattle.fit_disk.proofs.Leaving.{rest_left}
+use Rattle.fit_recorder.specs.declared.recorder.Recorder.{Recorder}
+use Rattle.fit_recorder.specs.Calls.OnMemory.{StandsAsBefore}
+use Rattle.fit_world.specs.declared.ride.Ride.TheVariants as rides
+use Rattle.fit_world.specs.Histories.Table.{History, Idle, Riding}
+use Rattle.fit_world.specs.Rides.Standing.{Rests, StandsIn}
+
+-- no content and no promise is another: it stands where it stood
+pub same_stands : (old new : Recorder Memory) → StandsAsBefore old new → (history : History) →
+    StandsIn true memory_story (rides.Riding old) history → StandsIn true memory_story (rides.Riding new) history
+same_stands old new same (Idle claims begun) stands = stands
+same_stands old new same (Riding list promise false) stands = record {
+  committed = stands.committed;
+  rest = stands.rest;
+  begins = stands.begins;
+  promised = stands.promised;
+  stands = same.stands list stands.committed stands.stands;
+  going = same.failed ∙ stands.going;
+  no_stop = stands.no_stop;
+}
+same_stands old new same (Riding list promise true) stands =
+    (same.failed ∙ stands.0, subst (λ story. Rests (Riding list promise true) story) (sym same.story) stands.1)
+
+same_contents : (one other : Contents) → one.in_data ≡ other.in_data → one.in_journal ≡ other.in_journal → one ≡ other
+same_contents one other same_data same_journal =
+    let with_data : List ℕ → Contents = λ bytes. record { in_data = bytes; in_journal = one.in_journal } in
+    let with_journal : List ℕ → Contents = λ bytes. record { in_data = other.in_data; in_journal = bytes } in
+    ap with_data same_data ∙ ap with_journal same_journal
+
+-- Both files are at rest behind a power cut: what a crash leaves of them is what reads give, and that the cut left.
+pub cut_rests : (P : Contents → Type 0) (choices : List ℕ) (old new : State) → new ≡ cycled choices old →
+    BothLeft old (seen_in new) → LeavesOnly P old → LeavesOnly P new
+cut_rests P choices old new is left rests contents after =
+    let in_data = left_by old.data_file choices in
+    let in_journal = left_by old.journal_file (drop (taken_by old.data_file choices) choices) in
+    let same : contents ≡ seen_in new = same_contents contents (seen_in new)
+    (rest_left new.data_file in_data contents.in_data (ap (λ (s : State). s.data_file) is) after.data_left
+    ∙ sym (ap (λ (s : State). s.data_file.seen) is))
+    (rest_left new.journal_file in_journal contents.in_journal (ap (λ (s : State). s.journal_file) is) after.journal_left
+    ∙ sym (ap (λ (s : State). s.journal_file.seen) is)) in
+    subst P (sym same) (rests (seen_in new) left)

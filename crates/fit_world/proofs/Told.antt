@@ -1,0 +1,6 @@
+-- What is read, replied and printed.
+pub mod Scripts
+pub mod Replies
+pub mod Replayed
+pub mod Printed
+pub mod Reading

@@ -1,0 +1,8 @@
+-- What is printed: lines, names of faults, and what becomes of the output of each call.
+pub mod Summary
+pub mod Names
+pub mod ReplyLines
+pub mod Simulation
+pub mod Shown
+pub mod Checked
+pub mod Repaired

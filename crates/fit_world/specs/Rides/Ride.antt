@@ -1,0 +1,67 @@
+-- What contracts see of a recording that is played.
+use Rattle.std.specs.Prelude.{◌≡◌, ℕ, ◌+◌, Bool, true, false, List, [], ◌∷◌, ◌++◌}
+use Rattle.fit_activity.specs.declared.recording.entry.Entry.TheVariants as entries
+use Rattle.fit_activity.specs.Rides.Recording.{Recorded, Started, Added, is_stop}
+use Rattle.fit_disk.specs.Story.{Story}
+use Rattle.fit_recorder.specs.Calls.Answers.{HandAnswers, CommitAnswers, StopAnswers}
+use Rattle.fit_recorder.specs.Calls.Recorder.{GoesOn, WasHanded, disk_of, has_failed, data_len, open_slots}
+use Rattle.fit_world.specs.declared.reply.Reply.{Reply}
+use Rattle.fit_world.specs.declared.command.Command.{Command}
+use Rattle.fit_world.specs.declared.command.Command.TheVariants as commands
+use Rattle.fit_world.specs.declared.ride.Ride.{Ride}
+use Rattle.fit_world.specs.declared.ride.Ride.TheVariants.{Idle, Riding}
+use Rattle.fit_world.specs.Rides.Replies.{Replies}
+
+module _ {D : Type 0} where
+  -- its disk
+  abbrev pub disk_in : Ride D → D
+  disk_in (Idle disk) = disk
+  disk_in (Riding recorder) = disk_of recorder
+
+  -- a recorder runs
+  abbrev pub is_riding : Ride D → Bool
+  is_riding (Idle disk) = false
+  is_riding (Riding recorder) = true
+
+  -- a call of the device failed in the recorder that runs
+  abbrev pub is_broken : Ride D → Bool
+  is_broken (Idle disk) = false
+  is_broken (Riding recorder) = has_failed recorder
+
+  -- each call of the recorder that runs may be made
+  abbrev pub CanGoOn : Bool → (D → Story) → Ride D → Type 0
+  CanGoOn honest story (Idle disk) = Unit {0}
+  CanGoOn honest story (Riding recorder) = GoesOn honest story recorder
+
+  -- a recorder runs, was handed this list, and no call failed in it
+  abbrev pub Handed : Ride D → List Recorded → Type 0
+  Handed (Idle disk) list = ⊥
+  Handed (Riding recorder) list = WasHanded recorder list × (has_failed recorder ≡ false)
+
+  -- the number of record bytes that its recorder said, and of the open slots of its journal
+  abbrev pub said_len : Ride D → ℕ
+  said_len (Idle disk) = 0
+  said_len (Riding recorder) = data_len recorder
+
+  abbrev pub slots_of : Ride D → ℕ
+  slots_of (Idle disk) = 0
+  slots_of (Riding recorder) = open_slots recorder
+
+  -- what may be replied to a command behind the list that was handed in
+  abbrev pub MayReplyBehind : Ride D → List Recorded → Command → Reply → Type 0
+  MayReplyBehind ride list (commands.Entry entry) reply =
+      (is_stop (Added entry) ≡ false → Replies (HandAnswers list (said_len ride) entry) reply)
+      × ((time : ℕ) → entry ≡ entries.Stop time → Replies (StopAnswers list time) reply)
+  MayReplyBehind ride list commands.Commit reply = Replies (CommitAnswers list (slots_of ride)) reply
+  MayReplyBehind ride list _ reply = Unit {0}
+
+  -- where that was ok: an entry stands behind the list, and a commit opened one slot more
+  abbrev pub RidesOnWith : Ride D → List Recorded → Command → Ride D → Type 0
+  RidesOnWith ride list (commands.Entry entry) next = is_stop (Added entry) ≡ false → Handed next (list ++ Added entry ∷ [])
+  RidesOnWith ride list commands.Commit next = Handed next list × (slots_of next ≡ slots_of ride + 1)
+  RidesOnWith ride list _ next = Unit {0}
+
+  -- where a start was ok: the recorder was handed the start alone, in the first slot
+  abbrev pub HasBegun : Command → Ride D → Type 0
+  HasBegun (commands.Start start) next = Handed next (Started start ∷ []) × (slots_of next ≡ 1)
+  HasBegun _ next = Unit {0}

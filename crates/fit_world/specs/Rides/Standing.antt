@@ -1,0 +1,78 @@
+-- Where a ride stands in a history: what its disk may hold, and what a power cut may leave of it.
+use Rattle.std.specs.Prelude.{◌≡◌, ◌⊎◌, ℕ, Bool, true, false, IsTrue, List, [], ◌++◌, length}
+use Rattle.fit_activity.specs.Rides.Recording.{Recorded}
+use Rattle.fit_activity.specs.Rides.Refusal.{has_stopped}
+use Rattle.fit_disk.specs.Counts.{Counts, HasFailed}
+use Rattle.fit_disk.specs.State.{Contents, LeavesOnly}
+use Rattle.fit_disk.specs.Story.{Story, seen_of}
+use Rattle.fit_disk.specs.declared.disk.Which.TheVariants.{Data}
+use Rattle.fit_recorder.specs.declared.fault.RecFault.TheVariants.{Device}
+use Rattle.fit_recorder.specs.declared.recorder.Recorder.{Recorder}
+use Rattle.fit_recorder.specs.Files.NothingRecorded.{IsNothing}
+use Rattle.fit_recorder.specs.Files.Body.{StandsFor}
+use Rattle.fit_recorder.specs.Calls.Recorder.{StandsAt, disk_of, has_failed}
+use Rattle.fit_world.specs.declared.command.Command.{Command}
+use Rattle.fit_world.specs.declared.reply.Reply.{Reply}
+use Rattle.fit_world.specs.declared.reply.Reply.TheVariants as replies
+use Rattle.fit_world.specs.declared.ride.Ride.{Ride}
+use Rattle.fit_world.specs.declared.ride.Ride.TheVariants as rides
+use Rattle.fit_world.specs.Histories.Claims.{Claim, has_none, MayBe}
+use Rattle.fit_world.specs.Histories.Table.{History, Idle, Riding, Told, Done, Stopped, Recovered, Fault, NoRecorder, claims_of, was_begun, Step}
+
+-- the reply, with what the data file holds
+abbrev pub told : Reply → List ℕ → Told
+told replies.Done file = Done
+told replies.Stopped file = Stopped file
+told (replies.Recovered summary) file = Recovered summary file
+told (replies.Refused fault) file = Fault fault
+told replies.NoRecorder file = NoRecorder
+
+-- the files stand for a list that may be recorded; or for none, where the empty claim is there
+abbrev pub Keeps : List Claim → Contents → Type 0
+Keeps claims contents =
+    ((list : List Recorded) × MayBe claims list × StandsFor list contents) ⊎ (IsTrue (has_none claims) × IsNothing contents)
+
+-- The files are as the history allows: they keep one of its claims; and where no start was begun since the last erasing, the
+-- data file is empty.
+pub record Fits (history : History) (contents : Contents) : Type 0 where
+  pub keeps : Keeps (claims_of history) contents
+  pub empty : was_begun history ≡ false → contents.in_data ≡ []
+
+-- whatever a power cut leaves is as the history allows
+abbrev pub Rests : History → Story → Type 0
+Rests history story = LeavesOnly (Fits history) story.now
+
+-- a device that failed is told only where it did, and then always
+pub record IsCounted (reply : Reply) (old new : Counts) : Type 0 where
+  pub cause : reply ≡ replies.Refused Device → HasFailed old new
+  pub went : (reply ≡ replies.Refused Device → ⊥) → new.failed ≡ old.failed
+
+module _ {D : Type 0} where
+  -- what reads give of the data file, where no recorder runs
+  abbrev pub content_of : (D → Story) → Ride D → List ℕ
+  content_of story (rides.Idle disk) = seen_of Data (story disk)
+  content_of story (rides.Riding recorder) = []
+
+  -- the recorder was handed this list, in which no stop is, and so many of its entries are committed
+  pub record RidesOn (honest : Bool) (story : D → Story) (recorder : Recorder D) (list : List Recorded) (promise : ℕ) : Type 0 where
+    pub committed : List Recorded
+    pub rest : List Recorded
+    pub begins : list ≡ committed ++ rest
+    pub promised : promise ≡ length committed
+    pub stands : StandsAt honest story recorder list committed
+    pub going : has_failed recorder ≡ false
+    pub no_stop : has_stopped list ≡ false
+
+  abbrev pub StandsIn : Bool → (D → Story) → Ride D → History → Type 0
+  StandsIn honest story (rides.Idle disk) (Idle claims begun) = Rests (Idle claims begun) (story disk)
+  StandsIn honest story (rides.Riding recorder) (Riding list promise false) = RidesOn honest story recorder list promise
+  StandsIn honest story (rides.Riding recorder) (Riding list promise true) =
+      (has_failed recorder ≡ true) × Rests (Riding list promise true) (story (disk_of recorder))
+  StandsIn honest story (rides.Idle disk) (Riding list promise failed) = ⊥
+  StandsIn honest story (rides.Riding recorder) (Idle claims begun) = ⊥
+
+  -- the reply is one that may come to the command, and the ride stands where the history does then
+  pub record GoesBy (honest : Bool) (story : D → Story) (before : History) (command : Command) (reply : Reply) (ride : Ride D) : Type 0 where
+    pub after : History
+    pub step : Step before command (told reply (content_of story ride)) after
+    pub stands : StandsIn honest story ride after

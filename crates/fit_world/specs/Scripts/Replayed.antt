@@ -1,0 +1,50 @@
+-- Which events of a script are replayed, and why the bytes of a script are not.
+use Rattle.std.specs.Prelude.{◌≡◌, ◌≢◌, ℕ, Bool, true, false, List, [], ◌∷◌, All, Option, Some, None, codes, if◌then◌else◌}
+use Rattle.std.specs.Str.{IsUtf8}
+use Rattle.std.specs.Str.Lines.{lines}
+use Rattle.fit_activity.specs.declared.recording.entry.Entry.TheVariants as entries
+use Rattle.fit_world.specs.declared.command.Command.{Command}
+use Rattle.fit_world.specs.declared.command.Command.TheVariants.{Fail, Cut, Power}
+use Rattle.fit_world.specs.declared.command.Command.TheVariants as commands
+use Rattle.fit_world.specs.declared.event.Event.{Event}
+use Rattle.fit_world.specs.declared.script.fault.ReplayFault.{ReplayFault}
+use Rattle.fit_world.specs.declared.script.fault.ReplayFault.TheVariants as faults
+use Rattle.fit_world.specs.declared.script.fault.ScriptFaultKind.TheVariants as kinds
+use Rattle.fit_world.specs.Scripts.Script.{IsLine, events_of, IsFirstFault}
+
+-- it speaks of a disk whose failures are arranged
+abbrev pub is_simulated : Command → Bool
+is_simulated (Fail k) = true
+is_simulated (Cut k) = true
+is_simulated Power = true
+is_simulated _ = false
+
+abbrev pub IsReplayed : Event → Type 0
+IsReplayed event = is_simulated event.command ≡ false
+
+-- the line of the first event that is only simulated
+abbrev pub first_simulated : List Event → Option ℕ
+first_simulated [] = None
+first_simulated (event ∷ events) = if is_simulated event.command then Some event.line else first_simulated events
+
+-- why the bytes of a script are not replayed: they are no text, a line is none, or an event is only simulated
+abbrev pub IsReplayFault : List ℕ → ReplayFault → Type 0
+IsReplayFault bytes faults.NoText = ¬ (IsUtf8 bytes)
+IsReplayFault bytes (faults.Script fault) = fault.kind ≢ kinds.Memory → IsFirstFault (lines bytes) fault.line
+IsReplayFault bytes (faults.OnlySimulate line) = All IsLine (lines bytes) × (first_simulated (events_of 1 (lines bytes)) ≡ Some line)
+
+-- the word of a command in a script
+abbrev pub word_of : Command → List ℕ
+word_of (commands.Start start) = codes "start"
+word_of (commands.Entry (entries.Sample sample)) = codes "sample"
+word_of (commands.Entry (entries.Lap time)) = codes "lap"
+word_of (commands.Entry (entries.Pause time)) = codes "pause"
+word_of (commands.Entry (entries.Resume time)) = codes "resume"
+word_of (commands.Entry (entries.Stop time)) = codes "stop"
+word_of commands.Commit = codes "commit"
+word_of commands.Restart = codes "restart"
+word_of commands.Recover = codes "recover"
+word_of commands.Erase = codes "erase"
+word_of (Fail k) = codes "fail"
+word_of (Cut k) = codes "cut"
+word_of Power = codes "power"
