@@ -262,7 +262,8 @@ fn open_locked(rt: &HostRuntime, path: &str) -> io::Result<File> {
     Ok(file)
 }
 
-// Opens the file at the end of a path, or makes one where nothing is there. A link that points nowhere is not made into a file.
+// Opens the file at the end of a path, or makes one where nothing is there. A link that points nowhere is not made into
+// a file.
 fn open_or_make(rt: &HostRuntime, path: &str) -> io::Result<File> {
     if is_missing(rt, path)? {
         return OpenOptions::new()
