@@ -85,17 +85,18 @@ def library():
 OPENING = ["open data", "lock data", "open journal", "lock journal", "sync folder", "sync data", "sync journal"]
 
 
-def journal_commit(slot):
-    """A length behind a closed gate and zeros up to the end of the next slot, then the gate; each synced."""
-    return ["write journal %d 15" % (9 + 8 * slot), "sync journal", "write journal %d 1" % (8 + 8 * slot), "sync journal"]
+def journal_commit(slot, is_open=False):
+    """The gate where it is open and is closed, a length behind a closed gate, then the gate; each synced."""
+    gate = ["write journal %d 1" % (8 + 8 * slot), "sync journal"]
+    return gate * is_open + ["write journal %d 4" % (9 + 8 * slot), "sync journal"] + gate
 
 
-STARTING = ["sync data", "size data", "cut journal 0", "write journal 0 16", "sync journal", "write data 0 86", "sync data"]
+STARTING = ["sync data", "size data", "cut journal 0", "write journal 0 24", "sync journal", "write data 0 86", "sync data"]
 STARTING += journal_commit(0)
 # A definition of two fields and its message, a commit, and a message alone.
 RIDING = ["write data 86 18", "sync data", *journal_commit(1), "write data 104 6"]
 # The closing messages have at most 252 bytes, of which the stop and its definition take 22, and the checksum has two.
-STOPPING = ["write data 110 7", "sync data", *journal_commit(2), "write data 117 232", "write data 0 14", "sync data"]
+STOPPING = ["write data 110 7", "sync data", *journal_commit(0, True), "write data 117 232", "write data 0 14", "sync data"]
 RECOVERING = ["sync data", "sync journal", "size data", "read journal", "read data", "write data 104 254", "cut data 358",
               "write data 0 14", "sync data"]
 ERASING = ["sync data", "sync journal", "size data", "read journal", "write journal 0 1", "sync journal", "cut data 0",
@@ -141,7 +142,7 @@ def before_an_opening(told):
 
 # How many syncs each line of a script makes, behind the three of opening, and what it answers before any of them fails.
 SYNCS = [("start", START, 5, "ok"), ("sample", SAMPLES[0], 0, "ok"), ("commit", "commit", 3, "ok"),
-         ("sample", SAMPLES[1], 0, "ok"), ("stop", STOP, 4, "ok"), ("recover", "recover", 3, TWO.strip()),
+         ("sample", SAMPLES[1], 0, "ok"), ("stop", STOP, 5, "ok"), ("recover", "recover", 3, TWO.strip()),
          ("erase", "erase", 4, "ok"), ("recover", "recover", 2, "")]
 
 
@@ -177,7 +178,7 @@ def failed_syncs(told):
             again = run(told.fitrec, "repair", folder)
             records = re.match(r"ok records=(\d+) ", again[1])
             # Nothing may be recorded until the start has ended, and from the erasing on.
-            is_none = again == (1, "", "fitrec: NothingRecorded\n") and (number <= 8 or number > 18)
+            is_none = again == (1, "", "fitrec: NothingRecorded\n") and (number <= 8 or number > 19)
             well = is_none or records and kept <= int(records[1]) <= handed
             yield "a folder opened anew behind a sync that failed", None if well else (number, again)
 

@@ -1,5 +1,6 @@
 -- Entries are written and committed: at each moment what was committed stays.
 pub mod Kept
+pub mod Slots
 pub mod Files
 pub mod Spelling
 pub mod Writing

@@ -1,6 +1,6 @@
 // A recording that is played: a recorder runs over its disk, or none does.
 
-ghost use Rattle.std.specs.Prelude.{◌≡◌, ◌≢◌, ◌↔◌, ◌+◌, ◌++◌, ◌∷◌, [], true, false, IsTrue};
+ghost use Rattle.std.specs.Prelude.{◌≡◌, ◌≢◌, ◌↔◌, ◌++◌, ◌∷◌, [], true, false, Some, None, IsTrue};
 ghost use Rattle.fit_world.specs.declared.command.Command.TheVariants as commands;
 
 use crate::reply::Reply;
@@ -23,6 +23,8 @@ impl<D: Disk> Ride<D> {
     ghost use Rattle.fit_activity.specs.declared.recording.entry.Entry.TheVariants.{Stop};
     ghost use Rattle.fit_activity.specs.Rides.Recording.{Recorded, Started, Added, is_stop};
     ghost use Rattle.fit_recorder.specs.declared.fault.RecFault.TheVariants.{Device, Failed};
+    ghost use Rattle.fit_journal.specs.declared.slots.Slots.TheVariants.{InTurns};
+    ghost use Rattle.fit_journal.specs.Turn.{committed_slots};
     ghost use Rattle.fit_recorder.specs.Calls.Answers.{HandAnswers, CommitAnswers, StopAnswers};
     ghost use Rattle.fit_world.specs.declared.reply.Reply.TheVariants.{Done, Stopped, Refused, NoRecorder};
     ghost use Rattle.fit_world.specs.Histories.Table.{History, ended};
@@ -35,7 +37,7 @@ impl<D: Disk> Ride<D> {
         ensures goes_on { CanGoOn D.honest D.story result.0 }
         ensures replies { RepliesStart start result.1 }
         ensures handed { result.1 ≡ Done → Handed result.0 (Started start ∷ []) }
-        ensures made { result.1 ≡ Done → slots_of result.0 ≡ 1 }
+        ensures made { result.1 ≡ Done → slots_of result.0 ≡ InTurns (Some (said_len result.0)) None }
         ensures riding { is_riding result.0 ≡ is_ok result.1 }
         ensures step { IsTrue D.honest → (before : History) → StandsIn D.honest D.story self before
             → GoesBy D.honest D.story before (commands.Start start) result.1 result.0 }
@@ -81,7 +83,8 @@ impl<D: Disk> Ride<D> {
             → Replies (CommitAnswers list (slots_of self.old)) result }
         ensures handed { (list : List Recorded) → Handed self.old list → result ≡ Done
             → Handed self.new list }
-        ensures made { result ≡ Done → slots_of self.new ≡ slots_of self.old + 1 }
+        ensures made { result ≡ Done
+            → slots_of self.new ≡ committed_slots (slots_of self.old) (said_len self.old) }
         ensures none { (result ≡ NoRecorder) ↔ (is_riding self.old ≡ false) }
         ensures riding { is_riding self.new ≡ is_riding self.old }
         ensures failed { is_broken self.old ≡ true → result ≡ Refused Failed }

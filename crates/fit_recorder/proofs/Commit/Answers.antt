@@ -1,7 +1,6 @@
 -- What a call of a recorder answers, put together from its parts.
-use Rattle.std.proofs.Common.{◌≡◌, ◌⊎◌, inl, inr, ℕ, ◌+◌, ◌<◌, ◌≤◌, Bool, true, false, List, None, Result, Ok, Err, sym, ◌∙◌, subst}
-use Rattle.std.specs.Prelude.{OnOk, OnErr, IfErr, IsTrue, ◌↔◌}
-use Rattle.std.proofs.lemmas.Bool.{cases_lt}
+use Rattle.std.proofs.Common.{◌≡◌, ◌⊎◌, inl, inr, ℕ, ◌+◌, ◌≤◌, Bool, true, false, List, None, Result, Ok, Err, sym, ◌∙◌, subst}
+use Rattle.std.specs.Prelude.{OnOk, OnErr, IfErr}
 use Rattle.fit_activity.specs.declared.recording.entry.Entry.{Entry}
 use Rattle.fit_activity.specs.declared.recording.entry.Entry.TheVariants.{Stop}
 use Rattle.fit_activity.specs.Rides.Recording.{Recorded}
@@ -9,6 +8,8 @@ use Rattle.fit_activity.specs.Rides.RunningTotals.{AreTotals, TotalsState}
 use Rattle.fit_activity.specs.Rides.Refusal.{refusal_of, has_stopped}
 use Rattle.fit_recorder.specs.declared.fault.RecFault.{RecFault}
 use Rattle.fit_recorder.specs.declared.fault.RecFault.TheVariants.{Device}
+use Rattle.fit_journal.specs.declared.slots.Slots.{Slots}
+use Rattle.fit_journal.specs.Turn.{HasTwoSlots}
 use Rattle.fit_recorder.proofs.Commit.Standing.{going_on}
 use Rattle.fit_disk.specs.Story.{Story}
 use Rattle.fit_recorder.specs.Private.State.{RecorderState, IsAt}
@@ -47,17 +48,9 @@ pub stop_answers : (list : List Recorded) (time : ℕ) (result : Result (Unit {0
 stop_answers list time (Ok done) none device = none
 stop_answers list time (Err fault) none device = subst (λ fault. StopAnswers list time (Err fault)) (sym device) none
 
-pub commit_answers : (list : List Recorded) (open_slots : ℕ) (result : Result (Unit {0}) RecFault) → has_stopped list ≡ false → open_slots < 4095 → IfErr result (λ fault. fault ≡ Device) → CommitAnswers list open_slots result
-commit_answers list open_slots (Ok done) going room device = (going, room)
-commit_answers list open_slots (Err fault) going room device = subst (λ fault. CommitAnswers list open_slots (Err fault)) (sym device) (going, room)
-
--- the last slot is not reached
-pub room : (open_slots : ℕ) → IsTrue false ↔ (4095 ≤ open_slots) → open_slots < 4095
-room open_slots test = by_order (cases_lt open_slots 4095)
-  where
-    by_order : (open_slots < 4095) ⊎ (4095 ≤ open_slots) → open_slots < 4095
-    by_order (inl less) = less
-    by_order (inr more) = let is : false ≡ true = test.1 more in absurd cc
+pub commit_answers : (list : List Recorded) (journal_slots : Slots) (result : Result (Unit {0}) RecFault) → has_stopped list ≡ false → HasTwoSlots journal_slots → IfErr result (λ fault. fault ≡ Device) → CommitAnswers list journal_slots result
+commit_answers list journal_slots (Ok done) going room device = (going, room)
+commit_answers list journal_slots (Err fault) going room device = subst (λ fault. CommitAnswers list journal_slots (Err fault)) (sym device) (going, room)
 
 -- a recorder goes on after an Ok, and after a fault has failed
 pub goes_by : {T E : Type 0} (A P Q G : Type 0) (result : Result T E) → OnOk result (A × P) → OnErr result Q → (P → G) → (Q → G) → G

@@ -18,9 +18,9 @@ use std::test::Fail;
 // With how many choices of noise each power cut is tried, beside the four that are not noise.
 const NOISES: u32 = 40;
 
-// How many calls of the device the ride makes: eleven for the start, one for each of nine entries, five for each commit
-// and nine for the stop.
-const CALLS: u32 = 11 + 9 + 5 * 5 + 9;
+// How many calls of the device the ride makes: eleven for the start, one for each of nine entries, five for the first commit,
+// seven for each of the four that close a gate, and eleven for the stop.
+const CALLS: u32 = 11 + 9 + (5 + 4 * 7) + 11;
 
 // More calls than a recovery of the ride makes.
 const RECOVERY_CALLS: u32 = 100;

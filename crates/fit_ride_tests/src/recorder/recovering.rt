@@ -427,6 +427,32 @@ fn a_stopped_body_has_a_most(rt: HostRuntime) -> Result<(), Fail> {
     Ok(())
 }
 
+// The journal that an older program left of a ride: a row of slots, with the lengths of its start and of its commit.
+const ROW: [u8; 32] = [
+    0x46, 0x52, 0x4A, 0x31, 0, 0, 0, 0, 0xA5, 0x48, 0, 0, 0, 0, 0, 0, 0xA5, 0xBD, 0, 0, 0, 0, 0, 0,
+    0, 0, 0, 0, 0, 0, 0, 0,
+];
+
+#[test]
+fn a_row_of_slots_is_recovered(rt: HostRuntime) -> Result<(), Fail> {
+    let disk = committed(&rt)?;
+    let mut older = copy_of(rt.alloc(), disk.content(Which::Data), &ROW)?;
+    assert_eq!(rt; recover(&mut older), Ok(SHORT_RIDE));
+    assert_eq!(rt; older.content(Which::Journal), ROW.as_slice());
+    // With its first sixteen bytes, no slot of it is open.
+    let mut short = copy_of(rt.alloc(), disk.content(Which::Data), &ROW[..16])?;
+    assert_eq!(rt; recover(&mut short), Err(RecFault::NothingRecorded));
+    Ok(())
+}
+
+#[test]
+fn a_journal_of_a_later_form_is_damaged(rt: HostRuntime) -> Result<(), Fail> {
+    let later = [0x46, 0x52, 0x4A, 0x33, 0, 0, 0, 0];
+    let mut disk = copy_of(rt.alloc(), &[0x0E], &later)?;
+    assert_eq!(rt; recover(&mut disk), Err(RecFault::Damaged));
+    Ok(())
+}
+
 #[test]
 fn a_journal_of_no_form_is_damaged(rt: HostRuntime) -> Result<(), Fail> {
     let disk = begun(&rt)?.into_disk();

@@ -17,7 +17,7 @@ use Rattle.fit_recorder.specs.declared.recorder.Recorder.{Recorder}
 use Rattle.fit_recorder.specs.Calls.Answers.{HandAnswers, CommitAnswers, StopAnswers}
 use Rattle.fit_recorder.specs.Files.Body.{StandsFor}
 use Rattle.fit_recorder.specs.Files.Finished.{IsFinished}
-use Rattle.fit_recorder.specs.Calls.Recorder.{StandsAt, WasHanded, HasEnded, disk_of, has_failed, data_len, open_slots}
+use Rattle.fit_recorder.specs.Calls.Recorder.{StandsAt, WasHanded, HasEnded, disk_of, has_failed, data_len, journal_slots}
 use Rattle.fit_recorder.proofs.Commit.Standing.{has_stopped-push}
 use Rattle.fit_world.specs.declared.command.Command.{Command}
 use Rattle.fit_world.specs.declared.command.Command.TheVariants as commands
@@ -168,10 +168,10 @@ module _ {D : Type 0} (honest : Bool) (story : D → Story) where
 
     -- ---- a commit
 
-    module _ (answers : (list : List Recorded) → WasHanded old list → has_failed old ≡ false → CommitAnswers list (open_slots old) result)
+    module _ (answers : (list : List Recorded) → WasHanded old list → has_failed old ≡ false → CommitAnswers list (journal_slots old) result)
         (ok : (list committed : List Recorded) → StandsAt honest story old list committed → OnOk result ((has_failed new ≡ false) × StandsAt honest story new list list))
         (moments : (list committed : List Recorded) → StandsAt honest story old list committed → Throughout (λ c. StandsFor committed c ⊎ StandsFor list c) (story (disk_of old)) (story (disk_of new))) where
-      commit_refused : (list : List Recorded) (promise : ℕ) → RidesOn honest story old list promise → (fault : RecFault) → result ≡ Err fault → CommitAnswers list (open_slots old) (Err fault)
+      commit_refused : (list : List Recorded) (promise : ℕ) → RidesOn honest story old list promise → (fault : RecFault) → result ≡ Err fault → CommitAnswers list (journal_slots old) (Err fault)
           → GoesBy honest story (Riding list promise false) commands.Commit (replies.Refused fault) (rides.Riding new)
       commit_refused list promise on (Refused refusal) is stopped = absurd (true≢false (sym stopped.1 ∙ on.no_stop))
       commit_refused list promise on JournalFull is full = kept_goes list promise commands.Commit JournalFull is (λ device. absurd cc) on refl

@@ -1,10 +1,13 @@
 -- What contracts see of a recording that is played.
-use Rattle.std.specs.Prelude.{◌≡◌, ℕ, ◌+◌, Bool, true, false, List, [], ◌∷◌, ◌++◌}
+use Rattle.std.specs.Prelude.{◌≡◌, ℕ, Bool, true, false, Some, None, List, [], ◌∷◌, ◌++◌}
 use Rattle.fit_activity.specs.declared.recording.entry.Entry.TheVariants as entries
 use Rattle.fit_activity.specs.Rides.Recording.{Recorded, Started, Added, is_stop}
 use Rattle.fit_disk.specs.Story.{Story}
+use Rattle.fit_journal.specs.declared.slots.Slots.{Slots}
+use Rattle.fit_journal.specs.declared.slots.Slots.TheVariants.{InTurns}
+use Rattle.fit_journal.specs.Turn.{committed_slots}
 use Rattle.fit_recorder.specs.Calls.Answers.{HandAnswers, CommitAnswers, StopAnswers}
-use Rattle.fit_recorder.specs.Calls.Recorder.{GoesOn, WasHanded, disk_of, has_failed, data_len, open_slots}
+use Rattle.fit_recorder.specs.Calls.Recorder.{GoesOn, WasHanded, disk_of, has_failed, data_len, journal_slots}
 use Rattle.fit_world.specs.declared.reply.Reply.{Reply}
 use Rattle.fit_world.specs.declared.command.Command.{Command}
 use Rattle.fit_world.specs.declared.command.Command.TheVariants as commands
@@ -38,14 +41,15 @@ module _ {D : Type 0} where
   Handed (Idle disk) list = ⊥
   Handed (Riding recorder) list = WasHanded recorder list × (has_failed recorder ≡ false)
 
-  -- the number of record bytes that its recorder said, and of the open slots of its journal
+  -- the number of record bytes that its recorder said
   abbrev pub said_len : Ride D → ℕ
   said_len (Idle disk) = 0
   said_len (Riding recorder) = data_len recorder
 
-  abbrev pub slots_of : Ride D → ℕ
-  slots_of (Idle disk) = 0
-  slots_of (Riding recorder) = open_slots recorder
+  -- what the slots of its journal say; where no recorder runs, nothing
+  abbrev pub slots_of : Ride D → Slots
+  slots_of (Idle disk) = InTurns None None
+  slots_of (Riding recorder) = journal_slots recorder
 
   -- what may be replied to a command behind the list that was handed in
   abbrev pub MayReplyBehind : Ride D → List Recorded → Command → Reply → Type 0
@@ -55,13 +59,13 @@ module _ {D : Type 0} where
   MayReplyBehind ride list commands.Commit reply = Replies (CommitAnswers list (slots_of ride)) reply
   MayReplyBehind ride list _ reply = Unit {0}
 
-  -- where that was ok: an entry stands behind the list, and a commit opened one slot more
+  -- where that was ok: an entry stands behind the list, and a commit took one slot more
   abbrev pub RidesOnWith : Ride D → List Recorded → Command → Ride D → Type 0
   RidesOnWith ride list (commands.Entry entry) next = is_stop (Added entry) ≡ false → Handed next (list ++ Added entry ∷ [])
-  RidesOnWith ride list commands.Commit next = Handed next list × (slots_of next ≡ slots_of ride + 1)
+  RidesOnWith ride list commands.Commit next = Handed next list × (slots_of next ≡ committed_slots (slots_of ride) (said_len ride))
   RidesOnWith ride list _ next = Unit {0}
 
-  -- where a start was ok: the recorder was handed the start alone, in the first slot
+  -- where a start was ok: the recorder was handed the start alone, in the first of two slots that take turns
   abbrev pub HasBegun : Command → Ride D → Type 0
-  HasBegun (commands.Start start) next = Handed next (Started start ∷ []) × (slots_of next ≡ 1)
+  HasBegun (commands.Start start) next = Handed next (Started start ∷ []) × (slots_of next ≡ InTurns (Some (said_len next)) None)
   HasBegun _ next = Unit {0}

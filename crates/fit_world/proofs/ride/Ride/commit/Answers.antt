@@ -1,5 +1,5 @@
 use Rattle.fit_recorder.specs.Calls.Answers.{CommitAnswers}
-use Rattle.fit_recorder.specs.Calls.Recorder.{open_slots}
+use Rattle.fit_recorder.specs.Calls.Recorder.{journal_slots}
 use Rattle.fit_world.proofs.Told.Replies.{replies_of_call, done_of_call}
 use Rattle.fit_world.proofs.Histories.Riding.{commit_goes}
 use Rattle.fit_world.proofs.ride.Ride.commit.Goals as goal
@@ -8,7 +8,7 @@ pub returns-in-Riding-clause-replies : goal.returns-in-Riding-clause-replies
 returns-in-Riding-clause-replies g c list handed =
     let known = rw c.in-Riding.is at handed in
     rw c.in-Riding.is
-    (replies_of_call (CommitAnswers list (open_slots c.in-Riding.recorder)) c.commit.result c.into.result c.into.ensures
+    (replies_of_call (CommitAnswers list (journal_slots c.in-Riding.recorder)) c.commit.result c.into.result c.into.ensures
     (c.commit.ensures.answers list known.0 known.1))
 
 pub returns-in-Riding-clause-handed : goal.returns-in-Riding-clause-handed

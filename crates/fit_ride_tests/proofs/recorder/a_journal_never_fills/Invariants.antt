@@ -1,7 +1,7 @@
 use Rattle.std.proofs.Common.{true}
 use Rattle.fit_disk.specs.Memory.{memory_story}
 use Rattle.fit_recorder.specs.Calls.Recorder.{GoesOn}
-use Rattle.fit_ride_tests.proofs.recorder.the_last_slot_is_kept.Given as goal
+use Rattle.fit_ride_tests.proofs.recorder.a_journal_never_fills.Given as goal
 
 -- the recorder goes on
 abbrev pub invariant-loop : goal.invariant-loop
