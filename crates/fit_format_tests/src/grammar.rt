@@ -3,5 +3,6 @@
 mod decoding;
 mod files;
 mod items;
+mod pieces;
 mod places;
 mod sizes;

@@ -6,5 +6,6 @@ pub mod LentField
 pub mod LentItem
 pub mod Adding
 pub mod Possible
+pub mod Pieces
 pub mod Output
 pub mod FaultCode

@@ -9,4 +9,5 @@ pub mod ItemRow
 pub mod KeptFile
 pub mod ItemsLeft
 pub mod Decoding
+pub mod Feeding
 pub mod CheckedOutput

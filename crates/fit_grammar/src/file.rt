@@ -11,10 +11,16 @@ ghost use Rattle.fit_grammar.specs.Calls.Step.{least_length_of};
 ghost use Rattle.fit_grammar.specs.Format.File.{IsFrame};
 ghost use Rattle.fit_grammar.specs.Calls.Adding.{with_item, IsTooLong, IsUndefined, HasWrongLength, CanHold, IsOffset};
 
+mod carry;
+mod closing;
 mod decode;
+mod decoder;
 mod encode;
 mod fault;
 mod frame;
+mod header;
+mod reading;
+mod taking;
 
 use crate::definition::kept::WrittenDefinition;
 use crate::definition::{Definition, Table};
@@ -22,6 +28,7 @@ use crate::item::writing::data_byte;
 use crate::item::{ItemFault, Items, least_length};
 use crate::message::Messages;
 pub use decode::decode_file;
+pub use decoder::Decoder;
 pub use encode::{encode_file, header_front};
 pub use fault::{EncodeFault, FaultKind, FileFault, PutFault};
 pub use frame::Frame;

@@ -32,7 +32,7 @@ mod to_writer;
 
 pub use definition::{Definition, DefinitionMessage, FieldDefinition, Table};
 pub use file::{
-    EncodeFault, FaultKind, File, FileFault, Frame, PutFault, decode_file, encode_file,
+    Decoder, EncodeFault, FaultKind, File, FileFault, Frame, PutFault, decode_file, encode_file,
     header_front,
 };
 pub use item::{

@@ -12,7 +12,7 @@ use std::process::Abort;
 use std::test::Fail;
 
 // A definition of a record whose content has this size: fields of 255 bytes, and one of the rest.
-fn definition_of(rt: &impl Abort, size: usize) -> Definition
+pub(crate) fn definition_of(rt: &impl Abort, size: usize) -> Definition
     ensures { result.local ≡ 3 }
 {
     let mut fields = ArrayVec::new();
@@ -36,7 +36,7 @@ fn definition_of(rt: &impl Abort, size: usize) -> Definition
 }
 
 // Bytes of which no two near ones repeat the two before them.
-fn content_of(alloc: Global, size: usize) -> Result<Vec<u8>, AllocError> {
+pub(crate) fn content_of(alloc: Global, size: usize) -> Result<Vec<u8>, AllocError> {
     let mut content = Vec::new(alloc);
     for at in 0..size {
         content.push((at % 251) as u8 ^ (at / 251 % 241) as u8)?;

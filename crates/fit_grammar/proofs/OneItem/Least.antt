@@ -1,11 +1,12 @@
 -- What the least length says by what the window holds: a whole item, a beginning of one, or none: for the decoder.
-use Rattle.std.proofs.Common.{◌≡◌, ℕ, ◌+◌, ◌*◌, ◌<◌, ◌≤◌, Bool, List, [], ◌∷◌, length, take, drop, Option, Some, None, Result, Ok, refl, sym, ap, ◌∙◌, arith, cond}
+use Rattle.std.proofs.Common.{◌≡◌, ℕ, ◌+◌, ◌*◌, ◌<◌, ◌≤◌, Bool, List, [], ◌∷◌, ◌++◌, length, take, drop, Option, Some, None, Result, Ok, refl, sym, ap, ◌∙◌, arith, cond}
 use Rattle.std.specs.Prelude.{slice_index, IsSomeAnd}
 use Rattle.std.proofs.lemmas.Bool.{le-ltb}
-use Rattle.std.proofs.lemmas.List.{length-take-le, get_or-take, take-append-drop}
+use Rattle.std.proofs.lemmas.List.{append-nil, length-take-le, get_or-take, take-append-drop}
 use Rattle.fit_grammar.specs.declared.definition.Definition.{Definition}
 use Rattle.fit_grammar.specs.declared.item.ItemFault.{ItemFault}
-use Rattle.fit_grammar.specs.Format.Item.{Item, Defines, Data, Head, DefinitionHead, DeveloperHead, DataHead, head_of, SpellsDefinition, content_size}
+use Rattle.fit_grammar.specs.Format.Item.{Item, Defines, Data, Head, DefinitionHead, DeveloperHead, DataHead, head_of, Spells, SpellsDefinition, content_size}
+use Rattle.fit_grammar.specs.Format.Records.{IsDefinedBy}
 use Rattle.fit_grammar.specs.Calls.Step.{definition_length_of, data_length_of, length_by, least_length_of, ItemAtFront, ItemBegun}
 use Rattle.fit_grammar.proofs.OneItem.Spelling.{definition_length, definition_count, data_length, spelling_not_empty}
 use Rattle.fit_grammar.proofs.OneItem.DefinitionRead.{begun_empty, begun_definition, begun_data, front_is, definition_spelled}
@@ -55,6 +56,15 @@ least_of_item f (first ∷ rest) (Data local offset content) used p =
     (drop used window) rest first p.spelled (take-append-drop used window) in
     least_by_head f first rest (DataHead local offset) head ∙ some_length (f local) local (length content) p.defined
     ∙ ap (λ (k : ℕ). Ok k) (omega arith)
+
+-- one byte of a data message shows its whole length
+pub least_of_data : (f : ℕ → Option Definition) (first : ℕ) (rest more : List ℕ) (local : ℕ) (offset : Option ℕ) (content : List ℕ)
+    → Spells (Data local offset content) ((first ∷ rest) ++ more) → IsDefinedBy f (Data local offset content)
+    → least_length_of f (first ∷ rest) ≡ Ok (1 + length content)
+least_of_data f first rest more local offset content p defined =
+    let head : head_of first ≡ DataHead local offset = spelling_head (Data local offset content) ((first ∷ rest) ++ more)
+    [] (rest ++ more) first p (append-nil ((first ∷ rest) ++ more)) in
+    least_by_head f first rest (DataHead local offset) head ∙ some_length (f local) local (length content) defined
 
 -- a window that is shorter than its least length is a beginning of an item
 begun_by : (f : ℕ → Option Definition) (first : ℕ) (rest : List ℕ) (least : ℕ) (h : Head) → head_of first ≡ h

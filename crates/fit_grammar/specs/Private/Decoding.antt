@@ -1,9 +1,9 @@
 -- What the decoder of files knows on its way through the bytes.
-use Rattle.std.specs.Prelude.{◌≡◌, ◌≢◌, ℕ, ◌+◌, ◌≤◌, ◌<◌, List, length, take, drop, Ok, Err, Option, ◌⊎◌}
+use Rattle.std.specs.Prelude.{◌≡◌, ◌≢◌, ℕ, ◌+◌, ◌^◌, ◌≤◌, ◌<◌, List, ◌++◌, length, take, drop, slice_index, Ok, Err, Option, ◌⊎◌}
 use Rattle.fit_base.specs.Number.{low_first}
 use Rattle.fit_base.specs.Checksum.{crc}
 use Rattle.fit_grammar.specs.declared.definition.Definition.{Definition}
-use Rattle.fit_grammar.specs.declared.file.decode.Header.{Header}
+use Rattle.fit_grammar.specs.declared.file.header.Header.{Header}
 use Rattle.fit_grammar.specs.declared.file.fault.FaultKind.{FaultKind}
 use Rattle.fit_grammar.specs.declared.file.fault.FaultKind.TheVariants.{Truncated, UndefinedLocal, SplitMessage, FileCrc, TrailingBytes, Memory, Developer}
 use Rattle.fit_grammar.specs.declared.file.fault.FileFault.{FileFault}
@@ -13,7 +13,23 @@ use Rattle.fit_grammar.specs.Format.Records.{in_force}
 use Rattle.fit_grammar.specs.Calls.Step.{least_length_of, ItemAtFront, ItemBegun}
 use Rattle.fit_grammar.specs.Format.File.{FileValue, IsHeader, IsClosing}
 use Rattle.fit_grammar.specs.Calls.Adding.{with_item}
-use Rattle.fit_grammar.specs.Format.Refusal.{Refusal}
+use Rattle.fit_grammar.specs.Format.Refusal.{Front, front_bytes, front_end, IsFront, Refusal}
+
+-- the bytes are a front, whose items the file has, and others behind it
+pub record Reached (bytes : List ℕ) (v : FileValue) (at end : ℕ) : Type 0 where
+  pub front : Front
+  pub rest : List ℕ
+  pub is_front : IsFront front
+  pub frame_is : front.frame ≡ v.frame
+  pub items_are : front.items ≡ v.items
+  pub joined : bytes ≡ front_bytes front ++ rest
+  pub at_is : at ≡ front_end front
+  pub end_is : end ≡ length front.header + front.size
+  pub fits : front.size < 2 ^ 32
+
+-- the bytes end within their header
+abbrev pub IsShort : List ℕ → Type 0
+IsShort bytes = (length bytes < 14) × ((length bytes ≡ 0) ⊎ (length bytes < slice_index bytes 0))
 
 -- the bytes begin with this header
 pub record BeginsWith (bytes : List ℕ) (header : Header) : Type 0 where

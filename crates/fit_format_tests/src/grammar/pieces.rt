@@ -1,0 +1,161 @@
+// Files that come in pieces.
+
+ghost use Rattle.std.specs.Prelude.{◌<◌};
+
+use crate::grammar::sizes::{content_of, definition_of};
+use crate::known_files::{FILE_ID, empty_file};
+use fit_grammar::{Decoder, EncodeFault, FaultKind, File, FileFault, encode_file};
+use std::alloc::Global;
+use std::process::Abort;
+use std::test::*;
+
+// Reads bytes in pieces of this size.
+fn read_in_pieces(alloc: Global, bytes: &[u8], size: usize) -> Result<File, FileFault>
+    requires { 0 < size }
+{
+    let mut decoder = Decoder::new(alloc);
+    for piece in bytes.chunks(size) {
+        decoder.feed(piece)?;
+    }
+    decoder.finish()
+}
+
+// Reads bytes in two pieces, with an empty one between them.
+fn read_in_two(alloc: Global, front: &[u8], back: &[u8]) -> Result<File, FileFault> {
+    let mut decoder = Decoder::new(alloc);
+    decoder.feed(front)?;
+    decoder.feed(&[])?;
+    decoder.feed(back)?;
+    decoder.finish()
+}
+
+fn written(alloc: Global, file: &File) -> Result<Vec<u8>, EncodeFault> {
+    let mut bytes = Vec::new(alloc);
+    encode_file(file, &mut bytes)?;
+    Ok(bytes)
+}
+
+fn fault_of<T: Drop>(answer: Result<T, FileFault>) -> Option<(FaultKind, usize)> {
+    match answer {
+        Ok(_) => None,
+        Err(fault) => Some((fault.kind, fault.place)),
+    }
+}
+
+// Each later call answers this fault.
+fn check_for_good(rt: &impl Abort, mut decoder: Decoder, fault: Option<(FaultKind, usize)>) {
+    for piece in [[].as_slice(), &[0x40], &FILE_ID] {
+        assert_eq!(rt; fault_of(decoder.feed(piece)), fault);
+    }
+    assert_eq!(rt; fault_of(decoder.finish()), fault);
+}
+
+#[test]
+fn every_cut_gives_one_file(rt: HostRuntime) -> Result<(), Fail> {
+    let alloc = rt.alloc();
+    for cut in 0..=FILE_ID.len() {
+        let (front, back) = FILE_ID.split_at(cut);
+        let file = read_in_two(alloc, front, back)?;
+        assert_eq!(rt;
+            written(alloc, &file)?.as_slice(),
+            FILE_ID.as_slice(),
+            "{cut}"
+        );
+    }
+    for size in 1..=FILE_ID.len() {
+        let file = read_in_pieces(alloc, &FILE_ID, size)?;
+        assert_eq!(rt;
+            written(alloc, &file)?.as_slice(),
+            FILE_ID.as_slice(),
+            "{size}"
+        );
+    }
+    Ok(())
+}
+
+#[test]
+fn an_unfinished_file_is_cut_short(rt: HostRuntime) {
+    for len in 0..FILE_ID.len() {
+        let answer = read_in_pieces(rt.alloc(), &FILE_ID[..len], 1);
+        assert_eq!(rt; fault_of(answer), Some((FaultKind::Truncated, len)));
+    }
+}
+
+// The byte that shows a fault is refused, and no byte before it.
+fn check_shown_by_last(rt: &impl Abort, alloc: Global, bytes: &[u8], fault: (FaultKind, usize)) {
+    let mut decoder = Decoder::new(alloc);
+    for at in 0..bytes.len() {
+        let answer = fault_of(decoder.feed(&bytes[at..at + 1]));
+        let shown = if at + 1 == bytes.len() {
+            Some(fault)
+        } else {
+            None
+        };
+        assert_eq!(rt; answer, shown, "{at}");
+    }
+    check_for_good(rt, decoder, Some(fault));
+}
+
+#[test]
+fn refused_with_the_byte_that_shows_it(rt: HostRuntime) -> Result<(), Fail> {
+    let alloc = rt.alloc();
+    let mut bytes = FILE_ID.to_vec(alloc)?;
+    bytes[27] = 0x05;
+    check_shown_by_last(&rt, alloc, &bytes, (FaultKind::FileCrc, 32));
+    let mut longer = FILE_ID.to_vec(alloc)?;
+    longer.push(0)?;
+    check_shown_by_last(&rt, alloc, &longer, (FaultKind::TrailingBytes, 34));
+    check_shown_by_last(&rt, alloc, &[0x0D], (FaultKind::HeaderSize, 0));
+    bytes.truncate(14);
+    bytes[12] = 0xA0;
+    check_shown_by_last(&rt, alloc, &bytes, (FaultKind::HeaderCrc, 12));
+    Ok(())
+}
+
+// A definition of 255 fields and a message of 65,025 bytes, in two pieces cut at some hundred places, and in pieces of
+// several sizes.
+#[test]
+fn long_items_are_cut(rt: HostRuntime) -> Result<(), Fail> {
+    let alloc = rt.alloc();
+    let mut file = empty_file(alloc);
+    file.define(&definition_of(&rt, 65_025))?;
+    file.data(3, Some(31), content_of(alloc, 65_025)?.as_slice())?;
+    let bytes = written(alloc, &file)?;
+    let bytes = bytes.as_slice();
+    assert_eq!(rt; bytes.len(), 65_813);
+    for k in 0..100 {
+        let (front, back) = bytes.split_at(658 * k);
+        let read = read_in_two(alloc, front, back)?;
+        assert_eq!(rt; written(alloc, &read)?.as_slice(), bytes, "{k}");
+    }
+    for size in [1, 19, 512, 4_096, 65_536] {
+        let read = read_in_pieces(alloc, bytes, size)?;
+        assert_eq!(rt; written(alloc, &read)?.as_slice(), bytes, "{size}");
+    }
+    Ok(())
+}
+
+// Run with each allocation refused in turn: the item that wanted it is told, for good, and a header that promises much
+// takes none.
+#[test]
+fn tells_for_good_which_item_wants_memory(rt: HostRuntime) {
+    for _ in 0..8 {
+        let mut decoder = Decoder::new(rt.alloc());
+        let mut fault = None;
+        for at in 0..FILE_ID.len() {
+            if fault.is_none() {
+                fault = fault_of(decoder.feed(&FILE_ID[at..at + 1]));
+            }
+        }
+        if let Some((kind, place)) = fault {
+            assert_eq!(rt; kind, FaultKind::Memory);
+            assert!(rt; place == 14 || place == 26, "{place}");
+            check_for_good(&rt, decoder, fault);
+        }
+        let promised = [
+            0x0C, 0x10, 0x64, 0x00, 0xFF, 0xFF, 0xFF, 0xFF, 0x2E, 0x46, 0x49, 0x54,
+        ];
+        let answer = read_in_pieces(rt.alloc(), &promised, 5);
+        assert_eq!(rt; fault_of(answer), Some((FaultKind::Truncated, 12)));
+    }
+}

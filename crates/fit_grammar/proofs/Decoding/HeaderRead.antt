@@ -1,0 +1,60 @@
+-- The same as `read_header` meets it, exit by exit.
+use Rattle.std.proofs.Common.{◌≡◌, ◌≢◌, ℕ, ◌+◌, ◌-◌, ◌<◌, ◌≤◌, List, [], ◌∷◌, length, take, drop, sym, ap, ◌∙◌, arith, ◌⊎◌, inl, inr}
+use Rattle.std.specs.Prelude.{slice_index}
+use Rattle.std.proofs.lemmas.List.{length-take-le, length-drop, get_or-take, drop-take, take-take}
+use Rattle.byteorder.specs.Endian.{little_number}
+use Rattle.fit_base.specs.Number.{low_first}
+use Rattle.fit_base.proofs.Numbers.{low_first-little}
+use Rattle.fit_grammar.specs.declared.file.fault.FaultKind.{FaultKind}
+use Rattle.fit_grammar.specs.declared.file.fault.FaultKind.TheVariants.{Truncated, HeaderSize, Memory}
+use Rattle.fit_grammar.specs.declared.file.fault.FileFault.{FileFault}
+use Rattle.fit_grammar.specs.Format.Refusal.{HeaderShows, Refusal}
+use Rattle.fit_grammar.specs.Private.Decoding.{IsRefusedBy}
+use Rattle.fit_grammar.proofs.Decoding.HeaderRefused.{Passes, header_refused, header_cut, empty_cut, size_refused}
+
+abbrev fault_at : FaultKind → ℕ → FileFault
+fault_at kind place = record { kind = kind; place = place }
+
+-- a fault of this kind and place
+pub refused_by : (b : List ℕ) (kind : FaultKind) (place : ℕ) (f : FileFault) → f ≡ fault_at kind place → kind ≢ Memory
+    → Refusal b kind place → IsRefusedBy b f
+refused_by b kind place f e other r = rw e (other, r)
+
+pub empty_refused : (b : List ℕ) (f : FileFault) → f ≡ fault_at Truncated (length b) → length b ≡ 0 → IsRefusedBy b f
+empty_refused b f e none = refused_by b Truncated (length b) f e (λ bad. cc) (empty_cut b none)
+
+-- byte 0 is no header size
+pub first_refused : (b : List ℕ) (f : FileFault) → f ≡ fault_at HeaderSize 0 → 1 ≤ length b
+    → ((slice_index b 0 ≡ 12) ⊎ (slice_index b 0 ≡ 14) → ⊥) → IsRefusedBy b f
+first_refused [] f e some bad = absurd (omega arith)
+first_refused (byte ∷ rest) f e some bad =
+    refused_by (byte ∷ rest) HeaderSize 0 f e (λ k. cc) (size_refused byte rest (λ h. bad (inl h)) (λ h. bad (inr h)))
+
+-- the bytes end within the header
+pub cut_refused : (b : List ℕ) (f : FileFault) → f ≡ fault_at Truncated (length b) → Passes b (length b + 1) → IsRefusedBy b f
+cut_refused b f e p = refused_by b Truncated (length b) f e (λ k. cc) (header_cut b p)
+
+pub check_refused : (b : List ℕ) (f : FileFault) (kind : FaultKind) (place count : ℕ) → f ≡ fault_at kind place
+    → kind ≢ Memory → Passes b count → count ≤ length b → HeaderShows kind place (take count b) → IsRefusedBy b f
+check_refused b f kind place count e other p le h = refused_by b kind place f e other (header_refused kind place count b p le h)
+
+-- the bytes of the header are those of the file at the same places
+pub header_byte : (n : ℕ) (b : List ℕ) (i : ℕ) → i < n → slice_index (take n b) i ≡ slice_index b i
+header_byte n b i lt = get_or-take n b i 0 lt
+
+pub header_range : (n : ℕ) (b : List ℕ) (i len : ℕ) → i + len ≤ n → take len (drop i (take n b)) ≡ take len (drop i b)
+header_range n b i len le =
+    let rest : n ≡ i + (n - i) = omega arith in
+    ap (λ (k : ℕ). take len (drop i (take k b))) rest ∙ ap (λ (l : List ℕ). take len l) (drop-take i (n - i) b)
+    ∙ take-take len (n - i) (drop i b) (omega arith)
+
+-- two and four bytes, read low byte first
+pub two_read : (b : List ℕ) (i n : ℕ) → i + 2 ≤ length b → n ≡ little_number 2 (take 2 (drop i b)) → low_first (take 2 (drop i b)) ≡ n
+two_read b i n le e =
+    let two : length (take 2 (drop i b)) ≡ 2 = length-take-le 2 (drop i b) (omega (arith, length-drop i b)) in
+    sym (e ∙ ap (λ (k : ℕ). little_number k (take 2 (drop i b))) (sym two) ∙ low_first-little (take 2 (drop i b)))
+
+pub four_read : (b : List ℕ) (i n : ℕ) → i + 4 ≤ length b → n ≡ little_number 4 (take 4 (drop i b)) → low_first (take 4 (drop i b)) ≡ n
+four_read b i n le e =
+    let four : length (take 4 (drop i b)) ≡ 4 = length-take-le 4 (drop i b) (omega (arith, length-drop i b)) in
+    sym (e ∙ ap (λ (k : ℕ). little_number k (take 4 (drop i b))) (sym four) ∙ low_first-little (take 4 (drop i b)))

@@ -1,0 +1,67 @@
+-- Where a reading stands in the bytes so far.
+use Rattle.std.proofs.Common.{◌≡◌, ℕ, ◌+◌, ◌-◌, ◌<◌, ◌≤◌, ◌^◌, min, List, ◌++◌, length, take, ap, ◌∙◌, arith, inl, inr}
+use Rattle.std.proofs.lemmas.Bool.{cases_lt}
+use Rattle.std.proofs.lemmas.List.{length-append, length-drop}
+use Rattle.fit_base.specs.Checksum.{crc_from}
+use Rattle.fit_grammar.specs.declared.file.reading.Reading.{Reading}
+use Rattle.fit_grammar.specs.Format.Records.{data_size}
+use Rattle.fit_grammar.specs.Private.Feeding.{StandsBefore, ReadsOn}
+use Rattle.fit_grammar.proofs.Decoding.Headers.{header_length}
+use Rattle.fit_grammar.proofs.Decoding.Reached.{reached_fits}
+use Rattle.fit_grammar.proofs.Decoding.Longer.{reached_within, reached_longer, window_longer, checked_longer}
+
+-- one reading stands where another does
+pub record StaysAt (old new : Reading) : Type 0 where
+  pub file : new.file ≡ old.file
+  pub at : new.at ≡ old.at
+  pub end : new.end ≡ old.end
+  pub checksum : new.checksum ≡ old.checksum
+
+pub stands_same : (b w : List ℕ) (old new : Reading) → StandsBefore b old w → StaysAt old new → StandsBefore b new w
+stands_same b w old new s same = record {
+  reached = rw (same.file, same.at, same.end) s.reached;
+  window_is = rw same.at s.window_is;
+  checked = rw (same.checksum, same.end) s.checked;
+}
+
+-- the window reaches to the end of the bytes
+pub stands_length : (b w : List ℕ) (r : Reading) → StandsBefore b r w → length b ≡ r.at + length w
+stands_length b w r s =
+    omega (arith, (reached_within b r.file r.at r.end s.reached).0, length-drop r.at b, ap length s.window_is)
+
+pub stands_within : (b w : List ℕ) (r : Reading) → StandsBefore b r w → r.at ≤ r.end
+stands_within b w r s = (reached_within b r.file r.at r.end s.reached).1
+
+-- what is left of the data fits beside what was read
+pub stands_fits : (b w : List ℕ) (r : Reading) → StandsBefore b r w → data_size r.file.items + (r.end - r.at) < 2 ^ 32
+stands_fits b w r s = reached_fits b r.file r.at r.end s.reached
+
+-- a header has 14 bytes at most
+pub stands_end : (b w : List ℕ) (r : Reading) → StandsBefore b r w → r.end < 2 ^ 33
+stands_end b w r s =
+    let f = s.reached.front in
+    elim (header_length f.header f.frame f.size s.reached.is_front.is_header) [
+      | inl twelve ↦ omega (arith, s.reached.end_is, s.reached.fits)
+      | inr fourteen ↦ omega (arith, s.reached.end_is, s.reached.fits)
+    ]
+
+-- so many bytes more are before the end
+pub left_is : (fed : List ℕ) (r : Reading) (had : ℕ) → ReadsOn fed r → had ≡ length r.carry.items
+    → r.end - (r.at + had) ≡ r.end - length fed
+left_is fed r had reads e =
+    let carry = r.carry.items in
+    let long = stands_length fed (carry ++ r.closing.items) r reads.stands in
+    elim (cases_lt r.at r.end) [
+      | inl lt ↦ omega (arith, long, length-append carry r.closing.items, ap length (reads.within lt).0)
+      | inr le ↦ omega (arith, long)
+    ]
+
+-- with more bytes behind, the window has them too
+pub stands_longer : (b w x : List ℕ) (old new : Reading) (left : ℕ) → StandsBefore b old w → left ≡ old.end - length b
+    → new.file ≡ old.file → new.at ≡ old.at → new.end ≡ old.end
+    → new.checksum ≡ crc_from old.checksum (take (min left (length x)) x) → StandsBefore (b ++ x) new (w ++ x)
+stands_longer b w x old new left s e file at end checksum = record {
+  reached = rw (file, at, end) (reached_longer b x old.file old.at old.end s.reached);
+  window_is = rw at (window_longer b x old.file old.at old.end s.reached ∙ ap (λ (l : List ℕ). l ++ x) s.window_is);
+  checked = rw end (checksum ∙ checked_longer b x old.end left old.checksum s.checked e);
+}

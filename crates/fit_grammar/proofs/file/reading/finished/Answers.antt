@@ -1,0 +1,19 @@
+use Rattle.std.proofs.Common.{◌≡◌, ◌+◌, ◌++◌, length, arith}
+use Rattle.std.proofs.lemmas.List.{length-append}
+use Rattle.fit_grammar.proofs.Pieces.Standing.{stands_length}
+use Rattle.fit_grammar.proofs.Pieces.Told.{cut_fault}
+use Rattle.fit_grammar.proofs.file.reading.finished.Goals as goal
+
+pub returns-then-len-lt2-clause-refused : goal.returns-then-len-lt2-clause-refused
+returns-then-len-lt2-clause-refused c = λ fed reads.
+    let r = c.args.reading in
+    let place = r.at + c.len-then-len-lt2.result + c.len-then-len-lt2-2.result in
+    let there : place ≡ length fed = omega (
+      arith,
+      stands_length fed (r.carry.items ++ r.closing.items) r reads.stands,
+      length-append r.carry.items r.closing.items,
+      r.carry.ok.0,
+      c.len-then-len-lt2.ensures,
+      c.len-then-len-lt2-2.ensures.value,
+    ) in
+    rw c.fault.ensures (cut_fault fed place there (reads.cut (omega (arith, c.len.ensures.value))))

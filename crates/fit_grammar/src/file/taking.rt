@@ -1,0 +1,84 @@
+// Taking items into a file, from the front of a window.
+
+ghost use Rattle.std.specs.Prelude.{◌≡◌, ◌<◌, ◌≤◌, ◌+◌, ◌-◌, ◌↔◌, ◌^◌, ◌++◌, [], ℕ, List, length, drop, IfOk, OnErr, IfErr, IsTrue};
+ghost use Rattle.fit_grammar.specs.Format.Records.{in_force, data_size};
+ghost use Rattle.fit_grammar.specs.Calls.Pieces.{IsShownBy};
+ghost use Rattle.fit_grammar.specs.Private.Decoding.{TakesItem, IsItemFault, IsWholeLength, WindowShows};
+ghost use Rattle.fit_grammar.specs.Private.Feeding.{StandsBefore, TakesItems, GoesOnFrom, fault_in};
+
+use crate::definition::DefinitionMessage;
+use crate::file::reading::Reading;
+use crate::file::{FaultKind, File};
+use crate::item::ItemFault;
+use crate::item::first_byte::{Head, read_head};
+
+// Takes whole items, up to the end of the data or to an item that has only begun. Answers how many bytes they have.
+pub(crate) fn take_items(reading: &mut Reading, bytes: &[u8]) -> Result<usize, FaultKind>
+    requires stands { (b : List ℕ) × StandsBefore b reading.old (reading.old.closing.items ++ bytes.now) }
+    requires within { reading.old.at < reading.old.end → reading.old.closing.items ≡ [] }
+    ensures same { GoesOnFrom reading.old reading.new × (reading.new.carry ≡ reading.old.carry) }
+    ensures ok { (b : List ℕ) → StandsBefore b reading.old (reading.old.closing.items ++ bytes.now)
+        → IfOk result (λ used. (used ≤ length bytes.now) × TakesItems b reading.new (drop used bytes.now)) }
+    ensures err { (b : List ℕ) → StandsBefore b reading.old (reading.old.closing.items ++ bytes.now)
+        → IfErr result (λ kind. IsShownBy b (fault_in reading.new kind)) }
+{
+    let mut used = 0;
+    while reading.at < reading.end {
+        match take_item(&mut reading.file, &bytes[used..], reading.end - reading.at) {
+            Ok(own) => {
+                reading.at += own;
+                used += own;
+            }
+            Err(kind) => {
+                return if is_cut(kind) { Ok(used) } else { Err(kind) };
+            }
+        }
+    }
+    Ok(used)
+}
+
+// Takes the item at the front of the window into the file, with so much left of the data.
+pub(crate) fn take_item(file: &mut File, window: &[u8], left: usize) -> Result<usize, FaultKind>
+    requires fits { data_size file.old.items + left < 2 ^ 32 }
+    ensures taken { IfOk result (TakesItem file.old file.new window.now left) }
+    ensures fault { IfErr result (IsItemFault (in_force file.old.items) window.now left) }
+    ensures err { OnErr result (file.new ≡ file.old) }
+{
+    let used = whole_length(file, window, left)?;
+    match read_head(window[0]) {
+        Head::Definition(_) => {
+            let definition = DefinitionMessage::new(&window[..used]).read();
+            file.push_definition(&definition)?;
+        }
+        Head::Data(local, offset) => file.push_data(local, offset, &window[1..used])?,
+        Head::Developer => unreachable!(),
+    }
+    Ok(used)
+}
+
+// How many bytes the item at the front of the window has, where all of them are there. What its first bytes
+// show comes before the rest of it is waited for.
+fn whole_length(file: &File, window: &[u8], left: usize) -> Result<usize, FaultKind>
+    ensures whole { IfOk result (IsWholeLength (in_force file.now.items) window.now left) }
+    ensures shown { IfErr result (WindowShows (in_force file.now.items) window.now left) }
+{
+    let least = match file.least_length(window) {
+        Ok(least) => least,
+        Err(ItemFault::UndefinedLocal(local)) => return Err(FaultKind::UndefinedLocal(local)),
+        Err(ItemFault::Developer) => return Err(FaultKind::Developer),
+    };
+    if least > left {
+        return Err(FaultKind::SplitMessage);
+    }
+    if least > window.len() {
+        return Err(FaultKind::Truncated);
+    }
+    Ok(least)
+}
+
+// Whether the input ends too soon, which more bytes take back.
+pub(crate) fn is_cut(kind: FaultKind) -> bool
+    ensures { IsTrue result ↔ (kind ≡ FaultKind.Truncated) }
+{
+    kind == FaultKind::Truncated
+}
