@@ -1,4 +1,5 @@
--- What only private functions and proofs need. No public clause rests on a word of these.
+-- What only private functions and proofs need. No public clause rests on a word of these, but for `WasFed` and `IsOpen`
+-- of `Feeding`, which a caller of the decoder only hands on.
 pub mod FirstByte
 pub mod DefinitionBytes
 pub mod SizedDefinition

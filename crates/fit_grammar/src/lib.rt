@@ -5,7 +5,8 @@
 //! `Table` has these. `next_item` reads the item at the front of some bytes, and `message_of` makes the `Message` of a
 //! data message, with its time and its `Fields`. `write_definition` and `write_data` write items.
 //!
-//! `decode_file` reads a whole file into a `File`, or refuses it for what its shortest bad beginning shows. A `File` is
+//! `decode_file` reads a whole file into a `File`, or refuses it for what its shortest bad beginning shows. A `Decoder`
+//! does the same of a file that comes in pieces, wherever they are cut: it is fed one after another. A `File` is
 //! also built item by item. Its messages are lent one after another, or its items where they stand (`FileItem`), and
 //! `encode_file` writes it:
 //!

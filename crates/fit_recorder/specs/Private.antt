@@ -3,6 +3,7 @@ pub mod OneMessage
 pub mod Spelled
 pub mod State
 pub mod RecordingFiles
+pub mod ItemRead
 pub mod BodyRead
 pub mod Begun
 pub mod BodyHeard

@@ -1,4 +1,4 @@
--- Bytes with more behind them: what was shown of the first ones is shown of all, and what was read of them was read of all.
+-- Bytes with more behind them: what the first ones show, all show; and what was read of them was read of all.
 use Rattle.std.proofs.Common.{◌≡◌, ℕ, ◌+◌, ◌-◌, ◌≤◌, min, List, ◌++◌, length, take, drop, refl, sym, ap, subst, ◌∙◌, append_assoc, arith, inl, inr}
 use Rattle.std.proofs.lemmas.Bool.{cases_lt}
 use Rattle.std.proofs.lemmas.List.{length-append, take-append-le, drop-append-le, take_all, take_min}

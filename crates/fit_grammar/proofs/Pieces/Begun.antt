@@ -1,8 +1,7 @@
 -- The header of a file that comes in pieces, and where a reading begins behind it.
 use Rattle.std.proofs.Common.{◌≡◌, ℕ, ◌+◌, ◌-◌, ◌<◌, ◌≤◌, ◌^◌, List, [], ◌++◌, length, take, drop, refl, sym, ap, subst, ◌∙◌, arith, inl, inr}
-use Rattle.std.specs.Prelude.{slice_index}
 use Rattle.std.proofs.lemmas.Bool.{cases_lt}
-use Rattle.std.proofs.lemmas.List.{length-append, length-take, length-take-le, take-append-drop, take-take, take_all, drop_all, get_or_append_left, get_or-take}
+use Rattle.std.proofs.lemmas.List.{length-append, length-take, length-take-le, take-append-drop, take-take, take_all, drop_all}
 use Rattle.std.proofs.Math.Seq.{drop-append-add}
 use Rattle.fit_base.specs.Checksum.{crc}
 use Rattle.fit_grammar.specs.declared.file.fault.FaultKind.{FaultKind}
@@ -43,26 +42,9 @@ header_shown bytes taken fault e r whole =
 
 -- ---- a header that is whole, of which some bytes came before this piece
 
--- it has 12 or 14 bytes
-size_within : (taken : List ℕ) (h : Header) → BeginsWith taken h → (1 ≤ h.frame.header_size) × (h.frame.header_size ≤ 14)
-size_within taken h p =
-    elim p.is_header.is_frame.size [ inl e ↦ (omega arith, omega arith) | inr e ↦ (omega arith, omega arith) ]
-
--- fewer came before, since they did not show it
-pub had_within : (fed bytes taken : List ℕ) (h : Header) → taken ≡ take 14 (fed ++ bytes) → IsShort fed → BeginsWith taken h
-    → length fed ≤ h.frame.header_size
-had_within fed bytes taken h e (few, inl none) p = omega arith
-had_within fed bytes taken h e (few, inr short) p =
-    let size = h.frame.header_size in
-    elim (cases_lt 0 (length fed)) [
-      | inl some ↦
-          let first : slice_index taken 0 ≡ slice_index fed 0 = ap (λ (l : List ℕ). slice_index l 0) e
-          ∙ get_or-take 14 (fed ++ bytes) 0 0 (omega arith) ∙ get_or_append_left fed bytes 0 0 some in
-          let own : slice_index taken 0 ≡ size =
-          sym (get_or-take size taken 0 0 (omega (arith, (size_within taken h p).0))) ∙ p.is_header.header_size in
-          omega arith
-      | inr none ↦ omega arith
-    ]
+-- it has 14 bytes at most
+size_within : (taken : List ℕ) (h : Header) → BeginsWith taken h → h.frame.header_size ≤ 14
+size_within taken h p = elim p.is_header.is_frame.size [ inl e ↦ omega arith | inr e ↦ omega arith ]
 
 -- the rest of it is in this piece
 pub header_long : (fed bytes taken : List ℕ) (h : Header) → taken ≡ take 14 (fed ++ bytes) → BeginsWith taken h
@@ -77,7 +59,7 @@ header_parts fed bytes taken rest h had long e p le is =
     let size = h.frame.header_size in
     let all = fed ++ bytes in
     let front : take size taken ≡ take size all = ap (λ (l : List ℕ). take size l) e
-    ∙ take-take size 14 all ((size_within taken h p).1) in
+    ∙ take-take size 14 all (size_within taken h p) in
     let goes : length fed + (size - had) ≡ size = omega arith in
     let back : drop size all ≡ rest = ap (λ (n : ℕ). drop n all) (sym goes)
     ∙ drop-append-add fed bytes (size - had) ∙ sym is in

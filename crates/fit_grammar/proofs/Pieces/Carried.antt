@@ -1,4 +1,4 @@
--- The item that the end of a piece cut: with bytes of the next piece behind it, it is whole, or shows a fault, or is still cut.
+-- The item that a piece's end cut: with bytes of the next one it is whole, or shows a fault, or is still cut.
 use Rattle.std.proofs.Common.{◌≡◌, ℕ, ◌+◌, ◌-◌, ◌<◌, ◌≤◌, min, List, [], ◌∷◌, ◌++◌, length, take, drop, Option, Some, None, refl, sym, ap, subst, ◌∙◌, append_assoc, arith, inl, inr}
 use Rattle.std.specs.Prelude.{slice_index, IfOk}
 use Rattle.std.proofs.lemmas.Bool.{cases_lt}

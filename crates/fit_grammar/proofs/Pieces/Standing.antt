@@ -6,7 +6,6 @@ use Rattle.fit_base.specs.Checksum.{crc_from}
 use Rattle.fit_grammar.specs.declared.file.reading.Reading.{Reading}
 use Rattle.fit_grammar.specs.Format.Records.{data_size}
 use Rattle.fit_grammar.specs.Private.Feeding.{StandsBefore, ReadsOn}
-use Rattle.fit_grammar.proofs.Decoding.Headers.{header_length}
 use Rattle.fit_grammar.proofs.Decoding.Reached.{reached_fits}
 use Rattle.fit_grammar.proofs.Decoding.Longer.{reached_within, reached_longer, window_longer, checked_longer}
 
@@ -35,15 +34,6 @@ stands_within b w r s = (reached_within b r.file r.at r.end s.reached).1
 -- what is left of the data fits beside what was read
 pub stands_fits : (b w : List ℕ) (r : Reading) → StandsBefore b r w → data_size r.file.items + (r.end - r.at) < 2 ^ 32
 stands_fits b w r s = reached_fits b r.file r.at r.end s.reached
-
--- a header has 14 bytes at most
-pub stands_end : (b w : List ℕ) (r : Reading) → StandsBefore b r w → r.end < 2 ^ 33
-stands_end b w r s =
-    let f = s.reached.front in
-    elim (header_length f.header f.frame f.size s.reached.is_front.is_header) [
-      | inl twelve ↦ omega (arith, s.reached.end_is, s.reached.fits)
-      | inr fourteen ↦ omega (arith, s.reached.end_is, s.reached.fits)
-    ]
 
 -- so many bytes more are before the end
 pub left_is : (fed : List ℕ) (r : Reading) (had : ℕ) → ReadsOn fed r → had ≡ length r.carry.items

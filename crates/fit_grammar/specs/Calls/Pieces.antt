@@ -9,8 +9,8 @@ use Rattle.fit_grammar.specs.Format.Refusal.{Shows, IsShortestShown, Refusal, It
 abbrev pub ShowsNothing : List ℕ → Type 0
 ShowsNothing bytes = (n : ℕ) (kind : FaultKind) (place : ℕ) → n ≤ length bytes → Shows kind place (take n bytes) → ⊥
 
--- the shortest beginning of the bytes that shows a fault shows this one; or it is want of memory, at an item that begins
--- at or before the refusal's place
+-- the shortest beginning of the bytes that shows a fault shows this one; or it is want of memory, at an item that
+-- begins at or before the refusal's place
 abbrev pub IsShownBy : List ℕ → FileFault → Type 0
 IsShownBy bytes fault =
     ((fault.kind ≢ Memory) × IsShortestShown bytes fault.kind fault.place)

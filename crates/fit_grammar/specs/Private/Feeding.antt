@@ -16,7 +16,7 @@ use Rattle.fit_grammar.specs.Calls.Pieces.{ShowsNothing, IsShownBy}
 use Rattle.fit_grammar.specs.Calls.Step.{ItemBegun}
 use Rattle.fit_grammar.specs.Private.Decoding.{Reached, IsShort, BeginsWith, TakesItem, IsItemFault}
 
--- behind the items that were read of these bytes the window stands, and the checksum runs over the bytes before the closing one
+-- behind the items that were read of these bytes the window stands, and the checksum runs over what it has to
 pub record StandsBefore (bytes : List ℕ) (r : Reading) (window : List ℕ) : Type 0 where
   pub reached : Reached bytes r.file r.at r.end
   pub window_is : drop r.at bytes ≡ window

@@ -1,6 +1,6 @@
 // The item that the end of a piece cuts: its bytes are carried over to the next piece.
 
-ghost use Rattle.std.specs.Prelude.{◌≡◌, ◌<◌, ◌≤◌, ◌+◌, ◌-◌, ◌^◌, ◌++◌, [], ℕ, List, length, take, slice_index_or, IfOk, OnOk, OnErr, IfErr};
+ghost use Rattle.std.specs.Prelude.{◌≡◌, ◌<◌, ◌≤◌, ◌+◌, ◌-◌, ◌^◌, ◌++◌, [], ℕ, List, length, take, slice_index_or, IfOk, OnOk, IfErr};
 ghost use Rattle.fit_grammar.specs.Format.Records.{in_force, data_size};
 ghost use Rattle.fit_grammar.specs.Calls.Pieces.{IsShownBy};
 ghost use Rattle.fit_grammar.specs.Calls.Step.{ItemBegun, least_length_of};

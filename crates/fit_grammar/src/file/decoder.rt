@@ -14,7 +14,9 @@ use arrayvec::ArrayVec;
 use std::alloc::Global;
 use std::marker::Model;
 
-/// Reads a file that comes in pieces. Where the pieces are cut makes no difference to what is read or refused.
+/// Reads a file that comes in pieces. What it answers is what `decode_file` answers of all of them joined, wherever
+/// they are cut. Contracts say by `WasFed` which bytes these are; a caller hands that on from call to call, and never
+/// looks into it.
 #[derive(Drop)]
 pub struct Decoder {
     alloc: Global,

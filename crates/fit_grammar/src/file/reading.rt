@@ -1,6 +1,6 @@
-// A file behind its header, read piece by piece: whole items where they stand, and what the end of a piece cuts over a carry.
+// A file behind its header, read piece by piece: whole items where they stand, and a cut one over the carry.
 
-ghost use Rattle.std.specs.Prelude.{◌≡◌, ◌<◌, ◌≤◌, ◌+◌, ◌^◌, ◌++◌, [], ℕ, List, length, IfOk, OnOk, IfErr};
+ghost use Rattle.std.specs.Prelude.{◌≡◌, ◌<◌, ◌≤◌, ◌^◌, ◌++◌, [], ℕ, List, length, IfOk, OnOk, IfErr};
 ghost use Rattle.fit_grammar.specs.Format.Records.{in_force};
 ghost use Rattle.fit_grammar.specs.Format.File.{FileOf};
 ghost use Rattle.fit_grammar.specs.Format.Refusal.{IsFaultOf};
@@ -56,7 +56,8 @@ pub(crate) fn begun(alloc: Global, header: &[u8], found: Header) -> Reading
 // Reads on.
 pub(crate) fn read_on(reading: &mut Reading, bytes: &[u8]) -> Result<(), FileFault>
     requires { (fed : List ℕ) × ReadsOn fed reading.old }
-    ensures ok { (fed : List ℕ) → ReadsOn fed reading.old → OnOk result (ReadsOn (fed ++ bytes.now) reading.new) }
+    ensures ok { (fed : List ℕ) → ReadsOn fed reading.old
+        → OnOk result (ReadsOn (fed ++ bytes.now) reading.new) }
     ensures err { (fed : List ℕ) → ReadsOn fed reading.old → IfErr result (IsShownBy (fed ++ bytes.now)) }
 {
     add_checksum(reading, bytes);
@@ -83,7 +84,8 @@ fn take_bytes(reading: &mut Reading, bytes: &[u8]) -> Result<(), FaultKind>
     requires stands { (b : List ℕ)
         × StandsBefore b reading.old (reading.old.carry.items ++ reading.old.closing.items ++ bytes.now) }
     requires within { reading.old.at < reading.old.end
-        → (reading.old.closing.items ≡ []) × ItemBegun (in_force reading.old.file.items) reading.old.carry.items }
+        → (reading.old.closing.items ≡ [])
+        × ItemBegun (in_force reading.old.file.items) reading.old.carry.items }
     requires behind { reading.old.end ≤ reading.old.at → reading.old.carry.items ≡ [] }
     ensures ok { (b : List ℕ)
         → StandsBefore b reading.old (reading.old.carry.items ++ reading.old.closing.items ++ bytes.now)

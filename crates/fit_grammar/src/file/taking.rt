@@ -1,6 +1,6 @@
 // Taking items into a file, from the front of a window.
 
-ghost use Rattle.std.specs.Prelude.{◌≡◌, ◌<◌, ◌≤◌, ◌+◌, ◌-◌, ◌↔◌, ◌^◌, ◌++◌, [], ℕ, List, length, drop, IfOk, OnErr, IfErr, IsTrue};
+ghost use Rattle.std.specs.Prelude.{◌≡◌, ◌<◌, ◌≤◌, ◌+◌, ◌↔◌, ◌^◌, ◌++◌, [], ℕ, List, length, drop, IfOk, OnErr, IfErr, IsTrue};
 ghost use Rattle.fit_grammar.specs.Format.Records.{in_force, data_size};
 ghost use Rattle.fit_grammar.specs.Calls.Pieces.{IsShownBy};
 ghost use Rattle.fit_grammar.specs.Private.Decoding.{TakesItem, IsItemFault, IsWholeLength, WindowShows};

@@ -1,4 +1,4 @@
-// Bodies made by hand behind a start, which a recovery reads item by item from the device.
+// Bodies made by hand behind a start, which a recovery reads window by window from the device.
 
 ghost use Rattle.std.specs.Prelude.{◌≤◌};
 
@@ -80,6 +80,36 @@ fn an_item_that_passes_the_end_is_broken(rt: HostRuntime) -> Result<(), Fail> {
     for (len, front, samples) in cases {
         finds(&rt, rt.alloc(), &body, 72 + front, samples, 0)?;
         assert!(rt; is_damaged(&rt, &body, 72 + len)?, "of {len}");
+    }
+    Ok(())
+}
+
+// A definition that nothing uses moves the records along, so that each of their bytes stands at an end of a window.
+#[test]
+fn items_stand_across_two_windows(rt: HostRuntime) -> Result<(), Fail> {
+    // A record's definition with a time, a heart rate and a cadence, and two hundred records of seven bytes.
+    let mut samples = Vec::new(rt.alloc());
+    let mut records = RECORDS[..12].to_vec(rt.alloc())?;
+    records[5] = 3;
+    records.extend_from_slice(&[4, 1, 2])?;
+    for second in 0..200 {
+        let sample = Sample {
+            heart_rate: Some(100),
+            cadence: Some(80),
+            ..Sample::new(TIME + second)
+        };
+        samples.push(Entry::Sample(sample))?;
+        records.push(0)?;
+        records.extend_from_slice(&(TIME + second).to_le_bytes())?;
+        records.extend_from_slice(&[100, 80])?;
+    }
+    let mut unused = [0; 24];
+    unused[..5].copy_from_slice(&[0x43, 0, 0, 0x14, 0]);
+    for fields in 0..=6 {
+        unused[5] = fields;
+        let mut body = body_of(&rt, &START_RECORDS, &unused[..6 + 3 * usize::from(fields)])?;
+        body.extend_from_slice(&records)?;
+        finds(&rt, rt.alloc(), &body, body.len(), &samples, 199_000)?;
     }
     Ok(())
 }

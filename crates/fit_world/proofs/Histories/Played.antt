@@ -3,14 +3,13 @@ use Rattle.std.proofs.Common.{◌≡◌, ◌<◌, ◌≤◌, ◌+◌, ℕ, Bool,
 use Rattle.std.specs.Prelude.{IsTrue}
 use Rattle.std.proofs.lemmas.List.{drop_more, drop_all, append-nil}
 use Rattle.fit_disk.specs.Story.{Story}
-use Rattle.fit_world.specs.declared.command.Command.{Command}
 use Rattle.fit_world.specs.declared.event.Event.{Event}
 use Rattle.fit_world.specs.declared.reply.Reply.{Reply}
 use Rattle.fit_world.specs.declared.ride.Ride.{Ride}
 use Rattle.fit_world.specs.declared.ride.Ride.TheVariants as rides
 use Rattle.fit_world.specs.Histories.Claims.{Claim}
 use Rattle.fit_world.specs.Histories.Table.{History, Idle, Step, ended}
-use Rattle.fit_world.specs.Rides.Played.{GoesTo, Leaves, LeavesBehind, BreaksOff}
+use Rattle.fit_world.specs.Rides.Played.{GoesTo, LeavesBehind, BreaksOff}
 use Rattle.fit_world.specs.Rides.Standing.{StandsIn, GoesBy, Rests, content_of, told}
 
 -- one step more
