@@ -60,7 +60,6 @@ module _ (list : List Recorded) (promise : ℕ) where
       (Tells (Riding list (length list) false) nothing_arranged rest tolds → RodeWell list rest tolds) →
       RodeWell list (commands.Commit ∷ rest) (told ∷ tolds)
   commit_done Done after rest tolds step may room tells goes = goes (subst (λ h. Tells h nothing_arranged rest tolds) step tells)
-  commit_done (Fault faults.JournalFull) after rest tolds step may room tells goes = absurd (true≢false room)
   commit_done (Fault faults.Device) after rest tolds step may room tells goes = no_failure may
   commit_done told after rest tolds step may room tells goes = absurd step
 

@@ -11,10 +11,13 @@ use Rattle.fit_disk.specs.declared.disk.Which.TheVariants.{Data}
 use Rattle.fit_disk.specs.State.{LeavesOnly}
 use Rattle.fit_disk.specs.Story.{Story, Throughout, seen_of}
 use Rattle.fit_disk.proofs.Moments.{at_end}
+use Rattle.fit_journal.specs.declared.slots.Slots.{Slots}
+use Rattle.fit_journal.specs.declared.slots.Slots.TheVariants.{InRow, InTurns}
+use Rattle.fit_journal.specs.Turn.{slots_left}
 use Rattle.fit_recorder.specs.declared.fault.RecFault.{RecFault}
 use Rattle.fit_recorder.specs.declared.fault.RecFault.TheVariants.{NotEmpty, Refused, Full, JournalFull, Device, Failed, NothingRecorded, Damaged}
 use Rattle.fit_recorder.specs.declared.recorder.Recorder.{Recorder}
-use Rattle.fit_recorder.specs.Calls.Answers.{HandAnswers, CommitAnswers, StopAnswers}
+use Rattle.fit_recorder.specs.Calls.Answers.{HandAnswers, CommitAnswers, IsLastSlot, StopAnswers}
 use Rattle.fit_recorder.specs.Files.Body.{StandsFor}
 use Rattle.fit_recorder.specs.Files.Finished.{IsFinished}
 use Rattle.fit_recorder.specs.Calls.Recorder.{StandsAt, WasHanded, HasEnded, disk_of, has_failed, data_len, journal_slots}
@@ -57,6 +60,11 @@ entry_step before after (Pause time) answer other step = step
 entry_step before after (Resume time) answer other step = step
 entry_step before after (Stop time) answer other step = absurd (true≢false other)
 
+-- slots that take turns have no last one
+never_full : {A : Type 0} (slots : Slots) → slots_left slots ≡ None → IsLastSlot slots → A
+never_full (InRow slots) turns last = absurd cc
+never_full (InTurns first second) turns last = absurd last
+
 module _ {D : Type 0} (honest : Bool) (story : D → Story) where
   -- no recorder runs behind it
   pub idle_goes : (before : History) (command : Command) (reply : Reply) (disk : D) → GoesIdle (λ after. Step before command (told reply (seen_of Data (story disk))) after) (story disk)
@@ -66,12 +74,12 @@ module _ {D : Type 0} (honest : Bool) (story : D → Story) where
   -- a recorder has begun
   pub started_goes : (before : History) (start : Start) (recorder : Recorder D) → has_none (claims_of before) ≡ true → start_refusal start ≡ None
       → StandsAt honest story recorder (Started start ∷ []) (Started start ∷ []) → has_failed recorder ≡ false
-      → GoesBy honest story before (commands.Start start) replies.Done (rides.Riding recorder)
-  started_goes before start recorder none allowed stands going =
+      → slots_left (journal_slots recorder) ≡ None → GoesBy honest story before (commands.Start start) replies.Done (rides.Riding recorder)
+  started_goes before start recorder none allowed stands going turns =
       record {
         after = Riding (Started start ∷ []) 1 false;
         step = (none, allowed, refl);
-        stands = record { committed = Started start ∷ []; rest = []; begins = refl; promised = refl; stands = stands; going = going; no_stop = refl };
+        stands = record { committed = Started start ∷ []; rest = []; begins = refl; promised = refl; stands = stands; going = going; no_stop = refl; turns = turns };
       }
 
   -- what is left of a ride is left of it when it has ended
@@ -114,7 +122,7 @@ module _ {D : Type 0} (honest : Bool) (story : D → Story) where
 
     -- ---- an entry that is no stop
 
-    module _ (entry : Entry) (other : is_stop (Added entry) ≡ false)
+    module _ (entry : Entry) (other : is_stop (Added entry) ≡ false) (slots : journal_slots new ≡ journal_slots old)
         (answers : (list : List Recorded) → WasHanded old list → has_failed old ≡ false → HandAnswers list (data_len old) entry result)
         (ok : (list committed : List Recorded) → StandsAt honest story old list committed → OnOk result ((has_failed new ≡ false) × StandsAt honest story new (list ++ Added entry ∷ []) committed))
         (moments : (list committed : List Recorded) → StandsAt honest story old list committed → Throughout (StandsFor committed) (story (disk_of old)) (story (disk_of new))) where
@@ -156,6 +164,7 @@ module _ {D : Type 0} (honest : Bool) (story : D → Story) where
               stands = now.1;
               going = now.0;
               no_stop = has_stopped-push list (Added entry) ∙ other;
+              turns = ap slots_left slots ∙ on.turns;
             };
           }
       hand_on list promise on (Err fault) is = hand_refused list promise on fault is (rw is at answers list on.stands.totals on.going)
@@ -169,12 +178,13 @@ module _ {D : Type 0} (honest : Bool) (story : D → Story) where
     -- ---- a commit
 
     module _ (answers : (list : List Recorded) → WasHanded old list → has_failed old ≡ false → CommitAnswers list (journal_slots old) result)
+        (turns : slots_left (journal_slots old) ≡ None → OnOk result (slots_left (journal_slots new) ≡ None))
         (ok : (list committed : List Recorded) → StandsAt honest story old list committed → OnOk result ((has_failed new ≡ false) × StandsAt honest story new list list))
         (moments : (list committed : List Recorded) → StandsAt honest story old list committed → Throughout (λ c. StandsFor committed c ⊎ StandsFor list c) (story (disk_of old)) (story (disk_of new))) where
       commit_refused : (list : List Recorded) (promise : ℕ) → RidesOn honest story old list promise → (fault : RecFault) → result ≡ Err fault → CommitAnswers list (journal_slots old) (Err fault)
           → GoesBy honest story (Riding list promise false) commands.Commit (replies.Refused fault) (rides.Riding new)
       commit_refused list promise on (Refused refusal) is stopped = absurd (true≢false (sym stopped.1 ∙ on.no_stop))
-      commit_refused list promise on JournalFull is full = kept_goes list promise commands.Commit JournalFull is (λ device. absurd cc) on refl
+      commit_refused list promise on JournalFull is full = never_full (journal_slots old) on.turns full.1
       commit_refused list promise on Device is none =
           record {
             after = Riding list promise true;
@@ -198,7 +208,7 @@ module _ {D : Type 0} (honest : Bool) (story : D → Story) where
           record {
             after = Riding list (length list) false;
             step = refl;
-            stands = record { committed = list; rest = []; begins = sym (append-nil list); promised = refl; stands = now.1; going = now.0; no_stop = on.no_stop };
+            stands = record { committed = list; rest = []; begins = sym (append-nil list); promised = refl; stands = now.1; going = now.0; no_stop = on.no_stop; turns = rw is at turns on.turns };
           }
       commit_on list promise on (Err fault) is = commit_refused list promise on fault is (rw is at answers list on.stands.totals on.going)
 

@@ -5,6 +5,7 @@ use Rattle.fit_disk.specs.Cycle.{cycled, left_by, taken_by}
 use Rattle.fit_disk.specs.Memory.{memory_story}
 use Rattle.fit_disk.specs.State.{State, Contents, BothLeft, LeavesOnly, seen_in}
 use Rattle.fit_disk.proofs.Leaving.{rest_left}
+use Rattle.fit_journal.specs.Turn.{slots_left}
 use Rattle.fit_recorder.specs.declared.recorder.Recorder.{Recorder}
 use Rattle.fit_recorder.specs.Calls.OnMemory.{StandsAsBefore}
 use Rattle.fit_world.specs.declared.ride.Ride.TheVariants as rides
@@ -23,6 +24,7 @@ same_stands old new same (Riding list promise false) stands = record {
   stands = same.stands list stands.committed stands.stands;
   going = same.failed ∙ stands.going;
   no_stop = stands.no_stop;
+  turns = ap slots_left same.slots ∙ stands.turns;
 }
 same_stands old new same (Riding list promise true) stands =
     (same.failed ∙ stands.0, subst (λ story. Rests (Riding list promise true) story) (sym same.story) stands.1)

@@ -5,7 +5,7 @@ use Rattle.fit_activity.specs.declared.recording.entry.Entry.TheVariants.{Stop}
 use Rattle.fit_activity.specs.declared.recording.start.Start.{Start}
 use Rattle.fit_activity.specs.Rides.Recording.{Recorded, Started, Added}
 use Rattle.fit_activity.specs.Rides.Refusal.{refusal_of, start_refusal}
-use Rattle.fit_recorder.specs.declared.fault.RecFault.TheVariants.{Full, JournalFull}
+use Rattle.fit_recorder.specs.declared.fault.RecFault.TheVariants.{Full}
 use Rattle.fit_world.specs.declared.answer.Answer.{Answer}
 use Rattle.fit_world.specs.declared.command.Command.{Command}
 use Rattle.fit_world.specs.declared.command.Command.TheVariants as commands
@@ -28,10 +28,9 @@ RodeWell list (commands.Entry (Stop time) ∷ rest) (Stopped file ∷ tolds) = I
 RodeWell list (commands.Entry entry ∷ rest) (Done ∷ tolds) = RodeWell (list ++ Added entry ∷ []) rest tolds
 RodeWell list _ _ = ⊥
 
--- no room, or no slot of the journal, was left
+-- no room was left
 abbrev pub is_full : Told → Bool
 is_full (Fault Full) = true
-is_full (Fault JournalFull) = true
 is_full _ = false
 
 abbrev pub HadRoom : List Answer → Type 0

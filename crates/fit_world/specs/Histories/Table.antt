@@ -10,7 +10,7 @@ use Rattle.fit_activity.specs.Rides.Recording.{Recorded, Started, Added}
 use Rattle.fit_activity.specs.Rides.Refusal.{Allowed, refusal_of, start_refusal}
 use Rattle.fit_activity.specs.Messages.RideMessages.{spoken, closing}
 use Rattle.fit_recorder.specs.declared.fault.RecFault.{RecFault}
-use Rattle.fit_recorder.specs.declared.fault.RecFault.TheVariants.{NotEmpty, Refused, Full, JournalFull, Device, Failed, NothingRecorded}
+use Rattle.fit_recorder.specs.declared.fault.RecFault.TheVariants.{NotEmpty, Refused, Full, Device, Failed, NothingRecorded}
 use Rattle.fit_world.specs.declared.command.Command.{Command}
 use Rattle.fit_world.specs.declared.command.Command.TheVariants as commands
 use Rattle.fit_world.specs.Histories.Claims.{Claim, claim_of, no_claim, whole, has_none, MayBe, with_start}
@@ -73,7 +73,6 @@ HandStep before entry _ after = ⊥
 abbrev pub CommitStep : History → Told → History → Type 0
 CommitStep (Idle claims begun) NoRecorder after = after ≡ Idle claims begun
 CommitStep (Riding list promise false) Done after = after ≡ Riding list (length list) false
-CommitStep (Riding list promise false) (Fault JournalFull) after = after ≡ Riding list promise false
 CommitStep (Riding list promise false) (Fault Device) after = after ≡ Riding list promise true
 CommitStep (Riding list promise true) (Fault Failed) after = after ≡ Riding list promise true
 CommitStep before _ after = ⊥

@@ -1,16 +1,17 @@
 -- Where a ride stands in a history: what its disk may hold, and what a power cut may leave of it.
-use Rattle.std.specs.Prelude.{◌≡◌, ◌⊎◌, ℕ, Bool, true, false, IsTrue, List, [], ◌++◌, length}
+use Rattle.std.specs.Prelude.{◌≡◌, ◌⊎◌, ℕ, Bool, true, false, IsTrue, List, [], ◌++◌, length, None}
 use Rattle.fit_activity.specs.Rides.Recording.{Recorded}
 use Rattle.fit_activity.specs.Rides.Refusal.{has_stopped}
 use Rattle.fit_disk.specs.Counts.{Counts, HasFailed}
 use Rattle.fit_disk.specs.State.{Contents, LeavesOnly}
 use Rattle.fit_disk.specs.Story.{Story, seen_of}
 use Rattle.fit_disk.specs.declared.disk.Which.TheVariants.{Data}
+use Rattle.fit_journal.specs.Turn.{slots_left}
 use Rattle.fit_recorder.specs.declared.fault.RecFault.TheVariants.{Device}
 use Rattle.fit_recorder.specs.declared.recorder.Recorder.{Recorder}
 use Rattle.fit_recorder.specs.Files.NothingRecorded.{IsNothing}
 use Rattle.fit_recorder.specs.Files.Body.{StandsFor}
-use Rattle.fit_recorder.specs.Calls.Recorder.{StandsAt, disk_of, has_failed}
+use Rattle.fit_recorder.specs.Calls.Recorder.{StandsAt, disk_of, has_failed, journal_slots}
 use Rattle.fit_world.specs.declared.command.Command.{Command}
 use Rattle.fit_world.specs.declared.reply.Reply.{Reply}
 use Rattle.fit_world.specs.declared.reply.Reply.TheVariants as replies
@@ -53,7 +54,7 @@ module _ {D : Type 0} where
   content_of story (rides.Idle disk) = seen_of Data (story disk)
   content_of story (rides.Riding recorder) = []
 
-  -- the recorder was handed this list, in which no stop is, and so many of its entries are committed
+  -- the recorder was handed this list, in which no stop is, and so many of its entries are committed, in slots that take turns
   pub record RidesOn (honest : Bool) (story : D → Story) (recorder : Recorder D) (list : List Recorded) (promise : ℕ) : Type 0 where
     pub committed : List Recorded
     pub rest : List Recorded
@@ -62,6 +63,7 @@ module _ {D : Type 0} where
     pub stands : StandsAt honest story recorder list committed
     pub going : has_failed recorder ≡ false
     pub no_stop : has_stopped list ≡ false
+    pub turns : slots_left (journal_slots recorder) ≡ None
 
   abbrev pub StandsIn : Bool → (D → Story) → Ride D → History → Type 0
   StandsIn honest story (rides.Idle disk) (Idle claims begun) = Rests (Idle claims begun) (story disk)

@@ -28,4 +28,4 @@ returns-in-Riding-clause-step g c honest before stands =
     let done = c.commit.ensures in
     rw c.into.ensures
     (commit_goes g.D.Disk.honest g.D.Disk.story c.in-Riding.recorder c.commit.new.self c.commit.result done.behind.same done.behind.failed done.behind.gone
-    done.answers done.ok (done.any_moment honest) before here)
+    done.answers done.turns done.ok (done.any_moment honest) before here)

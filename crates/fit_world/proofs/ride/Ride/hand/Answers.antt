@@ -23,7 +23,7 @@ returns-in-Riding-clause-step g c honest before stands =
     let here = rw c.in-Riding.is at stands in
     let done = c.hand.ensures in
     rw c.into.ensures
-    (hand_goes g.D.Disk.honest g.D.Disk.story c.in-Riding.recorder c.hand.new.self c.hand.result done.behind.same done.behind.failed done.behind.gone c.args.entry.now c.requires.no_stop
+    (hand_goes g.D.Disk.honest g.D.Disk.story c.in-Riding.recorder c.hand.new.self c.hand.result done.behind.same done.behind.failed done.behind.gone c.args.entry.now c.requires.no_stop done.slots
     done.answers done.ok (done.any_moment honest) before here)
 
 pub returns-in-Riding-clause-counted : goal.returns-in-Riding-clause-counted

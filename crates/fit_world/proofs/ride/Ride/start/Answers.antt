@@ -7,7 +7,7 @@ pub returns-in-Ok-clause-step : goal.returns-in-Ok-clause-step
 returns-in-Ok-clause-step g c honest before stands =
     let begun = c.in-Ok.ensures in
     started_goes g.D.Disk.honest g.D.Disk.story before c.args.start c.in-Ok.recorder
-    (empty_there before (g.D.Disk.story c.into_disk.result) (c.into_disk.ensures.rests honest before stands) (g.met.D.Disk.sound c.into_disk.result honest) (begun.empty honest)) begun.answers begun.ok.1 begun.ok.0
+    (empty_there before (g.D.Disk.story c.into_disk.result) (c.into_disk.ensures.rests honest before stands) (g.met.D.Disk.sound c.into_disk.result honest) (begun.empty honest)) begun.answers begun.ok.1 begun.ok.0 begun.turns
 
 pub returns-in-Err-clause-step : goal.returns-in-Err-clause-step
 returns-in-Err-clause-step g c honest before stands =
