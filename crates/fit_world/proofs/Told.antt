@@ -4,3 +4,4 @@ pub mod Replies
 pub mod Replayed
 pub mod Printed
 pub mod Reading
+pub mod Inputs

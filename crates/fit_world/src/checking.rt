@@ -1,23 +1,53 @@
-// Whether the file that bytes are is an activity, and what it says of itself.
+// Whether a file is an activity, and what it says of itself.
 
+ghost use Rattle.std.specs.Prelude.{◌≡◌, List, ℕ, Err};
+ghost use Rattle.fit_grammar.specs.Format.File.{FileOf};
+ghost use Rattle.fit_world.specs.declared.fault.TellFault.TheVariants.{Input};
+ghost use Rattle.fit_world.specs.declared.reading.ReadFault.{ReadFault};
+ghost use Rattle.fit_world.specs.Calls.Reading.{TellsInput};
 ghost use Rattle.fit_world.specs.Printed.Checked.{ChecksBytes};
 
+use crate::decoding::decode_input;
 use crate::fault::TellFault;
 use crate::printing::print_summary;
 use fit_activity::check_activity;
-use fit_grammar::decode_file;
+use fit_grammar::{File, decode_file};
 use std::alloc::Global;
-use std::io::Write;
+use std::io::{Read, Write};
+
+/// Checks the file that an input is, which has this many bytes at most, and prints what its first session says. Nothing is
+/// written unless it is an activity.
+pub fn check_input<T: Read, O: Write>(
+    alloc: Global,
+    from: &mut T,
+    most: usize,
+    out: &mut O,
+) -> Result<(), TellFault>
+    ensures checked { TellsInput most (T.remaining from.old) (T.remaining from.new)
+        (ChecksBytes (O.contents out.old) (O.contents out.new)) result }
+    ensures quiet { (why : ReadFault) → result ≡ Err (Input why) → O.contents out.new ≡ O.contents out.old }
+{
+    match decode_input(alloc, from, most) {
+        Ok(file) => check(&file, out),
+        Err(fault) => Err(fault),
+    }
+}
 
 /// Checks the file that these bytes are, and prints what its first session says. Nothing is written unless it is an activity.
 pub fn check_bytes<O: Write>(alloc: Global, bytes: &[u8], out: &mut O) -> Result<(), TellFault>
     ensures { ChecksBytes (O.contents out.old) (O.contents out.new) bytes.now result }
 {
-    let file = match decode_file(alloc, bytes) {
-        Ok(file) => file,
-        Err(fault) => return Err(TellFault::File(fault)),
-    };
-    match check_activity(&file) {
+    match decode_file(alloc, bytes) {
+        Ok(file) => check(&file, out),
+        Err(fault) => Err(TellFault::File(fault)),
+    }
+}
+
+fn check<O: Write>(file: &File, out: &mut O) -> Result<(), TellFault>
+    ensures { (bytes : List ℕ) → FileOf bytes file.now
+        → ChecksBytes (O.contents out.old) (O.contents out.new) bytes result }
+{
+    match check_activity(file) {
         Ok(summary) => print_summary(summary, out),
         Err(fault) => Err(TellFault::Activity(fault)),
     }

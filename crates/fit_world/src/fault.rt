@@ -2,6 +2,7 @@
 
 ghost use Rattle.std.specs.Prelude.{◌≡◌};
 
+use crate::reading::ReadFault;
 use fit_activity::ActivityFault;
 use fit_grammar::FileFault;
 
@@ -14,12 +15,14 @@ pub enum TellFault {
     Activity(ActivityFault),
     /// The output failed.
     Output,
+    /// The input was not read to its end.
+    Input(ReadFault),
 }
 
 impl TellFault {
     ghost use Rattle.fit_world.specs.Calls.FaultCode.{tell_code};
 
-    /// The number of the fault, 1 to 3: the first that holds is answered.
+    /// The number of the fault, 1 to 4.
     pub fn code(&self) -> u8
         ensures { result ≡ tell_code self.now }
     {
@@ -27,6 +30,7 @@ impl TellFault {
             TellFault::File(_) => 1,
             TellFault::Activity(_) => 2,
             TellFault::Output => 3,
+            TellFault::Input(_) => 4,
         }
     }
 }

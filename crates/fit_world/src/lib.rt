@@ -1,7 +1,8 @@
 //! What becomes of bytes and of scripts once a file is open: it is shown or checked, and what a script tells is recorded over a
 //! disk.
 //!
-//! `read_all` reads an input whole. `show_bytes` and `check_bytes` tell what a file holds. `read_script` reads the events of a
+//! `show_input` and `check_input` tell what the file holds that an input is, and `show_bytes` and `check_bytes` what these bytes are.
+//! `read_all` reads an input whole. `read_script` reads the events of a
 //! script, and `play` runs them over any `Disk`, by a `Ride`, which answers each `Command`. `simulate` runs a script over the memory
 //! disk, whose failures and power cuts it arranges. So
 //!
@@ -30,6 +31,7 @@ mod asking;
 mod checking;
 mod choices;
 mod command;
+mod decoding;
 mod event;
 mod fault;
 pub mod laws;
@@ -48,7 +50,7 @@ mod summary;
 pub mod world;
 
 pub use answer::Answer;
-pub use checking::check_bytes;
+pub use checking::{check_bytes, check_input};
 pub use choices::read_choices;
 pub use command::Command;
 pub use event::Event;
@@ -60,6 +62,6 @@ pub use repairing::{RepairFault, repair};
 pub use reply::Reply;
 pub use ride::Ride;
 pub use script::{ReplayFault, ScriptFault, ScriptFaultKind, parse_script, read_script};
-pub use showing::show_bytes;
+pub use showing::{show_bytes, show_input};
 pub use simulating::{SimulateFault, simulate};
 pub use summary::SummaryLine;

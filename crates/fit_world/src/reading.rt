@@ -6,7 +6,8 @@ ghost use Rattle.fit_world.specs.Calls.Reading.{ReadsAll, Refuses};
 use std::alloc::Global;
 use std::io::Read;
 
-const CHUNK: usize = 65_536;
+// How many bytes are asked for at once.
+pub(crate) const CHUNK: usize = 65_536;
 
 /// Why an input was not read.
 #[derive(Clone, Copy, Debug, PartialEq, Eq)]

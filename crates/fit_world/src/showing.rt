@@ -1,15 +1,38 @@
-// The text of the file that bytes are.
+// The text of a file.
 
-ghost use Rattle.std.specs.Prelude.{IfErr};
+ghost use Rattle.std.specs.Prelude.{◌≡◌, Err, IfErr};
 ghost use Rattle.fit_grammar.specs.Calls.Output.{WritesText};
-ghost use Rattle.fit_world.specs.Printed.Shown.{ShowsBytes, IsOutputFault};
 ghost use Rattle.fit_text.specs.Text.{text_of};
+ghost use Rattle.fit_world.specs.declared.fault.TellFault.TheVariants.{Input};
+ghost use Rattle.fit_world.specs.declared.reading.ReadFault.{ReadFault};
+ghost use Rattle.fit_world.specs.Calls.Reading.{TellsInput};
+ghost use Rattle.fit_world.specs.Printed.Shown.{ShowsBytes, IsOutputFault};
 
+use crate::decoding::decode_input;
 use crate::fault::TellFault;
 use fit_grammar::{File, decode_file};
 use fit_text::show;
 use std::alloc::Global;
-use std::io::Write;
+use std::io::{Read, Write};
+
+/// Shows the file that an input is, which has this many bytes at most, under `utc` with times as dates. It is read to its
+/// end before anything is written.
+pub fn show_input<T: Read, O: Write>(
+    alloc: Global,
+    from: &mut T,
+    most: usize,
+    utc: bool,
+    out: &mut O,
+) -> Result<(), TellFault>
+    ensures shown { TellsInput most (T.remaining from.old) (T.remaining from.new)
+        (ShowsBytes utc (O.contents out.old) (O.contents out.new)) result }
+    ensures quiet { (why : ReadFault) → result ≡ Err (Input why) → O.contents out.new ≡ O.contents out.old }
+{
+    match decode_input(alloc, from, most) {
+        Ok(file) => show_flushed(&file, utc, out),
+        Err(fault) => Err(fault),
+    }
+}
 
 /// Shows the file that these bytes are, under `utc` with times as dates. They are read whole before anything is written.
 pub fn show_bytes<O: Write>(

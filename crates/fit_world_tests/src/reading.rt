@@ -1,8 +1,11 @@
 // Inputs that are read to their end, or not.
 
-use fit_world::{ReadFault, read_all};
+use crate::output::{ONE_MESSAGE, ONE_MESSAGE_TEXT};
+use fit_grammar::{FaultKind, FileFault};
+use fit_world::{ReadFault, TellFault, read_all, show_input};
 use std::alloc::Global;
 use std::io::{self, Read};
+use std::test::Fail;
 
 // A reader that gives some bytes a call, and refuses each call behind some.
 #[derive(Drop)]
@@ -78,5 +81,54 @@ fn tells_want_of_memory(rt: HostRuntime) {
     let read = outcome(rt.alloc(), 10, 3, usize::MAX);
     if !is_all(&read, 10) {
         assert_eq!(rt; read.err(), Some(ReadFault::NoMemory));
+    }
+}
+
+// What is shown of a file that comes so, of 34 bytes at most, and the text.
+fn shown(
+    alloc: Global,
+    rest: &[u8],
+    step: usize,
+    calls: usize,
+) -> (Result<(), TellFault>, Vec<u8>) {
+    let mut text = Vec::new(alloc);
+    let done = show_input(
+        alloc,
+        &mut Pieces { rest, step, calls },
+        34,
+        false,
+        &mut text,
+    );
+    (done, text)
+}
+
+// However it comes, a file is shown with the same text.
+#[test]
+fn shows_a_file_in_pieces(rt: HostRuntime) {
+    for step in 1..=35 {
+        let (done, text) = shown(rt.alloc(), &ONE_MESSAGE, step, usize::MAX);
+        assert_eq!(rt; done, Ok(()), "{step}");
+        assert_eq!(rt; text.as_slice(), ONE_MESSAGE_TEXT.as_bytes(), "{step}");
+    }
+}
+
+// Bytes that are no file are read to their end: a failed read and a byte too much are told, and else why they are none.
+#[test]
+fn reads_what_is_no_file_to_its_end(rt: HostRuntime) {
+    let mut bytes = [0; 35];
+    bytes[..34].copy_from_slice(&ONE_MESSAGE);
+    bytes[0] = 0x0D;
+    let none = FileFault {
+        kind: FaultKind::HeaderSize,
+        place: 0,
+    };
+    for (len, calls, fault) in [
+        (34, 35, TellFault::File(none)),
+        (34, 34, TellFault::Input(ReadFault::Failed)),
+        (35, 35, TellFault::Input(ReadFault::TooLarge)),
+    ] {
+        let (done, text) = shown(rt.alloc(), &bytes[..len], 1, calls);
+        assert_eq!(rt; done, Err(fault), "{len} {calls}");
+        assert!(rt; text.is_empty(), "{len} {calls}");
     }
 }

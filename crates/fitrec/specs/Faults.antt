@@ -12,6 +12,7 @@ use Rattle.fit_world.specs.declared.script.fault.ReplayFault.{ReplayFault}
 use Rattle.fit_world.specs.declared.script.fault.ReplayFault.TheVariants as replays
 use Rattle.fit_world.specs.declared.simulating.SimulateFault.{SimulateFault}
 use Rattle.fit_world.specs.declared.simulating.SimulateFault.TheVariants as simulations
+use Rattle.fitrec.specs.Reading.{fault_of_read}
 use Rattle.fitrec.specs.declared.fault.Fault.{Fault}
 use Rattle.fitrec.specs.declared.fault.Fault.TheVariants as faults
 
@@ -26,12 +27,13 @@ fault_of_replay name replays.NoText = faults.Read name
 fault_of_replay name (replays.Script fault) = faults.Script fault
 fault_of_replay name (replays.OnlySimulate line) = faults.OnlySimulate line
 
--- of what is not told, or not to its end; the name of the output is `-`
-abbrev pub IsTellFault : TellFault → Fault → Type 0
-IsTellFault (tells.File fault) said = said ≡ faults.File fault
-IsTellFault (tells.Activity fault) said = said ≡ faults.Activity fault
-IsTellFault tells.Output (faults.Write name) = name.now ≡ codes "-"
-IsTellFault tells.Output _ = ⊥
+-- of an input of this name that is not told, or not to its end; the name of the output is `-`
+abbrev pub IsTellFault : Bor (List ℕ) → TellFault → Fault → Type 0
+IsTellFault name (tells.File fault) said = said ≡ faults.File fault
+IsTellFault name (tells.Activity fault) said = said ≡ faults.Activity fault
+IsTellFault name tells.Output (faults.Write out) = out.now ≡ codes "-"
+IsTellFault name tells.Output _ = ⊥
+IsTellFault name (tells.Input why) said = said ≡ fault_of_read name why
 
 -- of a recording that is not made whole again, or not told
 abbrev pub IsRepairSaid : RepairFault → Fault → Type 0

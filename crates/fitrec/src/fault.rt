@@ -3,7 +3,7 @@
 use fit_activity::ActivityFault;
 use fit_grammar::FileFault;
 use fit_recorder::RecFault;
-use fit_world::{ScriptFault, TellFault};
+use fit_world::ScriptFault;
 use thiserror::Error;
 
 /// A fault of the program. Its text is what stands behind `fitrec: ` on standard error.
@@ -42,18 +42,4 @@ pub enum Fault<'a> {
     /// So many events of a script were not ok.
     #[error("{0} refused")]
     Refused(usize),
-}
-
-impl From<TellFault> for Fault<'_> {
-    ghost use Rattle.fitrec.specs.Faults.{IsTellFault};
-
-    ghost from_gives = { IsTellFault };
-
-    fn from(told: TellFault) -> Self {
-        match told {
-            TellFault::File(fault) => Fault::File(fault),
-            TellFault::Activity(fault) => Fault::Activity(fault),
-            TellFault::Output => Fault::Write("-"),
-        }
-    }
 }

@@ -1,8 +1,12 @@
 -- What is taken from an input that is read whole, or refused.
-use Rattle.std.specs.Prelude.{ℕ, ◌<◌, ◌≤◌, List, length, Option}
+use Rattle.std.specs.Prelude.{◌≢◌, ℕ, ◌<◌, ◌≤◌, List, length, Option, Result, Ok, Err}
 use Rattle.std.specs.Io.KnownBytes.{Consumes, IsAtEnd}
+use Rattle.fit_grammar.specs.Format.File.{FileValue, FileOf}
+use Rattle.fit_grammar.specs.Format.Refusal.{IsFaultOf}
+use Rattle.fit_world.specs.declared.fault.TellFault.{TellFault}
+use Rattle.fit_world.specs.declared.fault.TellFault.TheVariants.{File, Input}
 use Rattle.fit_world.specs.declared.reading.ReadFault.{ReadFault}
-use Rattle.fit_world.specs.declared.reading.ReadFault.TheVariants.{TooLarge}
+use Rattle.fit_world.specs.declared.reading.ReadFault.TheVariants.{TooLarge, NoMemory}
 
 -- all that was left of an input was taken, and it is no more than the most
 abbrev pub ReadsAll : ℕ → Option (List ℕ) → Option (List ℕ) → List ℕ → Type 0
@@ -16,3 +20,14 @@ IsEnough most _ count = count ≤ most
 -- what was taken from an input that is refused
 abbrev pub Refuses : ℕ → Option (List ℕ) → Option (List ℕ) → ReadFault → Type 0
 Refuses most old new fault = (taken : List ℕ) × Consumes old new taken × IsEnough most fault (length taken)
+
+-- an input is read to its end, and what is told is so of its bytes; or it fails, or is too large
+abbrev pub TellsInput : {T : Type 0} → ℕ → Option (List ℕ) → Option (List ℕ) → (List ℕ → Result T TellFault → Type 0) → Result T TellFault → Type 0
+TellsInput most old new IsTold (Err (Input why)) = (why ≢ NoMemory) × Refuses most old new why
+TellsInput most old new IsTold result = (bytes : List ℕ) × ReadsAll most old new bytes × IsTold bytes result
+
+-- the file that bytes are, or why they are none
+abbrev pub DecodesTo : List ℕ → Result FileValue TellFault → Type 0
+DecodesTo bytes (Ok file) = FileOf bytes file
+DecodesTo bytes (Err (File fault)) = IsFaultOf bytes fault
+DecodesTo bytes (Err fault) = ⊥

@@ -1,8 +1,8 @@
 // The subcommand `check`: whether a file is an activity, and what it says of itself.
 
-use crate::command::input::read_file;
+use crate::command::input::{MOST_BYTES, fault_of_told, open_file};
 use crate::fault::Fault;
-use fit_world::check_bytes;
+use fit_world::check_input;
 use std::io::Write;
 use std::rt::Files;
 
@@ -12,7 +12,9 @@ pub fn check_file<'a, R: Files + AllocGlobal, O: Write>(
     name: &'a str,
     out: &mut O,
 ) -> Result<(), Fault<'a>> {
-    let bytes = read_file(rt, name)?;
-    check_bytes(rt.alloc(), bytes.as_slice(), out)?;
-    Ok(())
+    let mut file = open_file(rt, name)?;
+    match check_input(rt.alloc(), &mut file, MOST_BYTES, out) {
+        Ok(()) => Ok(()),
+        Err(fault) => Err(fault_of_told(name, fault)),
+    }
 }

@@ -2,30 +2,41 @@
 
 ghost use Rattle.std.specs.Prelude.{◌≡◌, ◌<◌, ◌↔◌, IsTrue, IfOk, IfErr};
 ghost use Rattle.fit_world.specs.Calls.Reading.{ReadsAll};
+ghost use Rattle.fitrec.specs.Faults.{IsTellFault};
 ghost use Rattle.fitrec.specs.Reading.{fault_of_read, IsReadFault, IsFileFault};
 
 use crate::fault::Fault;
-use fit_world::{ReadFault, read_all};
+use fit_world::{ReadFault, TellFault, read_all};
 use std::alloc::Global;
 use std::fs::{self, OpenFile};
 use std::io::Read;
 use std::rt::Files;
 
-// The most bytes of a file that are read.
-const MOST_BYTES: usize = 268_435_456;
+/// The most bytes of a file that are read.
+pub const MOST_BYTES: usize = 268_435_456;
 
-/// All bytes of the file of this name. One that is known to be too large is not read.
-pub fn read_file<'a, R: Files + AllocGlobal>(rt: &R, name: &'a str) -> Result<Vec<u8>, Fault<'a>>
+/// Opens the file of this name, unless it is known to be too large.
+pub fn open_file<'a, R: Files>(rt: &R, name: &'a str) -> Result<R::File, Fault<'a>>
     ensures { IfErr result (IsFileFault name.entry) }
 {
-    let Ok(mut file) = fs::open(rt, name) else {
+    let Ok(file) = fs::open(rt, name) else {
         return Err(Fault::Open(name));
     };
     let size = file.metadata().map_or(0, |metadata| metadata.len());
     if is_too_large(size) {
         return Err(Fault::TooLarge);
     }
-    read_input(rt.alloc(), name, &mut file)
+    Ok(file)
+}
+
+/// All bytes of the file of this name.
+pub fn read_file<'a, R: Files + AllocGlobal>(rt: &R, name: &'a str) -> Result<Vec<u8>, Fault<'a>>
+    ensures { IfErr result (IsFileFault name.entry) }
+{
+    match open_file(rt, name) {
+        Ok(mut file) => read_input(rt.alloc(), name, &mut file),
+        Err(fault) => Err(fault),
+    }
 }
 
 fn is_too_large(size: u64) -> bool
@@ -44,6 +55,18 @@ fn read_input<'a, T: Read>(alloc: Global, name: &'a str, from: &mut T) -> Result
     match read_all(alloc, from, MOST_BYTES) {
         Ok(bytes) => Ok(bytes),
         Err(fault) => Err(fault_of(name, fault)),
+    }
+}
+
+/// What the program says of an input of this name that is not told, or not to its end.
+pub fn fault_of_told<'a>(name: &'a str, fault: TellFault) -> Fault<'a>
+    ensures { IsTellFault name.entry fault result }
+{
+    match fault {
+        TellFault::File(fault) => Fault::File(fault),
+        TellFault::Activity(fault) => Fault::Activity(fault),
+        TellFault::Output => Fault::Write("-"),
+        TellFault::Input(fault) => fault_of(name, fault),
     }
 }
 

@@ -4,7 +4,7 @@ ghost use Rattle.std.specs.Prelude.{◌≡◌, IfErr};
 ghost use Rattle.fitrec.specs.Faults.{fault_of_replay, IsReplaySaid};
 
 use crate::command::folder::open_folder;
-use crate::command::input::read_file;
+use crate::command::input::{fault_of_told, read_file};
 use crate::fault::Fault;
 use fit_world::{ReplayFault, play, read_script};
 use std::io::Write;
@@ -26,9 +26,10 @@ pub fn replay_script<'a, O: Write>(
     };
     let files = open_folder(rt, folder)?;
     let (_, played) = play(files, events.as_slice(), out);
-    match played? {
-        0 => Ok(()),
-        refused => Err(Fault::Refused(refused)),
+    match played {
+        Ok(0) => Ok(()),
+        Ok(refused) => Err(Fault::Refused(refused)),
+        Err(fault) => Err(fault_of_told(script, fault)),
     }
 }
 

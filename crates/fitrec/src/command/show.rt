@@ -1,8 +1,8 @@
 // The subcommand `show`: the text of a file.
 
-use crate::command::input::read_file;
+use crate::command::input::{MOST_BYTES, fault_of_told, open_file};
 use crate::fault::Fault;
-use fit_world::show_bytes;
+use fit_world::show_input;
 use std::io::Write;
 use std::rt::Files;
 
@@ -13,7 +13,9 @@ pub fn show_file<'a, R: Files + AllocGlobal, O: Write>(
     utc: bool,
     out: &mut O,
 ) -> Result<(), Fault<'a>> {
-    let bytes = read_file(rt, name)?;
-    show_bytes(rt.alloc(), bytes.as_slice(), utc, out)?;
-    Ok(())
+    let mut file = open_file(rt, name)?;
+    match show_input(rt.alloc(), &mut file, MOST_BYTES, utc, out) {
+        Ok(()) => Ok(()),
+        Err(fault) => Err(fault_of_told(name, fault)),
+    }
 }
