@@ -1,7 +1,8 @@
 //! What becomes of bytes and of scripts once a file is open: it is shown or checked, and what a script tells is recorded over a
 //! disk.
 //!
-//! `read_all` reads an input whole. `show_bytes` and `check_bytes` tell what a file holds. `read_script` reads the events of a
+//! `read_all` reads an input whole. `show_bytes` and `check_bytes` tell what a file holds, and `salvage_bytes` saves of one without
+//! a journal what is readable. `read_script` reads the events of a
 //! script, and `play` runs them over any `Disk`, by a `Ride`, which answers each `Command`. `simulate` runs a script over the memory
 //! disk, whose failures and power cuts it arranges. So
 //!
@@ -41,6 +42,7 @@ mod repairing;
 mod reply;
 mod reply_line;
 mod ride;
+mod salvaging;
 mod script;
 mod showing;
 mod simulating;
@@ -59,6 +61,7 @@ pub use reading::{ReadFault, read_all};
 pub use repairing::{RepairFault, repair};
 pub use reply::Reply;
 pub use ride::Ride;
+pub use salvaging::{SalvageFault, Salvaged, print_salvaged, salvage_bytes};
 pub use script::{ReplayFault, ScriptFault, ScriptFaultKind, parse_script, read_script};
 pub use showing::show_bytes;
 pub use simulating::{SimulateFault, simulate};
