@@ -1,6 +1,6 @@
 // The file that a subcommand reads.
 
-ghost use Rattle.std.specs.Prelude.{◌≡◌, ◌<◌, ◌↔◌, IsTrue, IfOk, IfErr};
+ghost use Rattle.std.specs.Prelude.{◌≡◌, ◌<◌, ◌≤◌, ◌↔◌, vec_len, IsTrue, IfOk, IfErr};
 ghost use Rattle.fit_world.specs.Calls.Reading.{ReadsAll};
 ghost use Rattle.fitrec.specs.Reading.{fault_of_read, IsReadFault, IsFileFault};
 
@@ -16,7 +16,8 @@ const MOST_BYTES: usize = 268_435_456;
 
 /// All bytes of the file of this name. One that is known to be too large is not read.
 pub fn read_file<'a, R: Files + AllocGlobal>(rt: &R, name: &'a str) -> Result<Vec<u8>, Fault<'a>>
-    ensures { IfErr result (IsFileFault name.entry) }
+    ensures fault { IfErr result (IsFileFault name.entry) }
+    ensures most { IfOk result (λ bytes. vec_len bytes ≤ 268435456) }
 {
     let Ok(mut file) = fs::open(rt, name) else {
         return Err(Fault::Open(name));
