@@ -1,8 +1,8 @@
-/* Is loaded before the program (LD_PRELOAD). It tells of the program's calls on the two files of a recording and on their
-   folder, and lets some of them fail, fall short or be interrupted:
+/* Is loaded before the program (LD_PRELOAD). It tells of the program's calls on the two files of a recording, on a file that
+   is made beside another one, and on their folder, and lets some of them fail, fall short or be interrupted:
 
      FAULTS_LOG      the file that the calls are told in: a line each, its kind, what it is about, and its numbers
-     FAULTS_CALL     the kind of call that goes wrong: open, lock, sync, size, read, write or cut
+     FAULTS_CALL     the kind of call that goes wrong: open, lock, sync, size, read, write, stream, cut or move
      FAULTS_NUMBER   which one of that kind, from 1 on, or 0 for each
      FAULTS_ERRNO    it fails so, and nothing is done; or
      FAULTS_MOST     it moves at most so many bytes */
@@ -50,13 +50,17 @@ static void lies_in_folder(const char *path) {
     stat(above, &folder);
 }
 
-/* What the path is: one of the two files, their folder, another one, or nothing that is told of. */
+/* What the path is: one of the two files, one beside another, their folder, another one, or nothing that is told of. */
 static const char *named(const char *path, int file) {
     struct stat found;
     const char *slash = strrchr(path, '/'), *last = slash ? slash + 1 : path;
     if (!strcmp(last, "activity.fit") || !strcmp(last, "activity.frj")) {
         lies_in_folder(path);
         return strcmp(last, "activity.fit") ? "journal" : "data";
+    }
+    if (!strncmp(last, ".fitrec-salvage-", 16)) {
+        lies_in_folder(path);
+        return "beside";
     }
     if (file < 0 || fstat(file, &found) || !S_ISDIR(found.st_mode))
         return NULL;
@@ -163,9 +167,13 @@ ssize_t pwrite(int file, const void *from, size_t count, off_t at) {
     return bytes < 0 ? -1 : syscall(SYS_pwrite64, file, from, bytes, at);
 }
 
-/* Only a stream that landed in a file is told of: the program writes files at places. */
+int rename(const char *from, const char *to) {
+    return fails("move", named(from, -1), "") ? -1 : syscall(SYS_renameat2, AT_FDCWD, from, AT_FDCWD, to, 0);
+}
+
+/* The program writes the files of a recording at places, and others as a stream. */
 ssize_t write(int file, const void *from, size_t count) {
-    return goes_wrong("stream", name_of(file), "") && error ? -1 : syscall(SYS_write, file, from, count);
+    return fails("stream", name_of(file), "") ? -1 : syscall(SYS_write, file, from, count);
 }
 
 int open64(const char *path, int flags, ...) __attribute__((alias("open")));

@@ -197,3 +197,31 @@ def wanted(data, utc=False):
         return 0, show(data, utc), ""
     except Refused as refused:
         return 1, "", "fitrec: %s\n" % refused
+
+
+def item_size(data, sizes):
+    """How many bytes the item at the front has, where these local numbers have data of these sizes; None where no item is whole
+    there. A definition tells the size of its local number's data."""
+    if not data:
+        return None
+    first = data[0]
+    if first & 0xC0 == 0x40:
+        size = 6 + 3 * data[5] if len(data) >= 6 and not first & 0x20 else len(data) + 1
+        if size <= len(data):
+            sizes[first & 15] = sum(data[7:size:3])
+    else:
+        size = 1 + sizes.get(first >> 5 & 3 if first & 0x80 else first & 15, len(data))
+    return size if size <= len(data) else None
+
+
+def salvaged(data):
+    """What `fitrec salvage` has to keep of these bytes: how many, of how many, and the file of them."""
+    start = data[:12] + bytes(len(data[12:14])) + data[14:]
+    header, size = read_header(start)
+    records = data[header:header + size] if size else data[header:]
+    front, sizes = 0, {}
+    while size := item_size(records[front:], sizes):
+        front += size
+    kept = bytes([14]) + data[1:4] + front.to_bytes(4, "little") + b".FIT"
+    kept += checksum(kept).to_bytes(2, "little") + records[:front]
+    return front, len(records), kept + checksum(kept).to_bytes(2, "little")

@@ -2,6 +2,7 @@
 
 mod decoding;
 mod files;
+mod fronts;
 mod items;
 mod pieces;
 mod places;

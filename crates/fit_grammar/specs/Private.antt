@@ -4,6 +4,7 @@ pub mod FirstByte
 pub mod DefinitionBytes
 pub mod SizedDefinition
 pub mod KeptDefinition
+pub mod FrontPassed
 pub mod LatestDefinitions
 pub mod ByLookup
 pub mod ItemRow

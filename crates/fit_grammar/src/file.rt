@@ -29,9 +29,10 @@ use crate::item::{ItemFault, Items, least_length};
 use crate::message::Messages;
 pub use decode::decode_file;
 pub use decoder::Decoder;
-pub use encode::{encode_file, header_front};
+pub use encode::{encode_file, encode_records, header_front};
 pub use fault::{EncodeFault, FaultKind, FileFault, PutFault};
 pub use frame::Frame;
+pub use header::{Header, read_header_front};
 use std::alloc::{AllocError, Global};
 use std::marker::Model;
 

@@ -10,12 +10,14 @@ ghost use Rattle.fit_grammar.specs.Private.FirstByte.{local_of};
 
 mod data_message;
 pub(crate) mod first_byte;
+mod front;
 mod row;
 pub(crate) mod writing;
 
 use crate::definition::{DefinitionMessage, Table};
 pub use data_message::DataMessage;
 use first_byte::{Head, first_local, read_head};
+pub use front::longest_front;
 pub use row::{FileItem, Items};
 pub use writing::{write_data, write_definition};
 

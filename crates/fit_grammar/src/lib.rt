@@ -33,12 +33,12 @@ mod to_writer;
 
 pub use definition::{Definition, DefinitionMessage, FieldDefinition, Table};
 pub use file::{
-    Decoder, EncodeFault, FaultKind, File, FileFault, Frame, PutFault, decode_file, encode_file,
-    header_front,
+    Decoder, EncodeFault, FaultKind, File, FileFault, Frame, Header, PutFault, decode_file,
+    encode_file, encode_records, header_front, read_header_front,
 };
 pub use item::{
-    DataMessage, FileItem, Item, ItemFault, Items, Step, least_length, next_item, write_data,
-    write_definition,
+    DataMessage, FileItem, Item, ItemFault, Items, Step, least_length, longest_front, next_item,
+    write_data, write_definition,
 };
 pub use message::{Field, Fields, Message, Messages, message_of};
 pub use to_writer::{WriteFailed, put};

@@ -6,3 +6,4 @@ pub mod Simulation
 pub mod Shown
 pub mod Checked
 pub mod Repaired
+pub mod Salvaged

@@ -2,7 +2,7 @@
 //! disk.
 //!
 //! `show_input` and `check_input` tell what the file holds that an input is, and `show_bytes` and `check_bytes` what these bytes are.
-//! `read_all` reads an input whole. `read_script` reads the events of a
+//! `read_all` reads an input whole, and `salvage_bytes` saves of a file without a journal what is readable. `read_script` reads the events of a
 //! script, and `play` runs them over any `Disk`, by a `Ride`, which answers each `Command`. `simulate` runs a script over the memory
 //! disk, whose failures and power cuts it arranges. So
 //!
@@ -43,6 +43,7 @@ mod repairing;
 mod reply;
 mod reply_line;
 mod ride;
+mod salvaging;
 mod script;
 mod showing;
 mod simulating;
@@ -61,6 +62,7 @@ pub use reading::{ReadFault, read_all};
 pub use repairing::{RepairFault, repair};
 pub use reply::Reply;
 pub use ride::Ride;
+pub use salvaging::{SalvageFault, Salvaged, print_salvaged, salvage_bytes};
 pub use script::{ReplayFault, ScriptFault, ScriptFaultKind, parse_script, read_script};
 pub use showing::{show_bytes, show_input};
 pub use simulating::{SimulateFault, simulate};

@@ -19,6 +19,8 @@ mod reading;
 #[cfg(test)]
 mod replays;
 #[cfg(test)]
+mod salvages;
+#[cfg(test)]
 mod scripts;
 #[cfg(test)]
 mod simulations;

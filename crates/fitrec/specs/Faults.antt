@@ -70,3 +70,20 @@ IsReplaySaid script folder (faults.Script fault) = Unit {0}
 IsReplaySaid script folder (faults.OnlySimulate line) = Unit {0}
 IsReplaySaid script folder (faults.Refused count) = 1 ≤ count
 IsReplaySaid script folder _ = ⊥
+
+-- of a file of this name that is to be written
+abbrev pub IsNotWritten : Bor (List ℕ) → Fault → Type 0
+IsNotWritten out (faults.Write name) = name ≡ out
+IsNotWritten out faults.NoMemory = Unit {0}
+IsNotWritten out (faults.File fault) = Unit {0}
+IsNotWritten out _ = ⊥
+
+-- of a file that is to be salvaged, and one that is to be made of it: not opened or not read, no file, not written; or a failed output
+abbrev pub IsSalvageSaid : Bor (List ℕ) → Bor (List ℕ) → Fault → Type 0
+IsSalvageSaid file out (faults.Open name) = name ≡ file
+IsSalvageSaid file out (faults.Read name) = name ≡ file
+IsSalvageSaid file out (faults.Write name) = (name ≡ out) ⊎ (name.now ≡ codes "-")
+IsSalvageSaid file out faults.TooLarge = Unit {0}
+IsSalvageSaid file out faults.NoMemory = Unit {0}
+IsSalvageSaid file out (faults.File fault) = Unit {0}
+IsSalvageSaid file out _ = ⊥

@@ -1,16 +1,18 @@
 // The program as one call: words in, text out, and the exit status.
 //
 // Each subcommand has a file of its own, which opens what it needs and leaves the rest to `fit_world`. They share `words`,
-// which reads the command line, `input`, which opens and reads a file, `folder`, which opens the files of a recording, and
-// `status`, which prints a fault.
+// which reads the command line, `input`, which opens and reads a file, `folder`, which opens the files of a recording, `beside`,
+// which makes a file whole or not at all, and `status`, which prints a fault.
 
 ghost use Rattle.std.specs.Prelude.{◌≤◌};
 
+mod beside;
 mod check;
 mod folder;
 mod input;
 mod repair;
 mod replay;
+mod salvage;
 mod show;
 mod simulate;
 mod words;
@@ -20,6 +22,7 @@ use check::check_file;
 use clap::error::ErrorKind;
 use repair::repair_folder;
 use replay::replay_script;
+use salvage::salvage_file;
 use show::show_file;
 use simulate::simulate_script;
 use std::convert::AsStr;
@@ -44,6 +47,7 @@ pub fn command<S: AsStr, O: Write, E: Write>(
             status(replay_script(rt, script, folder, out), err)
         }
         Ok(Request::Repair { folder }) => status(repair_folder(rt, folder, out), err),
+        Ok(Request::Salvage { file, to }) => status(salvage_file(rt, file, to, out), err),
         Ok(Request::Simulate { script, choices }) => {
             let done = simulate_script(rt, script, choices.as_slice(), out);
             status(done, err)

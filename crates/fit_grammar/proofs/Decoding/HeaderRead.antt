@@ -1,5 +1,5 @@
 -- The same as `read_header` meets it, exit by exit.
-use Rattle.std.proofs.Common.{◌≡◌, ◌≢◌, ℕ, ◌+◌, ◌-◌, ◌<◌, ◌≤◌, List, [], ◌∷◌, length, take, drop, sym, ap, ◌∙◌, arith, ◌⊎◌, inl, inr}
+use Rattle.std.proofs.Common.{◌≡◌, ◌≢◌, ℕ, ◌+◌, ◌-◌, ◌/◌, ◌<◌, ◌≤◌, List, [], ◌∷◌, length, take, drop, sym, ap, subst, ◌∙◌, arith, ◌⊎◌, inl, inr}
 use Rattle.std.specs.Prelude.{slice_index}
 use Rattle.std.proofs.lemmas.List.{length-take-le, length-drop, get_or-take, drop-take, take-take}
 use Rattle.byteorder.specs.Endian.{little_number}
@@ -8,7 +8,10 @@ use Rattle.fit_base.proofs.Numbers.{low_first-little}
 use Rattle.fit_grammar.specs.declared.file.fault.FaultKind.{FaultKind}
 use Rattle.fit_grammar.specs.declared.file.fault.FaultKind.TheVariants.{Truncated, HeaderSize, Memory}
 use Rattle.fit_grammar.specs.declared.file.fault.FileFault.{FileFault}
+use Rattle.fit_grammar.specs.declared.file.frame.Frame.{Frame}
+use Rattle.fit_grammar.specs.Format.File.{ChecksHeader, IsHeader}
 use Rattle.fit_grammar.specs.Format.Refusal.{HeaderShows, Refusal}
+use Rattle.fit_grammar.specs.Calls.BeginningHeader.{BeginsWithHeader}
 use Rattle.fit_grammar.specs.Private.Decoding.{IsRefusedBy}
 use Rattle.fit_grammar.proofs.Decoding.HeaderRefused.{Passes, header_refused, header_cut, empty_cut, size_refused}
 
@@ -58,3 +61,45 @@ pub four_read : (b : List ℕ) (i n : ℕ) → i + 4 ≤ length b → n ≡ litt
 four_read b i n le e =
     let four : length (take 4 (drop i b)) ≡ 4 = length-take-le 4 (drop i b) (omega (arith, length-drop i b)) in
     sym (e ∙ ap (λ (k : ℕ). little_number k (take 4 (drop i b))) (sym four) ∙ low_first-little (take 4 (drop i b)))
+
+-- ---- a header that is read whatever its checksum is
+
+pub begins_first : (b : List ℕ) (fr : Frame) (s : ℕ) → BeginsWithHeader b fr s → (slice_index b 0 ≡ 12) ⊎ (slice_index b 0 ≡ 14)
+begins_first b fr s h = elim h.is_frame.size [ inl e ↦ inl (h.header_size ∙ e) | inr e ↦ inr (h.header_size ∙ e) ]
+
+pub begins_major : (b : List ℕ) (fr : Frame) (s : ℕ) → BeginsWithHeader b fr s
+    → (slice_index b 1 / 16 ≡ 1) ⊎ (slice_index b 1 / 16 ≡ 2)
+begins_major b fr s h =
+    let same = ap (λ (n : ℕ). n / 16) h.protocol in
+    elim h.is_frame.major [ inl e ↦ inl (same ∙ e) | inr e ↦ inr (same ∙ e) ]
+
+pub begins_long : (b : List ℕ) (fr : Frame) (s : ℕ) → BeginsWithHeader b fr s → 12 ≤ length b
+begins_long b fr s h =
+    let within = h.within in
+    elim h.is_frame.size [ inl e ↦ omega arith | inr e ↦ omega arith ]
+
+-- the checks before that of its checksum pass
+pub begins_passes : (b : List ℕ) (fr : Frame) (s : ℕ) → BeginsWithHeader b fr s → Passes b fr.header_size
+begins_passes b fr s h = record {
+  first = begins_first b fr s h;
+  major = λ more. begins_major b fr s h;
+  marked = λ more. h.marked;
+  within = omega (arith, h.header_size);
+}
+
+-- with a checksum that is not given, or right, it is the header of a file
+pub begins_good : (b : List ℕ) (fr : Frame) (s : ℕ) → BeginsWithHeader b fr s → (fr.header_size ≡ 14 → ChecksHeader (take 14 b))
+    → IsHeader (take fr.header_size b) fr s
+begins_good b fr s h checks =
+    let n = fr.header_size in
+    let least : 12 ≤ n = elim h.is_frame.size [ inl e ↦ omega arith | inr e ↦ omega arith ] in
+    record {
+      is_frame = h.is_frame;
+      whole = length-take-le n b h.within;
+      header_size = header_byte n b 0 (omega arith) ∙ h.header_size;
+      protocol = header_byte n b 1 (omega arith) ∙ h.protocol;
+      profile = ap low_first (header_range n b 2 2 (omega arith)) ∙ h.profile;
+      data_size = ap low_first (header_range n b 4 4 (omega arith)) ∙ h.data_size;
+      marked = header_range n b 8 4 (omega arith) ∙ h.marked;
+      checked = λ e. subst (λ (k : ℕ). ChecksHeader (take k b)) (sym e) (checks e);
+    }

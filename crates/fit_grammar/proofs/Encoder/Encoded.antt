@@ -1,4 +1,4 @@
--- The encoded file is a file: for the law of that name; and its parts, as they are written one after another: for `put_file`.
+-- The encoded file is a file: for the law of that name; and its parts, as they are written one after another: for `put_framed`.
 use Rattle.std.proofs.Common.{◌≡◌, ℕ, ◌+◌, ◌/◌, ◌%◌, ◌<◌, List, [], ◌∷◌, ◌++◌, length, refl, sym, ap, subst, ◌∙◌, arith, inl, inr}
 use Rattle.std.specs.Prelude.{flat_map}
 use Rattle.std.proofs.lemmas.List.{length-append}
@@ -9,9 +9,10 @@ use Rattle.fit_base.specs.Number.{low_first}
 use Rattle.fit_base.specs.Checksum.{crc, crc_from}
 use Rattle.fit_grammar.specs.declared.file.frame.Frame.{Frame}
 use Rattle.fit_grammar.specs.Format.Item.{Item, Defines, Data, item_size, field_bytes}
-use Rattle.fit_grammar.specs.Format.Records.{RecordsAfter, data_size}
+use Rattle.fit_grammar.specs.Format.Records.{RecordsAfter, Records, data_size}
 use Rattle.fit_grammar.specs.Format.Encoding.{two_bytes, four_bytes, encoded_item, encoded_items, header_front, with_checksum, encoded_header, encoded}
 use Rattle.fit_grammar.specs.Format.File.{FileValue, FileOf, IsFrame, ChecksHeader, IsHeader, IsClosing}
+use Rattle.fit_grammar.specs.Calls.Framed.{framed}
 use Rattle.fit_grammar.specs.Calls.Possible.{AllCanFollow, CanBeFile}
 use Rattle.fit_grammar.proofs.OneItem.Spelling.{fields_length}
 use Rattle.fit_grammar.proofs.Encoder.Encoding.{encoded_spells}
@@ -104,16 +105,12 @@ pub checksum_bytes : (before closing : List ℕ) (value register start : ℕ)
 checksum_bytes before closing value register start e small read over none =
     e ∙ two_whole value small ∙ ap (λ (n : ℕ). two_bytes Little n) (read ∙ over ∙ ap (λ (n : ℕ). crc_from n before) none)
 
--- the parts of a file, as they are written one after the other
-pub file_joined : (v : FileValue) (frame : Frame) (size : ℕ) (items : List Item) (closing : List ℕ) → frame ≡ v.frame
-    → size ≡ data_size v.items → items ≡ v.items
-    → closing ≡ two_bytes Little (crc (encoded_header frame size ++ encoded_items items))
-    → (encoded_header frame size ++ encoded_items items) ++ closing ≡ encoded v
-file_joined v frame size items closing f s i e =
-    ap (λ (l : List ℕ). (encoded_header frame size ++ encoded_items items) ++ l) e
-    ∙ ap (λ (fr : Frame). with_checksum (encoded_header fr size ++ encoded_items items)) f
-    ∙ ap (λ (n : ℕ). with_checksum (encoded_header v.frame n ++ encoded_items items)) s
-    ∙ ap (λ (is : List Item). with_checksum (encoded_header v.frame (data_size v.items) ++ encoded_items is)) i
+-- the records of a file as it is written
+pub framed_items : (v : FileValue) (frame : Frame) (records : List ℕ) → frame ≡ v.frame → records ≡ encoded_items v.items
+    → framed frame records ≡ encoded v
+framed_items v frame records f r =
+    ap (λ (fr : Frame). framed fr records) f ∙ ap (framed v.frame) r
+    ∙ ap (λ (n : ℕ). with_checksum (encoded_header v.frame n ++ encoded_items v.items)) (encoded_items-length v.items)
 
 pub encoded_is_header : (frame : Frame) (size : ℕ) → IsFrame frame → IsHeader (encoded_header frame size) frame size
 encoded_is_header frame size is_frame =
@@ -128,17 +125,22 @@ encoded_is_header frame size is_frame =
 closing_of : (before : List ℕ) → IsClosing before (two_bytes Little (crc before))
 closing_of before = record { whole = refl; right = two_again (crc before) }
 
-pub encoded_is_file : (v : FileValue) → CanBeFile v → FileOf (encoded v) v
-encoded_is_file v h =
-    let header = encoded_header v.frame (data_size v.items) in
-    let records = encoded_items v.items in
+-- the file of some records is a file of their items
+pub framed_is_file : (frame : Frame) (records : List ℕ) (items : List Item) → IsFrame frame → Records records items
+    → FileOf (framed frame records) (record { frame = frame; items = items })
+framed_is_file frame records items is_frame are_records =
+    let header = encoded_header frame (length records) in
     record {
       header = header;
       records = records;
       closing = two_bytes Little (crc (header ++ records));
       joined = refl;
-      is_header = subst (λ (n : ℕ). IsHeader header v.frame n) (sym (encoded_items-length v.items))
-          (encoded_is_header v.frame (data_size v.items) h.is_frame);
-      are_records = encoded_records [] v.items h.items_follow;
+      is_header = encoded_is_header frame (length records) is_frame;
+      are_records = are_records;
       is_closing = closing_of (header ++ records);
     }
+
+pub encoded_is_file : (v : FileValue) → CanBeFile v → FileOf (encoded v) v
+encoded_is_file v h =
+    subst (λ (bytes : List ℕ). FileOf bytes v) (framed_items v v.frame (encoded_items v.items) refl refl)
+    (framed_is_file v.frame (encoded_items v.items) v.items h.is_frame (encoded_records [] v.items h.items_follow))

@@ -116,6 +116,11 @@ begun_as f window rest more spelled = begun_by f window rest (definition_at (win
 pub begun_empty : (f : ℕ → Option Definition) → ItemBegun f []
 begun_empty f = begun_as f [] (64 ∷ 0 ∷ 0 ∷ 0 ∷ 0 ∷ 0 ∷ []) (omega arith) (spelled_by 64 0 0 0 0 0 [] refl refl)
 
+-- so a window with no bytes needs more
+pub nothing_there : (f : ℕ → Option Definition) (window : List ℕ) → length window ≡ 0 → IsStep f window steps.NeedMore
+nothing_there f [] none = record { says = begun_empty f; lent = tt; local = tt }
+nothing_there f (byte ∷ window) none = absurd (omega arith)
+
 own : (byte l : ℕ) → head_of byte ≡ DefinitionHead l → head_of byte ≡ DefinitionHead (byte % 16)
 own byte l head = head ∙ ap (λ (k : ℕ). DefinitionHead k) (head_local byte l head)
 

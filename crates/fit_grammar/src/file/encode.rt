@@ -1,6 +1,10 @@
 // Writing a whole file.
 
-ghost use Rattle.std.specs.Prelude.{◌≡◌};
+ghost use Rattle.std.specs.Prelude.{◌≡◌, ◌<◌, ◌^◌, List, length};
+ghost use Rattle.fit_grammar.specs.Format.Item.{Item as AnyItem};
+ghost use Rattle.fit_grammar.specs.Format.Records.{Records};
+ghost use Rattle.fit_grammar.specs.Format.File.{IsFrame, FileOf};
+ghost use Rattle.fit_grammar.specs.Calls.Framed.{framed};
 ghost use Rattle.fit_grammar.specs.Format.Encoding.{header_front as header_front_of, encoded_header, encoded};
 ghost use Rattle.fit_grammar.specs.Calls.Output.{WritesText};
 ghost use Rattle.fit_grammar.specs.Private.CheckedOutput.{WritesChecked};
@@ -15,19 +19,36 @@ use std::io::Write;
 pub fn encode_file<W: Write>(file: &File, out: &mut W) -> Result<(), EncodeFault>
     ensures { WritesText (W.contents out.old) (W.contents out.new) result (encoded file.now) }
 {
-    match put_file(out, file) {
+    encode_records(file.frame(), file.records(), out)
+}
+
+/// Writes the file of these records, as they stand, behind a header of this frame, and at an `Err` a beginning of it. It takes no
+/// memory, and fails only where the writer does.
+pub fn encode_records<W: Write>(
+    frame: Frame,
+    records: &[u8],
+    out: &mut W,
+) -> Result<(), EncodeFault>
+    requires { length records.now < 2 ^ 32 }
+    ensures written { WritesText (W.contents out.old) (W.contents out.new) result (framed frame records.now) }
+    // Where the records are those of some items, it is a file of these.
+    ensures file { (items : List AnyItem) → IsFrame frame → Records records.now items
+        → FileOf (framed frame records.now) (record { frame = frame; items = items }) }
+{
+    match put_framed(out, frame, records) {
         Ok(()) => Ok(()),
         Err(WriteFailed) => Err(EncodeFault::Write),
     }
 }
 
 // The header, the records and the checksum of both.
-fn put_file<W: Write>(out: &mut W, file: &File) -> Result<(), WriteFailed>
-    ensures { WritesText (W.contents out.old) (W.contents out.new) result (encoded file.now) }
+fn put_framed<W: Write>(out: &mut W, frame: Frame, records: &[u8]) -> Result<(), WriteFailed>
+    requires { length records.now < 2 ^ 32 }
+    ensures { WritesText (W.contents out.old) (W.contents out.new) result (framed frame records.now) }
 {
     let mut checksum = Crc::new();
-    put_header(out, &mut checksum, file.frame(), file.data_size())?;
-    put_checked(out, &mut checksum, file.records())?;
+    put_header(out, &mut checksum, frame, records.len() as u32)?;
+    put_checked(out, &mut checksum, records)?;
     put(out, &checksum.value().to_le_bytes())
 }
 

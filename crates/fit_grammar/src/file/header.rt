@@ -1,7 +1,10 @@
 // The header of a file, from the bytes of it that came.
 
-ghost use Rattle.std.specs.Prelude.{◌≡◌, ◌<◌, ◌≤◌, ◌↔◌, ◌⊎◌, ◌^◌, ◌++◌, length, take, slice_range, IfOk, IfErr, IsTrue};
+ghost use Rattle.std.specs.Prelude.{◌≡◌, ◌≢◌, ◌<◌, ◌≤◌, ◌↔◌, ◌⊎◌, ◌^◌, ◌++◌, ℕ, length, take, slice_index, slice_range, IfOk, IfErr, IsTrue};
+ghost use Rattle.fit_grammar.specs.declared.file.frame.Frame.{Frame as AnyFrame};
 ghost use Rattle.fit_grammar.specs.Format.File.{mark, ChecksHeader};
+ghost use Rattle.fit_grammar.specs.Format.Refusal.{Refusal};
+ghost use Rattle.fit_grammar.specs.Calls.BeginningHeader.{BeginsWithHeader};
 ghost use Rattle.fit_grammar.specs.Calls.Pieces.{IsShownBy};
 ghost use Rattle.fit_grammar.specs.Private.Decoding.{BeginsWith, IsRefusedBy, IsShort};
 ghost use Rattle.fit_grammar.specs.Private.Feeding.{TakesHeader};
@@ -15,11 +18,11 @@ use fit_base::Crc;
 // The number of bytes of a header with its checksum.
 pub(crate) const LONGEST_HEADER: usize = 14;
 
-// A header: the frame, and the number of bytes of the records.
-#[derive(Drop)]
-pub(crate) struct Header {
-    pub(crate) frame: Frame,
-    pub(crate) data_size: u32,
+/// A header: the frame, and the number of bytes of the records.
+#[derive(Clone, Copy, Debug, PartialEq, Eq)]
+pub struct Header {
+    pub frame: Frame,
+    pub data_size: u32,
 }
 
 pub(crate) fn fault(kind: FaultKind, place: usize) -> FileFault
@@ -64,6 +67,26 @@ fn read_header(bytes: &[u8]) -> Result<Header, FileFault>
     ensures refused { IfErr result (IsRefusedBy bytes.now) }
     ensures short { IfErr result (λ fault. fault.kind ≡ FaultKind.Truncated → IsShort bytes.now) }
 {
+    let header = read_header_front(bytes)?;
+    if header.frame.header_size == 14 && !checks_header(&bytes[..14]) {
+        return Err(fault(FaultKind::HeaderCrc, 12));
+    }
+    Ok(header)
+}
+
+/// Reads the header that the bytes begin with, whatever its checksum is. Where they begin with none, the fault is the one that
+/// they have as a file.
+pub fn read_header_front(bytes: &[u8]) -> Result<Header, FileFault>
+    ensures header { IfOk result (λ header. BeginsWithHeader bytes.now header.frame header.data_size) }
+    ensures fits { IfOk result (λ header. header.data_size < 2 ^ 32) }
+    ensures refused { IfErr result
+        (λ fault. (fault.kind ≢ FaultKind.Memory) × Refusal bytes.now fault.kind fault.place) }
+    ensures none { IfErr result
+        (λ _. (frame : AnyFrame) (size : ℕ) → BeginsWithHeader bytes.now frame size → ⊥) }
+    // Where the bytes end within their header.
+    ensures short { IfErr result (λ fault. fault.kind ≡ FaultKind.Truncated
+        → (length bytes.now < 14) × ((length bytes.now ≡ 0) ⊎ (length bytes.now < slice_index bytes.now 0))) }
+{
     let len = bytes.len();
     if len == 0 {
         return Err(fault(FaultKind::Truncated, len));
@@ -87,9 +110,6 @@ fn read_header(bytes: &[u8]) -> Result<Header, FileFault>
     }
     if len < header_size as usize {
         return Err(fault(FaultKind::Truncated, len));
-    }
-    if header_size == 14 && !checks_header(&bytes[..14]) {
-        return Err(fault(FaultKind::HeaderCrc, 12));
     }
     let frame = Frame {
         header_size,

@@ -6,6 +6,8 @@ use Rattle.fit_world.specs.declared.reading.ReadFault.{ReadFault}
 use Rattle.fit_world.specs.declared.reading.ReadFault.TheVariants.{Failed, TooLarge, NoMemory}
 use Rattle.fit_world.specs.declared.repairing.RepairFault.{RepairFault}
 use Rattle.fit_world.specs.declared.repairing.RepairFault.TheVariants as repairs
+use Rattle.fit_world.specs.declared.salvaging.SalvageFault.{SalvageFault}
+use Rattle.fit_world.specs.declared.salvaging.SalvageFault.TheVariants as salvages
 use Rattle.fit_world.specs.declared.script.fault.ReplayFault.{ReplayFault}
 use Rattle.fit_world.specs.declared.script.fault.ReplayFault.TheVariants.{NoText, Script, OnlySimulate}
 use Rattle.fit_world.specs.declared.script.fault.ScriptFaultKind.{ScriptFaultKind}
@@ -53,3 +55,8 @@ tell_code (Input why) = 4
 abbrev pub repair_code : RepairFault → ℕ
 repair_code (repairs.Recorder fault) = 1
 repair_code repairs.Output = 2
+
+-- of why nothing is salvaged, or not all of it written
+abbrev pub salvage_code : SalvageFault → ℕ
+salvage_code (salvages.File fault) = 1
+salvage_code salvages.Output = 2

@@ -1,6 +1,6 @@
 // The file that a subcommand reads.
 
-ghost use Rattle.std.specs.Prelude.{◌≡◌, ◌<◌, ◌↔◌, IsTrue, IfOk, IfErr};
+ghost use Rattle.std.specs.Prelude.{◌≡◌, ◌<◌, ◌≤◌, ◌↔◌, vec_len, IsTrue, IfOk, IfErr};
 ghost use Rattle.fit_world.specs.Calls.Reading.{ReadsAll};
 ghost use Rattle.fitrec.specs.Faults.{IsTellFault};
 ghost use Rattle.fitrec.specs.Reading.{fault_of_read, IsReadFault, IsFileFault};
@@ -31,7 +31,8 @@ pub fn open_file<'a, R: Files>(rt: &R, name: &'a str) -> Result<R::File, Fault<'
 
 /// All bytes of the file of this name.
 pub fn read_file<'a, R: Files + AllocGlobal>(rt: &R, name: &'a str) -> Result<Vec<u8>, Fault<'a>>
-    ensures { IfErr result (IsFileFault name.entry) }
+    ensures fault { IfErr result (IsFileFault name.entry) }
+    ensures most { IfOk result (λ bytes. vec_len bytes ≤ 268435456) }
 {
     match open_file(rt, name) {
         Ok(mut file) => read_input(rt.alloc(), name, &mut file),

@@ -13,6 +13,7 @@ pub enum Request<'a> {
     Check { file: &'a str },
     Replay { script: &'a str, folder: &'a str },
     Repair { folder: &'a str },
+    Salvage { file: &'a str, to: &'a str },
     Simulate { script: &'a str, choices: Vec<u8> },
 }
 
@@ -32,6 +33,12 @@ pub fn read_words<'a, S: AsStr>(alloc: Global, words: &'a [S]) -> Result<Request
     let repair = Command::new(alloc, "repair")
         .about("Makes the recording of a folder whole again, and sums it up in one line")
         .arg(folder_argument(alloc))?;
+    let salvage = Command::new(alloc, "salvage")
+        .about(
+            "Makes a FIT file of what is readable of a damaged one that has no journal; show and check say what it holds",
+        )
+        .arg(in_argument(alloc))?
+        .arg(out_argument(alloc))?;
     let simulate = Command::new(alloc, "simulate")
         .about(
             "Runs a script over a disk in memory, whose calls fail and whose power goes where it says so",
@@ -49,6 +56,7 @@ pub fn read_words<'a, S: AsStr>(alloc: Global, words: &'a [S]) -> Result<Request
         .subcommand(check)?
         .subcommand(replay)?
         .subcommand(repair)?
+        .subcommand(salvage)?
         .subcommand(simulate)?;
     let matches = fitrec.try_get_matches_from_mut(words)?;
     if let Some((name, of_name)) = matches.subcommand() {
@@ -83,6 +91,10 @@ fn request_of<'a>(name: &str, matches: &ArgMatches<'a>, choices: Vec<u8>) -> Opt
         "repair" => Some(Request::Repair {
             folder: matches.get_str("FOLDER")?,
         }),
+        "salvage" => Some(Request::Salvage {
+            file: matches.get_str("IN")?,
+            to: matches.get_str("OUT")?,
+        }),
         "simulate" => Some(Request::Simulate {
             script: matches.get_str("SCRIPT")?,
             choices,
@@ -116,6 +128,14 @@ fn script_argument<'a>(alloc: Global) -> Arg<'a> {
 
 fn folder_argument<'a>(alloc: Global) -> Arg<'a> {
     argument(alloc, "FOLDER", "The path of the folder of a recording")
+}
+
+fn in_argument<'a>(alloc: Global) -> Arg<'a> {
+    argument(alloc, "IN", "The path of the damaged file")
+}
+
+fn out_argument<'a>(alloc: Global) -> Arg<'a> {
+    argument(alloc, "OUT", "The path of the file that is made or replaced")
 }
 
 // A word that has to be there.

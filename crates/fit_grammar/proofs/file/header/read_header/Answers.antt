@@ -1,117 +1,35 @@
-use Rattle.std.proofs.Common.{◌≡◌, ℕ, ◌+◌, ◌/◌, ◌≤◌, List, length, take, refl, sym, ap, ◌∙◌, arith, ◌⊎◌, inl, inr, length-take-le}
-use Rattle.std.specs.Prelude.{slice_index}
+use Rattle.std.proofs.Common.{◌≡◌, ◌≤◌, length, refl, ◌∙◌, arith, length-take-le}
 use Rattle.std.proofs.lemmas.Bool.{false≢true}
-use Rattle.fit_grammar.specs.declared.file.fault.FaultKind.TheVariants.{Magic, Protocol, HeaderCrc}
-use Rattle.fit_base.specs.Number.{low_first}
+use Rattle.fit_grammar.specs.declared.file.fault.FaultKind.TheVariants.{HeaderCrc}
 use Rattle.fit_grammar.proofs.Decoding.HeaderRefused.{Passes}
-use Rattle.fit_grammar.proofs.Decoding.HeaderRead.{empty_refused, first_refused, cut_refused, check_refused, header_byte, header_range, two_read, four_read}
+use Rattle.fit_grammar.proofs.Decoding.HeaderRead.{check_refused, header_byte, begins_passes, begins_good}
 use Rattle.fit_grammar.proofs.file.header.read_header.Goals as goal
-use Rattle.fit_grammar.proofs.file.header.read_header.Goals.{else-header_size-eq14-via-then-header_size-eq14+else-not-checks_header, else-header_size-eq14-via-else-header_size-eq14}
-
--- what has passed up to this many bytes
-passes_first : (b : List ℕ) (count : ℕ) → (slice_index b 0 ≡ 12) ⊎ (slice_index b 0 ≡ 14) → count ≤ 2 → Passes b count
-passes_first b count first le = record {
-  first = first;
-  major = λ more. absurd (omega arith);
-  marked = λ more. absurd (omega arith);
-  within = elim first [ inl e ↦ omega arith | inr e ↦ omega arith ];
-}
-
-passes_major : (b : List ℕ) (count : ℕ) → (slice_index b 0 ≡ 12) ⊎ (slice_index b 0 ≡ 14)
-    → (slice_index b 1 / 16 ≡ 1) ⊎ (slice_index b 1 / 16 ≡ 2) → count ≤ 12 → Passes b count
-passes_major b count first major le = record {
-  first = first;
-  major = λ more. major;
-  marked = λ more. absurd (omega arith);
-  within = elim first [ inl e ↦ omega arith | inr e ↦ omega arith ];
-}
-
-pub returns-then-len-eq0-clause-refused : goal.returns-then-len-eq0-clause-refused
-returns-then-len-eq0-clause-refused c = empty_refused c.args.bytes.now _ c.fault.ensures c.if-len-eq0.true
-
-pub returns-then-not-is_header_size-clause-refused : goal.returns-then-not-is_header_size-clause-refused
-returns-then-not-is_header_size-clause-refused c =
-    first_refused c.args.bytes.now _ c.fault-then-not-is_header_size.ensures (omega arith)
-    (λ h. false≢true (c.if-not-is_header_size.ensures.1 h))
-
-pub returns-then-len-lt2-clause-refused : goal.returns-then-len-lt2-clause-refused
-returns-then-len-lt2-clause-refused c =
-    cut_refused c.args.bytes.now _ c.fault-then-len-lt2.ensures
-    (passes_first c.args.bytes.now (length c.args.bytes.now + 1) (c.if-not-is_header_size.ensures.0 refl) (omega arith))
-
-pub returns-then-not-is_major-clause-refused : goal.returns-then-not-is_major-clause-refused
-returns-then-not-is_major-clause-refused c =
-    let b = c.args.bytes.now in
-    let long : length (take 2 b) ≡ 2 = length-take-le 2 b (omega arith) in
-    let same = header_byte 2 b 1 (omega arith) in
-    check_refused b _ Protocol 1 2 c.fault-then-not-is_major.ensures (λ e. cc)
-    (passes_first b 2 (c.if-not-is_header_size.ensures.0 refl) (omega arith)) (omega arith) (
-      refl,
-      long,
-      λ e. false≢true (c.if-not-is_major.ensures.1 (inl (rw same at e))),
-      λ e. false≢true
-          (c.if-not-is_major.ensures.1 (inr (rw same at e))),
-    )
-
-pub returns-then-len-lt12-clause-refused : goal.returns-then-len-lt12-clause-refused
-returns-then-len-lt12-clause-refused c =
-    let b = c.args.bytes.now in
-    cut_refused b _ c.fault-then-len-lt12.ensures (passes_major b (length b + 1)
-    (c.if-not-is_header_size.ensures.0 refl) (c.if-not-is_major.ensures.0 refl) (omega arith))
-
-pub returns-then-not-is_marked-clause-refused : goal.returns-then-not-is_marked-clause-refused
-returns-then-not-is_marked-clause-refused c =
-    let b = c.args.bytes.now in
-    let long : length (take 12 b) ≡ 12 = length-take-le 12 b (omega arith) in
-    check_refused b _ Magic 8 12 c.fault-then-not-is_marked.ensures (λ e. cc)
-    (passes_major b 12 (c.if-not-is_header_size.ensures.0 refl) (c.if-not-is_major.ensures.0 refl) (omega arith)) (omega arith)
-    (refl, long, λ e. false≢true (c.if-not-is_marked.ensures.1 (sym (header_range 12 b 8 4 (omega arith)) ∙ e)))
-
-pub returns-then-len-header_size-clause-refused : goal.returns-then-len-header_size-clause-refused
-returns-then-len-header_size-clause-refused c =
-    let b = c.args.bytes.now in
-    cut_refused b _ c.fault-then-len-header_size.ensures (record {
-      first = c.if-not-is_header_size.ensures.0 refl;
-      major = λ more. c.if-not-is_major.ensures.0 refl;
-      marked = λ more. c.if-not-is_marked.ensures.0 refl;
-      within = omega arith;
-    })
+use Rattle.fit_grammar.proofs.file.header.read_header.Goals.{else-header-eq14-via-then-header-eq14+else-not-checks_header, else-header-eq14-via-else-header-eq14}
 
 pub returns-then-not-checks_header-clause-refused : goal.returns-then-not-checks_header-clause-refused
 returns-then-not-checks_header-clause-refused c =
     let b = c.args.bytes.now in
-    let long : length (take 14 b) ≡ 14 = length-take-le 14 b (omega arith) in
-    check_refused b _ HeaderCrc 12 14 c.fault-then-not-checks_header.ensures (λ e. cc) (record {
-      first = c.if-not-is_header_size.ensures.0 refl;
-      major = λ more. c.if-not-is_major.ensures.0 refl;
-      marked = λ more. c.if-not-is_marked.ensures.0 refl;
-      within = omega arith;
-    }) (omega arith) (
+    let fr = c.in_ok-header.header.frame in
+    let h = c.in_ok-header.ensures.header in
+    let is_14 : fr.header_size ≡ 14 = c.if-header-eq14.true in
+    let there : 14 ≤ length b = omega (arith, is_14, h.within) in
+    let passes : Passes b 14 = rw is_14 at (begins_passes b fr c.in_ok-header.header.data_size h) in
+    check_refused b _ HeaderCrc 12 14 c.fault.ensures (λ e. cc) passes there (
       refl,
-      long,
+      length-take-le 14 b there,
       header_byte 14 b 0 (omega arith)
-          ∙ c.if-header_size-eq14.true,
-      λ h. false≢true (c.if-not-checks_header.ensures.1 h),
+          ∙ h.header_size ∙ is_14,
+      λ good. false≢true (c.if-not-checks_header.ensures.1 good),
     )
 
 pub returns-clause-header : goal.returns-clause-header
 returns-clause-header c =
-    let b = c.args.bytes.now in
-    let n = slice_index b 0 in
-    let least : 12 ≤ n = elim (c.if-not-is_header_size.ensures.0 refl) [ inl e ↦ omega arith | inr e ↦ omega arith ] in
+    let h = c.in_ok-header.ensures.header in
     record {
-      within = c.if-len-header_size.false;
-      is_header = record {
-        is_frame = record { size = c.if-not-is_header_size.ensures.0 refl; major = c.if-not-is_major.ensures.0 refl };
-        whole = length-take-le n b c.if-len-header_size.false;
-        header_size = header_byte n b 0 (omega arith);
-        protocol = header_byte n b 1 (omega arith);
-        profile = ap low_first (header_range n b 2 2 (omega arith)) ∙ two_read b 2 _ (omega arith) c.read_u16.ensures;
-        data_size = ap low_first (header_range n b 4 4 (omega arith)) ∙ four_read b 4 _ (omega arith) c.read_u32.ensures;
-        marked = header_range n b 8 4 (omega arith) ∙ c.if-not-is_marked.ensures.0 refl;
-        checked = λ e. elim c.else-header_size-eq14.branch [
-          | else-header_size-eq14-via-then-header_size-eq14+else-not-checks_header w ↦ rw e (w.if-not-checks_header.ensures.0 refl)
-          | else-header_size-eq14-via-else-header_size-eq14 w ↦ absurd (w.if-header_size-eq14.false e)
-        ];
-      };
+      within = h.within;
+      is_header = begins_good c.args.bytes.now c.in_ok-header.header.frame c.in_ok-header.header.data_size h
+          (λ e. elim c.else-header-eq14.branch [
+            | else-header-eq14-via-then-header-eq14+else-not-checks_header w ↦ w.if-not-checks_header.ensures.0 refl
+            | else-header-eq14-via-else-header-eq14 w ↦ absurd (w.if-header-eq14.false e)
+          ]);
     }

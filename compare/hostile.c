@@ -1,0 +1,271 @@
+/* Gives hostile files to the program: mutated ones of the files that are named, and headers and definitions that promise much. Each
+   goes through show, check and salvage, in little memory and time; what was salvaged has to be shown, and salvaged again to itself.
+
+     hostile PROGRAM FOLDER SEED SECONDS COUNT FILE ..
+
+   It ends behind so many seconds or files, and prints how many ended how: a line for each command and end. What must not be, a
+   signal, a time or memory out of bounds, or a salvaged file that is none, is kept in the folder, and the status is 1. */
+
+#define _GNU_SOURCE
+#include <fcntl.h>
+#include <poll.h>
+#include <signal.h>
+#include <stdint.h>
+#include <stdio.h>
+#include <stdlib.h>
+#include <string.h>
+#include <sys/resource.h>
+#include <sys/stat.h>
+#include <sys/time.h>
+#include <sys/wait.h>
+#include <time.h>
+#include <unistd.h>
+
+enum { LARGEST = 1 << 16, SOURCES = 64, ENDS = 256, MEMORY = 64 << 20, SECONDS = 10, KILOBYTES = 64 << 10 };
+
+static struct { unsigned char *bytes; size_t size; } sources[SOURCES];
+static int source_count;
+static unsigned char bytes[2 * LARGEST];
+static size_t size;
+static uint64_t state;
+static const char *program;
+static char in[4096], out[4096], again[4096];
+static struct { char name[64]; unsigned long count; } ends[ENDS];
+static long most_memory;
+static double most_time;
+
+static uint64_t next(void) {
+    state ^= state << 13;
+    state ^= state >> 7;
+    state ^= state << 17;
+    return state * 0x2545F4914F6CDD1DULL;
+}
+
+static size_t below(size_t count) { return count ? (next() >> 11) % count : 0; }
+
+static void fail(const char *what) {
+    perror(what);
+    exit(2);
+}
+
+static void counted(const char *command, const char *how) {
+    char name[64];
+    snprintf(name, sizeof name, "%s: %s", command, how);
+    for (int at = 0; at < ENDS; at++) {
+        if (!ends[at].name[0])
+            strcpy(ends[at].name, name);
+        if (!strcmp(ends[at].name, name)) {
+            ends[at].count++;
+            return;
+        }
+    }
+}
+
+/* ---- the files */
+
+static const unsigned char telling[] = {0, 1, 2, 6, 12, 14, 0x10, 0x20, 0x3F, 0x40, 0x4F, 0x60, 0x7F, 0x80, 0x9F, 0xC0, 0xE0, 0xFF};
+
+static unsigned char a_byte(void) { return below(2) ? telling[below(sizeof telling)] : next() >> 24; }
+
+static void put_number(size_t at, int count, uint64_t number) {
+    for (; count && at < size; count--, number >>= 8)
+        bytes[at++] = number;
+}
+
+/* Puts some bytes of a source in the place of others. */
+static void put_bytes(size_t at, size_t gone, const unsigned char *from, size_t count) {
+    if (gone > size - at)
+        gone = size - at;
+    if (size - gone + count > LARGEST)
+        return;
+    static unsigned char copy[LARGEST];
+    memcpy(copy, from, count);
+    memmove(bytes + at + count, bytes + at + gone, size - at - gone);
+    memcpy(bytes + at, copy, count);
+    size += count - gone;
+}
+
+static uint16_t checksum(const unsigned char *from, size_t count) {
+    uint16_t sum = 0;
+    for (; count--; from++) {
+        sum ^= *from;
+        for (int bit = 0; bit < 8; bit++)
+            sum = sum >> 1 ^ (sum & 1 ? 0xA001 : 0);
+    }
+    return sum;
+}
+
+/* Checksums and a data size that fit, so that what stands behind them is looked at. */
+static void mend(void) {
+    if (size < 16)
+        return;
+    size_t header = bytes[0] == 12 ? 12 : 14;
+    put_number(4, 4, size - header - 2);
+    if (header == 14)
+        put_number(12, 2, checksum(bytes, 12));
+    put_number(size - 2, 2, checksum(bytes, size - 2));
+}
+
+static void mutate(void) {
+    int own = below(source_count), other = below(source_count);
+    size_t from, count;
+    size = sources[own].size;
+    memcpy(bytes, sources[own].bytes, size);
+    for (int turn = 1 + below(6); turn && size; turn--) {
+        size_t at = below(4) ? below(size) : below(size < 40 ? size : 40);
+        switch (below(12)) {
+        case 0: case 1: case 2:
+            bytes[at] = a_byte();
+            break;
+        case 3:
+            bytes[at] ^= 1 << below(8);
+            break;
+        case 4:
+            size = at;
+            break;
+        case 5:
+            count = 1 + below(200);
+            put_bytes(at, 0, bytes + at, count < size - at ? count : size - at);
+            break;
+        case 6: case 7:
+            from = below(sources[other].size);
+            count = 1 + below(sources[other].size - from);
+            put_bytes(at, below(2) * below(size - at), sources[other].bytes + from, count);
+            break;
+        case 8:
+            put_bytes(at, 1 + below(60), bytes, 0);
+            break;
+        case 9:
+            put_number(4, 4, below(3) ? next() >> 32 : below(2) ? size : 0xFFFFFFFF);
+            break;
+        case 10: {
+            /* A definition of many long fields. */
+            unsigned char large[6 + 3 * 255] = {0x40 | below(16), 0, below(2), below(40), 0, 0};
+            large[5] = below(3) ? 255 : below(256);
+            for (count = 6; count < sizeof large; count += 3) {
+                large[count] = next() >> 40;
+                large[count + 1] = below(2) ? 255 : a_byte();
+                large[count + 2] = a_byte();
+            }
+            put_bytes(at, 0, large, 6 + 3 * (below(2) ? large[5] : below(255)));
+            break;
+        }
+        default:
+            for (count = 1 + below(300); count && at < size; count--)
+                bytes[at++] = a_byte();
+        }
+    }
+    if (below(3))
+        mend();
+}
+
+/* ---- the program */
+
+static void limit(int what, rlim_t most) {
+    struct rlimit both = {most, most};
+    setrlimit(what, &both);
+}
+
+/* Runs a command over a file, counts its end, and answers the status; -1 where it must not end so. */
+static int run(const char *command, const char *file, const char *to) {
+    const char *words[] = {program, command, file, to, NULL};
+    char line[256] = "", how[64] = "done";
+    int ends_of[2], status;
+    struct rusage used;
+    if (pipe2(ends_of, O_CLOEXEC))
+        fail("pipe");
+    pid_t child = vfork();
+    if (child < 0)
+        fail("vfork");
+    if (!child) {
+        dup2(ends_of[1], 2);
+        limit(RLIMIT_AS, MEMORY);
+        limit(RLIMIT_CPU, SECONDS);
+        limit(RLIMIT_CORE, 0);
+        execv(program, (char **)words);
+        _exit(127);
+    }
+    close(ends_of[1]);
+    size_t told = 0;
+    for (ssize_t more; told < sizeof line - 1 && (more = read(ends_of[0], line + told, sizeof line - 1 - told)) > 0;)
+        told += more;
+    if (wait4(child, &status, 0, &used) != child)
+        fail("wait4");
+    close(ends_of[0]);
+    line[told] = 0;
+    double time = used.ru_utime.tv_sec + used.ru_stime.tv_sec + (used.ru_utime.tv_usec + used.ru_stime.tv_usec) / 1e6;
+    most_memory = used.ru_maxrss > most_memory ? used.ru_maxrss : most_memory;
+    most_time = time > most_time ? time : most_time;
+    if (WIFSIGNALED(status)) {
+        snprintf(how, sizeof how, "SIGNAL %d", WTERMSIG(status));
+    } else if (WEXITSTATUS(status) == 1 && sscanf(line, "fitrec: %32[A-Za-z]", how) == 1) {
+    } else if (WEXITSTATUS(status)) {
+        snprintf(how, sizeof how, "STATUS %d", WEXITSTATUS(status));
+    }
+    counted(command, how);
+    int is_good = WIFEXITED(status) && (!WEXITSTATUS(status) ? !line[0] : WEXITSTATUS(status) == 1)
+        && strcmp(how, "cannot") && strcmp(how, "NoMemory") && strcmp(how, "Memory") && time < SECONDS && used.ru_maxrss < KILOBYTES;
+    return is_good ? WEXITSTATUS(status) : -1;
+}
+
+static size_t read_file(const char *path, unsigned char *into, size_t most) {
+    int file = open(path, O_RDONLY | O_CLOEXEC);
+    if (file < 0)
+        return 0;
+    ssize_t count = read(file, into, most);
+    close(file);
+    return count < 0 ? 0 : count;
+}
+
+/* Whether all that is asked of a file comes so. */
+static int is_well(void) {
+    static unsigned char first[2 * LARGEST], second[2 * LARGEST];
+    int file = open(in, O_WRONLY | O_CREAT | O_TRUNC | O_CLOEXEC, 0666);
+    if (file < 0 || write(file, bytes, size) != (ssize_t)size)
+        fail(in);
+    close(file);
+    int shown = run("show", in, NULL), checked = run("check", in, NULL), kept = run("salvage", in, out);
+    if (shown < 0 || checked < 0 || kept < 0 || (!checked && shown))
+        return 0;
+    if (kept)
+        return shown;
+    if (run("show", out, NULL) || run("salvage", out, again))
+        return 0;
+    size_t long_ = read_file(out, first, sizeof first);
+    return long_ >= 16 && read_file(again, second, sizeof second) == long_ && !memcmp(first, second, long_);
+}
+
+int main(int count, char **words) {
+    if (count < 7)
+        return 2;
+    program = words[1];
+    snprintf(in, sizeof in, "%s/in.fit", words[2]);
+    snprintf(out, sizeof out, "%s/out.fit", words[2]);
+    snprintf(again, sizeof again, "%s/again.fit", words[2]);
+    unsigned long seed = strtoul(words[3], NULL, 10), most = strtoul(words[5], NULL, 10), done = 0, bad = 0;
+    time_t end = time(NULL) + atol(words[4]);
+    for (int at = 6; at < count && source_count < SOURCES; at++) {
+        sources[source_count].bytes = malloc(LARGEST);
+        sources[source_count].size = read_file(words[at], sources[source_count].bytes, LARGEST / 4);
+        source_count += sources[source_count].size > 0;
+    }
+    int null = open("/dev/null", O_RDWR);
+    int told = fcntl(1, F_DUPFD_CLOEXEC, 3);
+    dup2(null, 0);
+    dup2(null, 1);
+    for (; done < most && time(NULL) < end; done++) {
+        state = (seed << 40 ^ done) * 0x9E3779B97F4A7C15ULL + 1;
+        next();
+        mutate();
+        if (!is_well()) {
+            char name[4200];
+            snprintf(name, sizeof name, "%s/bad-%lu-%lu.fit", words[2], seed, done);
+            rename(in, name);
+            bad++;
+        }
+    }
+    for (int at = 0; at < ENDS && ends[at].name[0]; at++)
+        dprintf(told, "%lu %s\n", ends[at].count, ends[at].name);
+    dprintf(told, "files %lu bad %lu memory %ld time %.3f\n", done, bad, most_memory, most_time);
+    return bad != 0;
+}

@@ -1,0 +1,12 @@
+-- What is known of the items that were passed at the front of some bytes.
+use Rattle.std.specs.Prelude.{◌≡◌, ℕ, ◌≤◌, List, length, take, Option}
+use Rattle.fit_grammar.specs.declared.definition.Definition.{Definition}
+use Rattle.fit_grammar.specs.Format.Item.{Item}
+use Rattle.fit_grammar.specs.Format.Records.{Records, in_force}
+
+-- so many of the first bytes are the records of some items, and these are the definitions in force behind them
+pub record HasPassed (definition_for : ℕ → Option Definition) (bytes : List ℕ) (front : ℕ) : Type 0 where
+  pub within : front ≤ length bytes
+  pub items : List Item
+  pub are_records : Records (take front bytes) items
+  pub in_force_are : definition_for ≡ in_force items
