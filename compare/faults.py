@@ -93,10 +93,11 @@ def journal_commit(slot, is_open=False):
 
 STARTING = ["sync data", "size data", "cut journal 0", "write journal 0 24", "sync journal", "write data 0 86", "sync data"]
 STARTING += journal_commit(0)
-# A definition of two fields and its message, a commit, and a message alone.
-RIDING = ["write data 86 18", "sync data", *journal_commit(1), "write data 104 6"]
-# The closing messages have at most 252 bytes, of which the stop and its definition take 22, and the checksum has two.
-STOPPING = ["write data 110 7", "sync data", *journal_commit(0, True), "write data 117 232", "write data 0 14", "sync data"]
+# A definition of two fields and its message, with the commit that writes it.
+RIDING = ["write data 86 18", "sync data", *journal_commit(1)]
+# A message alone and the stop. The closing messages have at most 252 bytes, of which the stop and its definition take 22, and
+# the checksum has two.
+STOPPING = ["write data 104 13", "sync data", *journal_commit(0, True), "write data 117 232", "write data 0 14", "sync data"]
 RECOVERING = ["sync data", "sync journal", "size data", "read journal", "read data", "write data 104 254", "cut data 358",
               "write data 0 14", "sync data"]
 ERASING = ["sync data", "sync journal", "size data", "read journal", "write journal 0 1", "sync journal", "cut data 0",

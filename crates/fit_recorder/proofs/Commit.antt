@@ -2,6 +2,7 @@
 pub mod Kept
 pub mod Slots
 pub mod Files
+pub mod Page
 pub mod Spelling
 pub mod Writing
 pub mod Standing

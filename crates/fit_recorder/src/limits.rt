@@ -16,3 +16,6 @@ pub(crate) const LONGEST_FRONT: usize = 86;
 
 // The messages that close a file at the most, with their definitions, and the checksum behind them.
 pub(crate) const LONGEST_CLOSING: usize = 254;
+
+// What a recorder keeps of its last records before it writes them.
+pub(crate) const PAGE: usize = 512;

@@ -4,8 +4,8 @@ use crate::histories::{answers_to, file_in};
 use fit_world::Answer;
 use std::test::Fail;
 
-// How many calls of the device a commit makes.
-const COMMIT_CALLS: u32 = 5;
+// How many calls of the device a commit makes: the first writes what waits in the page.
+const COMMIT_CALLS: u32 = 6;
 
 // More calls than the recovery of the ride makes.
 const RECOVERY_CALLS: u32 = 60;

@@ -16,8 +16,8 @@ const RIDE: &str =
 
 const STOP: &str = "stop 1000000003\n";
 
-// Of the start, three entries, two commits, of which the second closes a gate, and the stop.
-const RIDE_CALLS: u32 = 11 + 3 + (5 + 7) + 11;
+// Of the start, two commits, of which the second closes a gate, and the stop. The entries wait in the page.
+const RIDE_CALLS: u32 = 11 + (6 + 8) + 11;
 
 // Of the ride without its stop: two syncs, the size, the head of the journal and its two slots, one read of the body, and the
 // four calls that close the file.

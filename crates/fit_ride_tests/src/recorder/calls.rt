@@ -119,9 +119,8 @@ fn an_erasing_without_a_mark_makes_seven_calls(rt: HostRuntime) -> Result<(), Fa
 // The data file is kept before the journal: where the second sync fails, a power cut leaves the data as reads gave it.
 #[test]
 fn a_recovery_keeps_the_data_first(rt: HostRuntime) -> Result<(), Fail> {
-    let mut recorder = begun(&rt)?;
-    play(&mut recorder, &short_ride())?;
-    let mut disk = recorder.into_disk();
+    let mut disk = begun(&rt)?.into_disk();
+    disk.write(Which::Data, 86, b"data")?;
     let data = Vec::from_slice(rt.alloc(), disk.content(Which::Data))?;
     disk.fail_at(2);
     assert_eq!(rt; recover(&mut disk), Err(RecFault::Device));

@@ -18,15 +18,21 @@ use std::test::Fail;
 // With how many choices of noise each power cut is tried, beside the four that are not noise.
 const NOISES: u32 = 40;
 
-// How many calls of the device the ride makes: eleven for the start, one for each of nine entries, five for the first commit,
-// seven for each of the four that close a gate, and eleven for the stop.
-const CALLS: u32 = 11 + 9 + (5 + 4 * 7) + 11;
+// How many calls of the device the ride makes: eleven for the start, six for the first commit, eight for each of the four that
+// close a gate, and eleven for the stop. Its entries wait in the page.
+const CALLS: u32 = 11 + (6 + 4 * 8) + 11;
 
-// More calls than a recovery of the ride makes.
+// And the long ride, which writes a full page before each of its two commits.
+const LONG_CALLS: u32 = 11 + (1 + 6) + (1 + 8) + 11;
+
+// More calls than a recovery of a ride makes.
 const RECOVERY_CALLS: u32 = 100;
 
-// The entries of the ride, of each kind, and whether a commit follows.
-fn ride_with_commits() -> [(Entry, bool); 10] {
+// An entry, and whether a commit follows.
+type Step = (Entry, bool);
+
+// Entries of each kind.
+fn ride_with_commits() -> [Step; 10] {
     let mut far = Sample::new(TIME + 6);
     far.distance = Some(4000);
     [
@@ -41,6 +47,16 @@ fn ride_with_commits() -> [(Entry, bool); 10] {
         (heart_rate(TIME + 8, 102), false),
         (Entry::Stop(TIME + 9), false),
     ]
+}
+
+// Two hundred samples and a stop, each 32 seconds behind the one before.
+fn long_ride(alloc: Global) -> Result<Vec<Step>, Fail> {
+    let mut ride = Vec::new(alloc);
+    for number in 1..=200 {
+        ride.push((heart_rate(TIME + 32 * number, 100), number % 100 == 0))?;
+    }
+    ride.push((Entry::Stop(TIME + 32 * 201), false))?;
+    Ok(ride)
 }
 
 // How many entries are committed, if a start is, and how many the last call that failed had begun to commit.
@@ -83,7 +99,7 @@ fn take_step(
 }
 
 // Goes on with the ride until a call fails.
-fn go_on(recorder: &mut Recorder<Memory>) -> Way
+fn go_on(recorder: &mut Recorder<Memory>, ride: &[Step]) -> Way
     requires { GoesOn true memory_story recorder.old }
 {
     let mut way = Way {
@@ -91,7 +107,7 @@ fn go_on(recorder: &mut Recorder<Memory>) -> Way
         begun: Some(0),
     };
     let mut number: usize = 0;
-    for (entry, has_commit) in &ride_with_commits() {
+    for (entry, has_commit) in ride {
         number = number.saturating_add(1);
         if !take_step(recorder, entry, *has_commit, number, &mut way) {
             return way;
@@ -120,7 +136,7 @@ impl Trouble {
 }
 
 // The disk behind the ride with trouble at its k-th call, and how far it came.
-fn ride_with(alloc: Global, trouble: Trouble, k: u32) -> (Memory, Way)
+fn ride_with(alloc: Global, ride: &[Step], trouble: Trouble, k: u32) -> (Memory, Way)
     requires { 1 ≤ k }
 {
     let mut disk = Memory::new(alloc);
@@ -134,7 +150,7 @@ fn ride_with(alloc: Global, trouble: Trouble, k: u32) -> (Memory, Way)
             },
         ),
         Ok(mut recorder) => {
-            let way = go_on(&mut recorder);
+            let way = go_on(&mut recorder, ride);
             (recorder.into_disk(), way)
         }
     }
@@ -144,6 +160,7 @@ fn ride_with(alloc: Global, trouble: Trouble, k: u32) -> (Memory, Way)
 fn entries_in(
     rt: &impl Abort,
     alloc: Global,
+    ride: &[Step],
     disk: &Memory,
     answer: Result<Summary, RecFault>,
 ) -> Result<Option<usize>, Fail> {
@@ -153,7 +170,10 @@ fn entries_in(
     let file = decode_file(alloc, disk.content(Which::Data))?;
     let summary = answer?;
     assert_eq!(rt; check_activity(&file), Ok(summary));
-    let entries = ride_with_commits().map(|(entry, _)| entry);
+    let mut entries = Vec::new(alloc);
+    for (entry, _) in ride {
+        entries.push(*entry)?;
+    }
     let told = entries_told(&file, &entries);
     assert!(rt; told.is_some());
     Ok(told)
@@ -164,18 +184,19 @@ fn entries_in(
 fn recover_from(
     rt: &impl Abort,
     alloc: Global,
+    ride: &[Step],
     trouble: Trouble,
     k: u32,
     choices: &[u8],
 ) -> Result<u32, Fail>
     requires { 1 ≤ k }
 {
-    let (mut disk, way) = ride_with(alloc, trouble, k);
+    let (mut disk, way) = ride_with(alloc, ride, trouble, k);
     disk.cycle(choices);
     let data = disk.content(Which::Data).to_vec(alloc)?;
     let journal = disk.content(Which::Journal).to_vec(alloc)?;
     let answer = recover(&mut disk);
-    let told = entries_in(rt, alloc, &disk, answer)?;
+    let told = entries_in(rt, alloc, ride, &disk, answer)?;
     assert!(rt; told == way.committed || told == way.begun, "call {k}");
     let whole = disk.content(Which::Data);
     for again in 1..=RECOVERY_CALLS {
@@ -229,20 +250,22 @@ fn choose(kind: u32, noise: &mut u32, choices: &mut [u8; 1024]) -> usize
     1024
 }
 
-// Tries trouble at each call of the ride, with each kind of choices.
+// Tries trouble at each of so many calls of a ride, with each kind of choices.
 fn try_each_call(
     rt: &impl Abort,
     alloc: Global,
+    ride: &[Step],
+    calls: u32,
     trouble: Trouble,
     kinds: u32,
 ) -> Result<u32, Fail> {
     let mut choices = [0; 1024];
     let mut noise = 0x2545_F491;
     let mut recoveries: u32 = 0;
-    for k in 1..=CALLS {
+    for k in 1..=calls {
         for kind in 0..kinds {
             let count = choose(kind, &mut noise, &mut choices);
-            let made = recover_from(rt, alloc, trouble, k, &choices[..count])?;
+            let made = recover_from(rt, alloc, ride, trouble, k, &choices[..count])?;
             recoveries = recoveries.saturating_add(made);
         }
     }
@@ -250,23 +273,44 @@ fn try_each_call(
 }
 
 #[test]
-fn the_ride_makes_so_many_calls(rt: HostRuntime) {
-    let (_, cut) = ride_with(rt.alloc(), Trouble::Cut, CALLS);
+fn the_rides_make_so_many_calls(rt: HostRuntime) -> Result<(), Fail> {
+    let ride = ride_with_commits();
+    let (_, cut) = ride_with(rt.alloc(), &ride, Trouble::Cut, CALLS);
     assert_eq!(rt; (cut.committed, cut.begun), (Some(8), Some(10)));
-    let (_, whole) = ride_with(rt.alloc(), Trouble::Cut, CALLS + 1);
+    let (_, whole) = ride_with(rt.alloc(), &ride, Trouble::Cut, CALLS + 1);
     assert_eq!(rt; (whole.committed, whole.begun), (Some(10), Some(10)));
+    let ride = long_ride(rt.alloc())?;
+    let (_, cut) = ride_with(rt.alloc(), &ride, Trouble::Cut, LONG_CALLS);
+    assert_eq!(rt; (cut.committed, cut.begun), (Some(200), Some(201)));
+    let (_, whole) = ride_with(rt.alloc(), &ride, Trouble::Cut, LONG_CALLS + 1);
+    assert_eq!(rt; (whole.committed, whole.begun), (Some(201), Some(201)));
+    Ok(())
 }
 
 #[test]
 fn power_cuts_leave_what_was_committed(rt: HostRuntime) -> Result<(), Fail> {
-    let recoveries = try_each_call(&rt, rt.alloc(), Trouble::Cut, 4 + NOISES)?;
+    let ride = ride_with_commits();
+    let kinds = 4 + NOISES;
+    let recoveries = try_each_call(&rt, rt.alloc(), &ride, CALLS, Trouble::Cut, kinds)?;
     assert!(rt; recoveries > 0);
     Ok(())
 }
 
 #[test]
 fn failures_leave_what_was_committed(rt: HostRuntime) -> Result<(), Fail> {
-    let recoveries = try_each_call(&rt, rt.alloc(), Trouble::Failure, 4 + NOISES)?;
+    let ride = ride_with_commits();
+    let kinds = 4 + NOISES;
+    let recoveries = try_each_call(&rt, rt.alloc(), &ride, CALLS, Trouble::Failure, kinds)?;
     assert!(rt; recoveries > 0);
+    Ok(())
+}
+
+#[test]
+fn full_pages_leave_what_was_committed(rt: HostRuntime) -> Result<(), Fail> {
+    let ride = long_ride(rt.alloc())?;
+    for trouble in [Trouble::Cut, Trouble::Failure] {
+        let recoveries = try_each_call(&rt, rt.alloc(), &ride, LONG_CALLS, trouble, 8)?;
+        assert!(rt; recoveries > 0);
+    }
     Ok(())
 }
