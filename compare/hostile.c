@@ -95,12 +95,17 @@ static uint16_t checksum(const unsigned char *from, size_t count) {
     return sum;
 }
 
-/* Checksums and a data size that fit, so that what stands behind them is looked at. */
+/* A header and checksums that fit, and mostly a data size that does, so that what stands behind them is looked at. */
 static void mend(void) {
     if (size < 16)
         return;
     size_t header = bytes[0] == 12 ? 12 : 14;
-    put_number(4, 4, size - header - 2);
+    bytes[0] = header;
+    if (bytes[1] >> 4 != 1)
+        bytes[1] = 0x20;
+    if (below(5))
+        put_number(4, 4, size - header - 2);
+    memcpy(bytes + 8, ".FIT", 4);
     if (header == 14)
         put_number(12, 2, checksum(bytes, 12));
     put_number(size - 2, 2, checksum(bytes, size - 2));
@@ -155,7 +160,7 @@ static void mutate(void) {
                 bytes[at++] = a_byte();
         }
     }
-    if (below(3))
+    if (below(5))
         mend();
 }
 
