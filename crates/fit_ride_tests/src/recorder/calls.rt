@@ -120,7 +120,7 @@ fn an_erasing_without_a_mark_makes_seven_calls(rt: HostRuntime) -> Result<(), Fa
 #[test]
 fn a_recovery_keeps_the_data_first(rt: HostRuntime) -> Result<(), Fail> {
     let mut disk = begun(&rt)?.into_disk();
-    disk.write(Which::Data, 86, b"data")?;
+    disk.write(Which::Data, 0, b"data")?;
     let data = Vec::from_slice(rt.alloc(), disk.content(Which::Data))?;
     disk.fail_at(2);
     assert_eq!(rt; recover(&mut disk), Err(RecFault::Device));

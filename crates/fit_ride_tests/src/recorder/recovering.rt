@@ -3,7 +3,7 @@
 ghost use Rattle.std.specs.Prelude.{◌≡◌, ◌<◌, ◌≤◌, ◌^◌, length};
 
 use super::{
-    ALONE, RUN, SHORT_RIDE, START_RECORDS, TIME, begun, committed, copy_of, entries_told,
+    ALONE, RUN, SHORT_RIDE, START_RECORDS, TIME, begun, begun_on, committed, copy_of, entries_told,
     heart_rate, holding, play, ride, short_ride, start_cut_at, value_in,
 };
 use fit_activity::{Entry, Sample, Summary, check_activity};
@@ -179,22 +179,24 @@ fn a_start_counts_from_its_open_gate_on(rt: HostRuntime) -> Result<(), Fail> {
     recovers_the_start(&rt, rt.alloc(), disk)
 }
 
+// A commit whose k-th call fails leaves the start alone.
+fn keeps_the_start(rt: &impl Abort, alloc: Global, k: u32) -> Result<(), Fail>
+    requires { 1 ≤ k }
+{
+    let mut recorder = begun_on(Memory::new(alloc))?;
+    recorder.hand(&heart_rate(TIME, 100))?;
+    recorder.fail_at(k);
+    assert_eq!(rt; recorder.commit(), Err(RecFault::Device), "call {k}");
+    let behind = recorder.hand(&heart_rate(TIME, 100));
+    assert_eq!(rt; behind, Err(RecFault::Failed), "call {k}");
+    recovers_the_start(rt, alloc, recorder.into_disk())
+}
+
+// The first call writes the page, and the second is the sync behind it.
 #[test]
 fn a_failed_commit_leaves_what_was_committed(rt: HostRuntime) -> Result<(), Fail> {
-    // The first call writes the page, and the second is the sync behind it.
-    for k in [1, 2] {
-        let mut recorder = begun(&rt)?;
-        recorder.hand(&heart_rate(TIME, 100))?;
-        recorder.fail_at(k);
-        assert_eq!(rt; recorder.commit(), Err(RecFault::Device), "call {k}");
-        assert_eq!(rt;
-            recorder.hand(&heart_rate(TIME, 100)),
-            Err(RecFault::Failed),
-            "call {k}"
-        );
-        recovers_the_start(&rt, rt.alloc(), recorder.into_disk())?;
-    }
-    Ok(())
+    keeps_the_start(&rt, rt.alloc(), 1)?;
+    keeps_the_start(&rt, rt.alloc(), 2)
 }
 
 #[test]
