@@ -69,7 +69,7 @@ fn an_output_that_fails_is_told(rt: HostRuntime) -> Result<(), Fail> {
         let mut out = Failing::new(rt.alloc(), 3, calls);
         let salvaged = salvage_bytes(WHOLE.as_slice(), &mut out);
         assert_eq!(rt; salvaged, Err(SalvageFault::Output), "{calls}");
-        assert_eq!(rt; out.held.as_slice(), &WHOLE[..out.held.len()], "{calls}");
+        assert!(rt; WHOLE.starts_with(&out.held), "{calls}");
     }
     assert_eq!(rt; SalvageFault::Output.code(), 2);
     let mut out = Failing::new(rt.alloc(), 3, 20);
@@ -86,6 +86,6 @@ fn so_many_bytes_are_told(rt: HostRuntime) -> Result<(), Fail> {
     };
     let mut out = Vec::new(rt.alloc());
     assert!(rt; print_salvaged(salvaged, &mut out).is_ok());
-    assert_eq!(rt; out.as_slice(), b"kept 12 of 17\n");
+    assert_eq!(rt; out.as_slice(), b"kept 12 of 17\n".as_slice());
     Ok(())
 }

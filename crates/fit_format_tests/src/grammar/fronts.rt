@@ -22,7 +22,11 @@ fn a_front_ends_behind_a_whole_item(rt: HostRuntime) -> Result<(), Fail> {
         // a definition of six bytes and two fields, and its message
         (FILE_ID.as_slice(), 18, [12, 18].as_slice()),
         (REDEFINED.as_slice(), 23, [9, 11, 20, 23].as_slice()),
-        (COMPRESSED.as_slice(), 37, [15, 22, 31, 33, 35, 37].as_slice()),
+        (
+            COMPRESSED.as_slice(),
+            37,
+            [15, 22, 31, 33, 35, 37].as_slice(),
+        ),
     ] {
         for size in 0..=size {
             let front = longest_front(&file[14..14 + size]);

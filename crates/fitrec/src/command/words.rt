@@ -135,7 +135,11 @@ fn in_argument<'a>(alloc: Global) -> Arg<'a> {
 }
 
 fn out_argument<'a>(alloc: Global) -> Arg<'a> {
-    argument(alloc, "OUT", "The path of the file that is made or replaced")
+    argument(
+        alloc,
+        "OUT",
+        "The path of the file that is made or replaced",
+    )
 }
 
 // A word that has to be there.
