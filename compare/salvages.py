@@ -7,14 +7,14 @@ import os
 import pathlib
 import random
 import re
-import subprocess
+import shutil
 import tempfile
 
-from faults import Told, library, may_not_grow
+from faults import Told, library, may_not_grow, room
 from files import damaged, made
 from program import MOST, framed, many_messages
 from reader import Refused, salvaged, wanted
-from rides import differs, run, small_disk
+from rides import differs, records_of, run, script_of, small_disk
 
 OLD = b"what was there"
 
@@ -139,7 +139,7 @@ def other_things(fitrec, small):
         nowhere.symlink_to(place.folder / "none")
         os.mkfifo(pipe)
         locked.mkdir(0o500)
-        for out in (link, nowhere, pipe, locked, "/dev/null", "/proc/out.fit", *[locked / "out.fit"] * (os.getuid() != 0)):
+        for out in (link, nowhere, pipe, locked, "/proc/out.fit", *[locked / "out.fit"] * (os.getuid() != 0)):
             said = run(fitrec, "salvage", place.source, out)
             yield "something else at its name", differs(said, (1, "", "fitrec: cannot write %s\n" % out))
         names = ["in.fit", "link", "locked", "nowhere", "out.fit", "pipe"]
@@ -171,10 +171,25 @@ def limits(fitrec):
         yield "the largest file", differs((said, place.out.stat().st_size), want)
 
 
+def read_by_others(fitrec):
+    """What is salvaged of a ride that was cut off is read by gpsbabel, where it is there, to the last sample."""
+    if not shutil.which("gpsbabel"):
+        return
+    with room(*script_of(40, 7).splitlines()) as (script, new):
+        folder = new()
+        run(fitrec, "replay", script, folder)
+        for size in (None, -3):
+            data = pathlib.Path(folder, "activity.fit").read_bytes()[:size]
+            place = Place(new(), data)
+            run(fitrec, "salvage", place.source, place.out)
+            samples = run(fitrec, "show", place.out)[1].count(" record ")
+            yield "read by gpsbabel", differs((records_of(place.out), samples > 30), (samples, True))
+
+
 def check(fitrec, small, count, seed):
     """Yields a name and a difference, or None, for each look."""
     parts = [made_files(fitrec, count, seed), without_room(fitrec, small), without_output(fitrec, small), other_things(fitrec, small),
-             limits(fitrec)]
+             limits(fitrec), read_by_others(fitrec)]
     with library() as told:
         if told is not None:
             parts.append(failing_calls(Told(fitrec, told), small))
