@@ -1,8 +1,9 @@
 /* Is loaded before the program (LD_PRELOAD). It tells of the program's calls on the two files of a recording, on a file that
-   is made beside another one, and on their folder, and lets some of them fail, fall short or be interrupted:
+   is made beside another one, and on their folder, and lets some of them fail, fall short or be interrupted. Where it is asked
+   to, it tells of requests for memory and of writes to standard output too:
 
      FAULTS_LOG      the file that the calls are told in: a line each, its kind, what it is about, and its numbers
-     FAULTS_CALL     the kind of call that goes wrong: open, lock, sync, size, read, write, stream, cut or move
+     FAULTS_CALL     the kind of call that goes wrong: open, lock, sync, size, read, write, stream, cut, move, memory or print
      FAULTS_NUMBER   which one of that kind, from 1 on, or 0 for each
      FAULTS_ERRNO    it fails so, and nothing is done; or
      FAULTS_MOST     it moves at most so many bytes */
@@ -94,6 +95,11 @@ static int fails(const char *call, const char *about, const char *numbers) {
     return wrong;
 }
 
+/* A kind of call that is told of only where it is the one that goes wrong. */
+static int fails_if_asked(const char *call, const char *about) {
+    return !strcmp(call, kind) && fails(call, about, "");
+}
+
 /* How many bytes a read or a write moves; -1 where it fails. */
 static ssize_t moved(const char *call, int file, size_t count, off_t at) {
     char numbers[64];
@@ -173,7 +179,33 @@ int rename(const char *from, const char *to) {
 
 /* The program writes the files of a recording at places, and others as a stream. */
 ssize_t write(int file, const void *from, size_t count) {
-    return fails("stream", name_of(file), "") ? -1 : syscall(SYS_write, file, from, count);
+    int is_refused = file == STDOUT_FILENO ? fails_if_asked("print", "output") : fails("stream", name_of(file), "");
+    return is_refused ? -1 : syscall(SYS_write, file, from, count);
+}
+
+/* Requests for memory, which the C library has under these names too. */
+void *__libc_malloc(size_t), *__libc_calloc(size_t, size_t), *__libc_realloc(void *, size_t), *__libc_memalign(size_t, size_t);
+
+void *malloc(size_t size) {
+    return fails_if_asked("memory", "request") ? NULL : __libc_malloc(size);
+}
+
+void *calloc(size_t count, size_t size) {
+    return fails_if_asked("memory", "request") ? NULL : __libc_calloc(count, size);
+}
+
+void *realloc(void *from, size_t size) {
+    return fails_if_asked("memory", "request") ? NULL : __libc_realloc(from, size);
+}
+
+void *aligned_alloc(size_t align, size_t size) {
+    return fails_if_asked("memory", "request") ? NULL : __libc_memalign(align, size);
+}
+
+int posix_memalign(void **into, size_t align, size_t size) {
+    void *found = aligned_alloc(align, size);
+    *into = found ? found : *into;
+    return found ? 0 : ENOMEM;
 }
 
 int open64(const char *path, int flags, ...) __attribute__((alias("open")));

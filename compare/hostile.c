@@ -1,14 +1,14 @@
 /* Gives hostile files to the program: mutated ones of the files that are named, and headers and definitions that promise much. Each
    goes through show, check and salvage, in little memory and time; what was salvaged has to be shown, and salvaged again to itself.
 
-     hostile PROGRAM FOLDER SEED SECONDS COUNT FILE ..
+     hostile PROGRAM LIBRARY FOLDER SEED SECONDS COUNT FILE ..
 
    It ends behind so many seconds or files, and prints how many ended how: a line for each command and end. What must not be, a
    signal, a time or memory out of bounds, or a salvaged file that is none, is kept in the folder, and the status is 1. */
 
 #define _GNU_SOURCE
+#include "forking.h"
 #include <fcntl.h>
-#include <poll.h>
 #include <signal.h>
 #include <stdint.h>
 #include <stdio.h>
@@ -28,7 +28,7 @@ static int source_count;
 static unsigned char bytes[2 * LARGEST];
 static size_t size;
 static uint64_t state;
-static const char *program;
+static const char *program, *library;
 static char in[4096], out[4096], again[4096];
 static struct { char name[64]; unsigned long count; } ends[ENDS];
 static long most_memory;
@@ -171,45 +171,63 @@ static void limit(int what, rlim_t most) {
     setrlimit(what, &both);
 }
 
-/* Runs a command over a file, counts its end, and answers the status; -1 where it must not end so. */
-static int run(const char *command, const char *file, const char *to) {
-    const char *words[] = {program, command, file, to, NULL};
-    char line[256] = "", how[64] = "done";
-    int ends_of[2], status;
-    struct rusage used;
-    if (pipe2(ends_of, O_CLOEXEC))
+/* Each run is a copy of a process of the program that stands before its beginning (forking.c), one for each row here. */
+static struct run { const char *command, *file, *to; int orders, ends, told; } runs[] = {
+    {"show", in, NULL}, {"check", in, NULL}, {"salvage", in, out}, {"show", out, NULL}, {"salvage", out, again},
+};
+enum { SHOW, CHECK, SALVAGE, SHOW_OUT, SALVAGE_AGAIN, RUNS };
+
+static void begin(struct run *run) {
+    const char *words[] = {program, run->command, run->file, run->to, NULL};
+    int orders[2], told[2], end[2];
+    if (pipe2(orders, O_CLOEXEC) || pipe2(told, O_CLOEXEC) || pipe2(end, O_CLOEXEC))
         fail("pipe");
-    pid_t child = vfork();
+    pid_t child = fork();
     if (child < 0)
-        fail("vfork");
+        fail("fork");
     if (!child) {
-        dup2(ends_of[1], 2);
+        dup2(told[1], 2);
+        dup2(orders[0], ORDERS);
+        dup2(end[1], TOLD_END);
         limit(RLIMIT_AS, MEMORY);
         limit(RLIMIT_CPU, SECONDS);
         limit(RLIMIT_CORE, 0);
+        setenv("LD_PRELOAD", library, 1);
         execv(program, (char **)words);
         _exit(127);
     }
-    close(ends_of[1]);
+    fcntl(told[0], F_SETFL, O_NONBLOCK);
+    run->orders = orders[1];
+    run->ends = end[0];
+    run->told = told[0];
+    close(orders[0]);
+    close(told[1]);
+    close(end[1]);
+}
+
+/* Runs a command over a file, counts its end, and answers the status; -1 where it must not end so. */
+static int run(int which) {
+    struct run *run = &runs[which];
+    char line[256] = "", how[64] = "done";
+    struct end end;
+    if (write(run->orders, "", 1) != 1 || read(run->ends, &end, sizeof end) != sizeof end)
+        fail(run->command);
     size_t told = 0;
-    for (ssize_t more; told < sizeof line - 1 && (more = read(ends_of[0], line + told, sizeof line - 1 - told)) > 0;)
+    for (ssize_t more; told < sizeof line - 1 && (more = read(run->told, line + told, sizeof line - 1 - told)) > 0;)
         told += more;
-    if (wait4(child, &status, 0, &used) != child)
-        fail("wait4");
-    close(ends_of[0]);
     line[told] = 0;
-    double time = used.ru_utime.tv_sec + used.ru_stime.tv_sec + (used.ru_utime.tv_usec + used.ru_stime.tv_usec) / 1e6;
-    most_memory = used.ru_maxrss > most_memory ? used.ru_maxrss : most_memory;
-    most_time = time > most_time ? time : most_time;
+    int status = end.status;
+    most_memory = end.memory > most_memory ? end.memory : most_memory;
+    most_time = end.time > most_time ? end.time : most_time;
     if (WIFSIGNALED(status)) {
         snprintf(how, sizeof how, "SIGNAL %d", WTERMSIG(status));
     } else if (WEXITSTATUS(status) == 1 && sscanf(line, "fitrec: %32[A-Za-z]", how) == 1) {
     } else if (WEXITSTATUS(status)) {
         snprintf(how, sizeof how, "STATUS %d", WEXITSTATUS(status));
     }
-    counted(command, how);
+    counted(run->command, how);
     int is_good = WIFEXITED(status) && (!WEXITSTATUS(status) ? !line[0] : WEXITSTATUS(status) == 1)
-        && strcmp(how, "cannot") && strcmp(how, "NoMemory") && strcmp(how, "Memory") && time < SECONDS && used.ru_maxrss < KILOBYTES;
+        && strcmp(how, "cannot") && strcmp(how, "NoMemory") && strcmp(how, "Memory") && end.time < SECONDS && end.memory < KILOBYTES;
     return is_good ? WEXITSTATUS(status) : -1;
 }
 
@@ -229,27 +247,28 @@ static int is_well(void) {
     if (file < 0 || write(file, bytes, size) != (ssize_t)size)
         fail(in);
     close(file);
-    int shown = run("show", in, NULL), checked = run("check", in, NULL), kept = run("salvage", in, out);
+    int shown = run(SHOW), checked = run(CHECK), kept = run(SALVAGE);
     if (shown < 0 || checked < 0 || kept < 0 || (!checked && shown))
         return 0;
     if (kept)
         return shown;
-    if (run("show", out, NULL) || run("salvage", out, again))
+    if (run(SHOW_OUT) || run(SALVAGE_AGAIN))
         return 0;
     size_t long_ = read_file(out, first, sizeof first);
     return long_ >= 16 && read_file(again, second, sizeof second) == long_ && !memcmp(first, second, long_);
 }
 
 int main(int count, char **words) {
-    if (count < 7)
+    if (count < 8)
         return 2;
     program = words[1];
-    snprintf(in, sizeof in, "%s/in.fit", words[2]);
-    snprintf(out, sizeof out, "%s/out.fit", words[2]);
-    snprintf(again, sizeof again, "%s/again.fit", words[2]);
-    unsigned long seed = strtoul(words[3], NULL, 10), most = strtoul(words[5], NULL, 10), done = 0, bad = 0;
-    time_t end = time(NULL) + atol(words[4]);
-    for (int at = 6; at < count && source_count < SOURCES; at++) {
+    library = words[2];
+    snprintf(in, sizeof in, "%s/in.fit", words[3]);
+    snprintf(out, sizeof out, "%s/out.fit", words[3]);
+    snprintf(again, sizeof again, "%s/again.fit", words[3]);
+    unsigned long seed = strtoul(words[4], NULL, 10), most = strtoul(words[6], NULL, 10), done = 0, bad = 0;
+    time_t end = time(NULL) + atol(words[5]);
+    for (int at = 7; at < count && source_count < SOURCES; at++) {
         sources[source_count].bytes = malloc(LARGEST);
         sources[source_count].size = read_file(words[at], sources[source_count].bytes, LARGEST / 4);
         source_count += sources[source_count].size > 0;
@@ -258,13 +277,15 @@ int main(int count, char **words) {
     int told = fcntl(1, F_DUPFD_CLOEXEC, 3);
     dup2(null, 0);
     dup2(null, 1);
+    for (int which = 0; which < RUNS; which++)
+        begin(&runs[which]);
     for (; done < most && time(NULL) < end; done++) {
         state = (seed << 40 ^ done) * 0x9E3779B97F4A7C15ULL + 1;
         next();
         mutate();
         if (!is_well()) {
             char name[4200];
-            snprintf(name, sizeof name, "%s/bad-%lu-%lu.fit", words[2], seed, done);
+            snprintf(name, sizeof name, "%s/bad-%lu-%lu.fit", words[3], seed, done);
             rename(in, name);
             bad++;
         }

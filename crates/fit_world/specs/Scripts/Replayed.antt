@@ -1,5 +1,5 @@
 -- Which events of a script are replayed, and why the bytes of a script are not.
-use Rattle.std.specs.Prelude.{◌≡◌, ◌≢◌, ℕ, Bool, true, false, List, [], ◌∷◌, All, Option, Some, None, codes, if◌then◌else◌}
+use Rattle.std.specs.Prelude.{◌≡◌, ℕ, Bool, true, false, List, [], ◌∷◌, All, Option, Some, None, codes, if◌then◌else◌}
 use Rattle.std.specs.Str.{IsUtf8}
 use Rattle.std.specs.Str.Lines.{lines}
 use Rattle.fit_activity.specs.declared.recording.entry.Entry.TheVariants as entries
@@ -9,8 +9,7 @@ use Rattle.fit_world.specs.declared.command.Command.TheVariants as commands
 use Rattle.fit_world.specs.declared.event.Event.{Event}
 use Rattle.fit_world.specs.declared.script.fault.ReplayFault.{ReplayFault}
 use Rattle.fit_world.specs.declared.script.fault.ReplayFault.TheVariants as faults
-use Rattle.fit_world.specs.declared.script.fault.ScriptFaultKind.TheVariants as kinds
-use Rattle.fit_world.specs.Scripts.Script.{IsLine, events_of, IsFirstFault}
+use Rattle.fit_world.specs.Scripts.Script.{IsLine, events_of, IsFaultOf}
 
 -- it speaks of a disk whose failures are arranged
 abbrev pub is_simulated : Command → Bool
@@ -30,7 +29,7 @@ first_simulated (event ∷ events) = if is_simulated event.command then Some eve
 -- why the bytes of a script are not replayed: they are no text, a line is none, or an event is only simulated
 abbrev pub IsReplayFault : List ℕ → ReplayFault → Type 0
 IsReplayFault bytes faults.NoText = ¬ (IsUtf8 bytes)
-IsReplayFault bytes (faults.Script fault) = fault.kind ≢ kinds.Memory → IsFirstFault (lines bytes) fault.line
+IsReplayFault bytes (faults.Script fault) = IsFaultOf (lines bytes) fault
 IsReplayFault bytes (faults.OnlySimulate line) = All IsLine (lines bytes) × (first_simulated (events_of 1 (lines bytes)) ≡ Some line)
 
 -- the word of a command in a script

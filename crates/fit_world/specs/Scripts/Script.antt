@@ -1,5 +1,5 @@
 -- Scripts: which lines there are, what each asks for, and the events of all of them.
-use Rattle.std.specs.Prelude.{◌≡◌, ◌<◌, ℕ, ◌+◌, Bool, true, List, [], ◌∷◌, length, take, codes, All, IsSome, Option, Some, None, option_map, ◌==◌, nat_lt, if◌then◌else◌, slice_index, slice_index_or}
+use Rattle.std.specs.Prelude.{◌≡◌, ◌≢◌, ◌<◌, ◌⊎◌, ℕ, ◌+◌, Bool, true, List, [], ◌∷◌, length, take, codes, All, IsSome, Option, Some, None, option_map, ◌==◌, nat_lt, if◌then◌else◌, slice_index, slice_index_or}
 use Rattle.std.specs.List.{cons_option}
 use Rattle.std.specs.Option.{option_and_then, option_flatten}
 use Rattle.std.specs.Str.{bytes_eq}
@@ -11,6 +11,8 @@ use Rattle.fit_activity.specs.declared.recording.entry.Entry.TheVariants as entr
 use Rattle.fit_world.specs.declared.command.Command.{Command}
 use Rattle.fit_world.specs.declared.command.Command.TheVariants as commands
 use Rattle.fit_world.specs.declared.event.Event.{Event}
+use Rattle.fit_world.specs.declared.script.fault.ScriptFault.{ScriptFault}
+use Rattle.fit_world.specs.declared.script.fault.ScriptFaultKind.TheVariants as kinds
 use Rattle.fit_world.specs.Scripts.Words.{words, number}
 use Rattle.fit_world.specs.Scripts.Sample.{are_settings, sample_at}
 
@@ -108,3 +110,15 @@ pub record IsFirstFault (lines : List (List ℕ)) (number : ℕ) : Type 0 where
   pub within : index < length lines
   pub before : All IsLine (take index lines)
   pub fault : meaning_of (slice_index_or lines index []) ≡ None
+
+-- the line with this number, from 1, is the first, or it is there; and each before it is one of a script
+pub record IsReached (lines : List (List ℕ)) (number : ℕ) : Type 0 where
+  pub index : ℕ
+  pub counted : number ≡ index + 1
+  pub within : (index ≡ 0) ⊎ (index < length lines)
+  pub before : All IsLine (take index lines)
+
+-- why lines are no script: memory was refused at one that was reached, or the first that is none is told
+abbrev pub IsFaultOf : List (List ℕ) → ScriptFault → Type 0
+IsFaultOf lines fault =
+    (fault.kind ≡ kinds.Memory → IsReached lines fault.line) × (fault.kind ≢ kinds.Memory → IsFirstFault lines fault.line)

@@ -2,7 +2,7 @@
 
 ghost use Rattle.std.specs.Prelude.{◌≡◌, ◌≢◌, All, map, IfOk, IfErr};
 ghost use Rattle.std.specs.Str.Lines.{lines};
-ghost use Rattle.fit_world.specs.Scripts.Script.{IsLine, is_silent, meaning_of, event_of, events_of, IsFirstFault};
+ghost use Rattle.fit_world.specs.Scripts.Script.{IsLine, is_silent, meaning_of, event_of, events_of, IsFaultOf};
 ghost use Rattle.fit_world.specs.Histories.Runs.{CanRun};
 ghost use Rattle.fit_world.specs.declared.script.fault.ScriptFaultKind.TheVariants as kinds;
 
@@ -13,13 +13,13 @@ use crate::script::words::{lines_of, words_of};
 use std::alloc::Global;
 
 /// The events of a script, each with the number of its line, from 1. An empty line is no event, and neither is one whose
-/// first word begins with `#`. A fault is that of the first line that is none of a script, or want of memory.
+/// first word begins with `#`. A fault is that of the first line that is none of a script, or want of memory at a line that was
+/// reached.
 pub fn parse_script(alloc: Global, text: &str) -> Result<Vec<Event>, ScriptFault>
     ensures lines { IfOk result (λ _. All IsLine (lines text.now)) }
     ensures events { IfOk result (λ events. events.items ≡ events_of 1 (lines text.now)) }
     ensures counts { IfOk result (λ events. All (λ event. CanRun event.command) events.items) }
-    ensures fault { IfErr result
-        (λ fault. fault.kind ≢ kinds.Memory → IsFirstFault (lines text.now) fault.line) }
+    ensures fault { IfErr result (IsFaultOf (lines text.now)) }
 {
     let Ok(lines) = lines_of(alloc, text) else {
         return Err(out_of_memory(1));

@@ -1,11 +1,11 @@
-use Rattle.std.proofs.Common.{◌≡◌, ◌<◌, ◌+◌, ◌++◌, [], ℕ, All, List, map, take, length, get_or, Bor, Option, None, true, sym, ap, subst, ◌∙◌, arith}
+use Rattle.std.proofs.Common.{◌≡◌, inr, ◌<◌, ◌+◌, ◌++◌, [], ℕ, All, List, map, take, length, get_or, Bor, Option, None, true, sym, ap, subst, ◌∙◌, arith}
 use Rattle.std.proofs.lemmas.Grind.{common_steps}
 use Rattle.std.proofs.lemmas.List.{append-nil}
 use Rattle.std.proofs.lemmas.List.Elements.{All-more}
 use Rattle.std.proofs.lemmas.Result.{err_from_is_err_and}
 use Rattle.std.specs.List.{cons_option}
 use Rattle.std.specs.Result.{is_ok}
-use Rattle.fit_world.specs.Scripts.Script.{IsLine, meaning_of, event_of, events_of, IsFirstFault}
+use Rattle.fit_world.specs.Scripts.Script.{IsLine, meaning_of, event_of, events_of, IsFirstFault, IsReached}
 use Rattle.fit_world.specs.declared.event.Event.{Event}
 use Rattle.fit_world.specs.Histories.Runs.{CanRun}
 use Rattle.fit_world.proofs.Simulation.CanRun.{events_can}
@@ -29,6 +29,11 @@ first_fault items texts i d number is within before counted fault =
       fault = rw (now_at items i d within) fault;
     })
 
+reached : (items : List (Bor (List ℕ))) (texts : List (List ℕ)) (i number : ℕ) → texts_of items ≡ texts → i < length items →
+    All IsLine (take i (texts_of items)) → number ≡ i + 1 → IsReached texts number
+reached items texts i number is within before counted =
+    subst (λ all. IsReached all number) is (record { index = i; counted = counted; within = inr (within_now items i within); before = before; })
+
 lines_more : (items : List (Bor (List ℕ))) (i : ℕ) (d : Bor (List ℕ)) → i < length items → All IsLine (take i (texts_of items)) →
     IsLine (get_or items i d).now → All IsLine (take (i + 1) (texts_of items))
 lines_more items i d within before is =
@@ -44,10 +49,13 @@ pub returns-in_err-found-clause-fault : goal.returns-in_err-found-clause-fault
 returns-in_err-found-clause-fault c =
     let left = err_from_is_err_and c.from_residual.result c.from_residual.ensures.1 in
     let known = c.in_err-found.ensures in
+    let items = c.deref-line-items.result.now in
+    let all = ap texts_of c.deref-line-items.ensures.value ∙ c.in-Ok.ensures in
+    let number = ap (λ fault. fault.line) left.2 ∙ known.number in
     rw left.1
-    (λ other. first_fault c.deref-line-items.result.now _ c.loop-index.index _ _
-    (ap texts_of c.deref-line-items.ensures.value ∙ c.in-Ok.ensures) (omega arith) c.loop-index.invariant.lines
-    (ap (λ fault. fault.line) left.2 ∙ known.number) (known.fault (λ e. other (ap (λ fault. fault.kind) left.2 ∙ e))))
+    ((λ want. reached items _ c.loop-index.index _ all (omega arith) c.loop-index.invariant.lines number),
+    (λ other. first_fault items _ c.loop-index.index _ _ all (omega arith) c.loop-index.invariant.lines number
+    (known.fault (λ e. other (ap (λ fault. fault.kind) left.2 ∙ e)))))
 
 pub loop-index-preserved : goal.loop-index-preserved
 loop-index-preserved c =
