@@ -5,6 +5,7 @@
      FAULTS_LOG      the file that the calls are told in: a line each, its kind, what it is about, and its numbers
      FAULTS_CALL     the kind of call that goes wrong: open, lock, sync, size, read, write, stream, cut, move, memory or print
      FAULTS_NUMBER   which one of that kind, from 1 on, or 0 for each
+     FAULTS_BEHIND   where it is 1, each behind that one too
      FAULTS_ERRNO    it fails so, and nothing is done; or
      FAULTS_MOST     it moves at most so many bytes */
 
@@ -24,7 +25,7 @@ enum { DESCRIPTORS = 1024, ABOVE_ALL_OTHERS = 200 };
 static const char *names[DESCRIPTORS];
 static struct stat folder;
 static const char *kind = "";
-static unsigned long number, seen;
+static unsigned long number, behind, seen;
 static int error, most = -1, told = -1;
 
 static const char *said(const char *word, const char *otherwise) {
@@ -35,6 +36,7 @@ static const char *said(const char *word, const char *otherwise) {
 __attribute__((constructor)) static void begin(void) {
     kind = said("FAULTS_CALL", "");
     number = strtoul(said("FAULTS_NUMBER", "0"), NULL, 10);
+    behind = strtoul(said("FAULTS_BEHIND", "0"), NULL, 10);
     error = atoi(said("FAULTS_ERRNO", "0"));
     most = atoi(said("FAULTS_MOST", "-1"));
     int log = syscall(SYS_openat, AT_FDCWD, said("FAULTS_LOG", "/dev/null"), O_WRONLY | O_CREAT | O_APPEND, 0666);
@@ -82,7 +84,7 @@ static int goes_wrong(const char *call, const char *about, const char *numbers) 
     char line[128];
     if (!about)
         return 0;
-    int wrong = !strcmp(call, kind) && (++seen == number || !number);
+    int wrong = !strcmp(call, kind) && (++seen == number || !number || (behind && seen > number));
     int length = snprintf(line, sizeof line, "%s %s%s%s\n", call, about, numbers, wrong && error ? " failed" : "");
     syscall(SYS_write, told, line, length);
     return wrong;

@@ -1,5 +1,6 @@
 """Refuses each request for memory of the built program in turn, and lets each of its writes to standard output fail in turn: what is
-said then, and what is left. The requests and the writes go wrong in the library that faults.c is."""
+said then, and what is left. The requests and the writes go wrong in the library that faults.c is. Where room for several things was
+refused and that for one was not, nothing is wanting, and all is as with ample memory."""
 
 import errno
 import pathlib
@@ -16,16 +17,19 @@ NO_OUTPUT = "fitrec: cannot write -\n"
 CUT_OFF = script_of(40, 7)
 
 
-def each(told, call, *words, folder=None):
-    """For each call of this kind a run in which it fails: its number, what is said, and the folder that is the last word. The last
-    run has no such call, and what it says is what is said where none fails; its number is 0."""
-    number, fails = 0, True
-    while fails:
+def each(told, call, *words, new=None):
+    """For each call of this kind runs in which it fails, alone and with all behind it: its number, what is said, and what `new` gave,
+    which is the last word. Where all is as with ample memory the number is 0; the last two runs have no such call."""
+    number, is_made = 0, True
+    whole = run(told.fitrec, *words, *([new()] if new else []))
+    while is_made:
         number += 1
-        place = folder and folder()
-        said, log = told.run(*words, *[place] * bool(place), call=call, number=number, errno=errno.ENOMEM)
-        fails = bool(log) and log[-1].endswith(" failed") or any(line.endswith(" failed") for line in log)
-        yield number if fails else 0, said, place
+        for behind in (0, 1):
+            place = new and new()
+            said, log = told.run(*words, *([place] if place else []), call=call, number=number, errno=errno.ENOMEM, behind=behind)
+            is_made = any(line.endswith(" failed") for line in log)
+            is_asked_again = call == "memory" and is_made and not log[-1].endswith(" failed") and said == whole
+            yield number if is_made and not is_asked_again else 0, said, place
 
 
 def items_of(data):
@@ -55,8 +59,8 @@ def readings(told, command, data, want):
         file.flush()
         for number, said, _ in each(told, "memory", command, file.name):
             if not number:
-                yield "nothing refused", differs(said, want)
-                break
+                yield "nothing wanting", differs(said, want)
+                continue
             found = re.fullmatch(r"fitrec: (?:NoMemory|Memory at (\d+))\n", said[2])
             places.append(int(found[1] or 0) if found else -1)
             is_told = found and said[:2] == (1, "") and places[-2] <= places[-1]
@@ -82,11 +86,11 @@ def replays(told, text):
     found, later = [], 0
     with room() as (script, new):
         script.write_text(text)
-        for number, said, folder in each(told, "memory", "replay", script, folder=new):
+        for number, said, folder in each(told, "memory", "replay", script, new=new):
             whole = run(told.fitrec, "replay", script, new())
             if not number:
-                yield "nothing refused", differs(said, whole)
-                break
+                yield "nothing wanting", differs(said, whole)
+                continue
             line = re.fullmatch(r"fitrec: line (\d+): Memory\n", said[2])
             if line:
                 found.append(int(line[1]))
@@ -109,8 +113,8 @@ def simulations(told, text, choices=""):
         words = ["simulate", "--choices", choices, script]
         for number, said, _ in each(told, "memory", *words):
             if not number:
-                yield "nothing refused", differs(said, run(told.fitrec, *words))
-                break
+                yield "nothing wanting", differs(said, run(told.fitrec, *words))
+                continue
             line = re.fullmatch(r"fitrec: line (\d+): Memory\n", said[2])
             found += [int(line[1])] if line else []
             others += bool(found) and not line
@@ -120,17 +124,20 @@ def simulations(told, text, choices=""):
 
 def others(told, data):
     """A salvage and a repair that are refused memory leave all as it was."""
-    with tempfile.TemporaryDirectory() as folder:
-        source, out = pathlib.Path(folder, "in.fit"), pathlib.Path(folder, "out.fit")
+    with room() as (source, new):
         source.write_bytes(data)
-        out.write_bytes(b"old")
-        for number, said, _ in each(told, "memory", "salvage", source, out):
-            names = sorted(path.name for path in pathlib.Path(folder).iterdir())
+
+        def old():
+            out = pathlib.Path(new()) / "out.fit"
+            out.write_bytes(b"old")
+            return out
+
+        for number, said, out in each(told, "memory", "salvage", source, new=old):
             if number:
-                left = said, out.read_bytes(), names
-                yield "salvage: a refused request", differs(left, (NO_MEMORY, b"old", ["in.fit", "out.fit"]))
+                left = said, out.read_bytes(), list(out.parent.iterdir())
+                yield "salvage: a refused request", differs(left, (NO_MEMORY, b"old", [out]))
             else:
-                yield "salvage: nothing refused", differs(said[0], 0)
+                yield "salvage: nothing wanting", differs(said[0], 0)
     with room() as (script, new):
         script.write_text(CUT_OFF)
 
@@ -140,12 +147,12 @@ def others(told, data):
             return folder
 
         before = holds(cut_off())
-        for number, said, folder in each(told, "memory", "repair", folder=cut_off):
+        for number, said, folder in each(told, "memory", "repair", new=cut_off):
             if number:
                 yield "repair: a refused request", differs((said, holds(folder)), (NO_MEMORY, before))
                 yield "repair: made again", differs(run(told.fitrec, "repair", folder)[0], 0)
             else:
-                yield "repair: nothing refused", differs(said[0], 0)
+                yield "repair: nothing wanting", differs(said[0], 0)
 
 
 def failing_writes(told, data, text):
@@ -162,7 +169,7 @@ def failing_writes(told, data, text):
     with room() as (script, new):
         script.write_text(text)
         whole = run(told.fitrec, "replay", script, new())
-        for number, said, folder in each(told, "print", "replay", script, folder=new):
+        for number, said, folder in each(told, "print", "replay", script, new=new):
             if not number:
                 yield "replay: no write failed", differs(said, whole)
                 break
