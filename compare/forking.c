@@ -1,31 +1,71 @@
-/* Is loaded before the program (LD_PRELOAD). The process stands here before the program begins, and for each byte that comes on
-   descriptor 198 a copy of it goes on; how that ended is told on 199. So the program is loaded once for many runs. */
+/* Is loaded before the program (LD_PRELOAD), and stands in its place: for each byte that comes on descriptor 198 it calls the
+   program's `main`, and tells on 199 how that ended. A process calls it so many times, and then a copy of the first goes on; so
+   the program is loaded once for all runs, and what ends a process by a signal is told too. */
 
 #define _GNU_SOURCE
 #include "forking.h"
+#include <dlfcn.h>
+#include <stdlib.h>
+#include <sys/mman.h>
 #include <sys/resource.h>
 #include <sys/wait.h>
 #include <unistd.h>
 
+enum { CALLS = 1000 };
+
+typedef int start(int, char **, char **);
+
+static start *program;
+static volatile int *is_running;
+
 static double seconds(struct timeval time) { return time.tv_sec + time.tv_usec / 1e6; }
 
-__attribute__((constructor)) static void stand(void) {
+static double busy(const struct rusage *used) { return seconds(used->ru_utime) + seconds(used->ru_stime); }
+
+static void tell(int status, long memory, double time) {
+    struct end end = {status, memory, time};
+    if (write(TOLD_END, &end, sizeof end) != sizeof end)
+        _exit(2);
+}
+
+/* Ends with 1 where nothing more is asked. */
+static void calls(int count, char **words, char **settings) {
+    struct rusage before, behind;
     char order;
-    while (read(ORDERS, &order, 1) == 1) {
-        struct rusage used;
-        struct end end;
-        pid_t child = fork();
-        if (!child) {
-            close(ORDERS);
-            close(TOLD_END);
-            return;
-        }
-        if (child < 0 || wait4(child, &end.status, 0, &used) != child)
-            break;
-        end.memory = used.ru_maxrss;
-        end.time = seconds(used.ru_utime) + seconds(used.ru_stime);
-        if (write(TOLD_END, &end, sizeof end) != sizeof end)
-            break;
+    for (int call = 0; call < CALLS; call++) {
+        if (read(ORDERS, &order, 1) != 1)
+            _exit(1);
+        getrusage(RUSAGE_SELF, &before);
+        *is_running = 1;
+        int status = program(count, words, settings);
+        *is_running = 0;
+        getrusage(RUSAGE_SELF, &behind);
+        tell((status & 255) << 8, behind.ru_maxrss, busy(&behind) - busy(&before));
     }
     _exit(0);
+}
+
+static int stand(int count, char **words, char **settings) {
+    is_running = mmap(NULL, sizeof *is_running, PROT_READ | PROT_WRITE, MAP_SHARED | MAP_ANONYMOUS, -1, 0);
+    for (;;) {
+        struct rusage used;
+        int status;
+        pid_t child = fork();
+        if (!child)
+            calls(count, words, settings);
+        if (child < 0 || wait4(child, &status, 0, &used) != child)
+            return 2;
+        if (*is_running) {
+            *is_running = 0;
+            tell(status, used.ru_maxrss, busy(&used));
+        } else if (status) {
+            return 0;
+        }
+    }
+}
+
+int __libc_start_main(start *main, int count, char **words, void *init, void *fini, void *last, void *stack) {
+    int (*begin)(start *, int, char **, void *, void *, void *, void *) = dlsym(RTLD_NEXT, "__libc_start_main");
+    program = main;
+    return begin(stand, count, words, init, fini, last, stack);
 }

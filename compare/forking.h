@@ -1,4 +1,4 @@
-/* What a process that stands before its beginning is asked, and what it tells of each copy's end. */
+/* Where a process is asked to call the program, and where it tells how that ended. */
 
 enum { ORDERS = 198, TOLD_END = 199 };
 

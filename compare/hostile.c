@@ -171,7 +171,7 @@ static void limit(int what, rlim_t most) {
     setrlimit(what, &both);
 }
 
-/* Each run is a copy of a process of the program that stands before its beginning (forking.c), one for each row here. */
+/* A process of the program for each row here, whose `main` is called for each run (forking.c). */
 static struct run { const char *command, *file, *to; int orders, ends, told; } runs[] = {
     {"show", in, NULL}, {"check", in, NULL}, {"salvage", in, out}, {"show", out, NULL}, {"salvage", out, again},
 };
