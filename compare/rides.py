@@ -4,6 +4,7 @@ little."""
 
 import contextlib
 import pathlib
+import random
 import re
 import resource
 import shutil
@@ -35,11 +36,16 @@ def differs(is_, wanted):
     return None if is_ == wanted else (is_, wanted)
 
 
-def records_of(file):
-    """How many records gpsbabel reads of a file, without a line for the names."""
-    with tempfile.NamedTemporaryFile() as table:
+def table_of(file):
+    """The records that gpsbabel reads of a file, as lines of a table, the first of which has the names."""
+    with tempfile.NamedTemporaryFile("r") as table:
         subprocess.run(["gpsbabel", "-t", "-i", "garmin_fit,allpoints", "-f", file, "-o", "unicsv", "-F", table.name])
-        return len(table.read().splitlines()) - 1
+        return table.read().splitlines()
+
+
+def records_of(file):
+    """How many records gpsbabel reads of a file."""
+    return len(table_of(file)) - 1
 
 
 def script_of(samples, every):
@@ -204,7 +210,7 @@ def with_little_memory_simulated(fitrec):
 
 # The fields of a sample: the key, its value and its bytes.
 FIELDS = [("lat", 566012345, 4), ("long", 102345678, 4), ("alt", 2655, 2), ("hr", 92, 1), ("cad", 80, 1), ("dist", 310, 4),
-          ("speed", 3100, 2), ("power", 210, 2), ("temp", -3, 1)]
+          ("speed", 3100, 2), ("power", 210, 2), ("temp", -3, 1), ("espeed", 70000, 4), ("ealt", 2655, 4)]
 
 
 def of_room_and_commits(fitrec):
@@ -244,8 +250,57 @@ def of_room_and_commits(fitrec):
         yield "many commits: repaired", differs(said[1].split()[:2], ["ok", "records=0"])
 
 
+def told_speed(speeds):
+    """How a summary tells the greatest of some speeds."""
+    return str(max(speeds)) if speeds and max(speeds) <= 65534 else "-"
+
+
+def of_greatest_speeds(fitrec):
+    """Rides whose speeds are taken by chance, in one field, in the other or in both, some of them above what a summary tells:
+    the greatest of each lap and of the ride."""
+    chance = random.Random(1)
+    for _ in range(40):
+        lines, laps = ["start 1000000000 7 cycling"], [[]]
+        for second in range(1000000001, 1000000001 + chance.randrange(60)):
+            if chance.random() < 0.2:
+                lines.append(f"lap {second}")
+                laps.append([])
+            said = {key: chance.choice((0, 5000, 6000, 65533, 65534)) for key in ("speed", "espeed") if chance.random() < 0.5}
+            if chance.random() < 0.05:
+                said["espeed"] = chance.choice((65535, 65536, 70000, 4294967294))
+            laps[-1] += said.values()
+            lines.append(" ".join([f"sample {second}", *("%s=%d" % pair for pair in said.items())]))
+        lines.append("stop 1000000100")
+        with tempfile.TemporaryDirectory() as folder, tempfile.NamedTemporaryFile("w") as script:
+            script.write("\n".join(lines))
+            script.flush()
+            yield "greatest speeds: recorded", differs(run(fitrec, "replay", script.name, folder)[::2], (0, ""))
+            file = pathlib.Path(folder) / "activity.fit"
+            status, shown, err = run(fitrec, "show", file)
+            yield "greatest speeds: shown", differs((status, shown, err), (0, reader.show(file.read_bytes()), ""))
+            want = [told_speed(speeds) for speeds in laps] + [told_speed(sum(laps, []))]
+            yield "greatest speeds: of each lap and of the ride", differs(re.findall(r" max_speed=(\S+)", shown), want)
+
+
+def of_longer_fields(fitrec):
+    """A sample with the longer fields for speed and altitude alone, as gpsbabel reads it: 6 m/s, and 32 m, which are 2,660 fifths
+    above -500 m. It keeps a speed in two bytes."""
+    if not shutil.which("gpsbabel"):
+        print("skipped: the longer fields read by gpsbabel, which is not there")
+        return
+    with tempfile.TemporaryDirectory() as folder, tempfile.NamedTemporaryFile("w") as script:
+        script.write("start 1000000000 7 running\nsample 1000000001 lat=566012345 long=102345678 espeed=6000 ealt=2660\nstop 1000000002\n")
+        script.flush()
+        run(fitrec, "replay", script.name, folder)
+        table = table_of(pathlib.Path(folder) / "activity.fit")
+        read = [dict(zip(table[0].split(","), line.split(","))) for line in table[1:]]
+        yield "longer fields: read by gpsbabel", differs([(row["Altitude"], row["Speed"]) for row in read], [("32.0", "6.00")])
+
+
 def check(fitrec):
     yield from rides(fitrec)
+    yield from of_greatest_speeds(fitrec)
+    yield from of_longer_fields(fitrec)
     yield from of_room_and_commits(fitrec)
     yield from on_a_full_disk(fitrec)
     yield from with_files_that_may_not_grow(fitrec)

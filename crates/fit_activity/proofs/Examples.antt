@@ -1,30 +1,38 @@
 -- The definitions at known rides, whose values come from outside.
-use Rattle.std.proofs.Common.{◌≡◌, ℕ, List, [], ◌∷◌, ◌++◌, Option, Some, None, refl}
+use Rattle.std.proofs.Common.{◌≡◌, ℕ, pos, List, [], ◌∷◌, ◌++◌, Option, Some, None, refl}
 use Rattle.fit_activity.specs.declared.recording.start.Sport.TheVariants.{Running}
+use Rattle.fit_activity.specs.declared.recording.entry.Sample.{Sample as AnySample}
 use Rattle.fit_activity.specs.declared.recording.entry.Entry.{Entry}
 use Rattle.fit_activity.specs.declared.recording.entry.Entry.TheVariants.{Sample, Lap, Pause, Resume, Stop}
 use Rattle.fit_activity.specs.declared.recording.refusal.Refusal.TheVariants.{Time, Distance, Value, TimerStopped, TimerRunning, TooLong}
 use Rattle.fit_activity.specs.Rides.Recording.{Recorded, Started, Added}
 use Rattle.fit_activity.specs.Rides.Stretch.{lap_at, lap_of, session_of}
 use Rattle.fit_activity.specs.Rides.Refusal.{refusal_of}
+use Rattle.fit_activity.specs.Messages.ProfileMessage.{record_message}
+use Rattle.fit_activity.proofs.Spelling.Messages.{profile_message_size}
 
 abbrev start : Recorded
 start = Started (record { time = 1000000000; serial = 7; sport = Running })
 
-abbrev sample_with : ℕ → Option ℕ → Option ℕ → Entry
-sample_with time rate distance =
-    Sample (record {
+abbrev empty_at : ℕ → AnySample
+empty_at time =
+    record {
       time = time;
       lat = None;
       long = None;
       altitude = None;
-      heart_rate = rate;
+      heart_rate = None;
       cadence = None;
-      distance = distance;
+      distance = None;
       speed = None;
       power = None;
       temperature = None;
-    })
+      enhanced_speed = None;
+      enhanced_altitude = None;
+    }
+
+abbrev sample_with : ℕ → Option ℕ → Option ℕ → Entry
+sample_with time rate distance = Sample (record (empty_at time) { heart_rate = rate; distance = distance })
 
 abbrev rate_at : ℕ → ℕ → Recorded
 rate_at time rate = Added (sample_with time (Some rate) None)
@@ -126,6 +134,50 @@ fast-distance = refl
 fast-speed : (session_of fast).stretch.average_speed ≡ None
 fast-speed = refl
 
+-- greatest speeds: of a sample the greater of its two, of a stretch none above 65534
+abbrev speeds : ℕ → Option ℕ → Option ℕ → Entry
+speeds time speed enhanced = Sample (record (empty_at time) { speed = speed; enhanced_speed = enhanced })
+
+abbrev speeds_at : ℕ → Option ℕ → Option ℕ → Recorded
+speeds_at time speed enhanced = Added (speeds time speed enhanced)
+
+abbrev quick : Recorded → List Recorded
+quick second = start ∷ speeds_at 1000000000 (Some 5000) (Some 6000) ∷ second ∷ Added (Stop 1000000001) ∷ []
+
+quick-session : (session_of (quick (speeds_at 1000000001 (Some 5500) None))).stretch.greatest_speed ≡ Some 6000
+quick-session = refl
+
+quick-lap : (lap_of (quick (speeds_at 1000000001 (Some 5500) None))).stretch.greatest_speed ≡ Some 6000
+quick-lap = refl
+
+too_quick : (session_of (quick (speeds_at 1000000001 (Some 5500) (Some 70000)))).stretch.greatest_speed ≡ None
+too_quick = refl
+
+most-quick : (session_of (start ∷ speeds_at 1000000001 None (Some 65534) ∷ [])).stretch.greatest_speed ≡ Some 65534
+most-quick = refl
+
+invalid-quick : (session_of (start ∷ speeds_at 1000000001 None (Some 65535) ∷ [])).stretch.greatest_speed ≡ None
+invalid-quick = refl
+
+-- the longest entry has each field, and so many bytes with its definition
+abbrev full : AnySample
+full = record (empty_at 1000000000) {
+  lat = Some (pos 1);
+  long = Some (pos 2);
+  altitude = Some 3;
+  heart_rate = Some 4;
+  cadence = Some 5;
+  distance = Some 6;
+  speed = Some 7;
+  power = Some 8;
+  temperature = Some (pos 9);
+  enhanced_speed = Some 10;
+  enhanced_altitude = Some 11;
+}
+
+full-size : profile_message_size (record_message full) ≡ 76
+full-size = refl
+
 -- refusals
 abbrev known : List Recorded
 known = start ∷ distance_at 1000000010 500 ∷ []
@@ -138,6 +190,15 @@ refused-distance = refl
 
 refused-value : refusal_of known (sample_with 1000000010 (Some 255) None) ≡ Some (Value 3)
 refused-value = refl
+
+refused-enhanced : refusal_of known (Sample (record (empty_at 1000000010) { heart_rate = Some 255; enhanced_speed = Some 4294967295 })) ≡ Some (Value 3)
+refused-enhanced = refl
+
+refused-speed : refusal_of known (speeds 1000000010 None (Some 4294967295)) ≡ Some (Value 73)
+refused-speed = refl
+
+refused-altitude : refusal_of known (Sample (record (empty_at 1000000010) { enhanced_altitude = Some 4294967295 })) ≡ Some (Value 78)
+refused-altitude = refl
 
 refused-stopped : refusal_of (known ++ Added (Pause 1000000010) ∷ []) (sample_with 1000000010 (Some 90) None) ≡ Some TimerStopped
 refused-stopped = refl

@@ -68,7 +68,7 @@ impl Noise {
 
     // One setting of a sample, or none.
     fn setting(&mut self, alloc: Global) -> Result<String, Fail> {
-        let text = match self.below(14) {
+        let text = match self.below(16) {
             0 => format!(in alloc; " lat={} long=-{}", self.below(9), self.below(9))?,
             1 => format!(in alloc; " alt={}", self.below(65_537).min(65_535))?,
             2..5 => format!(in alloc; " hr={}", self.below(240))?,
@@ -77,6 +77,8 @@ impl Noise {
             7..11 => format!(in alloc; " dist={}", self.next() >> 12)?,
             11 => format!(in alloc; " speed={} power={}", self.below(9000), self.below(900))?,
             12 if self.one_in(3) => format!(in alloc; " temp=127")?,
+            13 => format!(in alloc; " espeed={} ealt={}", self.below(90_000), self.below(9000))?,
+            14 if self.one_in(3) => format!(in alloc; " espeed=4294967295 ealt=4294967295")?,
             _ => String::new(alloc),
         };
         Ok(text)

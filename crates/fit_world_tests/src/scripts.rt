@@ -98,8 +98,8 @@ fn refuses_numbers_that_do_not_fit(rt: HostRuntime) {
         "lap 4294967295",
         "fail 4294967295",
         "cut 1",
-        "sample 0 lat=2147483647 long=2147483647 alt=65535 hr=255 cad=255 dist=4294967295 speed=65535 power=65535 temp=127",
-        "sample 0 lat=-2147483648 long=-2147483648 alt=0 hr=0 cad=0 dist=0 speed=0 power=0 temp=-128",
+        "sample 0 lat=2147483647 long=2147483647 alt=65535 hr=255 cad=255 dist=4294967295 speed=65535 power=65535 temp=127 espeed=4294967295 ealt=4294967295",
+        "sample 0 lat=-2147483648 long=-2147483648 alt=0 hr=0 cad=0 dist=0 speed=0 power=0 temp=-128 espeed=0 ealt=0",
     ];
     for text in taken {
         assert_eq!(rt; fault_of(&rt, text), None, "{text}");
@@ -123,12 +123,16 @@ fn refuses_numbers_that_do_not_fit(rt: HostRuntime) {
         "sample 0 power=65536",
         "sample 0 temp=128",
         "sample 0 temp=-129",
+        "sample 0 espeed=4294967296",
+        "sample 0 ealt=4294967296",
         "sample 0 alt=-0",
         "sample 0 hr=-0",
         "sample 0 cad=-1",
         "sample 0 dist=-1",
         "sample 0 speed=-1",
         "sample 0 power=-1",
+        "sample 0 espeed=-1",
+        "sample 0 ealt=-0",
         "lap -1",
         "lap 100000000000000000000000000000000000001",
     ];
@@ -201,11 +205,13 @@ fn reads_samples(rt: HostRuntime) {
         speed: Some(7),
         power: Some(8),
         temperature: Some(-9),
+        enhanced_speed: Some(10),
+        enhanced_altitude: Some(11),
     };
     let texts = [
-        "sample 10 lat=-1 long=2 alt=3 hr=4 cad=5 dist=6 speed=7 power=8 temp=-9",
-        "sample 10 temp=-9 power=8 speed=7 dist=6 cad=5 hr=4 alt=3 long=2 lat=-1",
-        "\t sample\t10 hr=0000000000000000000000000000000004  lat=-01 dist=6 temp=-9\tlong=2 alt=3 cad=5 power=8 speed=7 ",
+        "sample 10 lat=-1 long=2 alt=3 hr=4 cad=5 dist=6 speed=7 power=8 temp=-9 espeed=10 ealt=11",
+        "sample 10 ealt=11 espeed=10 temp=-9 power=8 speed=7 dist=6 cad=5 hr=4 alt=3 long=2 lat=-1",
+        "\t sample\t10 hr=0000000000000000000000000000000004  lat=-01 dist=6 temp=-9\tlong=2 alt=3 cad=5 ealt=0011 power=8 speed=7 espeed=10 ",
     ];
     for text in texts {
         assert!(rt;

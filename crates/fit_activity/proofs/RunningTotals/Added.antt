@@ -15,10 +15,10 @@ use Rattle.fit_activity.specs.declared.totals.tally.Tally.{Tally}
 use Rattle.fit_activity.specs.declared.totals.sums.Sums.{Sums}
 use Rattle.fit_activity.specs.Rides.Recording.{Recorded, Started, Added, EntryFits, SampleFits, StartFits, entry_time, time_of, is_lap, is_stop, start_of, last_given}
 use Rattle.fit_activity.specs.Rides.Timer.{switch_of, runs_now, timer}
-use Rattle.fit_activity.specs.Rides.Stretch.{distance_of, heart_rate_of, speed_of, power_of, known_distance, end_time, begins_stretch, begin_of, open_stretch, before_open, greatest}
+use Rattle.fit_activity.specs.Rides.Stretch.{greater_of, distance_of, heart_rate_of, speed_of, power_of, known_distance, end_time, begins_stretch, begin_of, open_stretch, before_open, greatest}
 use Rattle.fit_activity.specs.Rides.Refusal.{start_refusal, has_stopped, Allowed}
 use Rattle.fit_activity.specs.Rides.RunningTotals.{TotalsState, KeepsTime, AreBy, IsClock, IsTally, AreSums, AreTotals}
-use Rattle.fit_activity.specs.Private.Step.{clock_until, clock_switched, clock_lapped, more_seconds, no_tally, greater_of, HasRoom, SumsHaveRoom, tally_with, sums_at, sums_with, greatest_with, totals_at, totals_after, refusal_by}
+use Rattle.fit_activity.specs.Private.Step.{clock_until, clock_switched, clock_lapped, more_seconds, no_tally, HasRoom, SumsHaveRoom, tally_with, sums_at, sums_with, totals_at, totals_after, refusal_by}
 use Rattle.fit_activity.proofs.RunningTotals.Pushed.{last_given-push, All-push, after_last-push, before_last-push, filter_map-push, filter_map-none, length-filter_map-le, greatest-push, greatest-with, sum-bounded}
 use Rattle.fit_activity.proofs.RunningTotals.Timing.{AreBy-later, timer-push, timer-empty}
 use Rattle.fit_activity.proofs.RunningTotals.Judged.{allowed-push, refusal-kept, passes}
@@ -59,7 +59,7 @@ tally-push tally bound values None is below = subst (IsTally tally bound) (sym (
 tally-push tally bound values (Some value) is below = record {
   total = ap (λ (n : ℕ). n + value) is.total ∙ sym (sum_by_push (λ n. n) values value);
   count = ap (λ (n : ℕ). n + 1) is.count ∙ sym (length_push values value);
-  most = ap (λ o. greater_of o value) is.most ∙ sym (greatest-push values value);
+  most = ap (λ o. greater_of o (Some value)) is.most ∙ sym (greatest-push values value);
   bounded = All-push (λ n. n ≤ bound) values value is.bounded below;
 }
 
@@ -73,7 +73,8 @@ sums-sample : (sums : Sums) (before inside : List Recorded) (s : AnySample) → 
 sums-sample sums before inside s fits are =
     let r = Added (Sample s) in record {
       known = are.known;
-      speed = ap (λ o. greatest_with o s.speed) are.speed ∙ sym (greatest-with (filter_map speed_of inside) s.speed) ∙ ap greatest (sym (filter_map-push speed_of inside r));
+      speed = ap (λ o. greater_of o (greater_of s.speed s.enhanced_speed)) are.speed
+          ∙ sym (greatest-with (filter_map speed_of inside) (greater_of s.speed s.enhanced_speed)) ∙ ap greatest (sym (filter_map-push speed_of inside r));
       heart_rate = subst (IsTally (tally_with sums.heart_rate s.heart_rate) 255) (sym (filter_map-push heart_rate_of inside r))
           (tally-push sums.heart_rate 255 (filter_map heart_rate_of inside) s.heart_rate are.heart_rate (at_most 255 s.heart_rate fits.heart_rate));
       power = subst (IsTally (tally_with sums.power s.power) 65535) (sym (filter_map-push power_of inside r))

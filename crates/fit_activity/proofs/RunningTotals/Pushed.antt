@@ -8,8 +8,7 @@ use Rattle.std.proofs.lemmas.List.Elements.{filter_map-append}
 use Rattle.std.proofs.lemmas.List.Sums.{suffix_len-le-length, fold_push, sum_by-cons}
 use Rattle.std.proofs.Math.Seq.{drop-append-add, take-append_seam}
 use Rattle.fit_activity.specs.Rides.Recording.{Recorded, last_given}
-use Rattle.fit_activity.specs.Rides.Stretch.{greatest}
-use Rattle.fit_activity.specs.Private.Step.{greater_of, greatest_with}
+use Rattle.fit_activity.specs.Rides.Stretch.{greater_of, greatest}
 
 pub option_or-none : {Y : Type 0} (o : Option Y) → option_or o None ≡ o
 option_or-none None = refl
@@ -79,7 +78,7 @@ pub filter_map-push : {X Y : Type 0} (h : X → Option Y) (xs : List X) (x : X)
     → filter_map h (xs ++ x ∷ []) ≡ filter_map h xs ++ option_to_list (h x)
 filter_map-push h xs x = filter_map-append h xs (x ∷ []) ∙ ap (λ ys. filter_map h xs ++ ys) (filter_map-one h x)
 
-pub greatest-push : (values : List ℕ) (value : ℕ) → greatest (values ++ value ∷ []) ≡ greater_of (greatest values) value
+pub greatest-push : (values : List ℕ) (value : ℕ) → greatest (values ++ value ∷ []) ≡ greater_of (greatest values) (Some value)
 greatest-push [] value = refl
 greatest-push (first ∷ values) value = ap Some (fold_push max first values value)
 
@@ -95,7 +94,7 @@ length-filter_map-le {X} {Y} h (x ∷ xs) =
     λ o. elim o as (λ v. length (cons_option v (filter_map h xs)) ≤ suc (length xs)) [ None ↦ omega (arith, ih) | Some y ↦ omega (arith, ih) ] in
     one (h x)
 
-pub greatest-with : (values : List ℕ) (o : Option ℕ) → greatest (values ++ option_to_list o) ≡ greatest_with (greatest values) o
+pub greatest-with : (values : List ℕ) (o : Option ℕ) → greatest (values ++ option_to_list o) ≡ greater_of (greatest values) o
 greatest-with values None = ap greatest (append-nil values)
 greatest-with values (Some value) = greatest-push values value
 

@@ -1,16 +1,20 @@
 -- Fields put behind one another.
-use Rattle.std.proofs.Common.{◌≡◌, ℕ, zero, suc, ◌*◌, ◌≤◌, ◌<◌, List, [], ◌∷◌, ◌++◌, length, map, flat_map, Option, Some, None, refl, sym, ap, ◌∙◌, subst, arith, append-nil, append_assoc, length-append, ◌-◌, get_or, take, drop}
+use Rattle.std.proofs.Common.{◌≡◌, ℕ, zero, suc, ◌+◌, ◌*◌, ◌≤◌, ◌<◌, List, [], ◌∷◌, ◌++◌, length, map, flat_map, Option, Some, None, refl, sym, ap, ◌∙◌, subst, arith, append-nil, append_assoc, length-append, ◌-◌, get_or, take, drop}
 use Rattle.std.proofs.Math.Seq.{take-length}
+use Rattle.std.specs.Prelude.{option_map}
 use Rattle.std.specs.Int.{bytes_low_first}
 use Rattle.std.specs.List.{AllByRecursion, cons_option}
 use Rattle.std.proofs.lemmas.List.{length_push}
 use Rattle.std.proofs.lemmas.List.Sums.{sum_by-cons}
+use Rattle.fit_base.specs.declared.base.BaseType.TheVariants.{Sint8, Uint8, Sint32, Uint16, Uint32}
 use Rattle.fit_base.specs.Base.{row_of}
 use Rattle.fit_grammar.specs.declared.definition.FieldDefinition.{FieldDefinition}
 use Rattle.fit_grammar.specs.declared.definition.Definition.{Definition}
+use Rattle.fit_activity.specs.declared.recording.entry.Sample.{Sample as AnySample}
 use Rattle.fit_activity.specs.declared.speaking.profile_field.ProfileField.{ProfileField}
 use Rattle.fit_activity.specs.declared.speaking.speech.SpokenMessage.{SpokenMessage}
-use Rattle.fit_activity.specs.Messages.ProfileField.{ProfileFieldFits, OptionFits, present, field_definition, field_content, content_length}
+use Rattle.fit_activity.specs.Messages.ProfileField.{ProfileFieldFits, OptionFits, profile_field, signed_profile_field, present, field_definition, field_content, content_length}
+use Rattle.fit_activity.specs.Messages.ProfileMessage.{sample_fields}
 use Rattle.fit_activity.specs.Messages.MessageBytes.{CanPut, HasPut}
 use Rattle.fit_activity.proofs.RunningTotals.Pushed.{length-filter_map-le}
 
@@ -120,12 +124,33 @@ content-short (field ∷ fields) fit =
     omega (arith, content-short fields fit.1, fit.0.short, total)
 
 -- the fields that are there have room behind a message's first
-pub present-can : (m : SpokenMessage) (fields : List (Option ProfileField)) → length m.definition.fields.items ≡ 1 → length m.content.items ≡ 4 → length fields ≤ 9
-    → AllByRecursion OptionFits fields → CanPut m (present fields)
-present-can m fields one four few fit =
-    let all = present-fit fields fit in
+pub present-can : (m : SpokenMessage) (fields : List (Option ProfileField)) → length m.definition.fields.items ≡ 1 → length m.content.items ≡ 4 → length fields ≤ 11
+    → content_length (present fields) ≤ 29 → AllByRecursion OptionFits fields → CanPut m (present fields)
+present-can m fields one four few short fit =
     let less = length-filter_map-le (λ (field : Option ProfileField). field) fields in record {
-      fit = all;
+      fit = present-fit fields fit;
       few = omega (arith, one, less, few);
-      short = omega (arith, four, less, few, content-short (present fields) all);
+      short = omega (arith, four, short);
     }
+
+-- a field that may be there adds at most its size
+content-option : {X : Type 0} (field : X → ProfileField) (size bound : ℕ) (o : Option X) (fields : List ProfileField) → ((x : X) → (row_of (field x).base).size ≡ size)
+    → content_length fields ≤ bound → content_length (cons_option (option_map field o) fields) ≤ size + bound
+content-option field size bound None fields is short = omega (arith, short)
+content-option field size bound (Some x) fields is short =
+    omega (arith, short, is x, sum_by-cons (λ (f : ProfileField). (row_of f.base).size) (field x) fields)
+
+-- a sample's fields
+pub sample-short : (s : AnySample) → content_length (sample_fields s) ≤ 29
+sample-short s =
+    content-option (signed_profile_field 0 Sint32) 4 25 s.lat _ (λ z. refl)
+    (content-option (signed_profile_field 1 Sint32) 4 21 s.long _ (λ z. refl)
+    (content-option (profile_field 2 Uint16) 2 19 s.altitude _ (λ n. refl)
+    (content-option (profile_field 3 Uint8) 1 18 s.heart_rate _ (λ n. refl)
+    (content-option (profile_field 4 Uint8) 1 17 s.cadence _ (λ n. refl)
+    (content-option (profile_field 5 Uint32) 4 13 s.distance _ (λ n. refl)
+    (content-option (profile_field 6 Uint16) 2 11 s.speed _ (λ n. refl)
+    (content-option (profile_field 7 Uint16) 2 9 s.power _ (λ n. refl)
+    (content-option (signed_profile_field 13 Sint8) 1 8 s.temperature _ (λ z. refl)
+    (content-option (profile_field 73 Uint32) 4 4 s.enhanced_speed _ (λ n. refl)
+    (content-option (profile_field 78 Uint32) 4 0 s.enhanced_altitude [] (λ n. refl) (omega arith)))))))))))

@@ -1,5 +1,5 @@
 -- Running totals with an entry more, on the numbers that they keep.
-use Rattle.std.specs.Prelude.{ℕ, ◌+◌, ◌-◌, ◌*◌, ◌/◌, ◌^◌, ◌<◌, Bool, true, false, max, Option, Some, None, unwrap_or, option_map, option_and_then, nat_lt, nat_le, not, ◌==◌, ◌&&◌, ◌||◌, if◌then◌else◌}
+use Rattle.std.specs.Prelude.{ℕ, ◌+◌, ◌-◌, ◌*◌, ◌/◌, ◌^◌, ◌<◌, Bool, true, false, Option, Some, None, unwrap_or, option_map, option_and_then, nat_lt, nat_le, not, ◌==◌, ◌&&◌, ◌||◌, if◌then◌else◌}
 use Rattle.std.specs.Option.{option_or}
 use Rattle.fit_activity.specs.declared.recording.start.Start.{Start}
 use Rattle.fit_activity.specs.declared.recording.entry.Sample.{Sample as AnySample}
@@ -16,7 +16,7 @@ use Rattle.fit_activity.specs.Rides.RunningTotals.{TotalsState}
 use Rattle.fit_activity.specs.declared.recording.refusal.Refusal.{Refusal}
 use Rattle.fit_activity.specs.declared.recording.refusal.Refusal.TheVariants.{Stopped, Time, TooLong, TimerStopped, TimerRunning, TooManyLaps, Value, Distance}
 use Rattle.fit_activity.specs.Rides.Recording.{Added, entry_time, is_lap}
-use Rattle.fit_activity.specs.Rides.Stretch.{distance_of, speed_over}
+use Rattle.fit_activity.specs.Rides.Stretch.{greater_of, distance_of, told_speed, speed_over}
 use Rattle.fit_activity.specs.Rides.Refusal.{wants_timer, is_resume, is_less, invalid_field_of, invalid_field}
 
 -- the clock of a start, at a later time, with the timer running or standing, and where a lap begins
@@ -44,14 +44,10 @@ clock_lapped clock = record clock { lap = clock.end; lap_timer = 0 }
 abbrev pub no_tally : Tally
 no_tally = record { total = 0; count = 0; greatest = None }
 
-abbrev pub greater_of : Option ℕ → ℕ → Option ℕ
-greater_of None value = Some value
-greater_of (Some greatest) value = Some (max greatest value)
-
 abbrev pub tally_with : Tally → Option ℕ → Tally
 tally_with tally None = tally
 tally_with tally (Some value) =
-    record { total = tally.total + value; count = tally.count + 1; greatest = greater_of tally.greatest value }
+    record { total = tally.total + value; count = tally.count + 1; greatest = greater_of tally.greatest (Some value) }
 
 -- the value, where it is below 65536; where it is below 256
 abbrev pub in_two_bytes : ℕ → Option ℕ
@@ -67,14 +63,10 @@ average_of tally = if tally.count == 0 then None else in_two_bytes (tally.total 
 abbrev pub sums_at : Option ℕ → Sums
 sums_at distance = record { known = unwrap_or distance 0; speed = None; heart_rate = no_tally; power = no_tally }
 
-abbrev pub greatest_with : Option ℕ → Option ℕ → Option ℕ
-greatest_with greatest None = greatest
-greatest_with greatest (Some value) = greater_of greatest value
-
 abbrev pub sums_with : Sums → AnySample → Sums
 sums_with sums s =
     record sums {
-      speed = greatest_with sums.speed s.speed;
+      speed = greater_of sums.speed (greater_of s.speed s.enhanced_speed);
       heart_rate = tally_with sums.heart_rate s.heart_rate;
       power = tally_with sums.power s.power;
     }
@@ -99,7 +91,7 @@ stretch_by sums from to secs known =
       timer = 1000 * secs;
       distance = distance;
       average_speed = speed_over distance secs;
-      greatest_speed = sums.speed;
+      greatest_speed = told_speed sums.speed;
       average_heart_rate = in_one_byte (average_of sums.heart_rate);
       greatest_heart_rate = in_one_byte sums.heart_rate.greatest;
       average_power = average_of sums.power;

@@ -9,7 +9,13 @@ use Rattle.fit_activity.specs.declared.totals.summary.ActivitySummary.{ActivityS
 use Rattle.fit_activity.specs.Rides.Recording.{Recorded, Started, Added, time_of, is_lap, last_given, start_time, sport_of}
 use Rattle.fit_activity.specs.Rides.Timer.{timer}
 
--- a sample's distance, heart rate, speed and power, where it has them
+-- the greater of two values, or the one that is there
+abbrev pub greater_of : Option ℕ → Option ℕ → Option ℕ
+greater_of one None = one
+greater_of None (Some other) = Some other
+greater_of (Some one) (Some other) = Some (max one other)
+
+-- a sample's distance, heart rate, speed and power, where it has them; its speed is the greater of the two that it may have
 abbrev pub distance_of : Recorded → Option ℕ
 distance_of (Added (Sample s)) = s.distance
 distance_of _ = None
@@ -19,7 +25,7 @@ heart_rate_of (Added (Sample s)) = s.heart_rate
 heart_rate_of _ = None
 
 abbrev pub speed_of : Recorded → Option ℕ
-speed_of (Added (Sample s)) = s.speed
+speed_of (Added (Sample s)) = greater_of s.speed s.enhanced_speed
 speed_of _ = None
 
 abbrev pub power_of : Recorded → Option ℕ
@@ -65,11 +71,15 @@ greatest values = reduce max values
 abbrev pub distance_between : Option ℕ → Option ℕ → Option ℕ
 distance_between at_begin at_end = option_map (λ d. d - unwrap_or at_begin 0) at_end
 
--- mm/s from cm and seconds: none where there is no distance or no second, or above 65534
+-- a speed as a summary tells it, in mm/s: none above 65534
+abbrev pub told_speed : Option ℕ → Option ℕ
+told_speed None = None
+told_speed (Some speed) = if nat_lt 65534 speed then None else Some speed
+
+-- mm/s from cm and seconds: none where there is no distance or no second
 abbrev pub speed_over : Option ℕ → ℕ → Option ℕ
 speed_over None secs = None
-speed_over (Some distance) secs =
-    if secs == 0 then None else if nat_lt 65534 (10 * distance / secs) then None else Some (10 * distance / secs)
+speed_over (Some distance) secs = if secs == 0 then None else told_speed (Some (10 * distance / secs))
 
 -- the summary of the stretch of a list that goes from one second to another, by what stands before it and in it
 abbrev pub summary : List Recorded → List Recorded → List Recorded → ℕ → ℕ → Stretch
@@ -82,7 +92,7 @@ summary list before inside from to =
       timer = 1000 * timer list from to;
       distance = distance;
       average_speed = speed_over distance (timer list from to);
-      greatest_speed = greatest (filter_map speed_of inside);
+      greatest_speed = told_speed (greatest (filter_map speed_of inside));
       average_heart_rate = average (filter_map heart_rate_of inside);
       greatest_heart_rate = greatest (filter_map heart_rate_of inside);
       average_power = average (filter_map power_of inside);

@@ -11,7 +11,7 @@ use crate::speaking::profile_field::ProfileField;
 use crate::totals::summary::{ActivitySummary, LapSummary, SessionSummary};
 
 // The fields of a sample in the order of their numbers, each where it has one.
-pub(crate) fn sample_fields(sample: &Sample) -> [Option<ProfileField>; 9]
+pub(crate) fn sample_fields(sample: &Sample) -> [Option<ProfileField>; 11]
     ensures fields { result ≡ sample_options sample.now }
     ensures fit { AllByRecursion OptionFits result }
 {
@@ -25,6 +25,8 @@ pub(crate) fn sample_fields(sample: &Sample) -> [Option<ProfileField>; 9]
         ProfileField::maybe_uint16(6, sample.speed),
         ProfileField::maybe_uint16(7, sample.power),
         ProfileField::maybe_sint8(13, sample.temperature),
+        ProfileField::maybe_uint32(73, sample.enhanced_speed),
+        ProfileField::maybe_uint32(78, sample.enhanced_altitude),
     ]
 }
 

@@ -123,7 +123,8 @@ impl SpokenMessage {
     // The record of this time and of the fields that are there.
     fn say_record(&mut self, time: u32, fields: &[Option<ProfileField>])
         requires fit { AllByRecursion OptionFits fields.now }
-        requires few { length fields.now ≤ 9 }
+        requires few { length fields.now ≤ 11 }
+        requires short { content_length (present fields.now) ≤ 29 }
         ensures { self.new
             ≡ spelled
             (record {
@@ -194,7 +195,8 @@ impl Speech {
     pub(crate) fn say_record(&mut self, time: u32, fields: &[Option<ProfileField>])
         requires room { length self.old < 4 }
         requires fit { AllByRecursion OptionFits fields.now }
-        requires few { length fields.now ≤ 9 }
+        requires few { length fields.now ≤ 11 }
+        requires short { content_length (present fields.now) ≤ 29 }
         ensures said { self.new ≡ self.old
             ++ spelled
             (record {

@@ -18,7 +18,8 @@ pub struct Stretch {
     /// The distance over the time of the timer, in mm/s. None where there is no distance, where the timer did not run,
     /// and above 65534.
     pub average_speed: Option<u16>,
-    /// In mm/s.
+    /// The greatest speed of its samples, in mm/s; that of a sample is the greater of its two. None where no sample has one,
+    /// and above 65534.
     pub greatest_speed: Option<u16>,
     /// In beats a minute.
     pub average_heart_rate: Option<u8>,

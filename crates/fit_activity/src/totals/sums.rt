@@ -1,18 +1,19 @@
 // What the samples of a stretch add up to.
 
 ghost use Rattle.std.specs.Prelude.{◌≡◌, ◌+◌, ◌≤◌, ◌<◌, ◌^◌};
-ghost use Rattle.fit_activity.specs.Rides.Stretch.{speed_over};
+ghost use Rattle.fit_activity.specs.Rides.Stretch.{greater_of, told_speed, speed_over};
 ghost use Rattle.fit_activity.specs.Private.Step.{sums_at, sums_with, SumsHaveRoom, stretch_by, in_one_byte as small};
 
 use crate::recording::entry::Sample;
 use crate::totals::summary::Stretch;
-use crate::totals::tally::{Tally, greater};
+use crate::totals::tally::Tally;
 
 // What the samples of a stretch add up to, and the last distance known where it begins (0 where none is), in cm.
 #[derive(Clone, Copy, Debug)]
 pub(crate) struct Sums {
     known: u32,
-    speed: Option<u16>,
+    // The greatest speed.
+    speed: Option<u32>,
     heart_rate: Tally,
     power: Tally,
 }
@@ -35,10 +36,7 @@ impl Sums {
         requires { SumsHaveRoom self.old }
         ensures { self.new ≡ sums_with self.old sample.now }
     {
-        self.speed = match sample.speed {
-            None => self.speed,
-            Some(speed) => greater(self.speed, speed),
-        };
+        self.speed = greater(self.speed, speed_of(sample));
         self.heart_rate = self.heart_rate.with(sample.heart_rate.map(u16::from));
         self.power = self.power.with(sample.power);
     }
@@ -59,13 +57,42 @@ impl Sums {
             timer: 1000 * timer,
             distance,
             average_speed: average_speed(distance, timer),
-            greatest_speed: self.speed,
+            greatest_speed: told(self.speed.map(u64::from)),
             average_heart_rate: in_one_byte(self.heart_rate.average()),
             greatest_heart_rate: in_one_byte(self.heart_rate.greatest),
             average_power: self.power.average(),
             greatest_power: self.power.greatest,
         }
     }
+}
+
+// The greater of a sample's two speeds, or the one that it has.
+fn speed_of(sample: &Sample) -> Option<u32>
+    ensures { result ≡ greater_of sample.now.speed sample.now.enhanced_speed }
+{
+    greater(sample.speed.map(u32::from), sample.enhanced_speed)
+}
+
+// The greater of two speeds, or the one that is there.
+fn greater(one: Option<u32>, other: Option<u32>) -> Option<u32>
+    ensures { result ≡ greater_of one other }
+{
+    match (one, other) {
+        (Some(one), Some(other)) => Some(one.max(other)),
+        (one, None) => one,
+        (None, other) => other,
+    }
+}
+
+// A speed in mm/s, where it is not above 65534.
+fn told(speed: Option<u64>) -> Option<u16>
+    ensures { result ≡ told_speed speed }
+{
+    let speed = speed?;
+    if speed > 65534 {
+        return None;
+    }
+    Some(speed as u16)
 }
 
 // The value, where it is that small.
@@ -75,7 +102,7 @@ fn in_one_byte(value: Option<u16>) -> Option<u8>
     u8::try_from(value?).ok()
 }
 
-// In mm/s, of a distance in cm and seconds. None where there is no distance or no second, and above 65534.
+// In mm/s, of a distance in cm and seconds. None where there is no distance or no second.
 fn average_speed(distance: Option<u32>, seconds: u32) -> Option<u16>
     ensures { result ≡ speed_over distance seconds }
 {
@@ -83,9 +110,5 @@ fn average_speed(distance: Option<u32>, seconds: u32) -> Option<u16>
     if seconds == 0 {
         return None;
     }
-    let speed = 10 * u64::from(distance) / u64::from(seconds);
-    if speed > 65534 {
-        return None;
-    }
-    Some(speed as u16)
+    told(Some(10 * u64::from(distance) / u64::from(seconds)))
 }

@@ -1,7 +1,8 @@
 // The sum, the count and the greatest of some values.
 
-ghost use Rattle.std.specs.Prelude.{◌≡◌, ◌<◌, ◌+◌, ◌^◌, IfSome};
-ghost use Rattle.fit_activity.specs.Private.Step.{tally_with, greater_of, average_of};
+ghost use Rattle.std.specs.Prelude.{◌≡◌, ◌<◌, ◌+◌, ◌^◌, Some};
+ghost use Rattle.fit_activity.specs.Rides.Stretch.{greater_of};
+ghost use Rattle.fit_activity.specs.Private.Step.{tally_with, average_of};
 
 // The sum, the count and the greatest of some values.
 #[derive(Clone, Copy, Debug, PartialEq, Eq)]
@@ -47,8 +48,8 @@ impl Tally {
 }
 
 // The greater of a value and those before it.
-pub(crate) fn greater(greatest: Option<u16>, value: u16) -> Option<u16>
-    ensures { result ≡ greater_of greatest value }
+fn greater(greatest: Option<u16>, value: u16) -> Option<u16>
+    ensures { result ≡ greater_of greatest (Some value) }
 {
     match greatest {
         None => Some(value),

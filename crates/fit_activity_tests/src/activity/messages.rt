@@ -219,6 +219,8 @@ fn says_a_sample(rt: HostRuntime) -> Result<(), Fail> {
         speed: Some(5000),
         power: Some(250),
         temperature: Some(-5),
+        enhanced_speed: Some(70_000),
+        enhanced_altitude: Some(0xFFFF_FFFE),
     };
     let mut speech = Speech::new();
     say(&rt, &[], Entry::Sample(full), &mut speech);
@@ -230,7 +232,8 @@ fn says_a_sample(rt: HostRuntime) -> Result<(), Fail> {
         bytes.as_slice(),
         [
             0x00, 0xCA, 0x9A, 0x3B, 0xFE, 0xFF, 0xFF, 0xFF, 0x01, 0x00, 0x00, 0x00, 0x28, 0x0A,
-            0x65, 0x5A, 0x39, 0x30, 0x00, 0x00, 0x88, 0x13, 0xFA, 0x00, 0xFB,
+            0x65, 0x5A, 0x39, 0x30, 0x00, 0x00, 0x88, 0x13, 0xFA, 0x00, 0xFB, 0x70, 0x11, 0x01,
+            0x00, 0xFE, 0xFF, 0xFF, 0xFF,
         ]
         .as_slice()
     );
@@ -242,7 +245,7 @@ fn says_a_sample(rt: HostRuntime) -> Result<(), Fail> {
     }
     assert_eq!(rt;
         numbers.as_slice(),
-        [253, 0, 1, 2, 3, 4, 5, 6, 7, 13].as_slice()
+        [253, 0, 1, 2, 3, 4, 5, 6, 7, 13, 73, 78].as_slice()
     );
 
     say(&rt, &[], Entry::Sample(Sample::new(T)), &mut speech);
@@ -281,10 +284,13 @@ fn reads_entries_again(rt: HostRuntime) -> Result<(), Fail> {
         speed: Some(5),
         power: Some(6),
         temperature: Some(-128),
+        enhanced_speed: Some(0),
+        enhanced_altitude: Some(0xFFFF_FFFE),
     };
     let some = Sample {
         lat: Some(7),
         power: Some(250),
+        enhanced_altitude: Some(13),
         ..Sample::new(T + 2)
     };
     let entries = [
@@ -292,6 +298,10 @@ fn reads_entries_again(rt: HostRuntime) -> Result<(), Fail> {
         Entry::Sample(some),
         Entry::Sample(Sample::new(T + 2)),
         with_distance(T + 2, 9),
+        Entry::Sample(Sample {
+            enhanced_speed: Some(3100),
+            ..Sample::new(T + 2)
+        }),
         Entry::Lap(T + 3),
         Entry::Pause(T + 4),
         Entry::Stop(T + 5),

@@ -74,9 +74,19 @@ fn refuses_times(rt: HostRuntime) {
 #[test]
 fn refuses_invalid_values(rt: HostRuntime) {
     let mut worst = Sample {
-        temperature: Some(0x7F),
+        enhanced_altitude: Some(0xFFFF_FFFF),
         ..Sample::new(T)
     };
+    assert_eq!(rt;
+        refusal(&rt, &[], Entry::Sample(worst)),
+        Some(Refusal::Value(78))
+    );
+    worst.enhanced_speed = Some(0xFFFF_FFFF);
+    assert_eq!(rt;
+        refusal(&rt, &[], Entry::Sample(worst)),
+        Some(Refusal::Value(73))
+    );
+    worst.temperature = Some(0x7F);
     assert_eq!(rt;
         refusal(&rt, &[], Entry::Sample(worst)),
         Some(Refusal::Value(13))
@@ -137,6 +147,8 @@ fn allows_extreme_values(rt: HostRuntime) {
         speed: Some(0xFFFE),
         power: Some(0xFFFE),
         temperature: Some(0x7E),
+        enhanced_speed: Some(0xFFFF_FFFE),
+        enhanced_altitude: Some(0xFFFF_FFFE),
     };
     assert_eq!(rt; refusal(&rt, &[], Entry::Sample(most)), None);
     let least = Sample {

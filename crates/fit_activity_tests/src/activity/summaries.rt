@@ -170,6 +170,86 @@ fn adds_up_speed_and_power(rt: HostRuntime) {
     assert!(rt; !totals.running());
 }
 
+// A sample with these two speeds.
+fn with_speeds(time: u32, speed: Option<u16>, enhanced_speed: Option<u32>) -> Entry {
+    Entry::Sample(Sample {
+        speed,
+        enhanced_speed,
+        ..Sample::new(time)
+    })
+}
+
+// The greatest speed of the open lap of a ride, and that of the whole ride.
+fn greatest_speeds(rt: &impl Abort, entries: &[Entry]) -> (Option<u16>, Option<u16>)
+    requires { length entries.now < 2 ^ 31 }
+{
+    let totals = ride(rt, entries);
+    let lap = totals.lap().stretch.greatest_speed;
+    (lap, totals.session().stretch.greatest_speed)
+}
+
+// The speed of a sample is the greater of its two, or the one that it has.
+#[test]
+fn takes_the_greater_speed(rt: HostRuntime) {
+    let first = with_speeds(T, Some(5000), Some(6000));
+    let second = with_speeds(T + 1, Some(5500), None);
+    assert_eq!(rt;
+        greatest_speeds(&rt, &[first, second, Entry::Stop(T + 1)]),
+        (Some(6000), Some(6000))
+    );
+    let second = with_speeds(T + 1, Some(5500), Some(70_000));
+    assert_eq!(rt;
+        greatest_speeds(&rt, &[first, second, Entry::Stop(T + 1)]),
+        (None, None)
+    );
+    let alone = [with_speeds(T, None, Some(65_534))];
+    assert_eq!(rt; greatest_speeds(&rt, &alone), (Some(65_534), Some(65_534)));
+    let turned = [with_speeds(T, Some(6000), Some(5000))];
+    assert_eq!(rt; greatest_speeds(&rt, &turned), (Some(6000), Some(6000)));
+    let same = [with_speeds(T, Some(6000), Some(6000))];
+    assert_eq!(rt; greatest_speeds(&rt, &same), (Some(6000), Some(6000)));
+    let zero = [with_speeds(T, None, Some(0))];
+    assert_eq!(rt; greatest_speeds(&rt, &zero), (Some(0), Some(0)));
+    assert_eq!(rt; greatest_speeds(&rt, &[with_distance(T, 5)]), (None, None));
+}
+
+// A lap whose greatest speed is more than its field holds, and one where it is not.
+#[test]
+fn tells_no_greatest_speed_above_65534(rt: HostRuntime) {
+    let entries = [
+        with_speeds(T, Some(65_534), Some(65_535)),
+        Entry::Lap(T + 1),
+        with_speeds(T + 1, Some(300), Some(65_533)),
+    ];
+    assert_eq!(rt; greatest_speeds(&rt, &entries[..1]), (None, None));
+    assert_eq!(rt; greatest_speeds(&rt, &entries), (Some(65_533), None));
+
+    // What is above it is none, however far; the greatest value that is none itself is refused.
+    let far = [with_speeds(T, Some(1), Some(0xFFFF_FFFE))];
+    assert_eq!(rt; greatest_speeds(&rt, &far), (None, None));
+    let wrapped = [with_speeds(T, None, Some(65_536 + 7))];
+    assert_eq!(rt; greatest_speeds(&rt, &wrapped), (None, None));
+}
+
+// Averages are of distances, whatever the speeds are.
+#[test]
+fn averages_no_speeds(rt: HostRuntime) {
+    let sample = |time, distance, enhanced_speed| {
+        Entry::Sample(Sample {
+            distance: Some(distance),
+            enhanced_speed: Some(enhanced_speed),
+            ..Sample::new(time)
+        })
+    };
+    let entries = [sample(T, 0, 9000), sample(T + 10, 12345, 70_000)];
+    assert_eq!(rt;
+        distance_and_speed(&rt, &entries),
+        (Some(12345), Some(12345))
+    );
+    let standing = [with_speeds(T + 1, Some(5000), Some(6000))];
+    assert_eq!(rt; distance_and_speed(&rt, &standing), (None, None));
+}
+
 #[test]
 fn checks_starts(rt: HostRuntime) {
     let at = |time: u32| Start {

@@ -2,6 +2,7 @@
 
 ghost use Rattle.std.specs.Prelude.{◌≡◌, ◌<◌, ◌≤◌, ◌^◌, length};
 
+use super::stopping::full_sample;
 use super::{
     ALONE, RUN, SHORT_RIDE, START_RECORDS, TIME, begun, begun_on, committed, copy_of, entries_told,
     heart_rate, holding, play, ride, short_ride, start_cut_at, value_in,
@@ -305,6 +306,71 @@ fn another_spelling_is_recovered_as_it_stands(rt: HostRuntime) -> Result<(), Fai
     ];
     assert_eq!(rt; entries_told(&file, &entries), Some(5));
     Ok(())
+}
+
+// The longest entry, a sample with each field: its definition, and the record of one 40 seconds behind the start.
+const LONGEST: [u8; 76] = [
+    0x40, 0x00, 0x00, 0x14, 0x00, 0x0C, 0xFD, 0x04, 0x86, 0x00, 0x04, 0x85, 0x01, 0x04, 0x85, 0x02,
+    0x02, 0x84, 0x03, 0x01, 0x02, 0x04, 0x01, 0x02, 0x05, 0x04, 0x86, 0x06, 0x02, 0x84, 0x07, 0x02,
+    0x84, 0x0D, 0x01, 0x01, 0x49, 0x04, 0x86, 0x4E, 0x04, 0x86, 0x00, 0x28, 0xCA, 0x9A, 0x3B, 0xFF,
+    0xFF, 0xFF, 0xFF, 0x02, 0x00, 0x00, 0x00, 0x28, 0x0A, 0x78, 0x5A, 0x05, 0x00, 0x00, 0x00, 0x40,
+    0x1F, 0xFA, 0x00, 0xFD, 0x70, 0x11, 0x01, 0x00, 0xFE, 0xFF, 0xFF, 0xFF,
+];
+
+fn longest_sample(time: u32) -> Sample {
+    Sample {
+        enhanced_speed: Some(70_000),
+        enhanced_altitude: Some(0xFFFF_FFFE),
+        ..full_sample(time)
+    }
+}
+
+// Recovers a disk that the one sample is committed on, so many seconds behind the start.
+fn recovers_the_longest(
+    rt: &impl Abort,
+    alloc: Global,
+    mut disk: Memory,
+    seconds: u32,
+) -> Result<(), Fail>
+    requires { seconds ≤ 1000 }
+{
+    let summary = Summary {
+        records: 1,
+        elapsed_ms: Some(1000 * seconds),
+        timer_ms: Some(1000 * seconds),
+        distance_cm: Some(5),
+        ..ALONE
+    };
+    assert_eq!(rt; recover(&mut disk), Ok(summary));
+    let file = decode_file(alloc, disk.content(Which::Data))?;
+    let sample = Entry::Sample(longest_sample(TIME + seconds));
+    assert_eq!(rt; entries_told(&file, &[sample]), Some(1));
+    Ok(())
+}
+
+#[test]
+fn the_longest_entry_is_recovered(rt: HostRuntime) -> Result<(), Fail> {
+    let mut recorder = begun(&rt)?;
+    recorder.hand(&Entry::Sample(longest_sample(TIME + 40)))?;
+    assert_eq!(rt; recorder.data_len(), 72 + 76);
+    recorder.commit()?;
+    let mut disk = recorder.into_disk();
+    disk.cycle(&[]);
+    let written = disk.content(Which::Data);
+    assert_eq!(rt; written.get(86..162), Some(LONGEST.as_slice()));
+    recovers_the_longest(&rt, rt.alloc(), disk, 40)
+}
+
+// The same with a compressed timestamp, five seconds behind the start, and without a field of its own for it.
+#[test]
+fn the_longest_entry_with_a_compressed_timestamp_is_recovered(rt: HostRuntime) -> Result<(), Fail> {
+    let mut records = START_RECORDS.to_vec(rt.alloc())?;
+    records.extend_from_slice(&[0x40, 0x00, 0x00, 0x14, 0x00, 0x0B])?;
+    records.extend_from_slice(&LONGEST[9..42])?;
+    records.push(0x85)?;
+    records.extend_from_slice(&LONGEST[47..])?;
+    let disk = holding(rt.alloc(), &records, 72 + 69)?;
+    recovers_the_longest(&rt, rt.alloc(), disk, 5)
 }
 
 // Whether a recovery of these records, of which so many bytes are committed, answers Damaged and changes nothing.

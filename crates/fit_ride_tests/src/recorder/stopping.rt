@@ -142,10 +142,9 @@ fn distances_and_average_speeds(rt: HostRuntime) -> Result<(), Fail> {
     Ok(())
 }
 
-// A sample with each field.
+// A sample with each field but the longer ones of newer devices.
 pub(super) fn full_sample(time: u32) -> Sample {
     Sample {
-        time,
         lat: Some(-1),
         long: Some(2),
         altitude: Some(2600),
@@ -155,6 +154,7 @@ pub(super) fn full_sample(time: u32) -> Sample {
         speed: Some(8000),
         power: Some(250),
         temperature: Some(-3),
+        ..Sample::new(time)
     }
 }
 

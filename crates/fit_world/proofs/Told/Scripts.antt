@@ -8,7 +8,7 @@ use Rattle.std.specs.List.{cons_option, list_all, list_any}
 use Rattle.std.specs.Option.{option_or}
 use Rattle.std.specs.Str.{bytes_eq}
 use Rattle.fit_world.specs.Scripts.Script.{event_of, events_of}
-use Rattle.fit_world.specs.Scripts.Sample.{key_in, value_in, is_setting, is_new_setting, has_no_repeat, are_settings, said, sample_at, stands_in, with_setting, lat_of, long_of, altitude_of, heart_rate_of, cadence_of, distance_of, speed_of, power_of, temperature_of}
+use Rattle.fit_world.specs.Scripts.Sample.{key_in, value_in, is_setting, is_new_setting, has_no_repeat, are_settings, said, sample_at, stands_in, with_setting, lat_of, long_of, altitude_of, heart_rate_of, cadence_of, distance_of, speed_of, power_of, temperature_of, enhanced_speed_of, enhanced_altitude_of}
 
 -- ---- references
 
@@ -106,6 +106,8 @@ sample_more time words word =
       said_more speed_of words word,
       said_more power_of words word,
       said_more temperature_of words word,
+      said_more enhanced_speed_of words word,
+      said_more enhanced_altitude_of words word,
     ) refl
 
 pub sample_next : (time : ℕ) (words : List (List ℕ)) (i : ℕ) → i < length words →

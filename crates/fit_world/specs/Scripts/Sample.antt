@@ -41,12 +41,18 @@ power_of key value = if bytes_eq key (codes "power") then number 65535 value els
 abbrev pub temperature_of : List ℕ → List ℕ → Option ℤ
 temperature_of key value = if bytes_eq key (codes "temp") then signed_number 127 value else None
 
+abbrev pub enhanced_speed_of : List ℕ → List ℕ → Option ℕ
+enhanced_speed_of key value = if bytes_eq key (codes "espeed") then number 4294967295 value else None
+
+abbrev pub enhanced_altitude_of : List ℕ → List ℕ → Option ℕ
+enhanced_altitude_of key value = if bytes_eq key (codes "ealt") then number 4294967295 value else None
+
 -- one of the keys, and a number of its own
 abbrev pub has_number : List ℕ → List ℕ → Bool
 has_number key value =
     is_some (lat_of key value) || is_some (long_of key value) || is_some (altitude_of key value) || is_some (heart_rate_of key value)
     || is_some (cadence_of key value) || is_some (distance_of key value) || is_some (speed_of key value) || is_some (power_of key value)
-    || is_some (temperature_of key value)
+    || is_some (temperature_of key value) || is_some (enhanced_speed_of key value) || is_some (enhanced_altitude_of key value)
 
 abbrev pub is_setting : List ℕ → Bool
 is_setting word = has_number (key_in word) (value_in word)
@@ -77,6 +83,8 @@ sample_at time words = record {
   speed = said speed_of words;
   power = said power_of words;
   temperature = said temperature_of words;
+  enhanced_speed = said enhanced_speed_of words;
+  enhanced_altitude = said enhanced_altitude_of words;
 }
 
 -- ---- for the calls
@@ -102,4 +110,6 @@ with_setting sample key value = record {
   speed = option_or (speed_of key value) sample.speed;
   power = option_or (power_of key value) sample.power;
   temperature = option_or (temperature_of key value) sample.temperature;
+  enhanced_speed = option_or (enhanced_speed_of key value) sample.enhanced_speed;
+  enhanced_altitude = option_or (enhanced_altitude_of key value) sample.enhanced_altitude;
 }

@@ -111,6 +111,18 @@ fn with_setting(sample: Sample, key: &[u8], value: &[u8]) -> Result<Sample, Scri
             temperature,
             ..sample
         })
+    } else if key == b"espeed".as_slice() {
+        let enhanced_speed = Some(number(value, 4_294_967_295)?);
+        Ok(Sample {
+            enhanced_speed,
+            ..sample
+        })
+    } else if key == b"ealt".as_slice() {
+        let enhanced_altitude = Some(number(value, 4_294_967_295)?);
+        Ok(Sample {
+            enhanced_altitude,
+            ..sample
+        })
     } else {
         Err(ScriptFaultKind::UnknownKey)
     }

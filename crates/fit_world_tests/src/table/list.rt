@@ -79,6 +79,8 @@ fn invalid_field(sample: &Sample) -> Option<u8> {
         (6, sample.speed == Some(u16::MAX)),
         (7, sample.power == Some(u16::MAX)),
         (13, sample.temperature == Some(i8::MAX)),
+        (73, sample.enhanced_speed == Some(u32::MAX)),
+        (78, sample.enhanced_altitude == Some(u32::MAX)),
     ];
     for (number, is_invalid) in fields {
         if is_invalid {

@@ -12,4 +12,4 @@ put_present-requires c =
     let content = ap length c.put.ensures.content ∙ length-append begun.content.items (field_content c.uint32.result) in
     let empty : length begun.content.items ≡ 0 = ap (λ m. length m.content.items) c.begin.ensures in
     let four : length (field_content c.uint32.result) ≡ 4 = ap (λ field. length (field_content field)) c.uint32.ensures.profile_field in
-    present-can _ _ (omega (arith, fields, none)) (omega (arith, content, empty, four)) c.requires.few c.requires.fit
+    present-can _ _ (omega (arith, fields, none)) (omega (arith, content, empty, four)) c.requires.few c.requires.short c.requires.fit
