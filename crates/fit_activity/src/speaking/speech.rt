@@ -137,6 +137,17 @@ impl SpokenMessage {
         self.put(&ProfileField::uint32(253, time));
         self.put_present(fields);
     }
+
+    // The same without its time.
+    fn say_untimed(&mut self, fields: &[Option<ProfileField>])
+        requires fit { AllByRecursion OptionFits fields.now }
+        requires few { length fields.now ≤ 9 }
+        ensures { self.new
+            ≡ spelled (record { local = 0; global = 20; fields = present fields.now }) }
+    {
+        self.begin(0, 20);
+        self.put_present(fields);
+    }
 }
 
 impl Speech {
@@ -207,6 +218,18 @@ impl Speech {
         ensures fits { ProfileFieldFits (profile_field 253 types.Uint32 time) }
     {
         self.slots[self.count].say_record(time, fields);
+        self.count += 1;
+    }
+
+    // A record more, without its time.
+    pub(crate) fn say_untimed(&mut self, fields: &[Option<ProfileField>])
+        requires room { length self.old < 4 }
+        requires fit { AllByRecursion OptionFits fields.now }
+        requires few { length fields.now ≤ 9 }
+        ensures { self.new ≡ self.old
+            ++ spelled (record { local = 0; global = 20; fields = present fields.now }) ∷ [] }
+    {
+        self.slots[self.count].say_untimed(fields);
         self.count += 1;
     }
 }
