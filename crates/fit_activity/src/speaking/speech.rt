@@ -151,7 +151,7 @@ impl SpokenMessage {
 }
 
 impl Speech {
-    ghost use Rattle.fit_activity.specs.Messages.MessageBytes.{spelled, relabelled, CanSay};
+    ghost use Rattle.fit_activity.specs.Messages.MessageBytes.{spelled, CanSay};
 
     /// No messages.
     pub fn new() -> Speech
@@ -173,14 +173,6 @@ impl Speech {
         ensures { result.now ≡ self.now }
     {
         &self.slots[..self.count]
-    }
-
-    /// Gives the first message another local number, 0 to 15. It says the same.
-    pub fn set_local(&mut self, local: u8)
-        requires { 1 ≤ length self.old }
-        ensures { self.new ≡ relabelled local self.old }
-    {
-        self.slots[0].definition.local = local;
     }
 
     // No messages any more.
