@@ -3,5 +3,6 @@ pub mod ProfileField
 pub mod ProfileMessage
 pub mod RideMessages
 pub mod MessageBytes
+pub mod Compressed
 pub mod EntryOf
 pub mod Replay

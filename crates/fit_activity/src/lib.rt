@@ -18,6 +18,6 @@ pub use recording::refusal::Refusal;
 pub use recording::start::{Sport, Start};
 pub use replay::{NotNext, Replay};
 pub use speaking::speech::{Speech, SpokenMessage};
-pub use speaking::{speak, speak_closing, speak_start};
+pub use speaking::{speak, speak_closing, speak_compressed, speak_start};
 pub use totals::Totals;
 pub use totals::summary::{ActivitySummary, LapSummary, SessionSummary, Stretch};

@@ -4,7 +4,7 @@ ghost use Rattle.std.specs.Prelude.{◌≡◌, ◌+◌, ◌≤◌, ◌<◌, ◌^
 ghost use Rattle.fit_activity.specs.Rides.Recording.{Recorded};
 ghost use Rattle.fit_activity.specs.Rides.RunningTotals.{AreTotals};
 
-use fit_activity::{Entry, Refusal, Sample, Speech, Sport, Start, Totals, speak};
+use fit_activity::{Entry, Refusal, Sample, Speech, Sport, Start, Totals, speak, speak_compressed};
 use std::process::Abort;
 
 mod activities;
@@ -69,6 +69,22 @@ fn say(rt: &impl Abort, entries: &[Entry], entry: Entry, speech: &mut Speech)
     let totals = ride(rt, entries);
     match totals.check(&entry) {
         Ok(()) => speak(&entry, &totals, speech),
+        Err(refusal) => panic!(rt; "refused: {refusal:?}"),
+    }
+}
+
+// Says it for the header that it has, and answers the time offset in that.
+fn say_compressed(
+    rt: &impl Abort,
+    entries: &[Entry],
+    entry: Entry,
+    speech: &mut Speech,
+) -> Option<u8>
+    requires { length entries.now < 2 ^ 31 }
+{
+    let totals = ride(rt, entries);
+    match totals.check(&entry) {
+        Ok(()) => speak_compressed(&entry, &totals, speech),
         Err(refusal) => panic!(rt; "refused: {refusal:?}"),
     }
 }

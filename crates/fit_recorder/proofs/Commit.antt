@@ -4,6 +4,8 @@ pub mod Slots
 pub mod Files
 pub mod Page
 pub mod Spelling
+pub mod Timing
 pub mod Writing
+pub mod Entry
 pub mod Standing
 pub mod Answers

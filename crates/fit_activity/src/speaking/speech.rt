@@ -138,10 +138,21 @@ impl SpokenMessage {
         self.put(&ProfileField::uint32(253, time));
         self.put_present(fields);
     }
+
+    // The same without its time.
+    fn say_untimed(&mut self, fields: &[Option<ProfileField>])
+        requires fit { AllByRecursion OptionFits fields.now }
+        requires few { length fields.now ≤ 9 }
+        ensures { self.new
+            ≡ spelled (record { local = 0; global = 20; fields = present fields.now }) }
+    {
+        self.begin(0, 20);
+        self.put_present(fields);
+    }
 }
 
 impl Speech {
-    ghost use Rattle.fit_activity.specs.Messages.MessageBytes.{spelled, relabelled, CanSay};
+    ghost use Rattle.fit_activity.specs.Messages.MessageBytes.{spelled, CanSay};
 
     /// No messages.
     pub fn new() -> Speech
@@ -163,14 +174,6 @@ impl Speech {
         ensures { result.now ≡ self.now }
     {
         &self.slots[..self.count]
-    }
-
-    /// Gives the first message another local number, 0 to 15. It says the same.
-    pub fn set_local(&mut self, local: u8)
-        requires { 1 ≤ length self.old }
-        ensures { self.new ≡ relabelled local self.old }
-    {
-        self.slots[0].definition.local = local;
     }
 
     // No messages any more.
@@ -209,6 +212,18 @@ impl Speech {
         ensures fits { ProfileFieldFits (profile_field 253 types.Uint32 time) }
     {
         self.slots[self.count].say_record(time, fields);
+        self.count += 1;
+    }
+
+    // A record more, without its time.
+    pub(crate) fn say_untimed(&mut self, fields: &[Option<ProfileField>])
+        requires room { length self.old < 4 }
+        requires fit { AllByRecursion OptionFits fields.now }
+        requires few { length fields.now ≤ 9 }
+        ensures { self.new ≡ self.old
+            ++ spelled (record { local = 0; global = 20; fields = present fields.now }) ∷ [] }
+    {
+        self.slots[self.count].say_untimed(fields);
         self.count += 1;
     }
 }

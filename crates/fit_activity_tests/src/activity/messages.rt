@@ -1,6 +1,6 @@
 // What rides say, as bytes and as messages that are read again.
 
-use super::{START, T, ride, say, with_distance, with_heart_rate};
+use super::{START, T, ride, say, say_compressed, with_distance, with_heart_rate};
 use fit_activity::{
     Entry, Sample, Speech, SpokenMessage, Sport, Start, entry_of, file_id_of, speak_closing,
     speak_start, sport_of,
@@ -250,15 +250,36 @@ fn says_a_sample(rt: HostRuntime) -> Result<(), Fail> {
 
     say(&rt, &[], Entry::Sample(Sample::new(T)), &mut speech);
     assert_eq!(rt; speech.messages().len(), 1);
-    if speech.messages().len() > 0 {
-        speech.set_local(3);
-    }
-    let mut local = 16;
     for message in speech.messages() {
-        local = message.definition.local;
+        assert_eq!(rt; message.definition.local, 0);
         assert_eq!(rt; message.content.len(), 4);
     }
-    assert_eq!(rt; local, 3);
+    Ok(())
+}
+
+// A sample with a field leaves out its time up to 31 seconds behind the last entry.
+#[test]
+fn says_a_close_sample_without_its_time(rt: HostRuntime) -> Result<(), Fail> {
+    let entries = [Entry::Lap(T + 1)];
+    let mut speech = Speech::new();
+    let close = say_compressed(&rt, &entries, with_heart_rate(T + 32, 100), &mut speech);
+    assert_eq!(rt; close, Some(0));
+    assert_eq!(rt; speech.messages().len(), 1);
+    for message in speech.messages() {
+        assert_eq!(rt; message.definition.fields.len(), 1);
+        assert_eq!(rt; message.content.as_slice(), [100].as_slice());
+    }
+    for far in [
+        with_heart_rate(T + 33, 100),
+        Entry::Sample(Sample::new(T + 1)),
+        Entry::Pause(T + 1),
+    ] {
+        assert_eq!(rt; say_compressed(&rt, &entries, far, &mut speech), None);
+        assert_eq!(rt; speech.messages().len(), 1);
+        for message in speech.messages() {
+            assert!(rt; message.content.len() >= 4);
+        }
+    }
     Ok(())
 }
 

@@ -196,7 +196,7 @@ fn the_largest_definition_and_its_data(rt: HostRuntime) {
     define(&rt, &bytes, &mut table);
     let content = [1u8; 65025];
     let mut item = [0u8; 65026];
-    assert_eq!(rt; write_data(15, &content, &mut item), 65026);
+    assert_eq!(rt; write_data(15, None, &content, &mut item), 65026);
     assert_largest(&rt, &item, &table);
 }
 

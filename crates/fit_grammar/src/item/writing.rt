@@ -34,16 +34,16 @@ pub fn write_definition(definition: &Definition, out: &mut [u8]) -> usize
     6 + 3 * definition.fields.len()
 }
 
-/// Writes a data message at the front of `out`, with no compressed timestamp, and leaves the bytes behind it.
-/// Answers how many bytes it has.
-pub fn write_data(local: u8, content: &[u8], out: &mut [u8]) -> usize
-    requires local { local < 16 }
+/// Writes a data message at the front of `out`, with a compressed timestamp where an offset is given, and leaves the
+/// bytes behind it. Answers how many bytes it has.
+pub fn write_data(local: u8, offset: Option<u8>, content: &[u8], out: &mut [u8]) -> usize
+    requires encoding { HasEncoding (Data local offset []) }
     requires room { 1 + length content.now ≤ length out.old }
     ensures count { result ≡ 1 + length content.now }
-    ensures written { out.new ≡ encoded_item (Data local None content.now) ++ drop result out.old }
+    ensures written { out.new ≡ encoded_item (Data local offset content.now) ++ drop result out.old }
 {
     let used = 1 + content.len();
-    out[0] = local;
+    out[0] = data_byte(local, offset);
     out[1..used].copy_from_slice(content);
     used
 }

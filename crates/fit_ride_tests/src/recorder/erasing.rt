@@ -47,7 +47,7 @@ fn rides_anew(rt: &impl Abort, alloc: Global, disk: Memory) -> Result<(), Fail> 
 #[test]
 fn an_erased_ride_makes_room_for_another(rt: HostRuntime) -> Result<(), Fail> {
     let mut disk = ride(&rt, &stopped_ride())?;
-    assert_eq!(rt; disk.content(Which::Data).len(), 442);
+    assert_eq!(rt; disk.content(Which::Data).len(), 427);
     disk.cut_at(CALLS + 1);
     assert_eq!(rt; erase(&mut disk), Ok(()));
     assert_eq!(rt; disk.content(Which::Data).len(), 0);
@@ -76,7 +76,7 @@ fn an_erasing_done_again_does_not_bring_the_ride_back(rt: HostRuntime) -> Result
     disk.cut_at(5);
     assert_eq!(rt; erase(&mut disk), Err(RecFault::Device));
     disk.cycle(&[0, 0, 0, 0, 0, 0, 0, 0, 0x46]);
-    assert_eq!(rt; disk.content(Which::Data).len(), 203);
+    assert_eq!(rt; disk.content(Which::Data).len(), 188);
     assert_eq!(rt; recover(&mut disk), Err(RecFault::NothingRecorded));
     Ok(())
 }
@@ -178,8 +178,8 @@ fn try_each_call(
 // Tries a failure and power cuts at each call of the erasing of a ride.
 fn leaves_it_or_nothing(rt: &impl Abort, alloc: Global, ride: &Memory) -> Result<(), Fail> {
     try_each_call(rt, alloc, ride, Trouble::Failure, 0, 0)?;
-    // The two files have 203 and 442 bytes.
-    for len in [0, 50, 203, 442] {
+    // The two files have 188 and 427 bytes.
+    for len in [0, 50, 188, 427] {
         for byte in [0x00, 0x46, 0x47, 0xA5, 0xFF] {
             try_each_call(rt, alloc, ride, Trouble::Cut, len, byte)?;
         }
@@ -192,7 +192,7 @@ fn an_erasing_that_ends_early_leaves_a_committed_ride_or_nothing(
     rt: HostRuntime,
 ) -> Result<(), Fail> {
     let disk = committed(&rt)?;
-    assert_eq!(rt; disk.content(Which::Data).len(), 203);
+    assert_eq!(rt; disk.content(Which::Data).len(), 188);
     leaves_it_or_nothing(&rt, rt.alloc(), &disk)
 }
 
@@ -201,6 +201,6 @@ fn an_erasing_that_ends_early_leaves_a_stopped_ride_or_nothing(
     rt: HostRuntime,
 ) -> Result<(), Fail> {
     let disk = ride(&rt, &stopped_ride())?;
-    assert_eq!(rt; disk.content(Which::Data).len(), 442);
+    assert_eq!(rt; disk.content(Which::Data).len(), 427);
     leaves_it_or_nothing(&rt, rt.alloc(), &disk)
 }

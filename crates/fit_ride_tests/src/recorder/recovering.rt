@@ -403,9 +403,14 @@ fn is_damaged_by(rt: &HostRuntime, more: &[u8]) -> Result<bool, Fail> {
 #[test]
 fn what_is_no_recording_is_damaged(rt: HostRuntime) -> Result<(), Fail> {
     assert!(rt; !is_damaged_by(&rt, &[])?);
-    // A record later than all before it, and one that is earlier.
-    assert!(rt; !is_damaged_by(&rt, &[0x00, 0x02, 0xCA, 0x9A, 0x3B, 0x65])?);
-    assert!(rt; is_damaged_by(&rt, &[0x00, 0x01, 0xCA, 0x9A, 0x3B, 0x65])?);
+    // A record at the last time behind its definition, and one that is earlier.
+    let mut record = [
+        0x41, 0x00, 0x00, 0x14, 0x00, 0x02, 0xFD, 0x04, 0x86, 0x03, 0x01, 0x02, 0x01, 0x02, 0xCA,
+        0x9A, 0x3B, 0x65,
+    ];
+    assert!(rt; !is_damaged_by(&rt, &record)?);
+    record[13] = 0x01;
+    assert!(rt; is_damaged_by(&rt, &record)?);
     // A second start.
     assert!(rt; is_damaged_by(&rt, &START_RECORDS)?);
     // A definition with a developer field.
@@ -425,24 +430,24 @@ fn a_lap_with_another_value_is_damaged(rt: HostRuntime) -> Result<(), Fail> {
     let mut records = with_more(&rt, &[])?;
     // The elapsed time of its lap.
     assert_eq!(rt;
-        records.get(160..164),
+        records.get(149..153),
         Some([0xD0, 0x07, 0x00, 0x00].as_slice())
     );
-    if let Some(byte) = records.get_mut(160) {
+    if let Some(byte) = records.get_mut(149) {
         *byte = 0xD1;
     }
-    assert!(rt; is_damaged(&rt, &records, 189)?);
+    assert!(rt; is_damaged(&rt, &records, 174)?);
     Ok(())
 }
 
 #[test]
 fn a_body_shorter_than_committed_is_damaged(rt: HostRuntime) -> Result<(), Fail> {
     let records = with_more(&rt, &[])?;
-    assert_eq!(rt; records.len(), 189);
-    assert!(rt; is_damaged(&rt, records.get(..188).unwrap_or(&[]), 189)?);
+    assert_eq!(rt; records.len(), 174);
+    assert!(rt; is_damaged(&rt, records.get(..173).unwrap_or(&[]), 174)?);
     // The last item is cut in two.
-    assert!(rt; is_damaged(&rt, &records, 188)?);
-    assert!(rt; !is_damaged(&rt, &records, 183)?);
+    assert!(rt; is_damaged(&rt, &records, 173)?);
+    assert!(rt; !is_damaged(&rt, &records, 172)?);
     Ok(())
 }
 
@@ -506,7 +511,7 @@ fn a_stopped_body_has_a_most(rt: HostRuntime) -> Result<(), Fail> {
 
 // The journal that an older program left of a ride: a row of slots, with the lengths of its start and of its commit.
 const ROW: [u8; 32] = [
-    0x46, 0x52, 0x4A, 0x31, 0, 0, 0, 0, 0xA5, 0x48, 0, 0, 0, 0, 0, 0, 0xA5, 0xBD, 0, 0, 0, 0, 0, 0,
+    0x46, 0x52, 0x4A, 0x31, 0, 0, 0, 0, 0xA5, 0x48, 0, 0, 0, 0, 0, 0, 0xA5, 0xAE, 0, 0, 0, 0, 0, 0,
     0, 0, 0, 0, 0, 0, 0, 0,
 ];
 

@@ -49,7 +49,7 @@ fn lap_values(
 fn a_stop_closes_the_file(rt: HostRuntime) -> Result<(), Fail> {
     let mut recorder = begun(&rt)?;
     play(&mut recorder, &short_ride())?;
-    assert_eq!(rt; recorder.data_len(), 189);
+    assert_eq!(rt; recorder.data_len(), 174);
     recorder.stop(TIME + 2)?;
     assert_eq!(rt;
         recorder.stop(TIME + 2),
@@ -62,9 +62,9 @@ fn a_stop_closes_the_file(rt: HostRuntime) -> Result<(), Fail> {
     );
     let disk = recorder.into_disk();
     let written = disk.content(Which::Data);
-    assert_eq!(rt; written.len(), 442);
+    assert_eq!(rt; written.len(), 427);
     let header = [
-        0x0E, 0x10, 0x64, 0x00, 0xAA, 0x01, 0x00, 0x00, 0x2E, 0x46, 0x49, 0x54,
+        0x0E, 0x10, 0x64, 0x00, 0x9B, 0x01, 0x00, 0x00, 0x2E, 0x46, 0x49, 0x54,
     ];
     assert_eq!(rt; written.get(..12), Some(header.as_slice()));
     assert_eq!(rt; written.get(14..86), Some(START_RECORDS.as_slice()));
@@ -161,12 +161,13 @@ pub(super) fn full_sample(time: u32) -> Sample {
 #[test]
 fn a_full_recording_takes_no_entry_more(rt: HostRuntime) -> Result<(), Fail> {
     let mut recorder = begun(&rt)?;
-    // The first has its definition of 36 bytes.
-    for _ in 0..645_250 {
+    // The first has its definition of 33 bytes, each has 22 of its own, and the pause 7.
+    for _ in 0..762_568 {
         recorder.hand(&Entry::Sample(full_sample(TIME)))?;
     }
+    recorder.hand(&Entry::Pause(TIME))?;
     assert_eq!(rt; recorder.data_len(), 16_776_608);
-    recorder.hand(&Entry::Sample(full_sample(TIME)))?;
+    recorder.hand(&Entry::Resume(TIME))?;
     let len = recorder.data_len();
     assert_eq!(rt;
         recorder.hand(&Entry::Sample(full_sample(TIME))),
@@ -180,12 +181,12 @@ fn a_full_recording_takes_no_entry_more(rt: HostRuntime) -> Result<(), Fail> {
     let disk = recorder.into_disk();
     let file = decode_file(rt.alloc(), disk.content(Which::Data))?;
     let summary = check_activity(&file).map(|summary| summary.records);
-    assert_eq!(rt; summary, Ok(645_251));
+    assert_eq!(rt; summary, Ok(762_568));
     Ok(())
 }
 
 // A sample with the fields of this number's bits.
-fn some_fields(time: u32, set: u8) -> Sample {
+pub(super) fn some_fields(time: u32, set: u8) -> Sample {
     let mut sample = Sample::new(time);
     if set & 1 != 0 {
         sample.heart_rate = Some(set);
@@ -213,8 +214,8 @@ fn size_of_field(set: u8, bit: u8, bytes: u32) -> u32
     if set & bit != 0 { 3 + bytes } else { 0 }
 }
 
-// How many bytes such a sample has with its definition: each field has three in the definition, and its own.
-fn size_with_definition(set: u8) -> u32
+// How many bytes such a sample has with its time and its definition: each field has three in the definition, and its own.
+pub(super) fn size_with_definition(set: u8) -> u32
     ensures { result ≤ 100 }
 {
     let time = 6 + 3 + 1 + 4;
@@ -227,20 +228,20 @@ fn record_definitions_take_turns(rt: HostRuntime) -> Result<(), Fail> {
     let mut recorder = begun(&rt)?;
     for set in 1..=17 {
         let before = recorder.data_len();
-        recorder.hand(&Entry::Sample(some_fields(TIME + u32::from(set), set)))?;
+        recorder.hand(&Entry::Sample(some_fields(TIME + 32 * u32::from(set), set)))?;
         let size = before.saturating_add(size_with_definition(set));
         assert_eq!(rt; recorder.data_len(), size, "fields {set}");
     }
     // The eighteenth definition takes local number 1.
     let before = recorder.data_len();
-    recorder.hand(&Entry::Sample(some_fields(TIME + 18, 1)))?;
+    recorder.hand(&Entry::Sample(some_fields(TIME + 32 * 18, 1)))?;
     let size = before.saturating_add(size_with_definition(1));
     assert_eq!(rt; recorder.data_len(), size);
-    recorder.stop(TIME + 18)?;
+    recorder.stop(TIME + 32 * 18)?;
     let disk = recorder.into_disk();
     let written = disk.content(Which::Data);
     let last = [
-        0x41, 0, 0, 0x14, 0, 2, 0xFD, 4, 0x86, 3, 1, 2, 0x01, 0x12, 0xCA, 0x9A, 0x3B, 1,
+        0x41, 0, 0, 0x14, 0, 2, 0xFD, 4, 0x86, 3, 1, 2, 0x01, 0x40, 0xCC, 0x9A, 0x3B, 1,
     ];
     let end = 14 + size as usize;
     assert_eq!(rt;
@@ -252,7 +253,7 @@ fn record_definitions_take_turns(rt: HostRuntime) -> Result<(), Fail> {
     for message in file.messages() {
         if message.global() == 20 && set <= 18 {
             let fields = if set <= 17 { set } else { 1 };
-            let sample = some_fields(TIME + u32::from(set), fields);
+            let sample = some_fields(TIME + 32 * u32::from(set), fields);
             assert_eq!(rt; entry_of(&message), Some(Entry::Sample(sample)));
             set += 1;
         }
