@@ -14,7 +14,7 @@ use Rattle.fit_activity.specs.declared.recording.entry.Sample.{Sample as AnySamp
 use Rattle.fit_activity.specs.declared.speaking.profile_field.ProfileField.{ProfileField}
 use Rattle.fit_activity.specs.declared.speaking.speech.SpokenMessage.{SpokenMessage}
 use Rattle.fit_activity.specs.Messages.ProfileField.{ProfileFieldFits, OptionFits, profile_field, signed_profile_field, present, field_definition, field_content, content_length}
-use Rattle.fit_activity.specs.Messages.ProfileMessage.{sample_fields}
+use Rattle.fit_activity.specs.Messages.ProfileMessage.{sample_options, sample_fields}
 use Rattle.fit_activity.specs.Messages.MessageBytes.{CanPut, HasPut}
 use Rattle.fit_activity.proofs.RunningTotals.Pushed.{length-filter_map-le}
 
@@ -123,8 +123,8 @@ content-short (field ∷ fields) fit =
     let total = sum_by-cons (λ f. (row_of f.base).size) field fields in
     omega (arith, content-short fields fit.1, fit.0.short, total)
 
--- the fields that are there have room behind a message's first
-pub present-can : (m : SpokenMessage) (fields : List (Option ProfileField)) → length m.definition.fields.items ≡ 1 → length m.content.items ≡ 4 → length fields ≤ 11
+-- the fields that are there have room in a message that has one at most
+pub present-can : (m : SpokenMessage) (fields : List (Option ProfileField)) → length m.definition.fields.items ≤ 1 → length m.content.items ≤ 4 → length fields ≤ 11
     → content_length (present fields) ≤ 29 → AllByRecursion OptionFits fields → CanPut m (present fields)
 present-can m fields one four few short fit =
     let less = length-filter_map-le (λ (field : Option ProfileField). field) fields in record {
@@ -154,3 +154,6 @@ sample-short s =
     (content-option (signed_profile_field 13 Sint8) 1 8 s.temperature _ (λ z. refl)
     (content-option (profile_field 73 Uint32) 4 4 s.enhanced_speed _ (λ n. refl)
     (content-option (profile_field 78 Uint32) 4 0 s.enhanced_altitude [] (λ n. refl) (omega arith)))))))))))
+
+pub options-short : (s : AnySample) (fields : List (Option ProfileField)) → fields ≡ sample_options s → content_length (present fields) ≤ 29
+options-short s fields is = subst (λ all. content_length (present all) ≤ 29) (sym is) (sample-short s)

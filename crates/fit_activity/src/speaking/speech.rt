@@ -142,7 +142,8 @@ impl SpokenMessage {
     // The same without its time.
     fn say_untimed(&mut self, fields: &[Option<ProfileField>])
         requires fit { AllByRecursion OptionFits fields.now }
-        requires few { length fields.now ≤ 9 }
+        requires few { length fields.now ≤ 11 }
+        requires short { content_length (present fields.now) ≤ 29 }
         ensures { self.new
             ≡ spelled (record { local = 0; global = 20; fields = present fields.now }) }
     {
@@ -219,7 +220,8 @@ impl Speech {
     pub(crate) fn say_untimed(&mut self, fields: &[Option<ProfileField>])
         requires room { length self.old < 4 }
         requires fit { AllByRecursion OptionFits fields.now }
-        requires few { length fields.now ≤ 9 }
+        requires few { length fields.now ≤ 11 }
+        requires short { content_length (present fields.now) ≤ 29 }
         ensures { self.new ≡ self.old
             ++ spelled (record { local = 0; global = 20; fields = present fields.now }) ∷ [] }
     {

@@ -1,13 +1,13 @@
-use Rattle.std.proofs.Common.{◌≤◌, subst, sym}
+use Rattle.std.proofs.Common.{subst}
 use Rattle.std.specs.List.{AllByRecursion}
-use Rattle.fit_activity.specs.Messages.ProfileField.{OptionFits, present, content_length}
+use Rattle.fit_activity.specs.Messages.ProfileField.{OptionFits}
 use Rattle.fit_activity.specs.Messages.ProfileMessage.{sample_options}
-use Rattle.fit_activity.proofs.Spelling.Fields.{present-fit, sample-short}
+use Rattle.fit_activity.proofs.Spelling.Fields.{present-fit, options-short}
 use Rattle.fit_activity.proofs.speaking.speech.Speech.say_sample.Goals as goal
 
 pub say_record-requires-clause-short : goal.say_record-requires-clause-short
 say_record-requires-clause-short c =
-    subst (λ fields. content_length (present fields) ≤ 29) (sym c.sample_fields.ensures.fields) (sample-short c.args.sample.now)
+    options-short c.args.sample.now _ c.sample_fields.ensures.fields
 
 pub returns-clause-fits : goal.returns-clause-fits
 returns-clause-fits c =
