@@ -193,13 +193,6 @@ impl Totals {
         self.stopped
     }
 
-    // The same, as it is kept.
-    pub(crate) fn end(&self) -> u32
-        ensures { result ≡ self.now.clock.end }
-    {
-        self.clock.end
-    }
-
     // The time of the last entry, where that is no stop.
     pub(crate) fn open_end(&self) -> Option<u32>
         ensures { result ≡ (if self.now.stopped then None else Some self.now.clock.end) }
