@@ -6,3 +6,5 @@
 mod disk;
 #[cfg(test)]
 mod journal;
+#[cfg(test)]
+mod journal_adopted;

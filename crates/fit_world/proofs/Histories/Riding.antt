@@ -12,7 +12,7 @@ use Rattle.fit_disk.specs.State.{LeavesOnly}
 use Rattle.fit_disk.specs.Story.{Story, Throughout, seen_of}
 use Rattle.fit_disk.proofs.Moments.{at_end}
 use Rattle.fit_journal.specs.declared.slots.Slots.{Slots}
-use Rattle.fit_journal.specs.declared.slots.Slots.TheVariants.{InRow, InTurns}
+use Rattle.fit_journal.specs.declared.slots.Slots.TheVariants.{InRow, HalfOpen, InTurns}
 use Rattle.fit_journal.specs.Turn.{slots_left}
 use Rattle.fit_recorder.specs.declared.fault.RecFault.{RecFault}
 use Rattle.fit_recorder.specs.declared.fault.RecFault.TheVariants.{NotEmpty, Refused, Full, JournalFull, Device, Failed, NothingRecorded, Damaged}
@@ -63,6 +63,7 @@ entry_step before after (Stop time) answer other step = absurd (true≢false oth
 -- slots that take turns have no last one
 never_full : {A : Type 0} (slots : Slots) → slots_left slots ≡ None → IsLastSlot slots → A
 never_full (InRow slots) turns last = absurd cc
+never_full (HalfOpen slots) turns last = absurd cc
 never_full (InTurns first second) turns last = absurd last
 
 module _ {D : Type 0} (honest : Bool) (story : D → Story) where
