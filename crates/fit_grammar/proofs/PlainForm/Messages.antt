@@ -1,5 +1,5 @@
 -- The plain form says the messages of the items, and none of its items has a compressed timestamp.
-use Rattle.std.proofs.Common.{◌≡◌, ◌<◌, ℕ, List, [], ◌∷◌, ◌++◌, Bool, true, false, length, Option, Some, None, refl, sym, ap, subst, ◌∙◌, arith, append-nil, append_assoc}
+use Rattle.std.proofs.Common.{◌≡◌, ◌<◌, ℕ, List, [], ◌∷◌, ◌++◌, Bool, true, false, length, Option, Some, None, refl, sym, ap, ◌∙◌, arith, append-nil, append_assoc}
 use Rattle.std.specs.Prelude.{slice_set, is_some, unwrap_or}
 use Rattle.std.specs.List.{AllByRecursion}
 use Rattle.std.proofs.lemmas.List.{get_or-set_same, length-set}
@@ -10,11 +10,11 @@ use Rattle.fit_grammar.specs.declared.definition.Definition.{Definition}
 use Rattle.fit_grammar.specs.declared.definition.FieldDefinition.{FieldDefinition}
 use Rattle.fit_grammar.specs.Format.Item.{Item, Defines, Data}
 use Rattle.fit_grammar.specs.Format.Records.{in_force}
-use Rattle.fit_grammar.specs.Format.Message.{Message, MessageField, fields_of, time_field, message_under, messages_after, time_given, compressed_time}
+use Rattle.fit_grammar.specs.Format.Message.{Message, MessageField, fields_of, time_field, message_under, messages_after, time_given}
 use Rattle.std.specs.Prelude.{option_map, option_to_list}
 use Rattle.fit_grammar.specs.Calls.Table.{behind}
 use Rattle.fit_grammar.specs.Calls.LentItem.{LentItem, DefinesHere, DataHere, LentData, messages_in, message_here, AllUnder}
-use Rattle.fit_grammar.specs.Calls.PlainForm.{time_definition, time_bytes, time_front, timed_definition, plain_definition, plain_content, plain_data, is_timed, definitions_before, plain_item, timed_behind, plain_after, IsPlain}
+use Rattle.fit_grammar.specs.Calls.PlainForm.{time_definition, time_bytes, time_front, timed_definition, plain_definition, plain_content, plain_data, is_timed, definitions_before, plain_after, IsPlain}
 use Rattle.fit_grammar.specs.Private.PlainSoFar.{AreTimed}
 use Rattle.fit_grammar.proofs.Encoder.Encoded.{four_again}
 use Rattle.fit_grammar.proofs.PlainForm.Timed.{AreNamed, timed-definition, named_behind, timed-before, timed-data, here_timed}

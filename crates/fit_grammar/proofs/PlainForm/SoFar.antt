@@ -14,7 +14,7 @@ use Rattle.fit_grammar.specs.Format.Message.{messages_of}
 use Rattle.fit_grammar.specs.Calls.Possible.{CanBeFile}
 use Rattle.fit_grammar.specs.Calls.Table.{behind}
 use Rattle.fit_grammar.specs.Calls.LentItem.{LentItem, DefinesHere, DataHere, item_lent, items_lent, AllUnder}
-use Rattle.fit_grammar.specs.Calls.PlainForm.{plain_item, plain_data, plain_content, plain_definition, definitions_before, is_timed, timed_behind, none_timed, plain_after, plain_items, IsPlain, is_too_long, too_long_after, too_long_at, BeginsAt, IsItemPlace}
+use Rattle.fit_grammar.specs.Calls.PlainForm.{plain_item, plain_data, plain_content, definitions_before, is_timed, timed_behind, none_timed, plain_after, plain_items, IsPlain, is_too_long, too_long_after, too_long_at, IsItemPlace}
 use Rattle.fit_grammar.specs.Private.PlainSoFar.{PlainSoFar, AreTimed, IsReady}
 use Rattle.fit_grammar.proofs.KeptRow.Lent.{lent_messages, lent_under}
 use Rattle.fit_grammar.proofs.PlainForm.Messages.{same_messages}

@@ -1,10 +1,10 @@
 -- What a definition and a data message leave in force in a plain form: for `take_data`.
-use Rattle.std.proofs.Common.{◌≡◌, ◌<◌, ℕ, List, [], ◌∷◌, ◌++◌, Bool, true, false, not, Option, Some, refl, sym, ap, subst, ◌∙◌}
+use Rattle.std.proofs.Common.{◌≡◌, ℕ, List, [], ◌∷◌, ◌++◌, Bool, true, false, not, Some, refl, sym, ap, ◌∙◌}
 use Rattle.std.specs.Prelude.{slice_set, Result, Ok, Err, OnOk}
 use Rattle.std.proofs.Math.Bool.{beq}
 use Rattle.std.proofs.lemmas.List.{set-get_or}
 use Rattle.fit_grammar.specs.declared.definition.Definition.{Definition}
-use Rattle.fit_grammar.specs.Format.Item.{Item, Defines}
+use Rattle.fit_grammar.specs.Format.Item.{Defines}
 use Rattle.fit_grammar.specs.Format.Records.{in_force}
 use Rattle.fit_grammar.specs.Format.File.{FileValue}
 use Rattle.fit_grammar.specs.Calls.Adding.{with_item}

@@ -6,9 +6,9 @@ use Rattle.std.proofs.lemmas.Option.{none-some}
 use Rattle.fit_grammar.specs.declared.definition.Definition.{Definition}
 use Rattle.fit_grammar.specs.Format.Item.{Item, Defines, Data, content_size}
 use Rattle.fit_grammar.specs.Format.Records.{in_force}
-use Rattle.fit_grammar.specs.Format.Message.{compressed_time, time_given}
+use Rattle.fit_grammar.specs.Format.Message.{time_given}
 use Rattle.fit_grammar.specs.Calls.Possible.{AllCanFollow}
-use Rattle.fit_grammar.specs.Calls.LentItem.{LentItem, DefinesHere, DataHere, data_under, lent_after}
+use Rattle.fit_grammar.specs.Calls.LentItem.{LentItem, DataHere, data_under, lent_after}
 use Rattle.fit_grammar.specs.Calls.PlainForm.{is_timed, definitions_before, plain_after, IsPlain}
 use Rattle.fit_grammar.proofs.PlainForm.Taken.{set_again}
 

@@ -1,7 +1,7 @@
 -- The plain form of a file: the same messages, and no item with a compressed timestamp. Each message that had one has its time as
 -- field 253 in front, under a definition of the same local number.
-use Rattle.std.specs.Prelude.{◌≡◌, ℕ, ◌+◌, List, [], ◌∷◌, ◌++◌, length, reverse, replicate, slice_set, slice_index_or, Bool, true, false, ◌||◌, nat_lt, if◌then◌else◌, Option, Some, None, is_some, map, ◌⊎◌}
-use Rattle.std.specs.List.{list_any, AllByRecursion}
+use Rattle.std.specs.Prelude.{◌≡◌, ℕ, ◌+◌, List, [], ◌∷◌, ◌++◌, length, reverse, replicate, slice_set, slice_index_or, Bool, true, false, ◌||◌, nat_lt, if◌then◌else◌, Option, Some, None, is_some, ◌⊎◌}
+use Rattle.std.specs.List.{list_any}
 use Rattle.fit_base.specs.declared.order.Arch.{Arch}
 use Rattle.fit_base.specs.declared.order.Arch.TheVariants.{Little, Big}
 use Rattle.fit_grammar.specs.declared.definition.FieldDefinition.{FieldDefinition}

@@ -1,13 +1,12 @@
-use Rattle.std.proofs.Common.{◌≡◌, ◌+◌, ◌^◌, ◌<◌, [], ◌∷◌, List, Err, ap, sym, subst, refl, ◌∙◌, arith}
+use Rattle.std.proofs.Common.{◌≡◌, [], List, Err, ap, sym, subst, ◌∙◌, arith}
 use Rattle.std.specs.List.{AllByRecursion}
 use Rattle.fit_grammar.specs.Format.Item.{Item}
 use Rattle.fit_grammar.specs.Format.File.{FileValue}
 use Rattle.fit_grammar.specs.Format.Message.{messages_of}
 use Rattle.fit_grammar.specs.declared.file.frame.Frame.{Frame}
-use Rattle.fit_grammar.specs.Calls.LentItem.{LentItem, lent_item, item_lent, items_lent, AllUnder}
+use Rattle.fit_grammar.specs.Calls.LentItem.{LentItem, lent_item, items_lent}
 use Rattle.fit_grammar.specs.Calls.PlainForm.{plain_items, plain_of, none_timed, IsPlain}
 use Rattle.fit_grammar.specs.Private.PlainSoFar.{PlainSoFar}
-use Rattle.fit_grammar.specs.Calls.Possible.{CanBeFile}
 use Rattle.fit_grammar.proofs.PlainForm.Messages.{all_plain}
 use Rattle.fit_grammar.proofs.PlainForm.SoFar.{started, is_ready, went_on, stopped, stood, has_room, ended, fitted, says, stays}
 use Rattle.fit_grammar.proofs.plain.plain_file.Goals as goal

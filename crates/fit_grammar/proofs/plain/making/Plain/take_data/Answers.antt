@@ -1,4 +1,4 @@
-use Rattle.std.proofs.Common.{◌≡◌, ◌<◌, ℕ, Some, Bool, sym, ap, subst, ◌∙◌, arith}
+use Rattle.std.proofs.Common.{◌≡◌, ℕ, Some, Bool, sym, ap, ◌∙◌, arith}
 use Rattle.std.specs.Prelude.{slice_set, is_some}
 use Rattle.fit_grammar.specs.Calls.PlainForm.{timed_definition}
 use Rattle.fit_grammar.specs.Format.Records.{in_force}
