@@ -41,7 +41,9 @@ pub fn read_words<'a, S: AsStr>(alloc: Global, words: &'a [S]) -> Result<Request
         .arg(in_argument(alloc, "The path of the damaged file"))?
         .arg(out_argument(alloc))?;
     let plain = Command::new(alloc, "plain")
-        .about("Makes the same FIT file with the time of every message written out, for readers that cannot unpack it")
+        .about(
+            "Makes the same FIT file with the time of every message written out, for readers that cannot unpack it",
+        )
         .arg(in_argument(alloc, "The path of a FIT file"))?
         .arg(out_argument(alloc))?;
     let simulate = Command::new(alloc, "simulate")
