@@ -9,7 +9,7 @@ use Rattle.fit_grammar.specs.Format.Encoding.{encoded}
 use Rattle.fit_grammar.specs.Format.File.{FileValue, FileOf}
 use Rattle.fit_grammar.specs.Format.Refusal.{IsFaultOf}
 use Rattle.fit_grammar.specs.Calls.Output.{AppendsBeginning}
-use Rattle.fit_grammar.specs.Calls.PlainForm.{plain_of, plain_items, IsPlain, too_long_at, IsItemPlace}
+use Rattle.fit_grammar.specs.Calls.PlainForm.{plain_of, IsPlain, too_long_at, IsItemPlace}
 use Rattle.fit_world.specs.declared.fault.TellFault.{TellFault}
 use Rattle.fit_world.specs.declared.fault.TellFault.TheVariants as faults
 use Rattle.fit_world.specs.Printed.Shown.{IsOutputFault}

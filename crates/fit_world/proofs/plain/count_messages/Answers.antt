@@ -1,4 +1,4 @@
-use Rattle.std.proofs.Common.{◌≡◌, ◌<◌, ◌^◌, length, ap, ◌∙◌, arith}
+use Rattle.std.proofs.Common.{length, ap, ◌∙◌, arith}
 use Rattle.fit_grammar.proofs.Encoder.Encoded.{encoded_is_file}
 use Rattle.fit_activity.proofs.FinishedActivity.Counted.{few_messages}
 use Rattle.fit_world.proofs.plain.count_messages.Goals as goal
