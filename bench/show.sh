@@ -1,5 +1,5 @@
 #!/bin/sh
-# Speed and peak memory of `fitrec show` over an activity file of 64 MiB, beside gpsbabel on the same file.
+# Speed and peak memory of `fitrec show` and `fitrec plain` over an activity file of 64 MiB, beside gpsbabel on the same file.
 # The file is written by a small proved program with the workspace's own encoder. That program is proved and
 # built in a temporary folder, so that the repository stays as it is, but for the program fitrec itself, which
 # its launcher builds where it is not there yet.
@@ -91,6 +91,18 @@ printf "\\$(printf %03o $((255 - last)))" >> "$wrong"
 judged=$(measure 3 1 "$program" show "$wrong" 2> "$work/refusals") || { cat "$work/refusals"; exit 1; }
 if grep -v '^fitrec: FileCrc at ' "$work/refusals"; then exit 1; fi
 report 'fitrec, reading' "$size" $judged
+
+# The same file with every time written out: what comes into memory is both files.
+plain=$work/plain.fit
+written=$(measure 3 0 "$program" plain "$file" "$plain")
+made=$(stat -c %s "$plain")
+report 'fitrec plain' "$size" $written
+echo "$size $made $written" | awk '{
+    printf "%-24s %7.1f MB, and the memory is %.2f of both files\n", "the plain file", $2 / 1e6, $5 / ($1 + $2)
+}'
+lines=$("$program" show "$plain" | tail -n +2 | cksum)
+[ "$lines" = "$("$program" show "$file" | tail -n +2 | cksum)" ] || { echo "the plain file is shown otherwise"; exit 1; }
+rm "$plain"
 
 if ! command -v gpsbabel > /dev/null; then
     echo "gpsbabel is not there to compare with; on Debian: apt-get update && apt-get install -y gpsbabel"

@@ -61,7 +61,7 @@ static const char *named(const char *path, int file) {
         lies_in_folder(path);
         return strcmp(last, "activity.fit") ? "journal" : "data";
     }
-    if (!strncmp(last, ".fitrec-salvage-", 16)) {
+    if (!strncmp(last, ".fitrec-new-", 12)) {
         lies_in_folder(path);
         return "beside";
     }

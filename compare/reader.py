@@ -225,3 +225,36 @@ def salvaged(data):
     kept = bytes([14]) + data[1:4] + front.to_bytes(4, "little") + b".FIT"
     kept += checksum(kept).to_bytes(2, "little") + records[:front]
     return front, len(records), kept + checksum(kept).to_bytes(2, "little")
+
+
+def plained(data):
+    """What `fitrec plain` has to make of these bytes: how many messages, and the file."""
+    times = [line.partition(" timestamp=")[2].split(" ")[0] for line in show(data).splitlines()[1:-1]]
+    (header, size), count, out, kept, sizes = read_header(data), 0, b"", {}, {}
+    at, end = header, header + size
+    while at < end:
+        own = data[at:at + item_size(data[at:end], sizes)]
+        if own[0] & 0xC0 == 0x40:
+            # the number of the definition, its bytes, and whether the last one written has the time in front
+            kept[own[0] & 15] = bytes([0x40 | own[0] & 15, 0, own[2] & 1]) + own[3:], False
+            out += kept[own[0] & 15][0]
+        else:
+            compressed = own[0] > 0x7F
+            local = own[0] >> 5 & 3 if compressed else own[0] & 15
+            bare, timed = kept[local]
+            if compressed and bare[5] == 255:
+                raise Refused("TooLong at %d" % at)
+            if timed != compressed:
+                kept[local] = bare, compressed
+                out += bare[:5] + bytes([bare[5] + 1, 253, 4, 0x86]) + bare[6:] if compressed else bare
+            out += bytes([local])
+            if compressed:
+                time = int(times[count]) if times[count] != "-" else 0xFFFFFFFF
+                out += time.to_bytes(4, "big" if bare[2] else "little")
+            out += own[1:]
+            count += 1
+        at += len(own)
+    start = data[:4] + len(out).to_bytes(4, "little") + b".FIT"
+    if header == 14:
+        start += checksum(start).to_bytes(2, "little")
+    return count, start + out + checksum(start + out).to_bytes(2, "little")

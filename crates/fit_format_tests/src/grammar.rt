@@ -6,4 +6,5 @@ mod fronts;
 mod items;
 mod pieces;
 mod places;
+mod plain;
 mod sizes;

@@ -5,4 +5,5 @@ pub mod Decoding
 mod Pieces
 pub mod Encoder
 pub mod KeptRow
+pub mod PlainForm
 mod StatedTime

@@ -5,6 +5,7 @@ pub mod LentMessage
 pub mod LentField
 pub mod LentItem
 pub mod LongestFront
+pub mod PlainForm
 pub mod Adding
 pub mod Possible
 pub mod Pieces

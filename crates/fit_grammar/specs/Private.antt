@@ -5,6 +5,7 @@ pub mod DefinitionBytes
 pub mod SizedDefinition
 pub mod KeptDefinition
 pub mod FrontPassed
+pub mod PlainSoFar
 pub mod LatestDefinitions
 pub mod ByLookup
 pub mod ItemRow

@@ -1,6 +1,6 @@
 // A file in memory.
 
-ghost use Rattle.std.specs.Prelude.{◌≡◌, ◌<◌, ◌+◌, [], ◌↔◌, ◌⊎◌, length, map, Ok, Err, OnOk, OnErr, IfErr, IsErrOf, IsTrue, ◌^◌};
+ghost use Rattle.std.specs.Prelude.{◌≡◌, ◌<◌, ◌+◌, ◌++◌, [], None, ◌↔◌, ◌⊎◌, length, map, Ok, Err, OnOk, OnErr, IfErr, IsErrOf, IsTrue, ◌^◌};
 ghost use Rattle.fit_grammar.specs.Format.Records.{in_force, IsDefined, data_size};
 ghost use Rattle.fit_grammar.specs.Format.Encoding.{HasEncoding, encoded_items};
 ghost use Rattle.fit_grammar.specs.Format.Item.{Defines, Data, content_size};
@@ -90,7 +90,7 @@ impl File {
     }
 
     // How many bytes more the records can have.
-    fn room(&self) -> usize
+    pub(crate) fn room(&self) -> usize
         ensures { result + data_size self.now.items + 1 ≡ 2 ^ 32 }
     {
         (u32::MAX - self.data_size()) as usize
@@ -200,6 +200,28 @@ impl File {
     {
         self.records.reserve(1 + content.len())?;
         self.records.push_reserved(data_byte(local, offset));
+        self.records.extend_from_slice(content).unwrap();
+        Ok(())
+    }
+
+    // Adds a data message with no compressed timestamp, whose content stands behind the bytes of its time.
+    pub(crate) fn push_timed(
+        &mut self,
+        local: u8,
+        time: &[u8],
+        content: &[u8],
+    ) -> Result<(), AllocError>
+        requires four { length time.now ≡ 4 }
+        requires small { length content.now < 2 ^ 32 }
+        requires local { local < 16 }
+        requires defined { IsDefined self.old.items (Data local None (time.now ++ content.now)) }
+        requires fits { IsTooLong self.old (Data local None (time.now ++ content.now)) → ⊥ }
+        ensures ok { OnOk result (self.new ≡ with_item self.old (Data local None (time.now ++ content.now))) }
+        ensures err { OnErr result (self.new ≡ self.old) }
+    {
+        self.records.reserve(1 + time.len() + content.len())?;
+        self.records.push_reserved(local);
+        self.records.extend_from_slice(time).unwrap();
         self.records.extend_from_slice(content).unwrap();
         Ok(())
     }

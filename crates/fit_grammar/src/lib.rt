@@ -29,6 +29,7 @@ mod file;
 mod item;
 pub mod laws;
 mod message;
+mod plain;
 mod to_writer;
 
 pub use definition::{Definition, DefinitionMessage, FieldDefinition, Table};
@@ -41,4 +42,5 @@ pub use item::{
     write_data, write_definition,
 };
 pub use message::{Field, Fields, Message, Messages, message_of};
+pub use plain::{PlainFault, PlainFaultKind, plain_file};
 pub use to_writer::{WriteFailed, put};

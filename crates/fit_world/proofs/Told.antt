@@ -5,3 +5,4 @@ pub mod Replayed
 pub mod Printed
 pub mod Reading
 pub mod Inputs
+pub mod PlainFile

@@ -7,3 +7,4 @@ pub mod Shown
 pub mod Checked
 pub mod Repaired
 pub mod Salvaged
+pub mod PlainFile

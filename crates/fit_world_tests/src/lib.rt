@@ -11,6 +11,8 @@ mod histories;
 #[cfg(test)]
 mod output;
 #[cfg(test)]
+mod plains;
+#[cfg(test)]
 mod power_cuts;
 #[cfg(test)]
 mod random;

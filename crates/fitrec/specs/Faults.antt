@@ -34,6 +34,7 @@ IsTellFault name (tells.Activity fault) said = said ≡ faults.Activity fault
 IsTellFault name tells.Output (faults.Write out) = out.now ≡ codes "-"
 IsTellFault name tells.Output _ = ⊥
 IsTellFault name (tells.Input why) said = said ≡ fault_of_read name why
+IsTellFault name (tells.Plain fault) said = said ≡ faults.Plain fault
 
 -- of a recording that is not made whole again, or not told
 abbrev pub IsRepairSaid : RepairFault → Fault → Type 0
@@ -87,3 +88,14 @@ IsSalvageSaid file out faults.TooLarge = Unit {0}
 IsSalvageSaid file out faults.NoMemory = Unit {0}
 IsSalvageSaid file out (faults.File fault) = Unit {0}
 IsSalvageSaid file out _ = ⊥
+
+-- what may be said of a file that is to be made plain, and one that is to be made of it
+abbrev pub IsPlainSaid : Bor (List ℕ) → Bor (List ℕ) → Fault → Type 0
+IsPlainSaid file out (faults.Open name) = name ≡ file
+IsPlainSaid file out (faults.Read name) = name ≡ file
+IsPlainSaid file out (faults.Write name) = (name ≡ out) ⊎ (name.now ≡ codes "-")
+IsPlainSaid file out faults.TooLarge = Unit {0}
+IsPlainSaid file out faults.NoMemory = Unit {0}
+IsPlainSaid file out (faults.File fault) = Unit {0}
+IsPlainSaid file out (faults.Plain fault) = Unit {0}
+IsPlainSaid file out _ = ⊥

@@ -25,6 +25,7 @@ IsFileFault name (faults.Write other) = ⊥
 IsFileFault name faults.TooLarge = Unit {0}
 IsFileFault name faults.NoMemory = Unit {0}
 IsFileFault name (faults.File fault) = ⊥
+IsFileFault name (faults.Plain fault) = ⊥
 IsFileFault name (faults.Activity fault) = ⊥
 IsFileFault name (faults.Script fault) = ⊥
 IsFileFault name (faults.OnlySimulate line) = ⊥

@@ -10,6 +10,7 @@ mod beside;
 mod check;
 mod folder;
 mod input;
+mod plain;
 mod repair;
 mod replay;
 mod salvage;
@@ -20,6 +21,7 @@ mod words;
 use crate::fault::Fault;
 use check::check_file;
 use clap::error::ErrorKind;
+use plain::make_plain;
 use repair::repair_folder;
 use replay::replay_script;
 use salvage::salvage_file;
@@ -48,6 +50,7 @@ pub fn command<S: AsStr, O: Write, E: Write>(
         }
         Ok(Request::Repair { folder }) => status(repair_folder(rt, folder, out), err),
         Ok(Request::Salvage { file, to }) => status(salvage_file(rt, file, to, out), err),
+        Ok(Request::Plain { file, to }) => status(make_plain(rt, file, to, out), err),
         Ok(Request::Simulate { script, choices }) => {
             let done = simulate_script(rt, script, choices.as_slice(), out);
             status(done, err)

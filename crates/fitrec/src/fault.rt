@@ -1,7 +1,7 @@
 // Why the program ends without having done what it was asked for.
 
 use fit_activity::ActivityFault;
-use fit_grammar::FileFault;
+use fit_grammar::{FileFault, PlainFault};
 use fit_recorder::RecFault;
 use fit_world::ScriptFault;
 use thiserror::Error;
@@ -27,6 +27,9 @@ pub enum Fault<'a> {
     /// The bytes are no FIT file that is read here.
     #[error("{:?} at {}", .0.kind, .0.place)]
     File(FileFault),
+    /// The plain form of a file does not follow its items.
+    #[error("{:?} at {}", .0.kind, .0.place)]
+    Plain(PlainFault),
     /// The file is no activity.
     #[error("{0:?}")]
     Activity(ActivityFault),

@@ -52,7 +52,7 @@ encoded_records before (item ∷ items) h = (
 two_again : (n : ℕ) → low_first (two_bytes Little n) ≡ n
 two_again n = omega arith
 
-four_again : (n : ℕ) → low_first (four_bytes n) ≡ n
+pub four_again : (n : ℕ) → low_first (four_bytes n) ≡ n
 four_again n = omega arith
 
 -- twelve bytes and what stands behind them: nothing, or their checksum

@@ -50,6 +50,11 @@ pub bytes_fit : (bytes : List ℕ) → ((i : ℕ) → get_or bytes i 0 < 256) �
 bytes_fit [] h = tt
 bytes_fit (byte ∷ bytes) h = (h 0, bytes_fit bytes (λ i. h (suc i)))
 
+pub bytes_fit-append : (xs ys : List ℕ) → AllByRecursion (λ byte. byte < 256) xs → AllByRecursion (λ byte. byte < 256) ys
+    → AllByRecursion (λ byte. byte < 256) (xs ++ ys)
+bytes_fit-append [] ys x y = y
+bytes_fit-append (byte ∷ xs) ys x y = (x.0, bytes_fit-append xs ys x.1 y)
+
 -- a local number that has a definition is below 16
 given_small : (item : Item) (l : ℕ) (d : Definition) → HasEncoding item → definition_by item l ≡ Some d → l < 16
 given_small (Defines c) l d fits e =

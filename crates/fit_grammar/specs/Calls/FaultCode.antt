@@ -6,6 +6,8 @@ use Rattle.fit_grammar.specs.declared.file.fault.PutFault.{PutFault}
 use Rattle.fit_grammar.specs.declared.file.fault.PutFault.TheVariants as puts
 use Rattle.fit_grammar.specs.declared.file.fault.EncodeFault.{EncodeFault}
 use Rattle.fit_grammar.specs.declared.file.fault.EncodeFault.TheVariants as encodes
+use Rattle.fit_grammar.specs.declared.plain.fault.PlainFaultKind.{PlainFaultKind}
+use Rattle.fit_grammar.specs.declared.plain.fault.PlainFaultKind.TheVariants as plains
 use Rattle.fit_grammar.specs.declared.item.ItemFault.{ItemFault}
 use Rattle.fit_grammar.specs.declared.item.ItemFault.TheVariants as items
 
@@ -34,3 +36,7 @@ encode_code encodes.Write = 1
 abbrev pub item_code : ItemFault → ℕ
 item_code (items.UndefinedLocal local) = 1
 item_code items.Developer = 2
+
+abbrev pub plain_code : PlainFaultKind → ℕ
+plain_code plains.TooLong = 1
+plain_code plains.Memory = 2

@@ -24,6 +24,21 @@ pub enum FileItem<'a> {
     Data(DataMessage<'a>, Option<u32>),
 }
 
+impl<'a> FileItem<'a> {
+    ghost use Rattle.fit_grammar.specs.Format.Item.{item_size};
+    ghost use Rattle.fit_grammar.specs.Calls.LentItem.{lent_item, item_lent};
+
+    // How many bytes the item has.
+    pub(crate) fn size(&self) -> usize
+        ensures { result ≡ item_size (item_lent (lent_item self.now)) }
+    {
+        match self {
+            FileItem::Definition(definition) => 6 + 3 * definition.read().fields.len(),
+            FileItem::Data(data, _) => 1 + data.content.len(),
+        }
+    }
+}
+
 /// The items of a file in order, with the time carried along. Contracts see those that are left.
 #[derive(Drop)]
 pub struct Items<'a> {

@@ -5,7 +5,7 @@ use Rattle.fit_grammar.specs.Calls.Output.{WritesText}
 use Rattle.fit_grammar.specs.Format.File.{FileValue, FileOf}
 use Rattle.fit_text.specs.Text.{text_of}
 use Rattle.fit_world.specs.declared.fault.TellFault.{TellFault}
-use Rattle.fit_world.specs.declared.fault.TellFault.TheVariants.{File, Activity, Output, Input}
+use Rattle.fit_world.specs.declared.fault.TellFault.TheVariants.{File, Activity, Output, Input, Plain}
 use Rattle.fit_world.specs.declared.reading.ReadFault.{ReadFault}
 use Rattle.fit_world.specs.Calls.Reading.{ReadsAll, TellsInput}
 use Rattle.fit_world.specs.Printed.Shown.{ShowsBytes, IsOutputFault}
@@ -18,6 +18,7 @@ shows_file utc old new bytes v (Err Output) file writes fault = ((v, file, write
 shows_file utc old new bytes v (Err (File why)) file writes fault = absurd fault
 shows_file utc old new bytes v (Err (Activity why)) file writes fault = absurd fault
 shows_file utc old new bytes v (Err (Input why)) file writes fault = absurd fault
+shows_file utc old new bytes v (Err (Plain why)) file writes fault = absurd fault
 
 module _ {T : Type 0} (IsTold : List ℕ → Result T TellFault → Type 0) (never : (bytes : List ℕ) (why : ReadFault) → IsTold bytes (Err (Input why)) → ⊥) where
   -- what is told of its bytes is no fault of the input
@@ -27,6 +28,7 @@ module _ {T : Type 0} (IsTold : List ℕ → Result T TellFault → Type 0) (nev
   told_of most from behind bytes (Err Output) all told = (bytes, all, told)
   told_of most from behind bytes (Err (File why)) all told = (bytes, all, told)
   told_of most from behind bytes (Err (Activity why)) all told = (bytes, all, told)
+  told_of most from behind bytes (Err (Plain why)) all told = (bytes, all, told)
   told_of most from behind bytes (Err (Input why)) all told = absurd (never bytes why told)
 
   pub no_input : {A : Type 0} → (bytes : List ℕ) (why : ReadFault) (result : Result T TellFault) → IsTold bytes result → result ≡ Err (Input why) → A

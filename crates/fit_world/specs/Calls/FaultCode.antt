@@ -1,7 +1,7 @@
 -- The number of each fault.
 use Rattle.std.specs.Prelude.{ℕ}
 use Rattle.fit_world.specs.declared.fault.TellFault.{TellFault}
-use Rattle.fit_world.specs.declared.fault.TellFault.TheVariants.{File, Activity, Output, Input}
+use Rattle.fit_world.specs.declared.fault.TellFault.TheVariants.{File, Activity, Output, Input, Plain}
 use Rattle.fit_world.specs.declared.reading.ReadFault.{ReadFault}
 use Rattle.fit_world.specs.declared.reading.ReadFault.TheVariants.{Failed, TooLarge, NoMemory}
 use Rattle.fit_world.specs.declared.repairing.RepairFault.{RepairFault}
@@ -50,6 +50,7 @@ tell_code (File fault) = 1
 tell_code (Activity fault) = 2
 tell_code Output = 3
 tell_code (Input why) = 4
+tell_code (Plain fault) = 5
 
 -- of why a recording is not made whole again, or not told
 abbrev pub repair_code : RepairFault → ℕ

@@ -16,7 +16,7 @@ const NAMES: u32 = 100;
 pub fn make_beside(rt: &HostRuntime, name: &str) -> io::Result<(PathBuf, File)> {
     refuse_no_file(rt, name)?;
     for number in 0..NAMES {
-        let own = format!(in rt.alloc(); ".fitrec-salvage-{number}")?;
+        let own = format!(in rt.alloc(); ".fitrec-new-{number}")?;
         let other = Path::new(name).with_file_name(rt.alloc(), own.as_str())?;
         match File::create_new(rt, other.as_str()) {
             Ok(file) => return Ok((other, file)),

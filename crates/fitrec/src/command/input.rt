@@ -68,6 +68,7 @@ pub fn fault_of_told<'a>(name: &'a str, fault: TellFault) -> Fault<'a>
         TellFault::Activity(fault) => Fault::Activity(fault),
         TellFault::Output => Fault::Write("-"),
         TellFault::Input(fault) => fault_of(name, fault),
+        TellFault::Plain(fault) => Fault::Plain(fault),
     }
 }
 

@@ -14,6 +14,7 @@ pub enum Request<'a> {
     Replay { script: &'a str, folder: &'a str },
     Repair { folder: &'a str },
     Salvage { file: &'a str, to: &'a str },
+    Plain { file: &'a str, to: &'a str },
     Simulate { script: &'a str, choices: Vec<u8> },
 }
 
@@ -37,7 +38,13 @@ pub fn read_words<'a, S: AsStr>(alloc: Global, words: &'a [S]) -> Result<Request
         .about(
             "Makes a FIT file of what is readable of a damaged one that has no journal; show and check say what it holds",
         )
-        .arg(in_argument(alloc))?
+        .arg(in_argument(alloc, "The path of the damaged file"))?
+        .arg(out_argument(alloc))?;
+    let plain = Command::new(alloc, "plain")
+        .about(
+            "Makes the same FIT file with the time of every message written out, for readers that cannot unpack it",
+        )
+        .arg(in_argument(alloc, "The path of a FIT file"))?
         .arg(out_argument(alloc))?;
     let simulate = Command::new(alloc, "simulate")
         .about(
@@ -57,6 +64,7 @@ pub fn read_words<'a, S: AsStr>(alloc: Global, words: &'a [S]) -> Result<Request
         .subcommand(replay)?
         .subcommand(repair)?
         .subcommand(salvage)?
+        .subcommand(plain)?
         .subcommand(simulate)?;
     let matches = fitrec.try_get_matches_from_mut(words)?;
     if let Some((name, of_name)) = matches.subcommand() {
@@ -95,6 +103,10 @@ fn request_of<'a>(name: &str, matches: &ArgMatches<'a>, choices: Vec<u8>) -> Opt
             file: matches.get_str("IN")?,
             to: matches.get_str("OUT")?,
         }),
+        "plain" => Some(Request::Plain {
+            file: matches.get_str("IN")?,
+            to: matches.get_str("OUT")?,
+        }),
         "simulate" => Some(Request::Simulate {
             script: matches.get_str("SCRIPT")?,
             choices,
@@ -130,8 +142,8 @@ fn folder_argument<'a>(alloc: Global) -> Arg<'a> {
     argument(alloc, "FOLDER", "The path of the folder of a recording")
 }
 
-fn in_argument<'a>(alloc: Global) -> Arg<'a> {
-    argument(alloc, "IN", "The path of the damaged file")
+fn in_argument<'a>(alloc: Global, help: &'a str) -> Arg<'a> {
+    argument(alloc, "IN", help)
 }
 
 fn out_argument<'a>(alloc: Global) -> Arg<'a> {

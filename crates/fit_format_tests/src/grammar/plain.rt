@@ -1,0 +1,105 @@
+// Files with each compressed timestamp written out, with bytes from outside.
+
+use crate::slow::Slow;
+use arrayvec::ArrayVec;
+use fit_base::Arch;
+use fit_grammar::{
+    Definition, FieldDefinition, File, Frame, PlainFault, PlainFaultKind, decode_file, encode_file,
+    plain_file,
+};
+use std::alloc::Global;
+use std::test::Fail;
+
+// A full time, and two messages of another local number with offsets 30 and 1.
+const COMPRESSED: [u8; 47] = [
+    0x0E, 0x10, 0x64, 0x00, 0x1F, 0x00, 0x00, 0x00, 0x2E, 0x46, 0x49, 0x54, 0x60, 0xA2, 0x40, 0x00,
+    0x00, 0x14, 0x00, 0x02, 0xFD, 0x04, 0x86, 0x03, 0x01, 0x02, 0x00, 0x00, 0xCA, 0x9A, 0x3B, 0x64,
+    0x41, 0x00, 0x00, 0x14, 0x00, 0x01, 0x03, 0x01, 0x02, 0xBE, 0x65, 0xA1, 0x66, 0xA9, 0xA1,
+];
+
+// The same messages, the last two under a definition that has field 253.
+const PLAIN: [u8; 67] = [
+    0x0E, 0x10, 0x64, 0x00, 0x33, 0x00, 0x00, 0x00, 0x2E, 0x46, 0x49, 0x54, 0x62, 0xEF, 0x40, 0x00,
+    0x00, 0x14, 0x00, 0x02, 0xFD, 0x04, 0x86, 0x03, 0x01, 0x02, 0x00, 0x00, 0xCA, 0x9A, 0x3B, 0x64,
+    0x41, 0x00, 0x00, 0x14, 0x00, 0x01, 0x03, 0x01, 0x02, 0x41, 0x00, 0x00, 0x14, 0x00, 0x02, 0xFD,
+    0x04, 0x86, 0x03, 0x01, 0x02, 0x01, 0x1E, 0xCA, 0x9A, 0x3B, 0x65, 0x01, 0x21, 0xCA, 0x9A, 0x3B,
+    0x66, 0xC8, 0x43,
+];
+
+// What is made of these bytes; a fault of theirs is none of what is made.
+fn made(alloc: Global, bytes: &[u8]) -> Option<Result<File, PlainFault>> {
+    match decode_file(alloc, bytes) {
+        Ok(file) => Some(plain_file(alloc, &file)),
+        Err(_) => None,
+    }
+}
+
+#[test]
+fn times_are_written_out(rt: HostRuntime) -> Result<(), Fail> {
+    for bytes in [COMPRESSED.as_slice(), PLAIN.as_slice()] {
+        match made(rt.alloc(), bytes) {
+            Some(Ok(plain)) => {
+                let mut out = Slow::new(rt.alloc(), 128, 128);
+                encode_file(&plain, &mut out)?;
+                assert!(rt; out.written() == PLAIN.as_slice());
+            }
+            _ => panic!(rt; "it has a plain form"),
+        }
+    }
+    Ok(())
+}
+
+// A file with a compressed timestamp under a definition of so many fields without content.
+fn widest(alloc: Global, count: usize) -> File {
+    let mut file = File::new(
+        alloc,
+        Frame {
+            header_size: 14,
+            protocol: 0x10,
+            profile: 100,
+        },
+    );
+    let mut fields = ArrayVec::new();
+    for _ in 0..count {
+        let _ = fields.try_push(FieldDefinition {
+            number: 3,
+            size: 0,
+            base: 0x02,
+        });
+    }
+    let definition = Definition {
+        local: 3,
+        arch: Arch::Little,
+        global: 20,
+        fields,
+    };
+    let _ = file.define(&definition);
+    let _ = file.data(3, Some(5), &[]);
+    file
+}
+
+// 14 bytes of a header, and 6 and 3 times 255 of a definition.
+#[test]
+fn a_definition_of_256_fields_is_too_long(rt: HostRuntime) {
+    assert!(rt; plain_file(rt.alloc(), &widest(rt.alloc(), 254)).is_ok());
+    let fault = PlainFault {
+        kind: PlainFaultKind::TooLong,
+        place: 785,
+    };
+    let refused = plain_file(rt.alloc(), &widest(rt.alloc(), 255));
+    assert_eq!(rt; refused.err(), Some(fault));
+    assert_eq!(rt; fault.code(), 1);
+}
+
+// Run with each allocation refused in turn: the item that wanted it is told.
+#[test]
+fn tells_where_memory_is_refused(rt: HostRuntime) {
+    for _ in 0..8 {
+        if let Some(Err(fault)) = made(rt.alloc(), &COMPRESSED) {
+            assert_eq!(rt; fault.kind, PlainFaultKind::Memory);
+            assert_eq!(rt; fault.code(), 2);
+            let places = [14, 26, 32, 41, 43];
+            assert!(rt; places.contains(&fault.place), "{}", fault.place);
+        }
+    }
+}

@@ -1,0 +1,44 @@
+// Why a file is not made plain.
+
+ghost use Rattle.std.specs.Prelude.{◌≡◌};
+ghost use Rattle.fit_grammar.specs.declared.plain.fault.PlainFaultKind.TheVariants as kinds;
+
+use std::alloc::AllocError;
+
+/// Why the plain form of an item does not follow those before it.
+#[derive(Clone, Copy, Debug, PartialEq, Eq)]
+pub enum PlainFaultKind {
+    /// The records would pass 4,294,967,295 bytes, or the definition of a message would have 256 fields.
+    TooLong,
+    /// A growth was refused.
+    Memory,
+}
+
+/// Why a file is not made plain, and the place of the first item that is refused: an offset in bytes from the front of the file.
+#[derive(Clone, Copy, Debug, PartialEq, Eq)]
+pub struct PlainFault {
+    pub kind: PlainFaultKind,
+    pub place: usize,
+}
+
+impl PlainFault {
+    ghost use Rattle.fit_grammar.specs.Calls.FaultCode.{plain_code};
+
+    /// The number of the fault's kind, 1 or 2.
+    pub fn code(&self) -> u8
+        ensures { result ≡ plain_code self.now.kind }
+    {
+        match self.kind {
+            PlainFaultKind::TooLong => 1,
+            PlainFaultKind::Memory => 2,
+        }
+    }
+}
+
+impl From<AllocError> for PlainFaultKind {
+    ghost from_gives = { λ _ e. e ≡ kinds.Memory };
+
+    fn from(_e: AllocError) -> PlainFaultKind {
+        PlainFaultKind::Memory
+    }
+}

@@ -1,0 +1,163 @@
+// Making the plain form of a file, item by item.
+
+ghost use Rattle.std.specs.Prelude.{◌≡◌, ◌<◌, ◌++◌, ℕ, [], Some, is_some, slice_set, true, false, IfSome, IfNone, OnOk, IfErr, IsErrOf, length};
+ghost use Rattle.fit_grammar.specs.Format.File.{IsFrame};
+ghost use Rattle.fit_grammar.specs.Format.Item.{Defines};
+ghost use Rattle.fit_grammar.specs.Format.Records.{in_force, data_size};
+ghost use Rattle.fit_grammar.specs.Calls.Adding.{with_item, IsTooLong};
+ghost use Rattle.fit_grammar.specs.Calls.LentItem.{lent_item, DataHere};
+ghost use Rattle.fit_grammar.specs.Calls.PlainForm.{none_timed, timed_behind, plain_item, plain_data, plain_definition, timed_definition, is_too_long, time_bytes as time_bytes_of};
+ghost use Rattle.fit_grammar.specs.Private.PlainSoFar.{IsReady, lent_data};
+
+use crate::definition::{Definition, DefinitionMessage, FieldDefinition};
+use crate::file::{File, Frame};
+use crate::item::{DataMessage, FileItem};
+use crate::plain::PlainFaultKind;
+use fit_base::Arch;
+use std::alloc::Global;
+
+// The plain form of the items so far, and of each local number whether its last definition has field 253 in front.
+#[derive(Drop)]
+pub(crate) struct Plain {
+    file: File,
+    timed: [bool; 16],
+}
+
+impl Plain {
+    // That of no items.
+    pub(crate) fn new(alloc: Global, frame: Frame) -> Plain
+        requires { IsFrame frame }
+        ensures frame { result.file.frame ≡ frame }
+        ensures items { result.file.items ≡ [] }
+        ensures timed { result.timed ≡ none_timed }
+    {
+        Plain {
+            file: File::new(alloc, frame),
+            timed: [false; 16],
+        }
+    }
+
+    // The file that was made.
+    pub(crate) fn into_file(self) -> File
+        ensures { result ≡ self.file }
+    {
+        self.file
+    }
+
+    // Takes the next item of the file.
+    pub(crate) fn take(&mut self, item: &FileItem<'_>) -> Result<(), PlainFaultKind>
+        requires { IsReady self.old.file.items self.old.timed (lent_item item.now) }
+        ensures frame { OnOk result (self.new.file.frame ≡ self.old.file.frame) }
+        ensures items { OnOk result (self.new.file.items
+            ≡ self.old.file.items ++ plain_item self.old.timed (lent_item item.now)) }
+        ensures timed { OnOk result (self.new.timed ≡ timed_behind self.old.timed (lent_item item.now)) }
+        ensures fits { OnOk result (is_too_long (data_size self.old.file.items)
+            (plain_item self.old.timed (lent_item item.now)) ≡ false) }
+        ensures too_long { IsErrOf result PlainFaultKind.TooLong
+            → is_too_long (data_size self.old.file.items) (plain_item self.old.timed (lent_item item.now)) ≡ true }
+    {
+        match item {
+            FileItem::Definition(definition) => self.define(&definition.read(), false),
+            FileItem::Data(message, time) => self.take_data(message, *time),
+        }
+    }
+
+    // Takes a data message, whose time is written out if it has one.
+    fn take_data(
+        &mut self,
+        message: &DataMessage<'_>,
+        time: Option<u32>,
+    ) -> Result<(), PlainFaultKind>
+        requires { IsReady self.old.file.items self.old.timed (DataHere (lent_data message.now time)) }
+        ensures frame { OnOk result (self.new.file.frame ≡ self.old.file.frame) }
+        ensures items { OnOk result (self.new.file.items
+            ≡ self.old.file.items ++ plain_item self.old.timed (DataHere (lent_data message.now time))) }
+        ensures timed { OnOk result (self.new.timed ≡ slice_set self.old.timed message.now.local (is_some time)) }
+        ensures fits { OnOk result (is_too_long (data_size self.old.file.items)
+            (plain_item self.old.timed (DataHere (lent_data message.now time))) ≡ false) }
+        ensures too_long { IsErrOf result PlainFaultKind.TooLong → is_too_long (data_size self.old.file.items)
+            (plain_item self.old.timed (DataHere (lent_data message.now time))) ≡ true }
+    {
+        let timed = time.is_some();
+        if self.timed[message.local as usize] != timed {
+            let Some(definition) = plain_definition_of(&message.definition, timed) else {
+                return Err(PlainFaultKind::TooLong);
+            };
+            self.define(&definition, timed)?;
+        }
+        self.put(message, time)
+    }
+
+    // Adds a definition, which has field 253 in front or not.
+    fn define(&mut self, d: &Definition, timed: bool) -> Result<(), PlainFaultKind>
+        requires { d.now.local < 16 }
+        ensures file { OnOk result (self.new.file ≡ with_item self.old.file (Defines d.now)) }
+        ensures timed { OnOk result (self.new.timed ≡ slice_set self.old.timed d.now.local timed) }
+        ensures fits { OnOk result (IsTooLong self.old.file (Defines d.now) → ⊥) }
+        ensures too_long { IsErrOf result PlainFaultKind.TooLong → IsTooLong self.old.file (Defines d.now) }
+    {
+        if 6 + 3 * d.fields.len() > self.file.room() {
+            return Err(PlainFaultKind::TooLong);
+        }
+        self.file.push_definition(d)?;
+        self.timed[d.local as usize] = timed;
+        Ok(())
+    }
+
+    // Adds the plain form of a message, whose definition is in force.
+    fn put(&mut self, message: &DataMessage<'_>, time: Option<u32>) -> Result<(), PlainFaultKind>
+        requires local { message.now.local < 16 }
+        requires in_force { in_force self.old.file.items message.now.local
+            ≡ Some (plain_definition (lent_data message.now time)) }
+        ensures file { OnOk result (self.new.file
+            ≡ with_item self.old.file (plain_data (lent_data message.now time))) }
+        ensures timed { self.new.timed ≡ self.old.timed }
+        ensures fits { OnOk result (IsTooLong self.old.file (plain_data (lent_data message.now time)) → ⊥) }
+        ensures too_long { IsErrOf result PlainFaultKind.TooLong
+            → IsTooLong self.old.file (plain_data (lent_data message.now time)) }
+    {
+        let front = if time.is_some() { 5 } else { 1 };
+        if front + message.content.len() > self.file.room() {
+            return Err(PlainFaultKind::TooLong);
+        }
+        match time {
+            Some(time) => {
+                let bytes = bytes_of_time(message.definition.arch(), time);
+                self.file
+                    .push_timed(message.local, &bytes, message.content)?;
+            }
+            None => self.file.push_data(message.local, None, message.content)?,
+        }
+        Ok(())
+    }
+}
+
+// The definition of a plain form, with field 253 in front or not; nothing where it would have 256 fields.
+fn plain_definition_of(message: &DefinitionMessage<'_>, timed: bool) -> Option<Definition>
+    ensures definition { IfSome result (λ d. d ≡ timed_definition timed message.now) }
+    ensures full { IfNone result (255 < length (timed_definition timed message.now).fields.items) }
+{
+    let mut definition = message.read();
+    if timed {
+        if definition.fields.is_full() {
+            return None;
+        }
+        let time = FieldDefinition {
+            number: 253,
+            size: 4,
+            base: 0x86,
+        };
+        definition.fields.insert(0, time);
+    }
+    Some(definition)
+}
+
+// The bytes of a time.
+fn bytes_of_time(arch: Arch, time: u32) -> [u8; 4]
+    ensures { result ≡ time_bytes_of arch time }
+{
+    match arch {
+        Arch::Little => time.to_le_bytes(),
+        Arch::Big => time.to_be_bytes(),
+    }
+}
