@@ -123,7 +123,7 @@ def simulations(told, text, choices=""):
 
 
 def others(told, data):
-    """A salvage and a repair that are refused memory leave all as it was."""
+    """A salvage, a plain file and a repair that are refused memory leave all as it was."""
     with room() as (source, new):
         source.write_bytes(data)
 
@@ -132,12 +132,14 @@ def others(told, data):
             out.write_bytes(b"old")
             return out
 
-        for number, said, out in each(told, "memory", "salvage", source, new=old):
-            if number:
-                left = said, out.read_bytes(), list(out.parent.iterdir())
-                yield "salvage: a refused request", differs(left, (NO_MEMORY, b"old", [out]))
-            else:
-                yield "salvage: nothing wanting", differs(said[0], 0)
+        for command in ("salvage", "plain"):
+            for number, said, out in each(told, "memory", command, source, new=old):
+                if number:
+                    is_told = said[:2] == (1, "") and re.fullmatch(r"fitrec: (NoMemory|Memory at \d+)\n", said[2])
+                    is_left = out.read_bytes() == b"old" and list(out.parent.iterdir()) == [out]
+                    yield command + ": a refused request", None if is_told and is_left else (number, said)
+                else:
+                    yield command + ": nothing wanting", differs(said[0], 0)
     with room() as (script, new):
         script.write_text(CUT_OFF)
 
