@@ -93,12 +93,12 @@ def journal_commit(slot, is_open=False):
 
 STARTING = ["sync data", "size data", "cut journal 0", "write journal 0 24", "sync journal", "write data 0 86", "sync data"]
 STARTING += journal_commit(0)
-# A definition of two fields and its message, with the commit that writes it.
-RIDING = ["write data 86 18", "sync data", *journal_commit(1)]
+# A definition of one field and its message, with the commit that writes it.
+RIDING = ["write data 86 11", "sync data", *journal_commit(1)]
 # A message alone and the stop. The closing messages have at most 252 bytes, of which the stop and its definition take 22, and
 # the checksum has two.
-STOPPING = ["write data 104 13", "sync data", *journal_commit(0, True), "write data 117 232", "write data 0 14", "sync data"]
-RECOVERING = ["sync data", "sync journal", "size data", "read journal", "read data", "write data 104 254", "cut data 358",
+STOPPING = ["write data 97 9", "sync data", *journal_commit(0, True), "write data 106 232", "write data 0 14", "sync data"]
+RECOVERING = ["sync data", "sync journal", "size data", "read journal", "read data", "write data 97 254", "cut data 351",
               "write data 0 14", "sync data"]
 ERASING = ["sync data", "sync journal", "size data", "read journal", "write journal 0 1", "sync journal", "cut data 0",
            "sync data"]
@@ -230,7 +230,7 @@ def at_each_size(fitrec):
     kept."""
     with room() as (script, new):
         script.write_text(script_of(24, 3))
-        for size in range(0, 345, 5):
+        for size in range(0, 245, 5):
             folder = new()
             status, out, err = run(fitrec, "replay", script, folder, preexec_fn=may_not_grow(size))
             started, kept, handed = committed(out.splitlines())

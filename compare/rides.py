@@ -3,6 +3,7 @@ is there; and replays whose disk is full, whose files may not grow, whose output
 little."""
 
 import contextlib
+import csv
 import pathlib
 import random
 import re
@@ -36,16 +37,16 @@ def differs(is_, wanted):
     return None if is_ == wanted else (is_, wanted)
 
 
-def table_of(file):
-    """The records that gpsbabel reads of a file, as lines of a table, the first of which has the names."""
+def rows_of(file):
+    """The records that gpsbabel reads of a file, each by the names of its columns."""
     with tempfile.NamedTemporaryFile("r") as table:
         subprocess.run(["gpsbabel", "-t", "-i", "garmin_fit,allpoints", "-f", file, "-o", "unicsv", "-F", table.name])
-        return table.read().splitlines()
+        return list(csv.DictReader(table))
 
 
 def records_of(file):
-    """How many records gpsbabel reads of a file."""
-    return len(table_of(file)) - 1
+    """How many they are."""
+    return len(rows_of(file))
 
 
 def script_of(samples, every):
@@ -225,7 +226,7 @@ def of_room_and_commits(fitrec):
         is_taken = length + 96 <= 16776704
         answers.append("sample: ok" if is_taken else "sample: Full")
         kept += is_taken
-        length += is_taken * (6 + 3 + 3 * len(fields) + 5 + sum(size for _, _, size in fields))
+        length += is_taken * (6 + 3 * len(fields) + 1 + sum(size for _, _, size in fields))
     lines += ["lap %d" % (1000000000 + len(lines)), "commit", "stop %d" % (1000000000 + len(lines))]
     answers += ["lap: Full", "commit: ok", "stop: ok"]
     with tempfile.TemporaryDirectory() as folder, tempfile.NamedTemporaryFile("w") as script:
@@ -292,15 +293,38 @@ def of_longer_fields(fitrec):
         script.write("start 1000000000 7 running\nsample 1000000001 lat=566012345 long=102345678 espeed=6000 ealt=2660\nstop 1000000002\n")
         script.flush()
         run(fitrec, "replay", script.name, folder)
-        table = table_of(pathlib.Path(folder) / "activity.fit")
-        read = [dict(zip(table[0].split(","), line.split(","))) for line in table[1:]]
-        yield "longer fields: read by gpsbabel", differs([(row["Altitude"], row["Speed"]) for row in read], [("32.0", "6.00")])
+        read = [(row["Altitude"], row["Speed"]) for row in rows_of(pathlib.Path(folder) / "activity.fit")]
+        yield "longer fields: read by gpsbabel", differs(read, [("32.0", "6.00")])
+
+
+def of_compressed_times(fitrec):
+    """A ride of one sample a second, whose records have compressed timestamps: the second reader reads all of it, and gpsbabel, where
+    it is there, each record with its values. Times are left aside: gpsbabel takes an offset against the last full time."""
+    samples = [(100 + second % 80, 80 + second % 7, 200 + second) for second in range(100)]
+    lines = ["sample %d lat=%d long=%d hr=%d cad=%d power=%d" % (1000000000 + second, 566012345 + 100 * second, 102345678 - 50 * second, *sample)
+             for second, sample in enumerate(samples)]
+    with tempfile.TemporaryDirectory() as folder, tempfile.NamedTemporaryFile("w") as script:
+        script.write("\n".join(["start 1000000000 7 running", *lines, "stop 1000000100"]))
+        script.flush()
+        said = run(fitrec, "replay", script.name, folder)
+        yield "compressed times: answers", differs((said[0], said[1].count(": ok\n"), said[2]), (0, 102, ""))
+        file = pathlib.Path(folder) / "activity.fit"
+        # Behind the start one definition of five fields, and records of thirteen bytes.
+        yield "compressed times: size", differs(file.stat().st_size, 14 + 72 + 21 + 13 * 100 + 7 + 230 + 2)
+        shown = run(fitrec, "show", file)
+        yield "compressed times: shown", differs(shown, (0, reader.show(file.read_bytes()), ""))
+        times = [int(time) for time in re.findall(r"record timestamp=(\d+)", shown[1])]
+        yield "compressed times: the times", differs(times, list(range(1000000000, 1000000100)))
+        if shutil.which("gpsbabel"):
+            read = [(int(row["Heartrate"]), int(row["Cadence"]), float(row["Power"])) for row in rows_of(file)]
+            yield "compressed times: values read by gpsbabel", differs(read, samples)
 
 
 def check(fitrec):
     yield from rides(fitrec)
     yield from of_greatest_speeds(fitrec)
     yield from of_longer_fields(fitrec)
+    yield from of_compressed_times(fitrec)
     yield from of_room_and_commits(fitrec)
     yield from on_a_full_disk(fitrec)
     yield from with_files_that_may_not_grow(fitrec)
