@@ -34,24 +34,12 @@ pub fn read_words<'a, S: AsStr>(alloc: Global, words: &'a [S]) -> Result<Request
     let repair = Command::new(alloc, "repair")
         .about("Makes the recording of a folder whole again, and sums it up in one line")
         .arg(folder_argument(alloc))?;
-    let salvage = Command::new(alloc, "salvage")
-        .about(
-            "Makes a FIT file of what is readable of a damaged one that has no journal; show and check say what it holds",
-        )
-        .arg(in_argument(alloc, "The path of the damaged file"))?
-        .arg(out_argument(alloc))?;
-    let plain = Command::new(alloc, "plain")
-        .about(
-            "Makes the same FIT file with the time of every message written out, for readers that cannot unpack it",
-        )
-        .arg(in_argument(alloc, "The path of a FIT file"))?
-        .arg(out_argument(alloc))?;
-    let simulate = Command::new(alloc, "simulate")
-        .about(
-            "Runs a script over a disk in memory, whose calls fail and whose power goes where it says so",
-        )
-        .arg(choices_option(alloc))?
-        .arg(script_argument(alloc))?;
+    let salvage = Command::new(alloc, "salvage").about(
+        "Makes a FIT file of what is readable of a damaged one that has no journal; show and check say what it holds",
+    );
+    let plain = Command::new(alloc, "plain").about(
+        "Makes the same FIT file with the time of every message written out, for readers that take compressed ones wrong",
+    );
     let mut fitrec = Command::new(alloc, "fitrec")
         .no_binary_name(true)
         .bin_name("fitrec")?
@@ -63,9 +51,9 @@ pub fn read_words<'a, S: AsStr>(alloc: Global, words: &'a [S]) -> Result<Request
         .subcommand(check)?
         .subcommand(replay)?
         .subcommand(repair)?
-        .subcommand(salvage)?
-        .subcommand(plain)?
-        .subcommand(simulate)?;
+        .subcommand(of_two_files(alloc, salvage, "The path of the damaged file")?)?
+        .subcommand(of_two_files(alloc, plain, "The path of a FIT file")?)?
+        .subcommand(simulate_command(alloc)?)?;
     let matches = fitrec.try_get_matches_from_mut(words)?;
     if let Some((name, of_name)) = matches.subcommand() {
         let word = of_name.get_str("choices").unwrap_or("");
@@ -115,6 +103,28 @@ fn request_of<'a>(name: &str, matches: &ArgMatches<'a>, choices: Vec<u8>) -> Opt
     }
 }
 
+// A subcommand that makes one file of another, whose path is so.
+fn of_two_files<'a>(
+    alloc: Global,
+    command: Command<'a>,
+    path: &'a str,
+) -> Result<Command<'a>, clap::Error> {
+    let command = command
+        .arg(argument(alloc, "IN", path))?
+        .arg(out_argument(alloc))?;
+    Ok(command)
+}
+
+fn simulate_command<'a>(alloc: Global) -> Result<Command<'a>, clap::Error> {
+    let command = Command::new(alloc, "simulate")
+        .about(
+            "Runs a script over a disk in memory, whose calls fail and whose power goes where it says so",
+        )
+        .arg(choices_option(alloc))?
+        .arg(script_argument(alloc))?;
+    Ok(command)
+}
+
 fn utc_option<'a>(alloc: Global) -> Arg<'a> {
     Arg::new(alloc, "utc")
         .long("utc")
@@ -140,10 +150,6 @@ fn script_argument<'a>(alloc: Global) -> Arg<'a> {
 
 fn folder_argument<'a>(alloc: Global) -> Arg<'a> {
     argument(alloc, "FOLDER", "The path of the folder of a recording")
-}
-
-fn in_argument<'a>(alloc: Global, help: &'a str) -> Arg<'a> {
-    argument(alloc, "IN", help)
 }
 
 fn out_argument<'a>(alloc: Global) -> Arg<'a> {
