@@ -1,5 +1,5 @@
-// Samples close behind the last entry, which have compressed timestamps. The bytes are those that the FIT protocol gives such
-// records.
+// Samples close behind the last entry, which have compressed timestamps. The bytes are those that the FIT protocol gives
+// such records.
 
 ghost use Rattle.std.specs.Prelude.{◌≡◌, ◌≤◌, IfOk, true, false};
 ghost use Rattle.fit_activity.specs.Rides.Recording.{Added, is_stop};
@@ -46,7 +46,10 @@ fn a_time_close_behind_is_compressed(rt: HostRuntime) -> Result<(), Fail> {
         0x00, 0x02, 0xFD, 0x04, 0x86, 0x03, 0x01, 0x02, 0x01, 0x3F, 0xCA, 0x9A, 0x3B, 0x65, 0x9F,
         0x66,
     ];
-    assert_eq!(rt; recorded(&rt, rt.alloc(), &entries)?.as_slice(), records.as_slice());
+    assert_eq!(rt;
+        recorded(&rt, rt.alloc(), &entries)?.as_slice(),
+        records.as_slice()
+    );
     Ok(())
 }
 
@@ -62,12 +65,20 @@ fn each_entry_is_a_last_time(rt: HostRuntime) -> Result<(), Fail> {
 
     let pause = Entry::Pause(TIME + 5);
     let resume = Entry::Resume(TIME + 10);
-    let records = recorded(&rt, rt.alloc(), &[pause, resume, heart_rate(TIME + 41, 100)])?;
+    let records = recorded(
+        &rt,
+        rt.alloc(),
+        &[pause, resume, heart_rate(TIME + 41, 100)],
+    )?;
     let last = [
         0x40, 0x00, 0x00, 0x14, 0x00, 0x01, 0x03, 0x01, 0x02, 0x89, 0x64,
     ];
     assert!(rt; records.as_slice().ends_with(&last));
-    let records = recorded(&rt, rt.alloc(), &[pause, resume, heart_rate(TIME + 42, 100)])?;
+    let records = recorded(
+        &rt,
+        rt.alloc(),
+        &[pause, resume, heart_rate(TIME + 42, 100)],
+    )?;
     let last = [
         0x40, 0x00, 0x00, 0x14, 0x00, 0x02, 0xFD, 0x04, 0x86, 0x03, 0x01, 0x02, 0x00, 0x2A, 0xCA,
         0x9A, 0x3B, 0x64,
@@ -101,7 +112,10 @@ fn an_offset_below_the_last_is_32_seconds_on(rt: HostRuntime) -> Result<(), Fail
         0x81, 0x64, 0x80, 0x64, 0x80, 0x64, 0x41, 0x00, 0x00, 0x14, 0x00, 0x02, 0xFD, 0x04, 0x86,
         0x03, 0x01, 0x02, 0x01, 0x60, 0xCA, 0x9A, 0x3B, 0x64,
     ];
-    assert_eq!(rt; recorded(&rt, rt.alloc(), &entries)?.as_slice(), records.as_slice());
+    assert_eq!(rt;
+        recorded(&rt, rt.alloc(), &entries)?.as_slice(),
+        records.as_slice()
+    );
     Ok(())
 }
 
@@ -142,12 +156,7 @@ fn the_last_times_are_compressed(rt: HostRuntime) -> Result<(), Fail> {
 }
 
 // Hands in a sample with the fields of this set. Tells whether it took so many bytes.
-fn takes(
-    recorder: &mut Recorder<Memory>,
-    time: u32,
-    set: u8,
-    size: u32,
-) -> Result<bool, RecFault>
+fn takes(recorder: &mut Recorder<Memory>, time: u32, set: u8, size: u32) -> Result<bool, RecFault>
     requires { GoesOn true memory_story recorder.old }
     ensures { GoesOn true memory_story recorder.new }
 {
