@@ -19,9 +19,9 @@ const STOP: &str = "stop 1000000003\n";
 // Of the start, two commits, of which the second closes a gate, and the stop. The entries wait in the page.
 const RIDE_CALLS: u32 = 11 + (6 + 8) + 11;
 
-// Of the ride without its stop: two syncs, the size, the head of the journal and its two slots, one read of the body, and the
-// four calls that close the file.
-const RECOVERY_CALLS: u32 = 2 + 1 + 1 + 1 + 1 + 4;
+// Of the ride without its stop: two syncs, the size, the journal with its two slots, one read of the body, and the four calls
+// that close the file.
+const RECOVERY_CALLS: u32 = 2 + 1 + 1 + 1 + 4;
 
 // The bytes that a power cut leaves where any may be left: none are given, or so many.
 const CHOICES: [&[u8]; 3] = [&[], &[0xA5; 600], &[0xFF; 600]];

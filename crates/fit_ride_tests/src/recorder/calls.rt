@@ -14,9 +14,9 @@ const NO_RECORDS: [u8; 14] = [
     0x0E, 0x10, 0x64, 0x00, 0x00, 0x00, 0x00, 0x00, 0x2E, 0x46, 0x49, 0x54, 0x21, 0xEE,
 ];
 
-// Of the short ride, committed behind its start: two syncs, the size, the head of the journal and its two slots, one read of the
-// body, and the four calls that close the file.
-const RECOVERY: u32 = 2 + 1 + 1 + 1 + 1 + 4;
+// Of the short ride, committed behind its start: two syncs, the size, the journal with its two slots, one read of the body, and
+// the four calls that close the file.
+const RECOVERY: u32 = 2 + 1 + 1 + 1 + 4;
 
 #[test]
 fn a_recovery_makes_just_its_calls(rt: HostRuntime) -> Result<(), Fail> {
