@@ -32,7 +32,7 @@ first_fault items texts i d number is within before counted fault =
 reached : (items : List (Bor (List ℕ))) (texts : List (List ℕ)) (i number : ℕ) → texts_of items ≡ texts → i < length items →
     All IsLine (take i (texts_of items)) → number ≡ i + 1 → IsReached texts number
 reached items texts i number is within before counted =
-    subst (λ all. IsReached all number) is (record { index = i; counted = counted; within = inr (within_now items i within); before = before; })
+    subst (λ all. IsReached all number) is (record { index = i; counted = counted; within = inr (within_now items i within); before = before })
 
 lines_more : (items : List (Bor (List ℕ))) (i : ℕ) (d : Bor (List ℕ)) → i < length items → All IsLine (take i (texts_of items)) →
     IsLine (get_or items i d).now → All IsLine (take (i + 1) (texts_of items))
@@ -52,10 +52,11 @@ returns-in_err-found-clause-fault c =
     let items = c.deref-line-items.result.now in
     let all = ap texts_of c.deref-line-items.ensures.value ∙ c.in-Ok.ensures in
     let number = ap (λ fault. fault.line) left.2 ∙ known.number in
-    rw left.1
-    ((λ want. reached items _ c.loop-index.index _ all (omega arith) c.loop-index.invariant.lines number),
-    (λ other. first_fault items _ c.loop-index.index _ _ all (omega arith) c.loop-index.invariant.lines number
-    (known.fault (λ e. other (ap (λ fault. fault.kind) left.2 ∙ e)))))
+    rw left.1 (
+      (λ want. reached items _ c.loop-index.index _ all (omega arith) c.loop-index.invariant.lines number),
+      (λ other. first_fault items _ c.loop-index.index _ _ all (omega arith) c.loop-index.invariant.lines number
+          (known.fault (λ e. other (ap (λ fault. fault.kind) left.2 ∙ e)))),
+    )
 
 pub loop-index-preserved : goal.loop-index-preserved
 loop-index-preserved c =
