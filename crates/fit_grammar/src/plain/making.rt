@@ -54,7 +54,8 @@ impl Plain {
         ensures fits { OnOk result (is_too_long (data_size self.old.file.items)
             (plain_item self.old.timed (lent_item item.now)) ≡ false) }
         ensures too_long { IsErrOf result PlainFaultKind.TooLong
-            → is_too_long (data_size self.old.file.items) (plain_item self.old.timed (lent_item item.now)) ≡ true }
+            → is_too_long (data_size self.old.file.items)
+            (plain_item self.old.timed (lent_item item.now)) ≡ true }
     {
         match item {
             FileItem::Definition(definition) => self.define(&definition.read(), false),
@@ -75,7 +76,8 @@ impl Plain {
         ensures timed { OnOk result (self.new.timed ≡ slice_set self.old.timed message.now.local (is_some time)) }
         ensures fits { OnOk result (is_too_long (data_size self.old.file.items)
             (plain_item self.old.timed (DataHere (lent_data message.now time))) ≡ false) }
-        ensures too_long { IsErrOf result PlainFaultKind.TooLong → is_too_long (data_size self.old.file.items)
+        ensures too_long { IsErrOf result PlainFaultKind.TooLong
+            → is_too_long (data_size self.old.file.items)
             (plain_item self.old.timed (DataHere (lent_data message.now time))) ≡ true }
     {
         let timed = time.is_some();
