@@ -94,16 +94,16 @@ def limits(fitrec):
 def little_memory(fitrec):
     """With more and more memory: nothing is made and one line says why, until it is."""
     data, told, limit = many_messages(300000), set(), 1 << 20
-    with tempfile.TemporaryDirectory() as folder:
-        place = Place(folder, data)
-        while True:
-            limit += 1 << 16
+    while True:
+        limit += 1 << 16
+        with tempfile.TemporaryDirectory() as folder:
+            place = Place(folder, data)
             status, text, fault = run(fitrec, "plain", place.source, place.out,
                                       preexec_fn=lambda: resource.setrlimit(resource.RLIMIT_AS, (limit, limit)))
             if status == 0:
                 return differs((text, bytes_of(place.out) == data, told), ("messages 300000\n", True, {"at once", "at an item"}))
             line = re.fullmatch(r"fitrec: (?:NoMemory|Memory at (\d+))\n", fault)
-            # where there is no memory for the program itself, it does not start
+            # Where there is no memory for the program itself, it does not start, or the system ends it.
             if status == 1:
                 told.add("at an item" if line and line[1] not in (None, "0") else "at once")
                 if not line or text or place.left() != (OLD, ["in.fit", "out.fit"]):
