@@ -22,7 +22,7 @@ def definition(pick):
     message = pick.choice([*MESSAGES, 20, 20, pick.randrange(65536)])
     fields = []
     for _ in range(pick.choice([0, 1, 1, 2, 3, 5, 11])):
-        base = pick.choice([*BASE_TYPES, 0x8E, 0x06, 0xFF])
+        base = pick.choice([*BASE_TYPES, 0x91, 0x06, 0xFF])
         value = BASE_TYPES.get(base, ("", 1, 0))[1]
         size = pick.choice([value, value, 0, 2 * value, 3 * value, pick.randrange(10)])
         field = pick.choice([253, 254, 3, 4, 13, 73, pick.randrange(12), pick.randrange(256)])

@@ -20,6 +20,9 @@ BASE_TYPES = {
     0x8B: ("uint16z", 2, 0),
     0x8C: ("uint32z", 4, 0),
     0x0D: ("byte", 1, 0xFF),
+    0x8E: ("sint64", 8, 0x7FFFFFFFFFFFFFFF),
+    0x8F: ("uint64", 8, 0xFFFFFFFFFFFFFFFF),
+    0x90: ("uint64z", 8, 0),
 }
 
 COMMON = {253: "timestamp", 254: "message_index"}

@@ -1,7 +1,7 @@
 -- The definitions at values that are known from outside, by computation.
 use Rattle.std.proofs.Common.{◌≡◌, [], ◌∷◌, pos, negsuc, true, Some, None, refl}
 use Rattle.fit_base.specs.declared.order.Arch.TheVariants.{Little, Big}
-use Rattle.fit_base.specs.declared.base.BaseType.TheVariants.{Uint32}
+use Rattle.fit_base.specs.declared.base.BaseType.TheVariants.{Uint32, Sint64}
 use Rattle.fit_base.specs.Number.{number, twos_complement, as_unsigned}
 use Rattle.fit_base.specs.Checksum.{crc, crc_from}
 use Rattle.fit_base.specs.Base.{base_type}
@@ -35,8 +35,11 @@ below_zero = refl
 known_code : base_type 0x86 ≡ Some Uint32
 known_code = refl
 
--- a type of 64 bits, which is carried raw
-unknown_code : base_type 0x8E ≡ None
+wide_code : base_type 0x8E ≡ Some Sint64
+wide_code = refl
+
+-- a byte that names no type
+unknown_code : base_type 0x91 ≡ None
 unknown_code = refl
 
 two_values : count_of record { base = 0x83; arch = Big; bytes = 0x00 ∷ 0x01 ∷ 0xFF ∷ 0xFE ∷ [] } ≡ 2

@@ -24,6 +24,6 @@ twos_complement-as_unsigned size (negsuc m) some low high =
     above_half (2 ^ (8 * size) - suc m) (2 ^ (8 * size - 1)) (2 ^ (8 * size)) (omega arith) ∙ omega (arith, ints)
 
 -- what the code computes of a number in the upper half
-pub less_twice : (n half : ℕ) → half < 2 ^ 32 → half ≤ n → n < 2 ^ 33
-    → to_z w64 (of_z w64 (to_z w64 (n - half) -ℤ to_z w64 half)) ≡ pos n -ℤ pos (half + half)
+pub less_twice : (n half : ℕ) → half ≤ 2 ^ 63 → half ≤ n → n < half + half
+    → to_z w64 (of_z w64 (to_z w64 (of_z w64 (pos 0 -ℤ to_z w64 (half - 1 - (n - half)))) -ℤ pos 1)) ≡ pos n -ℤ pos (half + half)
 less_twice n half fits above below = omega (arith, ints)

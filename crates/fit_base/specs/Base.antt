@@ -1,7 +1,7 @@
--- The table of base types (FIT protocol, "Base types"), without its three types of 64 bits.
+-- The table of base types (FIT protocol, "Base types").
 use Rattle.std.specs.Prelude.{ℕ, ◌*◌, ◌-◌, ◌^◌, ℤ, pos, neg_ℤ, Bool, true, false, List, [], ◌∷◌, Option, Some, None, ◌==◌, if◌then◌else◌}
 use Rattle.fit_base.specs.declared.base.BaseType.{BaseType}
-use Rattle.fit_base.specs.declared.base.BaseType.TheVariants.{Enum, Sint8, Uint8, Sint16, Uint16, Sint32, Uint32, String, Float32, Float64, Uint8z, Uint16z, Uint32z, Byte}
+use Rattle.fit_base.specs.declared.base.BaseType.TheVariants.{Enum, Sint8, Uint8, Sint16, Uint16, Sint32, Uint32, String, Float32, Float64, Uint8z, Uint16z, Uint32z, Byte, Sint64, Uint64, Uint64z}
 
 -- a row of the table: the base type byte, the bytes of a value, and the invalid value's number
 pub record Row : Type 0 where
@@ -27,6 +27,9 @@ row_of Uint8z = row 0x0A 1 0x00
 row_of Uint16z = row 0x8B 2 0x0000
 row_of Uint32z = row 0x8C 4 0x00000000
 row_of Byte = row 0x0D 1 0xFF
+row_of Sint64 = row 0x8E 8 0x7FFFFFFFFFFFFFFF
+row_of Uint64 = row 0x8F 8 0xFFFFFFFFFFFFFFFF
+row_of Uint64z = row 0x90 8 0x0000000000000000
 
 -- the type with this byte in a list of types
 abbrev pub base_type_in : List BaseType → ℕ → Option BaseType
@@ -37,13 +40,14 @@ base_type_in (type ∷ types) code = if (row_of type).code == code then Some typ
 abbrev pub base_type : ℕ → Option BaseType
 base_type code =
     base_type_in (Enum ∷ Sint8 ∷ Uint8 ∷ Sint16 ∷ Uint16 ∷ Sint32 ∷ Uint32 ∷ String ∷ Float32 ∷ Float64 ∷ Uint8z
-    ∷ Uint16z ∷ Uint32z ∷ Byte ∷ []) code
+    ∷ Uint16z ∷ Uint32z ∷ Byte ∷ Sint64 ∷ Uint64 ∷ Uint64z ∷ []) code
 
 -- whether the values of a type have a sign
 abbrev pub has_sign : BaseType → Bool
 has_sign Sint8 = true
 has_sign Sint16 = true
 has_sign Sint32 = true
+has_sign Sint64 = true
 has_sign _ = false
 
 -- the least and the greatest value of a type; of a float its bits

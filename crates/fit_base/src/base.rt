@@ -20,13 +20,16 @@ pub enum BaseType {
     Uint16z,
     Uint32z,
     Byte,
+    Sint64,
+    Uint64,
+    Uint64z,
 }
 
 impl BaseType {
     ghost use Rattle.fit_base.specs.Base.{row_of, base_type, has_sign};
 
     /// The type that a definition's base type byte names. None where the protocol has no such
-    /// type, or one of 64 bits: a field of such a byte is carried raw.
+    /// type: a field of such a byte is carried raw.
     pub fn of(code: u8) -> Option<BaseType>
         ensures table { result ≡ base_type code }
         ensures some { IfSome result (λ t. (row_of t).code ≡ code) }
@@ -47,6 +50,9 @@ impl BaseType {
             0x8B => Some(BaseType::Uint16z),
             0x8C => Some(BaseType::Uint32z),
             0x0D => Some(BaseType::Byte),
+            0x8E => Some(BaseType::Sint64),
+            0x8F => Some(BaseType::Uint64),
+            0x90 => Some(BaseType::Uint64z),
             _ => None,
         }
     }
@@ -64,7 +70,7 @@ impl BaseType {
             | BaseType::Byte => 1,
             BaseType::Sint16 | BaseType::Uint16 | BaseType::Uint16z => 2,
             BaseType::Sint32 | BaseType::Uint32 | BaseType::Float32 | BaseType::Uint32z => 4,
-            BaseType::Float64 => 8,
+            BaseType::Float64 | BaseType::Sint64 | BaseType::Uint64 | BaseType::Uint64z => 8,
         }
     }
 
@@ -87,6 +93,9 @@ impl BaseType {
             BaseType::Uint16z => 0x8B,
             BaseType::Uint32z => 0x8C,
             BaseType::Byte => 0x0D,
+            BaseType::Sint64 => 0x8E,
+            BaseType::Uint64 => 0x8F,
+            BaseType::Uint64z => 0x90,
         }
     }
 
@@ -101,8 +110,13 @@ impl BaseType {
             BaseType::Uint16 => 0xFFFF,
             BaseType::Sint32 => 0x7FFF_FFFF,
             BaseType::Uint32 | BaseType::Float32 => 0xFFFF_FFFF,
-            BaseType::Float64 => 0xFFFF_FFFF_FFFF_FFFF,
-            BaseType::String | BaseType::Uint8z | BaseType::Uint16z | BaseType::Uint32z => 0,
+            BaseType::Sint64 => 0x7FFF_FFFF_FFFF_FFFF,
+            BaseType::Uint64 | BaseType::Float64 => 0xFFFF_FFFF_FFFF_FFFF,
+            BaseType::String
+            | BaseType::Uint8z
+            | BaseType::Uint16z
+            | BaseType::Uint32z
+            | BaseType::Uint64z => 0,
         }
     }
 
@@ -110,6 +124,9 @@ impl BaseType {
     pub fn is_signed(self) -> bool
         ensures { result ≡ has_sign self }
     {
-        matches!(self, BaseType::Sint8 | BaseType::Sint16 | BaseType::Sint32)
+        matches!(
+            self,
+            BaseType::Sint8 | BaseType::Sint16 | BaseType::Sint32 | BaseType::Sint64
+        )
     }
 }

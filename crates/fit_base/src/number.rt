@@ -48,7 +48,7 @@ fn high_first(bytes: &[u8]) -> u64
 // The number of this many bytes, read as two's complement.
 pub(crate) fn with_sign(size: usize, n: u64) -> i64
     requires some { 1 ≤ size }
-    requires few { size ≤ 4 }
+    requires few { size ≤ 8 }
     requires fits { n < 2 ^ (8 * size) }
     ensures { result ≡ twos_complement size n }
 {
@@ -56,6 +56,6 @@ pub(crate) fn with_sign(size: usize, n: u64) -> i64
     if n < half {
         n as i64
     } else {
-        (n - half) as i64 - half as i64
+        -((half - 1 - (n - half)) as i64) - 1
     }
 }

@@ -40,7 +40,7 @@ fn checksums(rt: HostRuntime) {
 
 #[test]
 fn types_by_their_bytes(rt: HostRuntime) {
-    let rows: [(u8, usize, bool); 14] = [
+    let rows: [(u8, usize, bool); 17] = [
         (0x00, 1, false),
         (0x01, 1, true),
         (0x02, 1, false),
@@ -55,6 +55,9 @@ fn types_by_their_bytes(rt: HostRuntime) {
         (0x89, 8, false),
         (0x8B, 2, false),
         (0x8C, 4, false),
+        (0x8E, 8, true),
+        (0x8F, 8, false),
+        (0x90, 8, false),
     ];
     for (code, size, signed) in rows {
         let base = BaseType::of(code).expect(&rt, "a row of the table");
@@ -65,7 +68,7 @@ fn types_by_their_bytes(rt: HostRuntime) {
     let known = (0..=255)
         .filter(|code| BaseType::of(*code).is_some())
         .count();
-    assert_eq!(rt; known, 14);
+    assert_eq!(rt; known, 17);
 }
 
 // Each type at 0, at its greatest value and at its invalid one, or where 0 is invalid at another.
@@ -186,6 +189,45 @@ fn values_of_each_type(rt: HostRuntime) {
             invalid: [true, false, false],
         },
         Case {
+            code: 0x8E,
+            little: &[
+                0x00, 0x00, 0x00, 0x00, 0x00, 0x00, 0x00, 0x00, 0xFE, 0xFF, 0xFF, 0xFF, 0xFF, 0xFF,
+                0xFF, 0x7F, 0xFF, 0xFF, 0xFF, 0xFF, 0xFF, 0xFF, 0xFF, 0x7F,
+            ],
+            big: &[
+                0x00, 0x00, 0x00, 0x00, 0x00, 0x00, 0x00, 0x00, 0x7F, 0xFF, 0xFF, 0xFF, 0xFF, 0xFF,
+                0xFF, 0xFE, 0x7F, 0xFF, 0xFF, 0xFF, 0xFF, 0xFF, 0xFF, 0xFF,
+            ],
+            numbers: [0, 0x7FFF_FFFF_FFFF_FFFE, 0x7FFF_FFFF_FFFF_FFFF],
+            invalid: [false, false, true],
+        },
+        Case {
+            code: 0x8F,
+            little: &[
+                0x00, 0x00, 0x00, 0x00, 0x00, 0x00, 0x00, 0x00, 0xFE, 0xFF, 0xFF, 0xFF, 0xFF, 0xFF,
+                0xFF, 0xFF, 0xFF, 0xFF, 0xFF, 0xFF, 0xFF, 0xFF, 0xFF, 0xFF,
+            ],
+            big: &[
+                0x00, 0x00, 0x00, 0x00, 0x00, 0x00, 0x00, 0x00, 0xFF, 0xFF, 0xFF, 0xFF, 0xFF, 0xFF,
+                0xFF, 0xFE, 0xFF, 0xFF, 0xFF, 0xFF, 0xFF, 0xFF, 0xFF, 0xFF,
+            ],
+            numbers: [0, 0xFFFF_FFFF_FFFF_FFFE, 0xFFFF_FFFF_FFFF_FFFF],
+            invalid: [false, false, true],
+        },
+        Case {
+            code: 0x90,
+            little: &[
+                0x00, 0x00, 0x00, 0x00, 0x00, 0x00, 0x00, 0x00, 0xFF, 0xFF, 0xFF, 0xFF, 0xFF, 0xFF,
+                0xFF, 0xFF, 0x08, 0x07, 0x06, 0x05, 0x04, 0x03, 0x02, 0x01,
+            ],
+            big: &[
+                0x00, 0x00, 0x00, 0x00, 0x00, 0x00, 0x00, 0x00, 0xFF, 0xFF, 0xFF, 0xFF, 0xFF, 0xFF,
+                0xFF, 0xFF, 0x01, 0x02, 0x03, 0x04, 0x05, 0x06, 0x07, 0x08,
+            ],
+            numbers: [0, 0xFFFF_FFFF_FFFF_FFFF, 0x0102_0304_0506_0708],
+            invalid: [true, false, false],
+        },
+        Case {
             code: 0x0D,
             little: &[0x00, 0xFE, 0xFF],
             big: &[0x00, 0xFE, 0xFF],
@@ -234,10 +276,10 @@ fn a_byte_field_that_is_all_ff(rt: HostRuntime) {
     let one = FieldValue::new(0x0D, Arch::Little, &[0xFF]);
     assert_eq!(rt; one.count(), 1);
     assert!(rt; one.is_invalid(0), "all bytes are FF");
-    let unknown = FieldValue::new(0x8E, Arch::Big, &[0xFF, 0xFF]);
+    let unknown = FieldValue::new(0x91, Arch::Big, &[0xFF, 0xFF]);
     assert!(rt; unknown.is_raw());
     assert_eq!(rt; unknown.count(), 0);
-    assert_eq!(rt; unknown.base(), 0x8E);
+    assert_eq!(rt; unknown.base(), 0x91);
     assert_eq!(rt; unknown.arch(), Arch::Big);
 }
 
@@ -256,6 +298,8 @@ fn values_with_a_sign(rt: HostRuntime) {
         &[-2_147_483_648, 2_147_483_646],
     );
     check_signed(&rt, 0x85, Arch::Little, &bytes, &[128, -16_777_345]);
+    check_signed(&rt, 0x8E, Arch::Big, &bytes, &[-9_223_372_034_707_292_162]);
+    check_signed(&rt, 0x8E, Arch::Little, &bytes, &[-72_058_148_088_708_992]);
 }
 
 fn check_signed(rt: &impl Abort, code: u8, arch: Arch, bytes: &[u8], want: &[i64]) {
@@ -309,4 +353,7 @@ fn puts_and_reads_back(rt: HostRuntime) {
     assert_eq!(rt; eight, [0x3F, 0xF0, 0, 0, 0, 0, 0, 0]);
     let back = FieldValue::new(0x89, Arch::Big, &eight);
     assert_eq!(rt; back.unsigned(0), 0x3FF0_0000_0000_0000);
+    put(BaseType::Sint64, Arch::Little, -2, &mut eight);
+    assert_eq!(rt; eight, [0xFE, 0xFF, 0xFF, 0xFF, 0xFF, 0xFF, 0xFF, 0xFF]);
+    assert_eq!(rt; FieldValue::new(0x8E, Arch::Little, &eight).signed(0), -2);
 }

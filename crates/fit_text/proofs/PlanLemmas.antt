@@ -14,7 +14,7 @@ use Rattle.std.specs.Fmt.{signed_decimal}
 use Rattle.std.specs.List.{list_any, flat_map}
 use Rattle.fit_base.specs.declared.order.Arch.{Arch}
 use Rattle.fit_base.specs.declared.base.BaseType.{BaseType}
-use Rattle.fit_base.specs.declared.base.BaseType.TheVariants.{Sint8, Sint16, Uint16, Sint32, Uint32, Float32, Float64, Uint16z, Uint32z}
+use Rattle.fit_base.specs.declared.base.BaseType.TheVariants.{Sint8, Sint16, Uint16, Sint32, Uint32, Sint64, Uint64, Float32, Float64, Uint16z, Uint32z, Uint64z}
 use Rattle.std.specs.Int.{to_le_bytes, w32}
 use Rattle.std.proofs.lemmas.List.Sums.{sum_by-cons}
 use Rattle.fit_base.specs.declared.order.Arch.TheVariants.{Little}
@@ -77,12 +77,16 @@ signed_shows Sint16 n e h =
 signed_shows Sint32 n e h =
     ap (λ t. if n == 2147483647 then codes "-" else t)
     (by_sign (nat_lt n 2147483648) 4294967295 n h ∙ whole_signed Sint32 n refl ∙ plain_signed Sint32 n refl)
+signed_shows Sint64 n e h =
+    ap (λ t. if n == 9223372036854775807 then codes "-" else t)
+    (by_sign (nat_lt n 9223372036854775808) 18446744073709551615 n h ∙ whole_signed Sint64 n refl ∙ plain_signed Sint64 n refl)
 signed_shows type n e h = cc
 
 signed_limit : (type : BaseType) → has_sign type ≡ true → 256 ^ (row_of type).size ≡ 2 * (row_of type).invalid + 2
 signed_limit Sint8 e = refl
 signed_limit Sint16 e = refl
 signed_limit Sint32 e = refl
+signed_limit Sint64 e = refl
 signed_limit type e = cc
 
 -- a type with a sign
@@ -106,6 +110,9 @@ value_size_of Uint32 = inr (inr (inl refl))
 value_size_of Uint32z = inr (inr (inl refl))
 value_size_of Float32 = inr (inr (inl refl))
 value_size_of Float64 = inr (inr (inr refl))
+value_size_of Sint64 = inr (inr (inr refl))
+value_size_of Uint64 = inr (inr (inr refl))
+value_size_of Uint64z = inr (inr (inr refl))
 value_size_of _ = inl refl
 
 abbrev count_by : Option BaseType → List ℕ → ℕ

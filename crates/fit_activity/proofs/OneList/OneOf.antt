@@ -2,7 +2,7 @@
 use Rattle.std.proofs.Common.{◌≡◌, ◌≢◌, ℕ, zero, suc, ◌*◌, ◌/◌, Bool, true, false, cond, List, length, take, drop, Some, None, refl, sym, ap, ◌∙◌, arith}
 use Rattle.fit_base.specs.declared.order.Arch.{Arch}
 use Rattle.fit_base.specs.declared.base.BaseType.{BaseType}
-use Rattle.fit_base.specs.declared.base.BaseType.TheVariants.{Enum, Sint8, Uint8, Sint16, Uint16, Sint32, Uint32, String, Float32, Float64, Uint8z, Uint16z, Uint32z, Byte}
+use Rattle.fit_base.specs.declared.base.BaseType.TheVariants.{Enum, Sint8, Uint8, Sint16, Uint16, Sint32, Uint32, String, Float32, Float64, Uint8z, Uint16z, Uint32z, Byte, Sint64, Uint64, Uint64z}
 use Rattle.fit_base.specs.Base.{row_of, base_type}
 use Rattle.fit_base.specs.Number.{number}
 use Rattle.fit_base.specs.Value.{Field, Numbers, Raw, numbers, is_raw, value_size, count_of, unsigned_at, values_of}
@@ -46,3 +46,6 @@ base_type-code Uint8z = refl
 base_type-code Uint16z = refl
 base_type-code Uint32z = refl
 base_type-code Byte = refl
+base_type-code Sint64 = refl
+base_type-code Uint64 = refl
+base_type-code Uint64z = refl

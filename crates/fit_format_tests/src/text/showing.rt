@@ -50,7 +50,7 @@ fn text_around(rt: &HostRuntime, message: &str, size: usize, field: &str) -> Res
 
 #[test]
 fn shows_values(rt: HostRuntime) -> Result<(), Fail> {
-    let cases: [(u8, &[u8], &str); 34] = [
+    let cases: [(u8, &[u8], &str); 43] = [
         (0x00, &[4], "4"),
         (0x00, &[0xFF], "-"),
         (0x00, &[], ""),
@@ -87,7 +87,24 @@ fn shows_values(rt: HostRuntime) -> Result<(), Fail> {
         (0x0F, &[1, 2, 0xAB], "0x0102AB"),
         (0x0F, &[0xFF], "0xFF"),
         (0x0F, &[], ""),
-        (0x8E, &[1, 0, 0, 0, 0, 0, 0, 0], "0x0100000000000000"),
+        (0x8E, &[1, 0, 0, 0, 0, 0, 0, 0], "1"),
+        (0x8E, &[0xFF; 8], "-1"),
+        (0x8E, &[0, 0, 0, 0, 0, 0, 0, 0x80], "-9223372036854775808"),
+        (0x8E, &[0xFF, 0xFF, 0xFF, 0xFF, 0xFF, 0xFF, 0xFF, 0x7F], "-"),
+        (0x8E, &[1, 0, 0, 0], "0x01000000"),
+        (
+            0x8F,
+            &[0xFE, 0xFF, 0xFF, 0xFF, 0xFF, 0xFF, 0xFF, 0xFF],
+            "18446744073709551614",
+        ),
+        (0x8F, &[0xFF; 8], "-"),
+        (
+            0x8F,
+            &[2, 0, 0, 0, 0, 0, 0, 0, 0, 0, 0, 0, 1, 0, 0, 0],
+            "2,4294967296",
+        ),
+        (0x90, &[0, 0, 0, 0, 0, 0, 0, 0], "-"),
+        (0x91, &[1, 0, 0, 0, 0, 0, 0, 0], "0x0100000000000000"),
         (0x06, &[1, 0], "0x0100"),
     ];
     for (base, bytes, text) in cases {
