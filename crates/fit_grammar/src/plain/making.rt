@@ -73,7 +73,8 @@ impl Plain {
         ensures frame { OnOk result (self.new.file.frame ≡ self.old.file.frame) }
         ensures items { OnOk result (self.new.file.items
             ≡ self.old.file.items ++ plain_item self.old.timed (DataHere (lent_data message.now time))) }
-        ensures timed { OnOk result (self.new.timed ≡ slice_set self.old.timed message.now.local (is_some time)) }
+        ensures timed { OnOk result
+            (self.new.timed ≡ slice_set self.old.timed message.now.local (is_some time)) }
         ensures fits { OnOk result (is_too_long (data_size self.old.file.items)
             (plain_item self.old.timed (DataHere (lent_data message.now time))) ≡ false) }
         ensures too_long { IsErrOf result PlainFaultKind.TooLong
