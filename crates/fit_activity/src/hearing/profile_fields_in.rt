@@ -9,7 +9,6 @@ ghost use Rattle.fit_activity.specs.Messages.ProfileField.{message_field, Profil
 use crate::hearing::one_value::one_value;
 use crate::speaking::profile_field::ProfileField;
 use arrayvec::ArrayVec;
-use fit_base::BaseType;
 use fit_grammar::{Field, Fields};
 
 // The fields, where each has one value of at most four bytes, and they are as few as any entry's message has.
@@ -37,7 +36,7 @@ fn profile_field_of(field: &Field) -> Option<ProfileField>
     ensures only { (profile_fields : AnyProfileField) → IsShort profile_fields
         → message_field profile_fields ≡ field_view field.now → result ≡ Some profile_fields }
 {
-    let base = BaseType::of(field.value.base())?;
+    let base = field.value.base_type()?;
     if base.size() > 4 {
         return None;
     }
