@@ -240,7 +240,9 @@ fn least_calls(command: &Command, answer: &Answer) -> u64 {
 impl Seen {
     fn see(&mut self, command: &Command, answer: &Answer) {
         match answer {
-            Answer::Done if *command == Command::Reopen => self.reopened = self.reopened.saturating_add(1),
+            Answer::Done if *command == Command::Reopen => self.reopened = self
+                .reopened
+                .saturating_add(1),
             Answer::Done => self.done = self.done.saturating_add(1),
             Answer::Stopped { .. } => self.stopped = self.stopped.saturating_add(1),
             Answer::Recovered { .. } => self.recovered = self.recovered.saturating_add(1),

@@ -3,8 +3,8 @@
 
 use crate::histories::{answers_to, file_in, text_of};
 use crate::table::is_history;
-use fit_recorder::RecFault;
 use fit_activity::Refusal;
+use fit_recorder::RecFault;
 use fit_world::{Answer, check_bytes, parse_script, show_bytes};
 use std::alloc::Global;
 use std::test::Fail;
@@ -21,8 +21,7 @@ const BEHIND: [u8; 33] = [
 ];
 
 // The last messages of its file.
-const GONE_ON_TEXT: &str =
-    "3 record timestamp=1000000000 heart_rate=100
+const GONE_ON_TEXT: &str = "3 record timestamp=1000000000 heart_rate=100
 4 record timestamp=1000000002 heart_rate=110
 5 event timestamp=1000000002 event=0 event_type=4
 6 lap message_index=0 timestamp=1000000002 event=9 event_type=1 start_time=1000000000 total_elapsed_time=2000 total_timer_time=2000 total_distance=- avg_speed=- max_speed=- avg_heart_rate=105 max_heart_rate=110 avg_power=- max_power=- lap_trigger=7
@@ -46,8 +45,15 @@ fn a_ride_goes_on_behind_its_last_commit(rt: HostRuntime) -> Result<(), Fail> {
         return Ok(assert!(rt; false));
     };
     let file = file_in(answers.last());
-    assert!(rt; file.get(14 + 83..).is_some_and(|rest| rest.starts_with(&BEHIND)));
-    assert!(rt; shown(rt.alloc(), file)?.as_slice().ends_with(GONE_ON_TEXT.as_bytes()));
+    assert!(rt;
+        file.get(14 + 83..)
+            .is_some_and(|rest| rest.starts_with(&BEHIND))
+    );
+    assert!(rt;
+        shown(rt.alloc(), file)?
+            .as_slice()
+            .ends_with(GONE_ON_TEXT.as_bytes())
+    );
     let mut out = Vec::new(rt.alloc());
     check_bytes(rt.alloc(), file, &mut out)?;
     assert_eq!(rt;
@@ -102,28 +108,34 @@ fn a_recovered_ride_goes_on(rt: HostRuntime) -> Result<(), Fail> {
 }
 
 // Whether the answers that came to a script may come, with another one in place of the last, where one is given.
-fn may_come(rt: &HostRuntime, script: &str, last: Option<RecFault>) -> Result<bool, Fail> {
+fn may_come(rt: &HostRuntime, script: &str, last: Option<Answer>) -> Result<bool, Fail> {
     let events = parse_script(rt.alloc(), script)?;
     let Some(mut answers) = answers_to(rt, script, &[]) else {
         return Ok(false);
     };
-    if let Some(fault) = last {
+    if let Some(answer) = last {
         answers.pop();
-        answers.push(Answer::Refused(fault))?;
+        answers.push(answer)?;
     }
     is_history(rt.alloc(), &events, &answers)
 }
 
+// A ride that has no stop, one that has, one whose reopening fails, and none.
+const RIDING: &str = "start 1000000000 7 running\nreopen\n";
+
+const STOPPED: &str = "start 1000000000 7 running\nstop 1000000001\nreopen\n";
+
+const BROKEN: &str = "start 1000000000 7 running\nfail 1\nreopen\n";
+
+const NOTHING: &str = "reopen\n";
+
 #[test]
-fn the_table_allows_no_other_answer(rt: HostRuntime) -> Result<(), Fail> {
-    let riding = "start 1000000000 7 running\nreopen\n";
-    let stopped = "start 1000000000 7 running\nstop 1000000001\nreopen\n";
-    let broken = "start 1000000000 7 running\nfail 1\nreopen\n";
-    let nothing = "reopen\n";
+fn the_table_allows_a_reopening_one_refusal(rt: HostRuntime) -> Result<(), Fail> {
+    let stopped = RecFault::Refused(Refusal::Stopped);
     let faults = [
-        RecFault::NotEmpty,
-        RecFault::Refused(Refusal::Stopped),
+        stopped,
         RecFault::Refused(Refusal::Time),
+        RecFault::NotEmpty,
         RecFault::Full,
         RecFault::JournalFull,
         RecFault::Device,
@@ -131,49 +143,49 @@ fn the_table_allows_no_other_answer(rt: HostRuntime) -> Result<(), Fail> {
         RecFault::NothingRecorded,
         RecFault::Damaged,
     ];
-    for script in [riding, stopped, broken, nothing] {
+    let cases = [
+        (RIDING, None),
+        (STOPPED, Some(stopped)),
+        (BROKEN, Some(RecFault::Device)),
+        (NOTHING, Some(RecFault::NothingRecorded)),
+    ];
+    for (script, told) in cases {
         assert!(rt; may_come(&rt, script, None)?, "{script}");
-    }
-    for fault in faults {
-        assert!(rt; !may_come(&rt, riding, Some(fault))?, "{fault:?}");
-        let is_told = fault == RecFault::Refused(Refusal::Stopped);
-        assert_eq!(rt; may_come(&rt, stopped, Some(fault))?, is_told, "{fault:?}");
-        let is_told = fault == RecFault::Device;
-        assert_eq!(rt; may_come(&rt, broken, Some(fault))?, is_told, "{fault:?}");
-        let is_told = fault == RecFault::NothingRecorded;
-        assert_eq!(rt; may_come(&rt, nothing, Some(fault))?, is_told, "{fault:?}");
+        for fault in faults {
+            let allowed = may_come(&rt, script, Some(Answer::Refused(fault)))?;
+            assert_eq!(rt; allowed, told == Some(fault), "{script}{fault:?}");
+        }
     }
     Ok(())
 }
 
-// Nor is the ride answered as one that goes on where it may not, nor does it go on with what it never was.
 #[test]
 fn the_table_allows_a_ride_to_go_on_where_it_may(rt: HostRuntime) -> Result<(), Fail> {
+    let erased = "start 1000000000 7 running\nerase\nreopen\n";
     let cases = [
-        ("start 1000000000 7 running\nreopen\n", true),
-        ("start 1000000000 7 running\nstop 1000000001\nreopen\n", false),
-        ("reopen\n", false),
-        ("start 1000000000 7 running\nerase\nreopen\n", false),
+        (RIDING, true),
+        (BROKEN, true),
+        (STOPPED, false),
+        (NOTHING, false),
+        (erased, false),
     ];
     for (script, wanted) in cases {
-        let events = parse_script(rt.alloc(), script)?;
-        let Some(mut answers) = answers_to(&rt, script, &[]) else {
-            return Ok(assert!(rt; false));
-        };
-        answers.pop();
-        answers.push(Answer::Done)?;
-        assert_eq!(rt; is_history(rt.alloc(), &events, &answers)?, wanted, "{script}");
+        assert_eq!(rt;
+            may_come(&rt, script, Some(Answer::Done))?,
+            wanted,
+            "{script}"
+        );
     }
-    let promised = "start 1000000000 7 running\nsample 1000000005\ncommit\nreopen\nsample 1000000004\n";
-    assert!(rt; !may_come(&rt, promised, None).is_err());
-    let events = parse_script(rt.alloc(), promised)?;
-    let Some(mut answers) = answers_to(&rt, promised, &[]) else {
-        return Ok(assert!(rt; false));
-    };
-    assert_eq!(rt; answers.last(), Some(&Answer::Refused(RecFault::Refused(Refusal::Time))));
-    assert!(rt; is_history(rt.alloc(), &events, &answers)?);
-    answers.pop();
-    answers.push(Answer::Done)?;
-    assert!(rt; !is_history(rt.alloc(), &events, &answers)?);
+    // It goes on behind what was promised.
+    let promised =
+        "start 1000000000 7 running\nsample 1000000005\ncommit\nreopen\nsample 1000000004\n";
+    let time = Answer::Refused(RecFault::Refused(Refusal::Time));
+    assert!(rt; may_come(&rt, promised, Some(time))?);
+    assert!(rt; !may_come(&rt, promised, Some(Answer::Done))?);
+    // And with what was not promised or without it.
+    let handed = "start 1000000000 7 running\nsample 1000000005\nreopen\nsample 1000000004\n";
+    let time = Answer::Refused(RecFault::Refused(Refusal::Time));
+    assert!(rt; may_come(&rt, handed, Some(time))?);
+    assert!(rt; may_come(&rt, handed, Some(Answer::Done))?);
     Ok(())
 }

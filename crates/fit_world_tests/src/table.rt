@@ -170,7 +170,8 @@ impl Table {
 
     // Of the lists that the recorder may have been handed, those behind which the entry is refused so.
     fn keep_refusing(&mut self, entry: &Entry, refusal: Option<Refusal>) {
-        self.claims.retain(|claim| refusal_of(&claim.list, entry) == refusal);
+        self.claims
+            .retain(|claim| refusal_of(&claim.list, entry) == refusal);
     }
 
     // The entry is handed in.
@@ -233,9 +234,11 @@ impl Table {
     // Of the lists that the recorder was handed, those whose file this is.
     fn keep_told(&mut self, file: &[u8]) -> Result<(), Fail> {
         let mut kept = Vec::new(self.alloc);
-        for claim in &self.claims {
-            if is_file_of(self.alloc, file, &claim.list, &sums_of(&claim.list))? {
-                kept.push(whole(self.alloc, &claim.list)?)?;
+        if let Some(told) = told_by(self.alloc, file)? {
+            for claim in &self.claims {
+                if told == told_of(self.alloc, &claim.list)? {
+                    kept.push(whole(self.alloc, &claim.list)?)?;
+                }
             }
         }
         self.claims = kept;
@@ -293,10 +296,9 @@ impl Table {
                 self.riding = true;
                 Ok(!self.claims.is_empty())
             }
-            Answer::Refused(RecFault::Refused(Refusal::Stopped)) => Ok(self
-                .claims
-                .iter()
-                .any(|claim| has_stopped(&claim.list))),
+            Answer::Refused(RecFault::Refused(Refusal::Stopped)) => Ok(
+                self.claims.iter().any(|claim| has_stopped(&claim.list)),
+            ),
             Answer::Refused(RecFault::NothingRecorded) => {
                 let allowed = self.has_none();
                 self.keep(&[])?;
@@ -339,20 +341,6 @@ impl Table {
             }
             _ => Ok(false),
         }
-    }
-}
-
-// Whether the bytes are a valid file of the list and of what closes it, and say this of themselves.
-fn is_file_of(
-    alloc: Global,
-    file: &[u8],
-    list: &[Recorded],
-    summary: &Summary,
-) -> Result<bool, Fail> {
-    let wanted = told_of(alloc, list)?;
-    match told_by(alloc, file)? {
-        Some(told) => Ok(told == wanted && told.summary == *summary),
-        None => Ok(false),
     }
 }
 
