@@ -23,7 +23,7 @@ use Rattle.fit_recorder.specs.Files.Body.{StandsFor}
 use Rattle.fit_recorder.specs.Calls.Erasing.{LeftOrNothing, IsEmpty}
 use Rattle.fit_recorder.specs.Files.Finished.{IsFinished}
 use Rattle.fit_recorder.specs.Calls.Recovery.{RecoveryAnswers, KeepsStanding, Rebuilds, unchanged, standing, InRecovery}
-use Rattle.fit_recorder.specs.Calls.Resume.{ResumeAnswers}
+use Rattle.fit_recorder.specs.Calls.Resume.{IsRefusedFor}
 use Rattle.fit_recorder.specs.Files.Settled.{IsSettled}
 use Rattle.fit_recorder.specs.Calls.Start.{InStart}
 use Rattle.fit_recorder.proofs.FinishedFile.Stands.{recording_stands}
@@ -182,16 +182,16 @@ module _ (before : History) (old : Story) (rests : Rests (ended before) old) (so
     kept_rests : (fault : RecFault) → (fault ≡ Device → ⊥) → (fault ≡ Device) ⊎ IsSettled (seen_in old.now) new → Rests (ended before) new
     kept_rests fault other settled = settled_rests (⊎_elim (λ device. absurd (other device)) (λ kept. kept) settled)
 
-    pub reopen_goes : {D : Type 0} (honest : Bool) (story : D → Story) (disk : D) (fault : RecFault) → ResumeAnswers honest story (seen_in old.now) (Err (disk, fault)) → InRecovery old new
+    pub reopen_goes : (fault : RecFault) → IsRefusedFor (seen_in old.now) fault → InRecovery old new
         → (fault ≡ Device) ⊎ IsSettled (seen_in old.now) new → GoesIdle (ReopenStep before (Fault fault)) new
-    reopen_goes honest story disk NothingRecorded nothing run settled =
+    reopen_goes NothingRecorded nothing run settled =
         record {
           claims = no_claim ∷ [];
           begun = was_begun before;
           step = (nothing_there (claims_of before) (seen_in old.now) seen_fits.keeps nothing, refl);
           rests = nothing_rests nothing (⊎_elim (λ device. absurd cc) (λ kept. kept) settled);
         }
-    reopen_goes honest story disk (Refused refusal) answers run settled =
+    reopen_goes (Refused refusal) answers run settled =
         let stopped = answers.1 in
         rw answers.0 record {
           claims = claims_of before;
@@ -199,19 +199,19 @@ module _ (before : History) (old : Story) (rests : Rests (ended before) old) (so
           step = (stopped.list, found stopped.list true stopped.stood stopped.stopped, refl);
           rests = kept_rests (Refused refusal) (λ device. absurd cc) settled;
         }
-    reopen_goes honest story disk JournalFull full run settled =
+    reopen_goes JournalFull full run settled =
         record {
           claims = claims_of before;
           begun = was_begun before;
           step = (full.list, found full.list false full.stood full.running, refl);
           rests = kept_rests JournalFull (λ device. absurd cc) settled;
         }
-    reopen_goes honest story disk Device answers run settled =
+    reopen_goes Device answers run settled =
         record { claims = claims_of before; begun = was_begun before; step = refl; rests = broken_rests run }
-    reopen_goes honest story disk Damaged damaged run settled = absurd (not_damaged (claims_of before) (seen_in old.now) seen_fits.keeps damaged)
-    reopen_goes honest story disk NotEmpty none run settled = absurd none
-    reopen_goes honest story disk Full none run settled = absurd none
-    reopen_goes honest story disk Failed none run settled = absurd none
+    reopen_goes Damaged damaged run settled = absurd (not_damaged (claims_of before) (seen_in old.now) seen_fits.keeps damaged)
+    reopen_goes NotEmpty none run settled = absurd none
+    reopen_goes Full none run settled = absurd none
+    reopen_goes Failed none run settled = absurd none
 
     -- ---- an erasing
 

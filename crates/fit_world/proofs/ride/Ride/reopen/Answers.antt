@@ -11,5 +11,5 @@ pub returns-in-Err-clause-step : goal.returns-in-Err-clause-step
 returns-in-Err-clause-step g c honest before stands =
     let refused = c.in-Err.ensures in
     idle_goes g.D.Disk.honest g.D.Disk.story before _ _ _
-    (reopen_goes before _ (c.into_disk.ensures.rests honest before stands) (g.met.D.Disk.sound c.into_disk.result honest) _ g.D.Disk.honest g.D.Disk.story
-    c.in-Err.disk c.in-Err.fault (refused.decides honest) (refused.any_moment honest) (refused.settled honest))
+    (reopen_goes before _ (c.into_disk.ensures.rests honest before stands) (g.met.D.Disk.sound c.into_disk.result honest) _
+    c.in-Err.fault (refused.decides honest) (refused.any_moment honest) (refused.settled honest))
