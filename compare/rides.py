@@ -49,10 +49,10 @@ def records_of(file):
     return len(rows_of(file))
 
 
-def script_of(samples, every):
-    """A ride of so many samples, one a second, with a commit behind every so many."""
-    lines = ["start 1000000000 7 cycling"]
-    for second in range(samples):
+def script_of(samples, every, before=0):
+    """A ride of so many samples, one a second, with a commit behind every so many; or one that goes on behind so many seconds."""
+    lines = ["reopen" if before else "start 1000000000 7 cycling"]
+    for second in range(before, before + samples):
         lines.append(f"sample {1000000000 + second} hr={100 + second % 80} dist={second * 700}")
         if second % every == every - 1:
             lines.append("commit")
@@ -60,12 +60,12 @@ def script_of(samples, every):
 
 
 def committed(answers):
-    """Whether a start was answered ok, how many samples were, and how many of them before the last commit that was."""
+    """Whether a start or a reopening was answered ok, how many samples were, and how many of them before the last commit that was."""
     kept = handed = 0
     started = False
     for answer in answers:
         word = answer.split()[1]
-        if word == "start:":
+        if word in ("start:", "reopen:"):
             started = answer.endswith(" ok")
         if word == "sample:" and answer.endswith(" ok"):
             handed += 1

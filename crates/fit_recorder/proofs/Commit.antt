@@ -4,6 +4,7 @@ pub mod Slots
 pub mod Files
 pub mod Page
 pub mod Spelling
+pub mod Counting
 pub mod Timing
 pub mod Writing
 pub mod Entry

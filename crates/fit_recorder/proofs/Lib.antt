@@ -3,4 +3,5 @@ pub mod Commit
 mod Start
 pub mod FinishedFile
 pub mod RecoveredList
+mod ResumedRide
 mod ErasedFiles

@@ -3,6 +3,7 @@ pub mod Recorder
 pub mod Answers
 pub mod Start
 pub mod Recovery
+pub mod Resume
 pub mod Erasing
 pub mod FaultCode
 pub mod OnMemory

@@ -1,7 +1,7 @@
 -- What private functions and proofs speak of.
 pub mod OneMessage
 pub mod Spelled
-pub mod Timed
+pub mod Told
 pub mod State
 pub mod RecordingFiles
 pub mod ItemRead
@@ -9,4 +9,5 @@ pub mod BodyRead
 pub mod Begun
 pub mod BodyHeard
 pub mod Length
+pub mod Ride
 pub mod Closing

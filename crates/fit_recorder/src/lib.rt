@@ -29,9 +29,11 @@ mod limits;
 mod recorder;
 mod recording_files;
 mod recovery;
+mod resuming;
 mod spelling;
 
 pub use erasing::erase;
 pub use fault::RecFault;
 pub use recorder::Recorder;
 pub use recovery::recover;
+pub use resuming::resume;

@@ -47,6 +47,7 @@ impl<D: Disk> Ride<D> {
             }
             Command::Restart => self.restart(),
             Command::Recover => self.recover(),
+            Command::Reopen => self.reopen(),
             Command::Erase => self.erase(),
             Command::Fail(_) | Command::Cut(_) | Command::Power => unreachable!(),
         }

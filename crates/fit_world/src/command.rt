@@ -18,6 +18,8 @@ pub enum Command {
     Restart,
     /// The recording is made whole again.
     Recover,
+    /// The ride goes on, behind what is recorded of it.
+    Reopen,
     /// The recording is erased.
     Erase,
     /// The device call with this number from here on fails, counted from 1.
@@ -50,6 +52,7 @@ impl Command {
             Command::Commit => "commit",
             Command::Restart => "restart",
             Command::Recover => "recover",
+            Command::Reopen => "reopen",
             Command::Erase => "erase",
             Command::Fail(_) => "fail",
             Command::Cut(_) => "cut",

@@ -6,7 +6,7 @@ ghost use Rattle.fit_world.specs.declared.command.Command.TheVariants as command
 use crate::reply::Reply;
 use fit_activity::{Entry, Start};
 use fit_disk::Disk;
-use fit_recorder::{Recorder, erase, recover};
+use fit_recorder::{Recorder, erase, recover, resume};
 
 /// The recording of a disk. Over an honest disk each call is a step of a history, whatever it replies (`step`); over any disk a
 /// reply that the device failed comes only where it did (`counted`), and from then on only `Failed` until the recorder ends.
@@ -28,7 +28,7 @@ impl<D: Disk> Ride<D> {
     ghost use Rattle.fit_recorder.specs.Calls.Answers.{HandAnswers, CommitAnswers, StopAnswers};
     ghost use Rattle.fit_world.specs.declared.reply.Reply.TheVariants.{Done, Stopped, Refused, NoRecorder};
     ghost use Rattle.fit_world.specs.Histories.Table.{History, ended};
-    ghost use Rattle.fit_world.specs.Rides.Replies.{Replies, RepliesStart, RepliesRecovery, RepliesErasing, is_ok};
+    ghost use Rattle.fit_world.specs.Rides.Replies.{Replies, RepliesStart, RepliesRecovery, RepliesReopening, RepliesErasing, is_ok};
     ghost use Rattle.fit_world.specs.Rides.Ride.{CanGoOn, Handed, disk_in, is_broken, is_riding, said_len, slots_of};
     ghost use Rattle.fit_world.specs.Rides.Standing.{StandsIn, GoesBy, IsCounted, Rests};
 
@@ -150,6 +150,23 @@ impl<D: Disk> Ride<D> {
         let mut disk = self.into_disk();
         let reply = recover(&mut disk).into();
         (Ride::Idle(disk), reply)
+    }
+
+    /// Goes on with the ride that is recorded, behind the end of the recorder that runs. None runs where it is refused.
+    pub fn reopen(self) -> (Ride<D>, Reply)
+        ensures goes_on { CanGoOn D.honest D.story result.0 }
+        ensures replies { RepliesReopening result.1 }
+        ensures handed { result.1 ≡ Done → (list : List Recorded) × Handed result.0 list }
+        ensures riding { is_riding result.0 ≡ is_ok result.1 }
+        ensures step { IsTrue D.honest → (before : History) → StandsIn D.honest D.story self before
+            → GoesBy D.honest D.story before commands.Reopen result.1 result.0 }
+        ensures counted { IsCounted result.1 (D.log (disk_in self)).counts (D.log (disk_in result.0)).counts }
+        ensures planned { (D.log (disk_in result.0)).schedule ≡ (D.log (disk_in self)).schedule }
+    {
+        match resume(self.into_disk()) {
+            Ok(recorder) => (Ride::Riding(recorder), Reply::Done),
+            Err((disk, fault)) => (Ride::Idle(disk), Reply::Refused(fault)),
+        }
     }
 
     /// Erases the recording, behind the end of the recorder that runs.

@@ -6,7 +6,7 @@ ghost use Rattle.fit_recorder.specs.Calls.Recorder.{GoesOn};
 
 use fit_activity::{Entry, Start};
 use fit_disk::{Memory, Which};
-use fit_recorder::{RecFault, Recorder, erase, recover};
+use fit_recorder::{RecFault, Recorder, erase, recover, resume};
 use fit_world::{Answer, Command, Event};
 use std::alloc::Global;
 use std::test::Fail;
@@ -33,6 +33,15 @@ fn start(disk: Memory, start: Start) -> (Played, Answer)
     ensures { IfOk result.0 (GoesOn true memory_story) }
 {
     match Recorder::start(disk, start) {
+        Ok(recorder) => (Ok(recorder), Answer::Done),
+        Err((disk, fault)) => (Err(disk), Answer::Refused(fault)),
+    }
+}
+
+fn reopen(disk: Memory) -> (Played, Answer)
+    ensures { IfOk result.0 (GoesOn true memory_story) }
+{
+    match resume(disk) {
         Ok(recorder) => (Ok(recorder), Answer::Done),
         Err((disk, fault)) => (Err(disk), Answer::Refused(fault)),
     }
@@ -152,6 +161,10 @@ fn step(
     match command {
         Command::Start(with) => {
             let (played, answer) = start(disk_of(played), *with);
+            Ok((played, answer, 0))
+        }
+        Command::Reopen => {
+            let (played, answer) = reopen(disk_of(played));
             Ok((played, answer, 0))
         }
         Command::Entry(_) | Command::Commit => match played {

@@ -57,7 +57,7 @@ pub fn file_in(answer: Option<&Answer>) -> &[u8] {
 }
 
 // The lines of the answers to a script.
-fn text_of(rt: &HostRuntime, script: &str, choices: &[u8]) -> Result<String, Fail> {
+pub fn text_of(rt: &HostRuntime, script: &str, choices: &[u8]) -> Result<String, Fail> {
     let mut text = String::new(rt.alloc());
     if let Some(answers) = answers_to(rt, script, choices) {
         for answer in &answers {

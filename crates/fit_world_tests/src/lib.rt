@@ -19,6 +19,8 @@ mod random;
 #[cfg(test)]
 mod reading;
 #[cfg(test)]
+mod reopening;
+#[cfg(test)]
 mod replays;
 #[cfg(test)]
 mod salvages;

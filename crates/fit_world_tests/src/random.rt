@@ -125,11 +125,15 @@ impl Noise {
     // The line of one that is likely while none runs; each ends the one that does.
     fn line_between(&mut self, alloc: Global) -> Result<String, Fail> {
         self.rides = false;
-        let line = match self.below(20) {
+        let line = match self.below(24) {
             0..6 => self.start(alloc)?,
             6..8 => format!(in alloc; "restart\n")?,
             8..12 => format!(in alloc; "recover\n")?,
             12..16 => format!(in alloc; "erase\n")?,
+            16..20 => {
+                self.rides = true;
+                format!(in alloc; "reopen\n")?
+            }
             _ => format!(in alloc; "power\n")?,
         };
         Ok(line)
@@ -189,6 +193,7 @@ struct Seen {
     done: u32,
     stopped: u32,
     recovered: u32,
+    reopened: u32,
     no_recorder: u32,
     // By their numbers.
     faults: [u32; 9],
@@ -200,6 +205,7 @@ const NOTHING: Seen = Seen {
     done: 0,
     stopped: 0,
     recovered: 0,
+    reopened: 0,
     no_recorder: 0,
     faults: [0; 9],
     refusals: [0; 9],
@@ -221,6 +227,7 @@ fn least_calls(command: &Command, answer: &Answer) -> u64 {
         (Command::Start(_), Answer::Refused(RecFault::NotEmpty)) => 2,
         (Command::Entry(_), Answer::Done) => 1,
         (Command::Commit, Answer::Done) => 5,
+        (Command::Reopen, Answer::Done) => 8,
         (Command::Erase, Answer::Done) => 3,
         (_, Answer::Stopped { .. }) => 9,
         (_, Answer::Recovered { .. }) => 8,
@@ -233,6 +240,9 @@ fn least_calls(command: &Command, answer: &Answer) -> u64 {
 impl Seen {
     fn see(&mut self, command: &Command, answer: &Answer) {
         match answer {
+            Answer::Done if *command == Command::Reopen => self.reopened = self
+                .reopened
+                .saturating_add(1),
             Answer::Done => self.done = self.done.saturating_add(1),
             Answer::Stopped { .. } => self.stopped = self.stopped.saturating_add(1),
             Answer::Recovered { .. } => self.recovered = self.recovered.saturating_add(1),
@@ -278,9 +288,11 @@ impl Seen {
             stopped,
             running,
             too_long,
+            ended,
             self.done,
             self.stopped,
             self.recovered,
+            self.reopened,
             self.no_recorder,
         ];
         few.iter().all(|count| *count > 0)
@@ -289,7 +301,6 @@ impl Seen {
             && journal_full == 0
             && damaged == 0
             && laps == 0
-            && ended == 0
     }
 }
 

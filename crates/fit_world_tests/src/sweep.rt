@@ -1,5 +1,5 @@
-// A ride in which each call of the device fails in turn, or the power goes at it, and a recovery in which it goes; by `world::run`,
-// and again by direct calls. How many calls there are is that of the description.
+// A ride in which each call of the device fails in turn, or the power goes at it, and a recovery in which it goes, and a ride that
+// goes on; by `world::run`, and again by direct calls. How many calls there are is that of the description.
 
 use crate::direct;
 use crate::histories::file_in;
@@ -23,6 +23,10 @@ const RIDE_CALLS: u32 = 11 + (6 + 8) + 11;
 // that close the file.
 const RECOVERY_CALLS: u32 = 2 + 1 + 1 + 1 + 4;
 
+// The ride goes on: two syncs, the size, the journal with its two slots, which are read once more, one read of the body, and the
+// cut with its sync; and the commit, which writes what waits in the page, syncs it, and closes a gate first.
+const GOING_ON_CALLS: u32 = 2 + 1 + 1 + 1 + 1 + 2 + 8;
+
 // The bytes that a power cut leaves where any may be left: none are given, or so many.
 const CHOICES: [&[u8]; 3] = [&[], &[0xA5; 600], &[0xFF; 600]];
 
@@ -35,6 +39,12 @@ const UNSTOPPED: Summary = Summary {
     elapsed_ms: Some(2000),
     timer_ms: Some(2000),
     distance_cm: None,
+};
+
+// And with one entry more.
+const GONE_ON: Summary = Summary {
+    records: 3,
+    ..UNSTOPPED
 };
 
 // The answers to the script, which are those of direct calls, and a history. A recovery leaves the file that it tells.
@@ -109,9 +119,32 @@ fn cut_each_call_of_a_recovery(rt: &impl Abort, alloc: Global) -> Result<(), Fai
     Ok(())
 }
 
+// The ride goes on, and the power goes at each call of that; the next recovery keeps what was promised.
+fn cut_each_call_of_a_ride_that_goes_on(rt: &impl Abort, alloc: Global) -> Result<(), Fail> {
+    for choices in CHOICES {
+        for k in 1..=GOING_ON_CALLS + 1 {
+            let script = format!(in alloc;
+                "{RIDE}cut {k}\nreopen\nsample 1000000002 hr=110\ncommit\npower\nrecover\n"
+            )?;
+            let answers = answers_to(rt, alloc, script.as_str(), choices)?;
+            let went_on = answers.iter().skip(7).take(3).all(|answer| is_ok(answer));
+            assert_eq!(rt; went_on, k > GOING_ON_CALLS, "{k}");
+            match answers.last() {
+                Some(Answer::Recovered { summary, .. }) => {
+                    let both = *summary == UNSTOPPED || *summary == GONE_ON;
+                    assert!(rt; both && (!went_on || *summary == GONE_ON), "{k}");
+                }
+                _ => assert!(rt; false, "{k}"),
+            }
+        }
+    }
+    Ok(())
+}
+
 #[test]
 fn world_equals_direct_calls(rt: HostRuntime) -> Result<(), Fail> {
     fail_each_call(&rt, rt.alloc())?;
     cut_each_call(&rt, rt.alloc())?;
-    cut_each_call_of_a_recovery(&rt, rt.alloc())
+    cut_each_call_of_a_recovery(&rt, rt.alloc())?;
+    cut_each_call_of_a_ride_that_goes_on(&rt, rt.alloc())
 }

@@ -7,7 +7,7 @@ pub mod telling;
 use fit_activity::{Entry, Refusal, Start, Summary};
 use fit_recorder::RecFault;
 use fit_world::{Answer, Command, Event};
-use list::{Recorded, refusal_of, start_fits, sums_of};
+use list::{Recorded, has_stopped, refusal_of, start_fits, sums_of};
 use std::alloc::Global;
 use std::test::Fail;
 use telling::{Told, told_by, told_of};
@@ -27,7 +27,8 @@ fn whole(alloc: Global, list: &[Recorded]) -> Result<Claim, Fail> {
     })
 }
 
-/// Where a recording stands. While a recorder runs there is one claim.
+/// Where a recording stands. While a recorder runs each claim is a list that it may have been handed: one, unless it was
+/// reopened, since a reopening does not tell what it found.
 #[derive(Drop)]
 pub struct Table {
     alloc: Global,
@@ -75,6 +76,7 @@ impl Table {
             Command::Commit => self.commit(answer),
             Command::Restart => self.restart(answer),
             Command::Recover => self.recover(answer)?,
+            Command::Reopen => self.reopen(answer)?,
             Command::Erase => self.erase(answer)?,
             Command::Fail(_) | Command::Cut(_) | Command::Power => self.arrange(command, answer),
         };
@@ -151,21 +153,39 @@ impl Table {
         if !self.riding || self.broken {
             return Ok(self.is_idle(answer));
         }
-        let Some(claim) = self.claims.first_mut() else {
-            return Ok(false);
-        };
-        let refusal = refusal_of(&claim.list, entry);
         match answer {
             Answer::Done => {
-                claim.list.push(Recorded::Added(*entry))?;
-                Ok(refusal.is_none())
+                self.keep_refusing(entry, None);
+                self.add(entry)?;
             }
-            Answer::Refused(RecFault::Refused(told)) => Ok(refusal == Some(*told)),
+            Answer::Refused(RecFault::Refused(told)) => self.keep_refusing(entry, Some(*told)),
             Answer::Refused(RecFault::Device) => {
+                self.keep_refusing(entry, None);
                 self.broken = true;
-                Ok(refusal.is_none())
             }
-            _ => Ok(false),
+            _ => return Ok(false),
+        }
+        Ok(!self.claims.is_empty())
+    }
+
+    // Of the lists that the recorder may have been handed, those behind which the entry is refused so.
+    fn keep_refusing(&mut self, entry: &Entry, refusal: Option<Refusal>) {
+        self.claims
+            .retain(|claim| refusal_of(&claim.list, entry) == refusal);
+    }
+
+    // The entry is handed in.
+    fn add(&mut self, entry: &Entry) -> Result<(), Fail> {
+        for claim in &mut self.claims {
+            claim.list.push(Recorded::Added(*entry))?;
+        }
+        Ok(())
+    }
+
+    // All that was handed in is promised.
+    fn promise_all(&mut self) {
+        for claim in &mut self.claims {
+            claim.promise = claim.list.len();
         }
     }
 
@@ -174,12 +194,9 @@ impl Table {
         if !self.riding || self.broken {
             return self.is_idle(answer);
         }
-        let Some(claim) = self.claims.first_mut() else {
-            return false;
-        };
         match answer {
             Answer::Done => {
-                claim.promise = claim.list.len();
+                self.promise_all();
                 true
             }
             Answer::Refused(RecFault::Device) => {
@@ -194,28 +211,38 @@ impl Table {
         if !self.riding || self.broken {
             return Ok(self.is_idle(answer));
         }
-        let Some(claim) = self.claims.first_mut() else {
-            return Ok(false);
-        };
         let stop = Entry::Stop(time);
-        let refusal = refusal_of(&claim.list, &stop);
-        if let Answer::Refused(RecFault::Refused(told)) = answer {
-            return Ok(refusal == Some(*told));
-        }
-        claim.list.push(Recorded::Added(stop))?;
         match answer {
+            Answer::Refused(RecFault::Refused(told)) => self.keep_refusing(&stop, Some(*told)),
             Answer::Stopped { file } => {
-                claim.promise = claim.list.len();
-                let is_file = is_file_of(self.alloc, file, &claim.list, &sums_of(&claim.list))?;
+                self.keep_refusing(&stop, None);
+                self.add(&stop)?;
+                self.promise_all();
+                self.keep_told(file)?;
                 self.end();
-                Ok(refusal.is_none() && is_file)
             }
             Answer::Refused(RecFault::Device) => {
+                self.keep_refusing(&stop, None);
+                self.add(&stop)?;
                 self.broken = true;
-                Ok(refusal.is_none())
             }
-            _ => Ok(false),
+            _ => return Ok(false),
         }
+        Ok(!self.claims.is_empty())
+    }
+
+    // Of the lists that the recorder was handed, those whose file this is.
+    fn keep_told(&mut self, file: &[u8]) -> Result<(), Fail> {
+        let mut kept = Vec::new(self.alloc);
+        if let Some(told) = told_by(self.alloc, file)? {
+            for claim in &self.claims {
+                if told == told_of(self.alloc, &claim.list)? {
+                    kept.push(whole(self.alloc, &claim.list)?)?;
+                }
+            }
+        }
+        self.claims = kept;
+        Ok(())
     }
 
     // The one answer where no recorder runs, or where the device failed in it.
@@ -260,6 +287,45 @@ impl Table {
         Ok(!self.claims.is_empty())
     }
 
+    // A ride that has no stop goes on.
+    fn reopen(&mut self, answer: &Answer) -> Result<bool, Fail> {
+        self.end();
+        match answer {
+            Answer::Done => {
+                self.keep_beginnings()?;
+                self.riding = true;
+                Ok(!self.claims.is_empty())
+            }
+            Answer::Refused(RecFault::Refused(Refusal::Stopped)) => Ok(
+                self.claims.iter().any(|claim| has_stopped(&claim.list)),
+            ),
+            Answer::Refused(RecFault::NothingRecorded) => {
+                let allowed = self.has_none();
+                self.keep(&[])?;
+                Ok(allowed)
+            }
+            Answer::Refused(RecFault::Device) => Ok(true),
+            _ => Ok(false),
+        }
+    }
+
+    // What may be recorded and has no stop: the beginnings of each claim, no shorter than it promises and not empty.
+    fn keep_beginnings(&mut self) -> Result<(), Fail> {
+        let mut kept: Vec<Claim> = Vec::new(self.alloc);
+        for claim in &self.claims {
+            for len in claim.promise.max(1)..claim.list.len().saturating_add(1) {
+                if let Some(beginning) = claim.list.as_slice().get(..len) {
+                    let known = kept.iter().any(|other| other.list.as_slice() == beginning);
+                    if !known && !has_stopped(beginning) {
+                        kept.push(whole(self.alloc, beginning)?)?;
+                    }
+                }
+            }
+        }
+        self.claims = kept;
+        Ok(())
+    }
+
     fn erase(&mut self, answer: &Answer) -> Result<bool, Fail> {
         self.end();
         match answer {
@@ -275,20 +341,6 @@ impl Table {
             }
             _ => Ok(false),
         }
-    }
-}
-
-// Whether the bytes are a valid file of the list and of what closes it, and say this of themselves.
-fn is_file_of(
-    alloc: Global,
-    file: &[u8],
-    list: &[Recorded],
-    summary: &Summary,
-) -> Result<bool, Fail> {
-    let wanted = told_of(alloc, list)?;
-    match told_by(alloc, file)? {
-        Some(told) => Ok(told == wanted && told.summary == *summary),
-        None => Ok(false),
     }
 }
 

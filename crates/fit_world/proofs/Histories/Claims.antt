@@ -1,5 +1,5 @@
 -- What the two files of a recording keep of the claims of its history.
-use Rattle.std.proofs.Common.{◌≡◌, ◌≢◌, ◌⊎◌, inl, inr, ⊎_elim, ℕ, ◌≤◌, Bool, true, false, List, [], ◌∷◌, ◌++◌, length, refl, sym, subst, arith}
+use Rattle.std.proofs.Common.{◌≡◌, ◌≢◌, ◌⊎◌, inl, inr, ⊎_elim, ℕ, ◌≤◌, Bool, true, false, List, [], ◌∷◌, ◌++◌, length, refl, sym, ap, ◌∙◌, subst, arith}
 use Rattle.std.specs.Prelude.{IsTrue}
 use Rattle.std.proofs.lemmas.List.{append-nil}
 use Rattle.fit_activity.specs.declared.recording.start.Start.{Start}
@@ -11,6 +11,12 @@ use Rattle.fit_recorder.specs.Files.Settled.{IsDamaged}
 use Rattle.fit_recorder.proofs.RecoveredList.OneList.{one_list, not_nothing}
 use Rattle.fit_world.specs.Histories.Claims.{Claim, claim_of, no_claim, whole, has_none, MayBe, with_start}
 use Rattle.fit_world.specs.Rides.Standing.{Keeps}
+
+pub same_contents : (one other : Contents) → one.in_data ≡ other.in_data → one.in_journal ≡ other.in_journal → one ≡ other
+same_contents one other same_data same_journal =
+    let with_data : List ℕ → Contents = λ bytes. record { in_data = bytes; in_journal = one.in_journal } in
+    let with_journal : List ℕ → Contents = λ bytes. record { in_data = other.in_data; in_journal = bytes } in
+    ap with_data same_data ∙ ap with_journal same_journal
 
 -- ---- what is found
 

@@ -6,6 +6,7 @@ use Rattle.fit_activity.specs.declared.activity.Summary.{Summary}
 use Rattle.fit_activity.specs.declared.recording.refusal.Refusal.{Refusal}
 use Rattle.fit_activity.specs.declared.recording.start.Start.{Start}
 use Rattle.fit_activity.specs.Rides.Recording.{Recorded, Started}
+use Rattle.fit_activity.specs.Rides.Refusal.{has_stopped}
 use Rattle.fit_activity.specs.Messages.RideMessages.{spoken, closing}
 use Rattle.fit_disk.specs.declared.disk.Which.TheVariants.{Data}
 use Rattle.fit_disk.specs.Calls.{IsSound}
@@ -22,15 +23,16 @@ use Rattle.fit_recorder.specs.Files.Body.{StandsFor}
 use Rattle.fit_recorder.specs.Calls.Erasing.{LeftOrNothing, IsEmpty}
 use Rattle.fit_recorder.specs.Files.Finished.{IsFinished}
 use Rattle.fit_recorder.specs.Calls.Recovery.{RecoveryAnswers, KeepsStanding, Rebuilds, unchanged, standing, InRecovery}
+use Rattle.fit_recorder.specs.Calls.Resume.{IsRefusedFor}
 use Rattle.fit_recorder.specs.Files.Settled.{IsSettled}
 use Rattle.fit_recorder.specs.Calls.Start.{InStart}
 use Rattle.fit_recorder.proofs.FinishedFile.Stands.{recording_stands}
 use Rattle.fit_recorder.proofs.RecoveredList.OneList.{not_nothing}
 use Rattle.fit_world.specs.Histories.Claims.{Claim, no_claim, whole, has_none, with_start}
-use Rattle.fit_world.specs.Histories.Table.{History, Idle, claims_of, was_begun, ended, IsFileOf, Fault, StartStep, RecoverStep, EraseStep}
+use Rattle.fit_world.specs.Histories.Table.{History, Idle, claims_of, was_begun, ended, IsFileOf, Fault, Finds, StartStep, RecoverStep, ReopenStep, EraseStep}
 use Rattle.fit_world.specs.Rides.Replies.{reply_of, recovered_of}
 use Rattle.fit_world.specs.Rides.Standing.{told, Keeps, Fits, Rests}
-use Rattle.fit_world.proofs.Histories.Claims.{nothing_there, list_there, not_damaged, some_list, keeps_list, keeps_whole, keeps_none, keeps_more, keeps_before, keeps_started}
+use Rattle.fit_world.proofs.Histories.Claims.{same_contents, nothing_there, list_there, not_damaged, some_list, keeps_list, keeps_whole, keeps_none, keeps_more, keeps_before, keeps_started}
 
 -- the history stands where this may follow, no recorder runs, and what a power cut leaves is as it allows
 pub record GoesIdle (Next : History → Type 0) (story : Story) : Type 0 where
@@ -58,6 +60,14 @@ module _ (before : History) (old : Story) (rests : Rests (ended before) old) (so
   -- where they stand for a list a start was begun
   begun_by : (list : List Recorded) → StandsFor list (seen_in old.now) → was_begun before ≡ false → ⊥
   begun_by list stands unbegun = not_nothing list (seen_in old.now) stands (inl (seen_fits.empty unbegun))
+
+  -- and that list is found
+  pub found : (list : List Recorded) (stopped : Bool) → StandsFor list (seen_in old.now) → has_stopped list ≡ stopped → Finds before list stopped
+  found list stopped stands stops = record {
+    may_be = list_there (claims_of before) (seen_in old.now) list seen_fits.keeps stands;
+    some = some_list list (seen_in old.now) stands;
+    stops = stops;
+  }
 
   begun_there : (seen_of Data old ≡ [] → ⊥) → was_begun before ≡ true
   begun_there some = by (was_begun before) refl
@@ -120,6 +130,18 @@ module _ (before : History) (old : Story) (rests : Rests (ended before) old) (so
           empty = λ unbegun. absurd (begun_by list stood unbegun);
         }
 
+    settled_rests : IsSettled (seen_in old.now) new → Rests (ended before) new
+    settled_rests settled contents left =
+        let in_data = rest_left new.now.data_file _ contents.in_data settled.data_rests left.data_left in
+        let in_journal = rest_left new.now.journal_file _ contents.in_journal settled.journal_rests left.journal_left in
+        subst (Fits (ended before)) (sym (same_contents contents (seen_in old.now) in_data in_journal)) seen_fits
+
+    -- one that was broken off
+    broken_rests : InRecovery old new → Rests (ended before) new
+    broken_rests run =
+        let first = at_end (BothLeft old.now) old run.found run.before in
+        ⊎_elim (λ same. same_rests new (subst (λ story. LeavesOnly (BothLeft old.now) story.now) (sym same) first)) (λ behind. rebuilt_rests run.found first behind.1) run.behind
+
     pub recover_goes : (file : List ℕ) (result : Result Summary RecFault) → file ≡ seen_of Data new → RecoveryAnswers (seen_in old.now) new result → InRecovery old new
         → IfErr result (λ fault. (fault ≡ Device) ⊎ IsSettled (seen_in old.now) new)
         → GoesIdle (λ after. RecoverStep before (told (recovered_of result) file) after) new
@@ -146,19 +168,50 @@ module _ (before : History) (old : Story) (rests : Rests (ended before) old) (so
           rests = nothing_rests nothing (⊎_elim (λ device. absurd cc) (λ kept. kept) settled);
         }
     recover_goes file (Err Device) is answers run settled =
-        let first = at_end (BothLeft old.now) old run.found run.before in
-        record {
-          claims = claims_of before;
-          begun = was_begun before;
-          step = refl;
-          rests = ⊎_elim (λ same. same_rests new (subst (λ story. LeavesOnly (BothLeft old.now) story.now) (sym same) first)) (λ behind. rebuilt_rests run.found first behind.1) run.behind;
-        }
+        record { claims = claims_of before; begun = was_begun before; step = refl; rests = broken_rests run }
     recover_goes file (Err Damaged) is damaged run settled = absurd (not_damaged (claims_of before) (seen_in old.now) seen_fits.keeps damaged)
     recover_goes file (Err NotEmpty) is none run settled = absurd none
     recover_goes file (Err (Refused refusal)) is none run settled = absurd none
     recover_goes file (Err Full) is none run settled = absurd none
     recover_goes file (Err JournalFull) is none run settled = absurd none
     recover_goes file (Err Failed) is none run settled = absurd none
+
+    -- ---- a ride that is to go on, and is refused or broken off
+
+    -- what stays where a fault is told that is none of the device
+    kept_rests : (fault : RecFault) → (fault ≡ Device → ⊥) → (fault ≡ Device) ⊎ IsSettled (seen_in old.now) new → Rests (ended before) new
+    kept_rests fault other settled = settled_rests (⊎_elim (λ device. absurd (other device)) (λ kept. kept) settled)
+
+    pub reopen_goes : (fault : RecFault) → IsRefusedFor (seen_in old.now) fault → InRecovery old new
+        → (fault ≡ Device) ⊎ IsSettled (seen_in old.now) new → GoesIdle (ReopenStep before (Fault fault)) new
+    reopen_goes NothingRecorded nothing run settled =
+        record {
+          claims = no_claim ∷ [];
+          begun = was_begun before;
+          step = (nothing_there (claims_of before) (seen_in old.now) seen_fits.keeps nothing, refl);
+          rests = nothing_rests nothing (⊎_elim (λ device. absurd cc) (λ kept. kept) settled);
+        }
+    reopen_goes (Refused refusal) answers run settled =
+        let stopped = answers.1 in
+        rw answers.0 record {
+          claims = claims_of before;
+          begun = was_begun before;
+          step = (stopped.list, found stopped.list true stopped.stood stopped.stopped, refl);
+          rests = kept_rests (Refused refusal) (λ device. absurd cc) settled;
+        }
+    reopen_goes JournalFull full run settled =
+        record {
+          claims = claims_of before;
+          begun = was_begun before;
+          step = (full.list, found full.list false full.stood full.running, refl);
+          rests = kept_rests JournalFull (λ device. absurd cc) settled;
+        }
+    reopen_goes Device answers run settled =
+        record { claims = claims_of before; begun = was_begun before; step = refl; rests = broken_rests run }
+    reopen_goes Damaged damaged run settled = absurd (not_damaged (claims_of before) (seen_in old.now) seen_fits.keeps damaged)
+    reopen_goes NotEmpty none run settled = absurd none
+    reopen_goes Full none run settled = absurd none
+    reopen_goes Failed none run settled = absurd none
 
     -- ---- an erasing
 

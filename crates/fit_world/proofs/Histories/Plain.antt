@@ -53,18 +53,19 @@ not_refused same = absurd cc
 module _ (list : List Recorded) (promise : ℕ) where
   -- where the recording stands behind an entry
   abbrev with_entry : Entry → History
-  with_entry entry = Riding (list ++ Added entry ∷ []) promise false
+  with_entry entry = Riding (list ++ Added entry ∷ []) promise false false
 
-  commit_done : (told : Told) (after : History) (rest : List Command) (tolds : List Told) → CommitStep (Riding list promise false) told after →
+  commit_done : (told : Told) (after : History) (rest : List Command) (tolds : List Told) → CommitStep (Riding list promise false false) told after →
       MayFail nothing_arranged told → is_full told ≡ false → Tells after (arranged_after nothing_arranged commands.Commit told) rest tolds →
-      (Tells (Riding list (length list) false) nothing_arranged rest tolds → RodeWell list rest tolds) →
+      (Tells (Riding list (length list) false false) nothing_arranged rest tolds → RodeWell list rest tolds) →
       RodeWell list (commands.Commit ∷ rest) (told ∷ tolds)
   commit_done Done after rest tolds step may room tells goes = goes (subst (λ h. Tells h nothing_arranged rest tolds) step tells)
   commit_done (Fault faults.Device) after rest tolds step may room tells goes = no_failure may
+  commit_done (Fault faults.JournalFull) after rest tolds step may room tells goes = absurd (true≢false (sym step.0))
   commit_done told after rest tolds step may room tells goes = absurd step
 
   hand_done : (entry : Entry) (told : Told) (after : History) (rest : List Command) (tolds : List Told) (A : Told → Type 0) →
-      HandStep (Riding list promise false) entry told after → refusal_of list entry ≡ None → MayFail nothing_arranged told → is_full told ≡ false →
+      HandStep (Riding list promise false false) entry told after → refusal_of list entry ≡ None → MayFail nothing_arranged told → is_full told ≡ false →
       Tells after (arranged_after nothing_arranged (commands.Entry entry) told) rest tolds →
       (Tells (with_entry entry) nothing_arranged rest tolds → A Done) → A told
   hand_done entry Done after rest tolds A step allowed may room tells goes = goes (subst (λ h. Tells h nothing_arranged rest tolds) step.1 tells)
@@ -73,7 +74,7 @@ module _ (list : List Recorded) (promise : ℕ) where
   hand_done entry (Fault faults.Device) after rest tolds A step allowed may room tells goes = no_failure may
   hand_done entry told after rest tolds A step allowed may room tells goes = absurd step
 
-  stop_done : (time : ℕ) (told : Told) (after : History) (rest : List Command) (tolds : List Told) → StopStep (Riding list promise false) time told after →
+  stop_done : (time : ℕ) (told : Told) (after : History) (rest : List Command) (tolds : List Told) → StopStep (Riding list promise false false) time told after →
       refusal_of list (entries.Stop time) ≡ None → rest ≡ [] → MayFail nothing_arranged told →
       Tells after (arranged_after nothing_arranged (commands.Entry (entries.Stop time)) told) rest tolds →
       RodeWell list (commands.Entry (entries.Stop time) ∷ rest) (told ∷ tolds)
@@ -85,7 +86,7 @@ module _ (list : List Recorded) (promise : ℕ) where
   stop_done time told after rest tolds step allowed last may tells = absurd step
 
 rode_well : (list : List Recorded) (promise : ℕ) (commands : List Command) (tolds : List Told) → IsRide list commands →
-    Tells (Riding list promise false) nothing_arranged commands tolds → HasRoom tolds → RodeWell list commands tolds
+    Tells (Riding list promise false false) nothing_arranged commands tolds → HasRoom tolds → RodeWell list commands tolds
 rode_well list promise [] tolds ride tells room = absurd ride
 rode_well list promise (command ∷ rest) [] ride tells room = absurd tells
 rode_well list promise (commands.Commit ∷ rest) (told ∷ tolds) ride tells room =

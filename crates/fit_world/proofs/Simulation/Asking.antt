@@ -17,6 +17,7 @@ module _ (reply : Reply) (old new : Counts) (schedule new_schedule : Schedule) (
   asks commands.Commit fail cut power = ((counted, planned), refl, tt)
   asks commands.Restart fail cut power = ((counted, planned), refl, tt)
   asks commands.Recover fail cut power = ((counted, planned), refl, tt)
+  asks commands.Reopen fail cut power = ((counted, planned), refl, tt)
   asks commands.Erase fail cut power = ((counted, planned), refl, tt)
   asks (commands.Fail k) fail cut power = absurd (fail k refl)
   asks (commands.Cut k) fail cut power = absurd (cut k refl)

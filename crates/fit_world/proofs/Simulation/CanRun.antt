@@ -57,10 +57,11 @@ command_can (name ∷ arguments) =
     (either (bytes_eq name (codes "commit")) _ _ (alone_can commands.Commit arguments tt)
     (either (bytes_eq name (codes "restart")) _ _ (alone_can commands.Restart arguments tt)
     (either (bytes_eq name (codes "recover")) _ _ (alone_can commands.Recover arguments tt)
+    (either (bytes_eq name (codes "reopen")) _ _ (alone_can commands.Reopen arguments tt)
     (either (bytes_eq name (codes "erase")) _ _ (alone_can commands.Erase arguments tt)
     (either (bytes_eq name (codes "fail")) _ _ (counted (λ k. commands.Fail k) (only count arguments) (λ k from_one. from_one) (only_count arguments))
     (either (bytes_eq name (codes "cut")) _ _ (counted (λ k. commands.Cut k) (only count arguments) (λ k from_one. from_one) (only_count arguments))
-    (either (bytes_eq name (codes "power")) _ _ (alone_can commands.Power arguments tt) tt))))))))))))
+    (either (bytes_eq name (codes "power")) _ _ (alone_can commands.Power arguments tt) tt)))))))))))))
 
 event_some : (number : ℕ) (o : Option Command) → IfSome o CanRun →
     IfSome (option_map (λ command. record { line = number; command = command }) (option_flatten (option_map (λ (command : Command). Some command) o))) CanRunEvent

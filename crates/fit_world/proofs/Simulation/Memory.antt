@@ -11,12 +11,13 @@ use Rattle.fit_recorder.specs.Calls.OnMemory.{StandsAsBefore}
 use Rattle.fit_world.specs.declared.ride.Ride.TheVariants as rides
 use Rattle.fit_world.specs.Histories.Table.{History, Idle, Riding}
 use Rattle.fit_world.specs.Rides.Standing.{Rests, StandsIn}
+use Rattle.fit_world.proofs.Histories.Claims.{same_contents}
 
 -- no content and no promise is another: it stands where it stood
 pub same_stands : (old new : Recorder Memory) → StandsAsBefore old new → (history : History) →
     StandsIn true memory_story (rides.Riding old) history → StandsIn true memory_story (rides.Riding new) history
 same_stands old new same (Idle claims begun) stands = stands
-same_stands old new same (Riding list promise false) stands = record {
+same_stands old new same (Riding list promise reopened false) stands = record {
   committed = stands.committed;
   rest = stands.rest;
   begins = stands.begins;
@@ -24,16 +25,10 @@ same_stands old new same (Riding list promise false) stands = record {
   stands = same.stands list stands.committed stands.stands;
   going = same.failed ∙ stands.going;
   no_stop = stands.no_stop;
-  turns = ap slots_left same.slots ∙ stands.turns;
+  turns = λ anew. ap slots_left same.slots ∙ stands.turns anew;
 }
-same_stands old new same (Riding list promise true) stands =
-    (same.failed ∙ stands.0, subst (λ story. Rests (Riding list promise true) story) (sym same.story) stands.1)
-
-same_contents : (one other : Contents) → one.in_data ≡ other.in_data → one.in_journal ≡ other.in_journal → one ≡ other
-same_contents one other same_data same_journal =
-    let with_data : List ℕ → Contents = λ bytes. record { in_data = bytes; in_journal = one.in_journal } in
-    let with_journal : List ℕ → Contents = λ bytes. record { in_data = other.in_data; in_journal = bytes } in
-    ap with_data same_data ∙ ap with_journal same_journal
+same_stands old new same (Riding list promise reopened true) stands =
+    (same.failed ∙ stands.0, subst (λ story. Rests (Riding list promise reopened true) story) (sym same.story) stands.1)
 
 -- Both files are at rest behind a power cut: what a crash leaves of them is what reads give, and that the cut left.
 pub cut_rests : (P : Contents → Type 0) (choices : List ℕ) (old new : State) → new ≡ cycled choices old →

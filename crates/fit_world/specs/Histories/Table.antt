@@ -4,13 +4,14 @@ use Rattle.fit_grammar.specs.Format.File.{File}
 use Rattle.fit_activity.specs.declared.activity.Summary.{Summary}
 use Rattle.fit_activity.specs.declared.recording.entry.Entry.{Entry}
 use Rattle.fit_activity.specs.declared.recording.entry.Entry.TheVariants.{Stop}
+use Rattle.fit_activity.specs.declared.recording.refusal.Refusal.TheVariants as refusals
 use Rattle.fit_activity.specs.declared.recording.start.Start.{Start}
 use Rattle.fit_activity.specs.Files.Finished.{summary_of_list}
 use Rattle.fit_activity.specs.Rides.Recording.{Recorded, Started, Added}
-use Rattle.fit_activity.specs.Rides.Refusal.{Allowed, refusal_of, start_refusal}
+use Rattle.fit_activity.specs.Rides.Refusal.{Allowed, refusal_of, start_refusal, has_stopped}
 use Rattle.fit_activity.specs.Messages.RideMessages.{spoken, closing}
 use Rattle.fit_recorder.specs.declared.fault.RecFault.{RecFault}
-use Rattle.fit_recorder.specs.declared.fault.RecFault.TheVariants.{NotEmpty, Refused, Full, Device, Failed, NothingRecorded}
+use Rattle.fit_recorder.specs.declared.fault.RecFault.TheVariants.{NotEmpty, Refused, Full, JournalFull, Device, Failed, NothingRecorded}
 use Rattle.fit_world.specs.declared.command.Command.{Command}
 use Rattle.fit_world.specs.declared.command.Command.TheVariants as commands
 use Rattle.fit_world.specs.Histories.Claims.{Claim, claim_of, no_claim, whole, has_none, MayBe, with_start}
@@ -24,10 +25,11 @@ pub data Told : Type 0 where
   NoRecorder : Told
 
 -- Where a history stands: no recorder runs, these claims may be recorded, and whether a start was begun since the last
--- erasing; or one runs that was handed this list, of which so many entries are promised, and whether the device failed in it.
+-- erasing; or one runs that was handed this list, of which so many entries are promised, whether it was reopened, in a journal
+-- of either form, and whether the device failed in it.
 pub data History : Type 0 where
   Idle : List Claim → Bool → History
-  Riding : List Recorded → ℕ → Bool → History
+  Riding : List Recorded → ℕ → Bool → Bool → History
 
 -- nothing was done yet
 abbrev pub at_first : History
@@ -35,11 +37,11 @@ at_first = Idle (no_claim ∷ []) false
 
 abbrev pub claims_of : History → List Claim
 claims_of (Idle claims begun) = claims
-claims_of (Riding list promise failed) = claim_of list promise ∷ []
+claims_of (Riding list promise reopened failed) = claim_of list promise ∷ []
 
 abbrev pub was_begun : History → Bool
 was_begun (Idle claims begun) = begun
-was_begun (Riding list promise failed) = true
+was_begun (Riding list promise reopened failed) = true
 
 -- the recorder that runs, if one does, ends
 abbrev pub ended : History → History
@@ -52,7 +54,7 @@ IsFileOf file list = File file (spoken list ++ closing list)
 -- ---- from before, this may be answered, and then the history stands there
 
 abbrev pub StartStep : History → Start → Told → History → Type 0
-StartStep before start Done after = IsTrue (has_none (claims_of before)) × (start_refusal start ≡ None) × (after ≡ Riding (Started start ∷ []) 1 false)
+StartStep before start Done after = IsTrue (has_none (claims_of before)) × (start_refusal start ≡ None) × (after ≡ Riding (Started start ∷ []) 1 false false)
 StartStep before start (Fault (Refused refusal)) after = (start_refusal start ≡ Some refusal) × (after ≡ ended before)
 StartStep before start (Fault NotEmpty) after = (start_refusal start ≡ None) × (was_begun before ≡ true) × (after ≡ ended before)
 StartStep before start (Fault Device) after = (start_refusal start ≡ None) × (after ≡ Idle (with_start start (claims_of before)) true)
@@ -61,32 +63,33 @@ StartStep before start _ after = ⊥
 -- to an entry that is no stop
 abbrev pub HandStep : History → Entry → Told → History → Type 0
 HandStep (Idle claims begun) entry NoRecorder after = after ≡ Idle claims begun
-HandStep (Riding list promise false) entry Done after =
-    Allowed (list ++ Added entry ∷ []) × (after ≡ Riding (list ++ Added entry ∷ []) promise false)
-HandStep (Riding list promise false) entry (Fault (Refused refusal)) after =
-    (refusal_of list entry ≡ Some refusal) × (after ≡ Riding list promise false)
-HandStep (Riding list promise false) entry (Fault Full) after = (refusal_of list entry ≡ None) × (after ≡ Riding list promise false)
-HandStep (Riding list promise false) entry (Fault Device) after = (refusal_of list entry ≡ None) × (after ≡ Riding list promise true)
-HandStep (Riding list promise true) entry (Fault Failed) after = after ≡ Riding list promise true
+HandStep (Riding list promise reopened false) entry Done after =
+    Allowed (list ++ Added entry ∷ []) × (after ≡ Riding (list ++ Added entry ∷ []) promise reopened false)
+HandStep (Riding list promise reopened false) entry (Fault (Refused refusal)) after =
+    (refusal_of list entry ≡ Some refusal) × (after ≡ Riding list promise reopened false)
+HandStep (Riding list promise reopened false) entry (Fault Full) after = (refusal_of list entry ≡ None) × (after ≡ Riding list promise reopened false)
+HandStep (Riding list promise reopened false) entry (Fault Device) after = (refusal_of list entry ≡ None) × (after ≡ Riding list promise reopened true)
+HandStep (Riding list promise reopened true) entry (Fault Failed) after = after ≡ Riding list promise reopened true
 HandStep before entry _ after = ⊥
 
 abbrev pub CommitStep : History → Told → History → Type 0
 CommitStep (Idle claims begun) NoRecorder after = after ≡ Idle claims begun
-CommitStep (Riding list promise false) Done after = after ≡ Riding list (length list) false
-CommitStep (Riding list promise false) (Fault Device) after = after ≡ Riding list promise true
-CommitStep (Riding list promise true) (Fault Failed) after = after ≡ Riding list promise true
+CommitStep (Riding list promise reopened false) Done after = after ≡ Riding list (length list) reopened false
+CommitStep (Riding list promise reopened false) (Fault JournalFull) after = IsTrue reopened × (after ≡ Riding list promise reopened false)
+CommitStep (Riding list promise reopened false) (Fault Device) after = after ≡ Riding list promise reopened true
+CommitStep (Riding list promise reopened true) (Fault Failed) after = after ≡ Riding list promise reopened true
 CommitStep before _ after = ⊥
 
 abbrev pub StopStep : History → ℕ → Told → History → Type 0
 StopStep (Idle claims begun) time NoRecorder after = after ≡ Idle claims begun
-StopStep (Riding list promise false) time (Stopped file) after =
+StopStep (Riding list promise reopened false) time (Stopped file) after =
     Allowed (list ++ Added (Stop time) ∷ []) × IsFileOf file (list ++ Added (Stop time) ∷ [])
     × (after ≡ Idle (whole (list ++ Added (Stop time) ∷ []) ∷ []) true)
-StopStep (Riding list promise false) time (Fault (Refused refusal)) after =
-    (refusal_of list (Stop time) ≡ Some refusal) × (after ≡ Riding list promise false)
-StopStep (Riding list promise false) time (Fault Device) after =
-    (refusal_of list (Stop time) ≡ None) × (after ≡ Riding (list ++ Added (Stop time) ∷ []) promise true)
-StopStep (Riding list promise true) time (Fault Failed) after = after ≡ Riding list promise true
+StopStep (Riding list promise reopened false) time (Fault (Refused refusal)) after =
+    (refusal_of list (Stop time) ≡ Some refusal) × (after ≡ Riding list promise reopened false)
+StopStep (Riding list promise reopened false) time (Fault Device) after =
+    (refusal_of list (Stop time) ≡ None) × (after ≡ Riding (list ++ Added (Stop time) ∷ []) promise reopened true)
+StopStep (Riding list promise reopened true) time (Fault Failed) after = after ≡ Riding list promise reopened true
 StopStep before time _ after = ⊥
 
 -- a recovery found this list, with its summary, and the file is its
@@ -105,6 +108,21 @@ RecoverStep before (Fault NothingRecorded) after =
 RecoverStep before (Fault Device) after = after ≡ ended before
 RecoverStep before _ after = ⊥
 
+-- this list is found, with a stop at its end or with none
+pub record Finds (before : History) (list : List Recorded) (stopped : Bool) : Type 0 where
+  pub may_be : MayBe (claims_of before) list
+  pub some : list ≢ []
+  pub stops : has_stopped list ≡ stopped
+
+abbrev pub ReopenStep : History → Told → History → Type 0
+ReopenStep before Done after = (list : List Recorded) × Finds before list false × (after ≡ Riding list (length list) true false)
+ReopenStep before (Fault (Refused refusals.Stopped)) after = (list : List Recorded) × Finds before list true × (after ≡ ended before)
+ReopenStep before (Fault NothingRecorded) after =
+    IsTrue (has_none (claims_of before)) × (after ≡ Idle (no_claim ∷ []) (was_begun before))
+ReopenStep before (Fault JournalFull) after = (list : List Recorded) × Finds before list false × (after ≡ ended before)
+ReopenStep before (Fault Device) after = after ≡ ended before
+ReopenStep before _ after = ⊥
+
 abbrev pub EraseStep : History → Told → History → Type 0
 EraseStep before Done after = after ≡ Idle (no_claim ∷ []) false
 EraseStep before (Fault Device) after = after ≡ Idle (no_claim ∷ claims_of before) (was_begun before)
@@ -119,6 +137,7 @@ Step before (commands.Start start) told after = StartStep before start told afte
 Step before (commands.Entry entry) told after = EntryStep before entry told after
 Step before commands.Commit told after = CommitStep before told after
 Step before commands.Recover told after = RecoverStep before told after
+Step before commands.Reopen told after = ReopenStep before told after
 Step before commands.Erase told after = EraseStep before told after
 Step before commands.Restart told after = (told ≡ Done) × (after ≡ ended before)
 Step before commands.Power told after = (told ≡ Done) × (after ≡ ended before)

@@ -7,6 +7,7 @@ use Rattle.fit_activity.specs.Rides.Refusal.{start_refusal}
 use Rattle.fit_recorder.specs.declared.fault.RecFault.{RecFault}
 use Rattle.fit_recorder.specs.declared.fault.RecFault.TheVariants.{Device, NothingRecorded, Damaged}
 use Rattle.fit_recorder.specs.Calls.Answers.{StartAnswers}
+use Rattle.fit_recorder.specs.Calls.Resume.{IsResumeFault}
 use Rattle.fit_world.specs.declared.reply.Reply.{Reply}
 use Rattle.fit_world.specs.declared.reply.Reply.TheVariants.{Done, Stopped, Recovered, Refused, NoRecorder}
 use Rattle.fit_world.specs.declared.command.Command.{Command}
@@ -50,6 +51,12 @@ RepliesRecovery (Refused NothingRecorded) = Unit {0}
 RepliesRecovery (Refused Damaged) = Unit {0}
 RepliesRecovery _ = ⊥
 
+-- to a ride that is to go on
+abbrev pub RepliesReopening : Reply → Type 0
+RepliesReopening Done = Unit {0}
+RepliesReopening (Refused fault) = IsResumeFault fault
+RepliesReopening _ = ⊥
+
 -- to an erasing
 abbrev pub RepliesErasing : Reply → Type 0
 RepliesErasing Done = Unit {0}
@@ -65,6 +72,7 @@ MayReply riding (commands.Entry entry) reply = (reply ≡ NoRecorder) ↔ (ridin
 MayReply riding commands.Commit reply = (reply ≡ NoRecorder) ↔ (riding ≡ false)
 MayReply riding commands.Restart reply = reply ≡ Done
 MayReply riding commands.Recover reply = RepliesRecovery reply
+MayReply riding commands.Reopen reply = RepliesReopening reply
 MayReply riding commands.Erase reply = RepliesErasing reply
 MayReply riding _ reply = ⊥
 
@@ -78,6 +86,7 @@ abbrev pub rides_on : Bool → Command → Reply → Bool
 rides_on riding (commands.Start start) reply = is_ok reply
 rides_on riding (commands.Entry entry) reply = if is_stop (Added entry) then outlives_stop riding reply else riding
 rides_on riding commands.Commit reply = riding
+rides_on riding commands.Reopen reply = is_ok reply
 rides_on riding _ reply = false
 
 -- each of these may be replied to the event at its place, where a recorder runs before them or none does

@@ -65,7 +65,9 @@ module _ {D : Type 0} where
   RidesOnWith ride list commands.Commit next = Handed next list × (slots_of next ≡ committed_slots (slots_of ride) (said_len ride))
   RidesOnWith ride list _ next = Unit {0}
 
-  -- where a start was ok: the recorder was handed the start alone, in the first of two slots that take turns
+  -- Where a start was ok: the recorder was handed the start alone, in the first of two slots that take turns; and where a ride
+  -- goes on: some list.
   abbrev pub HasBegun : Command → Ride D → Type 0
   HasBegun (commands.Start start) next = Handed next (Started start ∷ []) × (slots_of next ≡ InTurns (Some (said_len next)) None)
+  HasBegun commands.Reopen next = (list : List Recorded) × Handed next list
   HasBegun _ next = Unit {0}

@@ -54,8 +54,9 @@ module _ {D : Type 0} where
   content_of story (rides.Idle disk) = seen_of Data (story disk)
   content_of story (rides.Riding recorder) = []
 
-  -- the recorder was handed this list, in which no stop is, and so many of its entries are committed, in slots that take turns
-  pub record RidesOn (honest : Bool) (story : D → Story) (recorder : Recorder D) (list : List Recorded) (promise : ℕ) : Type 0 where
+  -- The recorder was handed this list, in which no stop is, and so many of its entries are committed; unless it was reopened, in
+  -- slots that take turns.
+  pub record RidesOn (honest : Bool) (story : D → Story) (recorder : Recorder D) (list : List Recorded) (promise : ℕ) (reopened : Bool) : Type 0 where
     pub committed : List Recorded
     pub rest : List Recorded
     pub begins : list ≡ committed ++ rest
@@ -63,14 +64,14 @@ module _ {D : Type 0} where
     pub stands : StandsAt honest story recorder list committed
     pub going : has_failed recorder ≡ false
     pub no_stop : has_stopped list ≡ false
-    pub turns : slots_left (journal_slots recorder) ≡ None
+    pub turns : reopened ≡ false → slots_left (journal_slots recorder) ≡ None
 
   abbrev pub StandsIn : Bool → (D → Story) → Ride D → History → Type 0
   StandsIn honest story (rides.Idle disk) (Idle claims begun) = Rests (Idle claims begun) (story disk)
-  StandsIn honest story (rides.Riding recorder) (Riding list promise false) = RidesOn honest story recorder list promise
-  StandsIn honest story (rides.Riding recorder) (Riding list promise true) =
-      (has_failed recorder ≡ true) × Rests (Riding list promise true) (story (disk_of recorder))
-  StandsIn honest story (rides.Idle disk) (Riding list promise failed) = ⊥
+  StandsIn honest story (rides.Riding recorder) (Riding list promise reopened false) = RidesOn honest story recorder list promise reopened
+  StandsIn honest story (rides.Riding recorder) (Riding list promise reopened true) =
+      (has_failed recorder ≡ true) × Rests (Riding list promise reopened true) (story (disk_of recorder))
+  StandsIn honest story (rides.Idle disk) (Riding list promise reopened failed) = ⊥
   StandsIn honest story (rides.Riding recorder) (Idle claims begun) = ⊥
 
   -- the reply is one that may come to the command, and the ride stands where the history does then

@@ -73,6 +73,7 @@ command_of (name ∷ arguments) =
     else if bytes_eq name (codes "commit") then alone commands.Commit arguments
     else if bytes_eq name (codes "restart") then alone commands.Restart arguments
     else if bytes_eq name (codes "recover") then alone commands.Recover arguments
+    else if bytes_eq name (codes "reopen") then alone commands.Reopen arguments
     else if bytes_eq name (codes "erase") then alone commands.Erase arguments
     else if bytes_eq name (codes "fail") then option_map (λ k. commands.Fail k) (only count arguments)
     else if bytes_eq name (codes "cut") then option_map (λ k. commands.Cut k) (only count arguments)

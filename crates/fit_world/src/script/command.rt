@@ -36,6 +36,8 @@ pub fn command_of(words: &[&[u8]]) -> Result<Command, ScriptFaultKind>
         alone(Command::Restart, arguments)
     } else if *name == b"recover".as_slice() {
         alone(Command::Recover, arguments)
+    } else if *name == b"reopen".as_slice() {
+        alone(Command::Reopen, arguments)
     } else if *name == b"erase".as_slice() {
         alone(Command::Erase, arguments)
     } else if *name == b"fail".as_slice() {
