@@ -164,8 +164,8 @@ impl<D: Disk> Ride<D> {
         ensures planned { (D.log (disk_in result.0)).schedule ≡ (D.log (disk_in self)).schedule }
     {
         match resume(self.into_disk()) {
-            Ok(recorder) => (Ride::Riding(recorder), Reply::Done),
-            Err((disk, fault)) => (Ride::Idle(disk), Reply::Refused(fault)),
+            Ok(resumed) => (Ride::Riding(resumed), Reply::Done),
+            Err((kept, fault)) => (Ride::Idle(kept), Reply::Refused(fault)),
         }
     }
 

@@ -25,8 +25,8 @@ pub data Told : Type 0 where
   NoRecorder : Told
 
 -- Where a history stands: no recorder runs, these claims may be recorded, and whether a start was begun since the last
--- erasing; or one runs that was handed this list, of which so many entries are promised, whether it was reopened, in a journal
--- of either form, and whether the device failed in it.
+-- erasing; or one runs that was handed this list, of which so many entries are promised, whether it was reopened, and whether
+-- the device failed in it.
 pub data History : Type 0 where
   Idle : List Claim → Bool → History
   Riding : List Recorded → ℕ → Bool → Bool → History
@@ -54,7 +54,8 @@ IsFileOf file list = File file (spoken list ++ closing list)
 -- ---- from before, this may be answered, and then the history stands there
 
 abbrev pub StartStep : History → Start → Told → History → Type 0
-StartStep before start Done after = IsTrue (has_none (claims_of before)) × (start_refusal start ≡ None) × (after ≡ Riding (Started start ∷ []) 1 false false)
+StartStep before start Done after =
+    IsTrue (has_none (claims_of before)) × (start_refusal start ≡ None) × (after ≡ Riding (Started start ∷ []) 1 false false)
 StartStep before start (Fault (Refused refusal)) after = (start_refusal start ≡ Some refusal) × (after ≡ ended before)
 StartStep before start (Fault NotEmpty) after = (start_refusal start ≡ None) × (was_begun before ≡ true) × (after ≡ ended before)
 StartStep before start (Fault Device) after = (start_refusal start ≡ None) × (after ≡ Idle (with_start start (claims_of before)) true)
@@ -67,11 +68,14 @@ HandStep (Riding list promise reopened false) entry Done after =
     Allowed (list ++ Added entry ∷ []) × (after ≡ Riding (list ++ Added entry ∷ []) promise reopened false)
 HandStep (Riding list promise reopened false) entry (Fault (Refused refusal)) after =
     (refusal_of list entry ≡ Some refusal) × (after ≡ Riding list promise reopened false)
-HandStep (Riding list promise reopened false) entry (Fault Full) after = (refusal_of list entry ≡ None) × (after ≡ Riding list promise reopened false)
-HandStep (Riding list promise reopened false) entry (Fault Device) after = (refusal_of list entry ≡ None) × (after ≡ Riding list promise reopened true)
+HandStep (Riding list promise reopened false) entry (Fault Full) after =
+    (refusal_of list entry ≡ None) × (after ≡ Riding list promise reopened false)
+HandStep (Riding list promise reopened false) entry (Fault Device) after =
+    (refusal_of list entry ≡ None) × (after ≡ Riding list promise reopened true)
 HandStep (Riding list promise reopened true) entry (Fault Failed) after = after ≡ Riding list promise reopened true
 HandStep before entry _ after = ⊥
 
+-- only a ride that was reopened has a journal that fills, where an older program began it
 abbrev pub CommitStep : History → Told → History → Type 0
 CommitStep (Idle claims begun) NoRecorder after = after ≡ Idle claims begun
 CommitStep (Riding list promise reopened false) Done after = after ≡ Riding list (length list) reopened false

@@ -5,7 +5,7 @@ use Rattle.fit_world.proofs.ride.Ride.reopen.Goals as goal
 pub returns-in-Ok-clause-step : goal.returns-in-Ok-clause-step
 returns-in-Ok-clause-step g c honest before stands =
     reopened_goes g.D.Disk.honest g.D.Disk.story before (g.D.Disk.story c.into_disk.result) (c.into_disk.ensures.rests honest before stands) (g.met.D.Disk.sound c.into_disk.result honest)
-    c.in-Ok.recorder (c.in-Ok.ensures.decides honest)
+    c.in-Ok.resumed (c.in-Ok.ensures.decides honest)
 
 pub returns-in-Err-clause-step : goal.returns-in-Err-clause-step
 returns-in-Err-clause-step g c honest before stands =
