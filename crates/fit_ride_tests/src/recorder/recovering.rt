@@ -16,10 +16,14 @@ use std::process::Abort;
 use std::test::Fail;
 
 // A field's number, and its one valid value.
-type Told = (u8, Option<u64>);
+pub(super) type Told = (u8, Option<u64>);
 
 // The global number of the message at a place of a file, and what its fields tell.
-fn told_at(rt: &HostRuntime, file: &File, place: usize) -> Result<(Option<u16>, Vec<Told>), Fail> {
+pub(super) fn told_at(
+    rt: &HostRuntime,
+    file: &File,
+    place: usize,
+) -> Result<(Option<u16>, Vec<Told>), Fail> {
     let mut told = Vec::new(rt.alloc());
     let mut left = place;
     for message in file.messages() {
@@ -257,7 +261,7 @@ fn a_stopped_recording_is_finished(rt: HostRuntime) -> Result<(), Fail> {
 
 // A recording spelled in another way: other local numbers, high byte first, noise in bits and bytes that say nothing, a
 // definition that is never used, and compressed timestamps.
-const OTHER_SPELLING: [u8; 216] = [
+pub(super) const OTHER_SPELLING: [u8; 216] = [
     // A definition of no message.
     0x53, 0xA7, 0x01, 0x00, 0x14, 0x01, 0xFD, 0x04, 0x86, // The start: its file_id,
     0x5C, 0x00, 0x01, 0x00, 0x00, 0x05, 0x00, 0x01, 0x00, 0x01, 0x02, 0x84, 0x02, 0x02, 0x84, 0x03,
