@@ -11,7 +11,7 @@ use Rattle.fit_activity.specs.Messages.RideMessages.{spoken, closing}
 use Rattle.fit_disk.specs.declared.disk.Which.TheVariants.{Data}
 use Rattle.fit_disk.specs.Calls.{IsSound}
 use Rattle.fit_disk.specs.Stored.{at_rest}
-use Rattle.fit_disk.specs.State.{BothLeft, LeavesOnly, seen_in}
+use Rattle.fit_disk.specs.State.{Contents, BothLeft, LeavesOnly, seen_in}
 use Rattle.fit_disk.specs.Story.{Story, Throughout, seen_of}
 use Rattle.fit_disk.proofs.Leaving.{rest_left}
 use Rattle.fit_disk.proofs.Moments.{at_end}
@@ -61,7 +61,7 @@ module _ (before : History) (old : Story) (rests : Rests (ended before) old) (so
   begun_by : (list : List Recorded) → StandsFor list (seen_in old.now) → was_begun before ≡ false → ⊥
   begun_by list stands unbegun = not_nothing list (seen_in old.now) stands (inl (seen_fits.empty unbegun))
 
-  -- and that list is found
+  -- a list for which they stand is found
   pub found : (list : List Recorded) (stopped : Bool) → StandsFor list (seen_in old.now) → has_stopped list ≡ stopped → Finds before list stopped
   found list stopped stands stops = record {
     may_be = list_there (claims_of before) (seen_in old.now) list seen_fits.keeps stands;
@@ -114,11 +114,19 @@ module _ (before : History) (old : Story) (rests : Rests (ended before) old) (so
   -- ---- a recovery
 
   module _ (new : Story) where
+    -- what is left of files that are kept is what reads gave
+    left_seen : (contents : Contents) → IsSettled (seen_in old.now) new → BothLeft new.now contents → contents ≡ seen_in old.now
+    left_seen contents settled left =
+        same_contents contents (seen_in old.now) (rest_left new.now.data_file _ contents.in_data settled.data_rests left.data_left)
+        (rest_left new.now.journal_file _ contents.in_journal settled.journal_rests left.journal_left)
+
     nothing_rests : IsNothing (seen_in old.now) → IsSettled (seen_in old.now) new → Rests (Idle (no_claim ∷ []) (was_begun before)) new
     nothing_rests nothing settled contents left =
-        let in_data = rest_left new.now.data_file _ contents.in_data settled.data_rests left.data_left in
-        let in_journal = rest_left new.now.journal_file _ contents.in_journal settled.journal_rests left.journal_left in
-        record { keeps = keeps_none [] contents (rw (in_data, in_journal) nothing); empty = λ unbegun. in_data ∙ seen_fits.empty unbegun }
+        let same = left_seen contents settled left in
+        record {
+          keeps = keeps_none [] contents (subst IsNothing (sym same) nothing);
+          empty = λ unbegun. ap (λ (contents : Contents). contents.in_data) same ∙ seen_fits.empty unbegun;
+        }
 
     rebuilt_rests : (found : Story) → LeavesOnly (BothLeft old.now) found.now → Rebuilds (seen_in old.now) found new → Rests (ended before) new
     rebuilt_rests found first (unchanged same) contents left = same_rests new (subst (λ story. LeavesOnly (BothLeft old.now) story.now) (sym same) first) contents left
@@ -131,10 +139,7 @@ module _ (before : History) (old : Story) (rests : Rests (ended before) old) (so
         }
 
     settled_rests : IsSettled (seen_in old.now) new → Rests (ended before) new
-    settled_rests settled contents left =
-        let in_data = rest_left new.now.data_file _ contents.in_data settled.data_rests left.data_left in
-        let in_journal = rest_left new.now.journal_file _ contents.in_journal settled.journal_rests left.journal_left in
-        subst (Fits (ended before)) (sym (same_contents contents (seen_in old.now) in_data in_journal)) seen_fits
+    settled_rests settled contents left = subst (Fits (ended before)) (sym (left_seen contents settled left)) seen_fits
 
     -- one that was broken off
     broken_rests : InRecovery old new → Rests (ended before) new
