@@ -27,7 +27,6 @@ pub enum BaseType {
 
 impl BaseType {
     ghost use Rattle.fit_base.specs.Base.{row_of, base_type, has_sign};
-    ghost use Rattle.fit_base.specs.Value.{IsValueSize};
 
     /// The type that a definition's base type byte names. None where the protocol has no such
     /// type: a field of such a byte is carried raw.
@@ -60,8 +59,7 @@ impl BaseType {
 
     /// The number of bytes of one value.
     pub fn size(self) -> usize
-        ensures row { result ≡ (row_of self).size }
-        ensures known { IsValueSize result }
+        ensures { result ≡ (row_of self).size }
     {
         match self {
             BaseType::Enum

@@ -1,7 +1,6 @@
 // A field of a data message, as its bytes are read.
 
-ghost use Rattle.std.specs.Prelude.{◌≡◌, ◌^◌, ◌/◌, ◌%◌, ◌<◌, ◌↔◌, ◌==◌, IsTrue, IsSome, IfSome, IsUtf8, position};
-ghost use Rattle.fit_base.specs.Value.{IsValueSize};
+ghost use Rattle.std.specs.Prelude.{◌≡◌, ◌^◌, ◌<◌, ◌↔◌, ◌==◌, IsTrue, IsSome, IfSome, IsUtf8, position};
 
 use crate::base::BaseType;
 use crate::number::{number_of, with_sign};
@@ -81,7 +80,7 @@ impl<'a> FieldValue<'a> {
         ensures { result ≡ is_raw self.now }
     {
         match self.known {
-            Some(base) => !is_whole(self.bytes.len(), base.size()),
+            Some(base) => self.bytes.len() % base.size() != 0,
             None => true,
         }
     }
@@ -91,7 +90,7 @@ impl<'a> FieldValue<'a> {
         ensures { result ≡ count_of self.now }
     {
         match self.known {
-            Some(base) if !self.is_raw() => values_in(self.bytes.len(), base.size()),
+            Some(base) if !self.is_raw() => self.bytes.len() / base.size(),
             _ => 0,
         }
     }
@@ -157,34 +156,6 @@ impl<'a> FieldValue<'a> {
             Some(end) => &self.bytes[..end],
             None => self.bytes,
         }
-    }
-}
-
-// Whether so many bytes are whole values of this size. By cases, since a division by a number that is known is a shift.
-#[inline]
-fn is_whole(len: usize, size: usize) -> bool
-    requires { IsValueSize size }
-    ensures { result ≡ (len % size == 0) }
-{
-    match size {
-        1 => true,
-        2 => len % 2 == 0,
-        4 => len % 4 == 0,
-        _ => len % 8 == 0,
-    }
-}
-
-// How many whole values of this size so many bytes have.
-#[inline]
-fn values_in(len: usize, size: usize) -> usize
-    requires { IsValueSize size }
-    ensures { result ≡ len / size }
-{
-    match size {
-        1 => len,
-        2 => len / 2,
-        4 => len / 4,
-        _ => len / 8,
     }
 }
 
