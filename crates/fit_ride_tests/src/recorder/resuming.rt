@@ -81,12 +81,7 @@ fn a_ride_goes_on_behind_what_was_committed(rt: HostRuntime) -> Result<(), Fail>
         told.get(12..14),
         Some([(16, Some(105)), (17, Some(110))].as_slice())
     );
-    refuses(
-        &rt,
-        rt.alloc(),
-        disk,
-        RecFault::Refused(Refusal::Stopped),
-    )
+    refuses(&rt, rt.alloc(), disk, RecFault::Refused(Refusal::Stopped))
 }
 
 #[test]
@@ -161,11 +156,7 @@ fn row_of(rt: &HostRuntime, slots: usize) -> Result<Vec<u8>, Fail> {
 #[test]
 fn a_row_of_slots_goes_on_while_one_is_left(rt: HostRuntime) -> Result<(), Fail> {
     let disk = committed(&rt)?;
-    let older = copy_of(
-        rt.alloc(),
-        disk.content(Which::Data),
-        &row_of(&rt, 4095)?,
-    )?;
+    let older = copy_of(rt.alloc(), disk.content(Which::Data), &row_of(&rt, 4095)?)?;
     let mut recorder = resumed(older)?;
     assert_eq!(rt; recorder.commit(), Err(RecFault::JournalFull));
     recorder.hand(&heart_rate(TIME + 3, 120))?;
@@ -179,11 +170,7 @@ fn a_row_of_slots_goes_on_while_one_is_left(rt: HostRuntime) -> Result<(), Fail>
         ..SHORT_RIDE
     };
     assert_eq!(rt; check_activity(&file), Ok(summary));
-    let full = copy_of(
-        rt.alloc(),
-        disk.content(Which::Data),
-        &row_of(&rt, 4096)?,
-    )?;
+    let full = copy_of(rt.alloc(), disk.content(Which::Data), &row_of(&rt, 4096)?)?;
     refuses(&rt, rt.alloc(), full, RecFault::JournalFull)
 }
 
@@ -293,7 +280,10 @@ fn power_cuts_leave_what_was_committed_before_or_behind(rt: HostRuntime) -> Resu
             let (mut disk, is_committed) = goes_on_until(committed(&rt)?, k);
             disk.cycle(&[choice; 256]);
             let summary = recover(&mut disk)?;
-            assert!(rt; summary == longer || (!is_committed && summary == SHORT_RIDE), "call {k}");
+            assert!(rt;
+                summary == longer || (!is_committed && summary == SHORT_RIDE),
+                "call {k}"
+            );
             assert!(rt; k > RESUME_CALLS || summary == SHORT_RIDE, "call {k}");
             assert!(rt; k <= RESUME_AND_COMMIT_CALLS || is_committed, "call {k}");
         }
