@@ -1,4 +1,4 @@
-"""Rides that are replayed, stopped or cut off, and repaired, held against the second reader and against gpsbabel where it
+"""Rides that are replayed, stopped or cut off, repaired and gone on with, held against the second reader and against gpsbabel where it
 is there; and replays whose disk is full, whose files may not grow, whose output is full or closed and whose memory is
 little."""
 
@@ -283,6 +283,56 @@ def of_greatest_speeds(fitrec):
             yield "greatest speeds: of each lap and of the ride", differs(re.findall(r" max_speed=(\S+)", shown), want)
 
 
+def told_rates(rates):
+    """How a summary tells the average and the greatest of some heart rates."""
+    return (str(sum(rates) // len(rates)), str(max(rates))) if rates else ("-", "-")
+
+
+def of_rides_that_go_on(fitrec):
+    """Rides taken by chance that go on in later replays, some of them behind a repair: what was committed before each is there, and
+    nothing else of what was handed in before it."""
+    chance = random.Random(1)
+    for _ in range(40):
+        # The heart rates of each lap.
+        second, laps = 1000000000, [[]]
+        with tempfile.TemporaryDirectory() as folder, tempfile.NamedTemporaryFile("w") as script:
+            for part in range(chance.randrange(1, 6)):
+                lines, handed = ["reopen" if part else "start 1000000000 7 running"], [list(lap) for lap in laps]
+                for _ in range(chance.randrange(40)):
+                    second += chance.randrange(40)
+                    drawn = chance.random()
+                    if drawn < 0.2:
+                        lines.append("commit")
+                        laps = [list(lap) for lap in handed]
+                    elif drawn < 0.3:
+                        lines.append(f"lap {second}")
+                        handed.append([])
+                    else:
+                        handed[-1].append(chance.randrange(60, 200))
+                        lines.append(f"sample {second} hr={handed[-1][-1]}")
+                script.seek(0)
+                script.truncate()
+                script.write("\n".join(lines))
+                script.flush()
+                yield "rides that go on: recorded", differs(run(fitrec, "replay", script.name, folder)[::2], (0, ""))
+                if chance.random() < 0.3:
+                    yield "rides that go on: repaired", differs(run(fitrec, "repair", folder)[0], 0)
+            script.seek(0)
+            script.truncate()
+            script.write(f"reopen\nstop {second}")
+            script.flush()
+            yield "rides that go on: stopped", differs(run(fitrec, "replay", script.name, folder), (0, "1 reopen: ok\n2 stop: ok\n", ""))
+            file, elapsed = pathlib.Path(folder) / "activity.fit", (second - 1000000000) * 1000
+            line = (f"ok records={len(sum(laps, []))} laps={len(laps)} sessions=1 start=1000000000 elapsed_ms={elapsed} "
+                    f"timer_ms={elapsed} distance_cm=-\n")
+            yield "rides that go on: checked", differs(run(fitrec, "check", file), (0, line, ""))
+            shown = run(fitrec, "show", file)
+            yield "rides that go on: shown", differs(shown, (0, reader.show(file.read_bytes()), ""))
+            want = [told_rates(rates) for rates in laps] + [told_rates(sum(laps, []))]
+            told = re.findall(r" avg_heart_rate=(\S+) max_heart_rate=(\S+)", shown[1])
+            yield "rides that go on: of each lap and of the ride", differs(told, want)
+
+
 def of_longer_fields(fitrec):
     """A sample with the longer fields for speed and altitude alone, as gpsbabel reads it: 6 m/s, and 32 m, which are 2,660 fifths
     above -500 m. It keeps a speed in two bytes."""
@@ -322,6 +372,7 @@ def of_compressed_times(fitrec):
 
 def check(fitrec):
     yield from rides(fitrec)
+    yield from of_rides_that_go_on(fitrec)
     yield from of_greatest_speeds(fitrec)
     yield from of_longer_fields(fitrec)
     yield from of_compressed_times(fitrec)
