@@ -1,6 +1,6 @@
 // Definition messages.
 
-ghost use Rattle.std.specs.Prelude.{◌≡◌, ◌<◌};
+ghost use Rattle.std.specs.Prelude.{◌≡◌, ◌<◌, ◌≤◌};
 
 pub(crate) mod kept;
 pub(crate) mod latest;
@@ -33,6 +33,27 @@ impl FieldDefinition {
     }
 }
 
+/// A developer field as a definition gives it: its number, how many bytes it has, and the index of its developer data. Three
+/// bytes in a definition message.
+#[derive(Clone, Copy, Debug, Default, PartialEq, Eq)]
+pub struct DeveloperFieldDefinition {
+    pub number: u8,
+    pub size: u8,
+    pub index: u8,
+}
+
+impl DeveloperFieldDefinition {
+    ghost use Rattle.fit_grammar.specs.Calls.Possible.{DeveloperFieldFits};
+
+    // The same field, whose numbers fit into their bytes, as its type says.
+    pub(crate) fn in_bytes(self) -> DeveloperFieldDefinition
+        ensures same { result ≡ self }
+        ensures fits { DeveloperFieldFits result }
+    {
+        self
+    }
+}
+
 /// A definition message: how the data messages with its local number are laid out, until the next
 /// definition of that local number.
 #[derive(Debug, Drop)]
@@ -44,4 +65,23 @@ pub struct Definition {
     /// The global message number of the profile.
     pub global: u16,
     pub fields: ArrayVec<FieldDefinition, 255>,
+    /// The fields of data that an application on the device defines. Their bytes stand behind those of the others.
+    pub developer: ArrayVec<DeveloperFieldDefinition, 255>,
+}
+
+impl Definition {
+    ghost use Rattle.fit_grammar.specs.Format.Item.{Defines, item_size};
+
+    // How many bytes it is written as.
+    pub(crate) fn size(&self) -> usize
+        ensures size { result ≡ item_size (Defines self.now) }
+        ensures bound { result ≤ 1537 }
+    {
+        let size = 6 + 3 * self.fields.len();
+        if self.developer.is_empty() {
+            size
+        } else {
+            size + 1 + 3 * self.developer.len()
+        }
+    }
 }

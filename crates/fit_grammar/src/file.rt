@@ -140,7 +140,7 @@ impl File {
         ensures too_long { IsErrOf result PutFault.TooLong ↔ IsTooLong self.old (Defines d.now) }
         ensures memory { IfErr result (λ fault. (fault ≡ PutFault.TooLong) ⊎ (fault ≡ PutFault.Memory)) }
     {
-        if 6 + 3 * d.fields.len() > self.room() {
+        if d.size() > self.room() {
             return Err(PutFault::TooLong);
         }
         self.push_definition(d)?;

@@ -1,11 +1,11 @@
 // Reading one item from the front of a window of bytes.
 
-ghost use Rattle.std.specs.Prelude.{◌≡◌, ◌≤◌, ◌++◌, ℕ, List, Option, IfOk, length, slice_index};
+ghost use Rattle.std.specs.Prelude.{◌≡◌, ◌<◌, ◌≤◌, ◌+◌, ◌*◌, ◌++◌, ℕ, true, List, Option, IfOk, length, slice_index};
 ghost use Rattle.fit_grammar.specs.declared.definition.Definition.{Definition as AnyDefinition};
 ghost use Rattle.fit_grammar.specs.Format.Item.{Item as AnyItem, Spells, head_of, DefinitionHead, DataHead};
 ghost use Rattle.fit_grammar.specs.Format.Records.{IsDefinedBy};
 ghost use Rattle.fit_grammar.specs.Calls.Table.{definition_in};
-ghost use Rattle.fit_grammar.specs.Calls.Step.{IsLeastLength, IsStep, IsStepItem, ItemAtFront, ItemBegun, ShowsUndefined, ShowsDeveloper, least_length_of, definition_length_of};
+ghost use Rattle.fit_grammar.specs.Calls.Step.{IsLeastLength, IsStep, IsStepItem, ItemAtFront, ItemBegun, ShowsUndefined, least_length_of, behind_fields, definition_length_of};
 ghost use Rattle.fit_grammar.specs.Private.FirstByte.{local_of};
 
 mod data_message;
@@ -33,20 +33,17 @@ pub enum Item<'a> {
 pub enum ItemFault {
     /// A data message of a local number that has no definition in force.
     UndefinedLocal(u8),
-    /// A definition announces developer fields.
-    Developer,
 }
 
 impl ItemFault {
     ghost use Rattle.fit_grammar.specs.Calls.FaultCode.{item_code};
 
-    /// The number of the fault, 1 or 2.
+    /// The number of the fault, 1.
     pub fn code(&self) -> u8
         ensures { result ≡ item_code self.now }
     {
         match self {
             ItemFault::UndefinedLocal(_) => 1,
-            ItemFault::Developer => 2,
         }
     }
 }
@@ -61,8 +58,8 @@ pub enum Step<'a> {
     Refused(ItemFault),
 }
 
-/// How many bytes the item at the front of the window has at least, as far as the window shows. Of a
-/// data message and of six bytes of a definition it is the number of all its bytes.
+/// How many bytes the item at the front of the window has at least, as far as the window shows. Where that many bytes are
+/// there, it has no more.
 pub fn least_length(window: &[u8], table: &Table) -> Result<usize, ItemFault>
     ensures answer { result ≡ least_length_of (definition_in table.now) window.now }
     // What that says of each item that the window begins.
@@ -81,8 +78,7 @@ fn length_at(window: &[u8], table: &Table) -> Result<usize, ItemFault>
         return Ok(1);
     };
     match read_head(*first) {
-        Head::Definition(_) => Ok(definition_length(window)),
-        Head::Developer => Err(ItemFault::Developer),
+        Head::Definition(_, announced) => Ok(definition_length(window, announced)),
         Head::Data(local, _) => match table.get(local) {
             None => Err(ItemFault::UndefinedLocal(local)),
             Some(definition) => Ok(1 + definition.content_size()),
@@ -90,14 +86,29 @@ fn length_at(window: &[u8], table: &Table) -> Result<usize, ItemFault>
     }
 }
 
-// How many bytes a definition has at least: all, where six of them are there.
-fn definition_length(window: &[u8]) -> usize
-    ensures { result ≡ definition_length_of window.now }
+// How many bytes a definition has at least: six, then those of its fields, then those of its developer fields.
+fn definition_length(window: &[u8], announced: bool) -> usize
+    ensures { result ≡ definition_length_of announced window.now }
 {
     if window.len() < 6 {
-        6
+        return 6;
+    }
+    let end = 6 + 3 * window[5] as usize;
+    if announced {
+        1 + end + 3 * developer_count(window, end)
     } else {
-        6 + 3 * window[5] as usize
+        end
+    }
+}
+
+// The number of developer fields in this place, where it is there.
+fn developer_count(window: &[u8], at: usize) -> usize
+    requires { at < 1000 }
+    ensures { 1 + at + 3 * result ≡ behind_fields true at window.now }
+{
+    match window.get(at) {
+        Some(count) => *count as usize,
+        None => 0,
     }
 }
 
@@ -111,7 +122,6 @@ pub fn next_item<'a>(window: &'a [u8], table: &'a Table) -> Step<'a>
     ensures more { ItemBegun (definition_in table.now) window.now → result ≡ Step.NeedMore }
     ensures undefined { (l : ℕ) → ShowsUndefined (definition_in table.now) window.now l
         → result ≡ Step.Refused (ItemFault.UndefinedLocal l) }
-    ensures developer { ShowsDeveloper window.now → result ≡ Step.Refused ItemFault.Developer }
 {
     step_at(window, table)
 }
@@ -137,8 +147,7 @@ pub(crate) fn step_under<'a>(
         → IsStep f window.now result }
 {
     match read_head(window[0]) {
-        Head::Definition(_) => next_definition(window),
-        Head::Developer => Step::Refused(ItemFault::Developer),
+        Head::Definition(_, announced) => next_definition(window, announced),
         Head::Data(local, offset) => match definition {
             None => Step::Refused(ItemFault::UndefinedLocal(local)),
             Some(definition) => next_data(window, local, offset, definition),
@@ -147,12 +156,12 @@ pub(crate) fn step_under<'a>(
 }
 
 // The definition at the front of the window, where all of it is there.
-fn next_definition<'a>(window: &'a [u8]) -> Step<'a>
+fn next_definition<'a>(window: &'a [u8], announced: bool) -> Step<'a>
     requires begun { 1 ≤ length window.now }
-    requires head { (l : ℕ) × (head_of (slice_index window.now 0) ≡ DefinitionHead l) }
+    requires head { (l : ℕ) × (head_of (slice_index window.now 0) ≡ DefinitionHead l announced) }
     ensures { (f : ℕ → Option AnyDefinition) → IsStep f window.now result }
 {
-    let used = definition_length(window);
+    let used = definition_length(window, announced);
     if window.len() < used {
         return Step::NeedMore;
     }

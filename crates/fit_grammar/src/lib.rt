@@ -12,7 +12,7 @@
 //!
 //!     let frame = Frame { header_size: 14, protocol: 0x10, profile: 100 };
 //!     let mut file = File::new(alloc, frame);
-//!     file.define(&Definition { local: 0, arch: Arch::Little, global: 20, fields })?;
+//!     file.define(&Definition { local: 0, arch: Arch::Little, global: 20, fields, developer: ArrayVec::new() })?;
 //!     file.data(0, None, &[100])?;
 //!     encode_file(&file, &mut bytes)?;
 //!     let read = decode_file(alloc, bytes.as_slice())?;
@@ -32,7 +32,9 @@ mod message;
 mod plain;
 mod to_writer;
 
-pub use definition::{Definition, DefinitionMessage, FieldDefinition, Table};
+pub use definition::{
+    Definition, DefinitionMessage, DeveloperFieldDefinition, FieldDefinition, Table,
+};
 pub use file::{
     Decoder, EncodeFault, FaultKind, File, FileFault, Frame, Header, PutFault, decode_file,
     encode_file, encode_records, header_front, read_header_front,
@@ -41,6 +43,8 @@ pub use item::{
     DataMessage, FileItem, Item, ItemFault, Items, Step, least_length, longest_front, next_item,
     write_data, write_definition,
 };
-pub use message::{Field, Fields, Message, Messages, message_of};
+pub use message::{
+    DeveloperField, DeveloperFields, Field, Fields, Message, Messages, message_of,
+};
 pub use plain::{PlainFault, PlainFaultKind, plain_file};
 pub use to_writer::{WriteFailed, put};

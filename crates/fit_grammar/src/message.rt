@@ -4,12 +4,14 @@ ghost use Rattle.std.specs.Prelude.{◌≡◌};
 ghost use Rattle.fit_grammar.specs.Format.Message.{message_under};
 ghost use Rattle.fit_grammar.specs.Calls.LentMessage.{message_lent};
 
+mod developer;
 mod fields;
 mod row;
 pub(crate) mod time;
 
 use crate::definition::DefinitionMessage;
 use crate::item::{DataMessage, Item};
+pub use developer::{DeveloperField, DeveloperFields};
 pub use fields::{Field, Fields};
 pub use row::Messages;
 use std::marker::Model;
@@ -60,6 +62,15 @@ impl<'a> Message<'a> {
         };
         let definition = &self.definition;
         Fields::new(time, definition.arch(), definition.fields(), self.content)
+    }
+
+    /// The developer fields in order, behind the fields.
+    pub fn developer_fields(&self) -> DeveloperFields<'_>
+        ensures { result ≡ self.now.message.developer }
+    {
+        let definition = &self.definition;
+        let (_, content) = self.content.split_at(definition.fields_size());
+        DeveloperFields::new(definition.developer(), content)
     }
 
     /// The time that the message gives: that of its compressed timestamp, else the value of its first

@@ -22,7 +22,6 @@ kind_code kinds.SplitMessage = 7
 kind_code kinds.FileCrc = 8
 kind_code kinds.TrailingBytes = 9
 kind_code kinds.Memory = 10
-kind_code kinds.Developer = 11
 
 abbrev pub put_code : PutFault → ℕ
 put_code puts.UndefinedLocal = 1
@@ -35,7 +34,6 @@ encode_code encodes.Write = 1
 
 abbrev pub item_code : ItemFault → ℕ
 item_code (items.UndefinedLocal local) = 1
-item_code items.Developer = 2
 
 abbrev pub plain_code : PlainFaultKind → ℕ
 plain_code plains.TooLong = 1

@@ -1,8 +1,13 @@
--- A field of a message as it is lent.
+-- Fields of a message as they are lent.
 use Rattle.fit_base.specs.Value.{values_of}
+use Rattle.fit_grammar.specs.declared.message.developer.DeveloperField.{DeveloperField}
 use Rattle.fit_grammar.specs.declared.message.fields.Field.{Field}
-use Rattle.fit_grammar.specs.Format.Message.{MessageField}
+use Rattle.fit_grammar.specs.Format.Message.{MessageDeveloperField, MessageField}
 
 -- its number, its base type byte and its values
 abbrev pub field_view : Field → MessageField
 field_view field = record { number = field.number; base = field.value.base; values = values_of field.value }
+
+-- a developer field's index, number and bytes
+abbrev pub developer_view : DeveloperField → MessageDeveloperField
+developer_view field = record { index = field.index; number = field.number; bytes = field.bytes.now }

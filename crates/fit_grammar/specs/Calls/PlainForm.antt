@@ -22,7 +22,7 @@ time_definition = record { number = 253; size = 4; base = 0x86 }
 abbrev pub timed_definition : Bool → Definition → Definition
 timed_definition false d = d
 timed_definition true d =
-    record { local = d.local; arch = d.arch; global = d.global; fields = record { items = time_definition ∷ d.fields.items } }
+    record d { fields = record { items = time_definition ∷ d.fields.items } }
 
 -- the four bytes of a time
 abbrev pub time_bytes : Arch → ℕ → List ℕ

@@ -2,6 +2,7 @@
 use Rattle.std.specs.Prelude.{◌^◌, ◌<◌, List, [], ◌∷◌, ◌++◌, length}
 use Rattle.std.specs.List.{AllByRecursion}
 use Rattle.fit_grammar.specs.declared.definition.FieldDefinition.{FieldDefinition}
+use Rattle.fit_grammar.specs.declared.definition.DeveloperFieldDefinition.{DeveloperFieldDefinition}
 use Rattle.fit_grammar.specs.declared.definition.Definition.{Definition}
 use Rattle.fit_grammar.specs.declared.file.frame.Frame.{Frame}
 use Rattle.fit_grammar.specs.Format.Item.{Item, Defines, Data}
@@ -20,11 +21,19 @@ pub record FieldFits (field : FieldDefinition) : Type 0 where
   pub size : field.size < 256
   pub base : field.base < 256
 
--- two bytes of a definition, one for the number of its fields, and the fields
+-- and those of a developer field
+pub record DeveloperFieldFits (field : DeveloperFieldDefinition) : Type 0 where
+  pub number : field.number < 256
+  pub size : field.size < 256
+  pub index : field.index < 256
+
+-- two bytes of a definition, one for the number of its fields, and the fields; and the same of its developer fields
 pub record DefinitionFits (d : Definition) : Type 0 where
   pub global : d.global < 65536
   pub count : length d.fields.items < 256
   pub fields : AllByRecursion FieldFits d.fields.items
+  pub developer_count : length d.developer.items < 256
+  pub developer : AllByRecursion DeveloperFieldFits d.developer.items
 
 -- the numbers of an item fit into their bytes
 abbrev pub ItemFits : Item → Type 0

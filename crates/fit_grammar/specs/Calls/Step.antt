@@ -1,13 +1,13 @@
 -- What the front of a window of bytes shows of an item.
-use Rattle.std.specs.Prelude.{◌≡◌, ℕ, ◌+◌, ◌*◌, ◌<◌, ◌≤◌, List, [], ◌∷◌, ◌++◌, length, take, slice_index, Option, Some, None, Result, Ok, Err, nat_lt, if◌then◌else◌}
+use Rattle.std.specs.Prelude.{◌≡◌, ℕ, ◌+◌, ◌*◌, ◌<◌, ◌≤◌, Bool, true, false, List, [], ◌∷◌, ◌++◌, length, take, slice_index, Option, Some, None, Result, Ok, Err, nat_lt, if◌then◌else◌}
 use Rattle.fit_grammar.specs.declared.definition.Definition.{Definition}
 use Rattle.fit_grammar.specs.declared.item.Item.{Item as ReadItem}
 use Rattle.fit_grammar.specs.declared.item.Item.TheVariants as items
 use Rattle.fit_grammar.specs.declared.item.ItemFault.{ItemFault}
-use Rattle.fit_grammar.specs.declared.item.ItemFault.TheVariants.{UndefinedLocal, Developer}
+use Rattle.fit_grammar.specs.declared.item.ItemFault.TheVariants.{UndefinedLocal}
 use Rattle.fit_grammar.specs.declared.item.Step.{Step}
 use Rattle.fit_grammar.specs.declared.item.Step.TheVariants as steps
-use Rattle.fit_grammar.specs.Format.Item.{Item, Defines, Data, Head, DefinitionHead, DeveloperHead, DataHead, head_of, Spells, content_size}
+use Rattle.fit_grammar.specs.Format.Item.{Item, Defines, Data, Head, DefinitionHead, DataHead, head_of, Spells, content_size, part_size}
 use Rattle.fit_grammar.specs.Format.Records.{IsDefinedBy}
 
 -- an item as it was read
@@ -15,9 +15,16 @@ abbrev pub item_of : ReadItem → Item
 item_of (items.Definition d) = Defines d
 item_of (items.Data m) = Data m.local m.offset m.content.now
 
--- how many bytes a definition has at least, by its first bytes
-abbrev pub definition_length_of : List ℕ → ℕ
-definition_length_of window = if nat_lt (length window) 6 then 6 else 6 + 3 * slice_index window 5
+-- how many bytes a definition has at least, by its first bytes, where its fields end here, and developer fields are announced or not
+abbrev pub behind_fields : Bool → ℕ → List ℕ → ℕ
+behind_fields false end window = end
+behind_fields true end window =
+    if nat_lt end (length window) then end + part_size true (slice_index window end) else end + part_size true 0
+
+-- the same, by its first bytes alone
+abbrev pub definition_length_of : Bool → List ℕ → ℕ
+definition_length_of announced window =
+    if nat_lt (length window) 6 then 6 else behind_fields announced (6 + 3 * slice_index window 5) window
 
 -- how many bytes a data message has under a definition
 abbrev pub data_length_of : ℕ → Option Definition → Result ℕ ItemFault
@@ -25,8 +32,7 @@ data_length_of local None = Err (UndefinedLocal local)
 data_length_of local (Some d) = Ok (1 + content_size d)
 
 abbrev pub length_by : (ℕ → Option Definition) → Head → List ℕ → Result ℕ ItemFault
-length_by definition_for (DefinitionHead local) window = Ok (definition_length_of window)
-length_by definition_for DeveloperHead window = Err Developer
+length_by definition_for (DefinitionHead local announced) window = Ok (definition_length_of announced window)
 length_by definition_for (DataHead local offset) window = data_length_of local (definition_for local)
 
 -- how many bytes the item at the front of a window has at least, as far as the window shows; or why there is none
@@ -34,10 +40,10 @@ abbrev pub least_length_of : (ℕ → Option Definition) → List ℕ → Result
 least_length_of definition_for [] = Ok 1
 least_length_of definition_for (first ∷ rest) = length_by definition_for (head_of first) (first ∷ rest)
 
--- a spelling of this whole length has at least so many bytes, and exactly so many where six bytes of it are there
+-- a spelling of this whole length has at least so many bytes, and exactly so many where these are there
 pub record IsLeastLength (n there whole : ℕ) : Type 0 where
   pub least : n ≤ whole
-  pub exact : 6 ≤ there → n ≡ whole
+  pub exact : n ≤ there → n ≡ whole
 
 -- the first bytes of the window spell the item, which is defined
 pub record ItemAtFront (definition_for : ℕ → Option Definition) (window : List ℕ) (item : Item) (used : ℕ) : Type 0 where
@@ -62,19 +68,11 @@ pub record ShowsUndefined (definition_for : ℕ → Option Definition) (window :
   pub head : head_of first ≡ DataHead local offset
   pub undefined : definition_for local ≡ None
 
--- the first byte announces developer fields
-pub record ShowsDeveloper (window : List ℕ) : Type 0 where
-  pub first : ℕ
-  pub rest : List ℕ
-  pub joined : window ≡ first ∷ rest
-  pub head : head_of first ≡ DeveloperHead
-
 -- what a step says of the window
 abbrev pub StepSays : (ℕ → Option Definition) → List ℕ → Step → Type 0
 StepSays definition_for window (steps.Item item used) = ItemAtFront definition_for window (item_of item) used
 StepSays definition_for window steps.NeedMore = ItemBegun definition_for window
 StepSays definition_for window (steps.Refused (UndefinedLocal local)) = ShowsUndefined definition_for window local
-StepSays definition_for window (steps.Refused Developer) = ShowsDeveloper window
 
 -- the step found this item
 abbrev pub IsStepItem : Step → Item → ℕ → Type 0

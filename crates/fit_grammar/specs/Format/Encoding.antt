@@ -1,11 +1,11 @@
--- The bytes that items and files are written as: every reserved bit and byte is 0, an architecture byte is 0 or 1, and
--- a header of 14 bytes has its checksum.
-use Rattle.std.specs.Prelude.{ℕ, ◌+◌, ◌*◌, ◌/◌, ◌%◌, ◌<◌, ◌==◌, if◌then◌else◌, List, [], ◌∷◌, ◌++◌, length, flat_map, Option, Some, None}
+-- The bytes that items and files are written as: every reserved bit and byte is 0, an architecture byte is 0 or 1, developer
+-- fields are announced exactly where there are any, and a header of 14 bytes has its checksum.
+use Rattle.std.specs.Prelude.{ℕ, ◌+◌, ◌*◌, ◌/◌, ◌%◌, ◌<◌, ◌==◌, if◌then◌else◌, Bool, true, false, List, [], ◌∷◌, ◌++◌, length, flat_map, Option, Some, None}
 use Rattle.fit_base.specs.declared.order.Arch.{Arch}
 use Rattle.fit_base.specs.declared.order.Arch.TheVariants.{Little, Big}
 use Rattle.fit_base.specs.Checksum.{crc}
 use Rattle.fit_grammar.specs.declared.file.frame.Frame.{Frame}
-use Rattle.fit_grammar.specs.Format.Item.{Item, Defines, Data, field_bytes}
+use Rattle.fit_grammar.specs.Format.Item.{Item, Defines, Data, field_bytes, developer_part, has_any}
 use Rattle.fit_grammar.specs.Format.Records.{data_size}
 use Rattle.fit_grammar.specs.Format.File.{FileValue, mark}
 
@@ -19,6 +19,11 @@ abbrev pub two_bytes : Arch → ℕ → List ℕ
 two_bytes Little n = n % 256 ∷ n / 256 ∷ []
 two_bytes Big n = n / 256 ∷ n % 256 ∷ []
 
+-- the first byte of a definition, which announces developer fields or not
+abbrev pub definition_byte : ℕ → Bool → ℕ
+definition_byte local false = 64 + local
+definition_byte local true = 96 + local
+
 -- the first byte of a data message
 abbrev pub data_byte : ℕ → Option ℕ → ℕ
 data_byte local None = local
@@ -26,7 +31,8 @@ data_byte local (Some offset) = 128 + 32 * local + offset
 
 abbrev pub encoded_item : Item → List ℕ
 encoded_item (Defines d) =
-    (64 + d.local) ∷ 0 ∷ arch_byte d.arch ∷ (two_bytes d.arch d.global ++ length d.fields.items ∷ flat_map field_bytes d.fields.items)
+    definition_byte d.local (has_any d.developer.items) ∷ 0 ∷ arch_byte d.arch ∷ (two_bytes d.arch d.global ++ length d.fields.items
+    ∷ (flat_map field_bytes d.fields.items ++ developer_part (has_any d.developer.items) d.developer.items))
 encoded_item (Data local offset content) = data_byte local offset ∷ content
 
 -- the numbers of the first byte fit into their bits

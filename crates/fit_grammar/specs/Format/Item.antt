@@ -1,9 +1,10 @@
 -- Items, which are definitions and data messages, and the bytes that spell them (FIT protocol, "Records").
-use Rattle.std.specs.Prelude.{◌≡◌, ℕ, ◌+◌, ◌*◌, ◌/◌, ◌%◌, List, [], ◌∷◌, length, flat_map, sum_by, Option, Some, None, nat_lt, ◌==◌, if◌then◌else◌}
+use Rattle.std.specs.Prelude.{◌≡◌, ℕ, ◌+◌, ◌*◌, ◌/◌, ◌%◌, Bool, true, false, List, [], ◌∷◌, ◌++◌, length, flat_map, sum_by, Option, Some, None, nat_lt, ◌==◌, if◌then◌else◌}
 use Rattle.fit_base.specs.declared.order.Arch.{Arch}
 use Rattle.fit_base.specs.declared.order.Arch.TheVariants.{Little, Big}
 use Rattle.fit_base.specs.Number.{number}
 use Rattle.fit_grammar.specs.declared.definition.FieldDefinition.{FieldDefinition}
+use Rattle.fit_grammar.specs.declared.definition.DeveloperFieldDefinition.{DeveloperFieldDefinition}
 use Rattle.fit_grammar.specs.declared.definition.Definition.{Definition}
 
 -- a definition; or a data message with its local number, the time offset of a compressed timestamp, and its content
@@ -11,11 +12,10 @@ pub data Item : Type 0 where
   Defines : Definition → Item
   Data : ℕ → Option ℕ → List ℕ → Item
 
--- what the first byte of an item says: a definition of a local number, one that announces developer fields,
+-- what the first byte of an item says: a definition of a local number, which announces developer fields or not,
 -- or data of a local number, with a time offset or none
 pub data Head : Type 0 where
-  DefinitionHead : ℕ → Head
-  DeveloperHead : Head
+  DefinitionHead : ℕ → Bool → Head
   DataHead : ℕ → Option ℕ → Head
 
 -- bit 7 compresses a timestamp beside the local number in bits 5 and 6; else bit 6 tells definitions from data,
@@ -23,7 +23,7 @@ pub data Head : Type 0 where
 abbrev pub head_of : ℕ → Head
 head_of byte =
     if nat_lt byte 64 then DataHead (byte % 16) None
-    else if nat_lt byte 128 then (if byte / 32 % 2 == 0 then DefinitionHead (byte % 16) else DeveloperHead)
+    else if nat_lt byte 128 then DefinitionHead (byte % 16) (byte / 32 % 2 == 1)
     else DataHead (byte / 32 % 4) (Some (byte % 32))
 
 -- the low bit of the architecture byte decides
@@ -34,15 +34,33 @@ arch_of byte = if byte % 2 == 0 then Little else Big
 abbrev pub field_bytes : FieldDefinition → List ℕ
 field_bytes field = field.number ∷ field.size ∷ field.base ∷ []
 
--- the bytes of a definition; those named here may be anything that says what it has to
+-- the three bytes of a developer field in a definition
+abbrev pub developer_bytes : DeveloperFieldDefinition → List ℕ
+developer_bytes field = field.number ∷ field.size ∷ field.index ∷ []
+
+-- behind the fields, where developer fields are announced: their number, and three bytes each
+abbrev pub developer_part : Bool → List DeveloperFieldDefinition → List ℕ
+developer_part false fields = []
+developer_part true fields = length fields ∷ flat_map developer_bytes fields
+
+-- how many bytes that part has
+abbrev pub part_size : Bool → ℕ → ℕ
+part_size false count = 0
+part_size true count = 1 + 3 * count
+
+-- the bytes of a definition; those named here may be anything that says what it has to. One that announces no developer
+-- fields has none; one that announces them may have none too.
 pub record SpellsDefinition (d : Definition) (bytes : List ℕ) : Type 0 where
   pub first : ℕ
   pub reserved : ℕ
   pub architecture : ℕ
   pub global_1 : ℕ
   pub global_2 : ℕ
-  pub laid_out : bytes ≡ first ∷ reserved ∷ architecture ∷ global_1 ∷ global_2 ∷ length d.fields.items ∷ flat_map field_bytes d.fields.items
-  pub head : head_of first ≡ DefinitionHead d.local
+  pub announced : Bool
+  pub laid_out : bytes ≡ first ∷ reserved ∷ architecture ∷ global_1 ∷ global_2 ∷ length d.fields.items
+    ∷ (flat_map field_bytes d.fields.items ++ developer_part announced d.developer.items)
+  pub head : head_of first ≡ DefinitionHead d.local announced
+  pub none : announced ≡ false → d.developer.items ≡ []
   pub arch : arch_of architecture ≡ d.arch
   pub global : number d.arch (global_1 ∷ global_2 ∷ []) ≡ d.global
 
@@ -56,11 +74,23 @@ abbrev pub Spells : Item → List ℕ → Type 0
 Spells (Defines d) bytes = SpellsDefinition d bytes
 Spells (Data local offset content) bytes = SpellsData local offset content bytes
 
+-- how many bytes the fields of a data message have under a definition, and its developer fields, which stand behind them
+abbrev pub fields_size : Definition → ℕ
+fields_size d = sum_by (λ field. field.size) d.fields.items
+
+abbrev pub developer_size : Definition → ℕ
+developer_size d = sum_by (λ field. field.size) d.developer.items
+
 -- how many bytes of content a data message has under a definition
 abbrev pub content_size : Definition → ℕ
-content_size d = sum_by (λ field. field.size) d.fields.items
+content_size d = fields_size d + developer_size d
 
--- how many bytes an item has
+-- a definition is written with the announcement where it has developer fields
+abbrev pub has_any : List DeveloperFieldDefinition → Bool
+has_any [] = false
+has_any (field ∷ fields) = true
+
+-- how many bytes an item has as it is written
 abbrev pub item_size : Item → ℕ
-item_size (Defines d) = 6 + 3 * length d.fields.items
+item_size (Defines d) = 6 + 3 * length d.fields.items + part_size (has_any d.developer.items) (length d.developer.items)
 item_size (Data local offset content) = 1 + length content

@@ -4,8 +4,9 @@ use Rattle.std.specs.Option.{option_or}
 use Rattle.fit_base.specs.declared.order.Arch.{Arch}
 use Rattle.fit_base.specs.Value.{Values, Numbers, values_of}
 use Rattle.fit_grammar.specs.declared.definition.FieldDefinition.{FieldDefinition}
+use Rattle.fit_grammar.specs.declared.definition.DeveloperFieldDefinition.{DeveloperFieldDefinition}
 use Rattle.fit_grammar.specs.declared.definition.Definition.{Definition}
-use Rattle.fit_grammar.specs.Format.Item.{Item, Defines, Data}
+use Rattle.fit_grammar.specs.Format.Item.{Item, Defines, Data, fields_size}
 use Rattle.fit_grammar.specs.Format.Records.{in_force}
 
 -- a field of a message: its number, its base type byte and its values
@@ -14,10 +15,17 @@ pub record MessageField : Type 0 where
   pub base : ℕ
   pub values : Values
 
+-- a developer field of a message: the index of its developer data, its number and its bytes, whose meaning is not told
+pub record MessageDeveloperField : Type 0 where
+  pub index : ℕ
+  pub number : ℕ
+  pub bytes : List ℕ
+
 -- a message reads the same whatever the architecture and the header it was written under
 pub record Message : Type 0 where
   pub global : ℕ
   pub fields : List MessageField
+  pub developer : List MessageDeveloperField
 
 -- the fields of a data message's content, one after another
 abbrev pub fields_of : Arch → List FieldDefinition → List ℕ → List MessageField
@@ -28,6 +36,13 @@ fields_of arch (field ∷ fields) content =
       base = field.base;
       values = values_of (record { base = field.base; arch = arch; bytes = take field.size content });
     } ∷ fields_of arch fields (drop field.size content)
+
+-- the developer fields of the content behind those, one after another
+abbrev pub developer_of : List DeveloperFieldDefinition → List ℕ → List MessageDeveloperField
+developer_of [] content = []
+developer_of (field ∷ fields) content =
+    record { index = field.index; number = field.number; bytes = take field.size content }
+    ∷ developer_of fields (drop field.size content)
 
 -- the least number that is not below the time before and leaves the offset modulo 32, wrapped at 2^32
 abbrev pub next_time : ℕ → ℕ → ℕ
@@ -43,7 +58,11 @@ time_fields time = option_to_list (option_map time_field time)
 -- the message of a data item's content under its definition; the time is that of its compressed timestamp, if it has one
 abbrev pub message_under : Definition → Option ℕ → List ℕ → Message
 message_under d time content =
-    record { global = d.global; fields = time_fields time ++ fields_of d.arch d.fields.items content }
+    record {
+      global = d.global;
+      fields = time_fields time ++ fields_of d.arch d.fields.items content;
+      developer = developer_of d.developer.items (drop (fields_size d) content);
+    }
 
 -- the time in the values of a field: one number that is not invalid
 abbrev pub time_in : Values → Option ℕ

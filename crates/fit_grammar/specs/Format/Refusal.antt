@@ -1,12 +1,12 @@
 -- The refusal of bytes that are no file: what their shortest beginning that shows a fault shows.
-use Rattle.std.specs.Prelude.{◌≡◌, ◌≢◌, ℕ, ◌+◌, ◌*◌, ◌/◌, ◌<◌, ◌≤◌, List, [], ◌∷◌, ◌++◌, length, take, slice_index, slice_range, Option, None, IsSomeAnd, ◌⊎◌}
+use Rattle.std.specs.Prelude.{◌≡◌, ◌≢◌, ℕ, ◌+◌, ◌*◌, ◌/◌, ◌<◌, ◌≤◌, List, [], ◌∷◌, ◌++◌, Bool, true, length, take, slice_index, slice_range, Option, None, IsSomeAnd, ◌⊎◌}
 use Rattle.fit_base.specs.Number.{low_first}
 use Rattle.fit_base.specs.Checksum.{crc}
 use Rattle.fit_grammar.specs.declared.file.frame.Frame.{Frame}
 use Rattle.fit_grammar.specs.declared.file.fault.FaultKind.{FaultKind}
-use Rattle.fit_grammar.specs.declared.file.fault.FaultKind.TheVariants.{Truncated, HeaderSize, Magic, Protocol, HeaderCrc, UndefinedLocal, SplitMessage, FileCrc, TrailingBytes, Memory, Developer}
+use Rattle.fit_grammar.specs.declared.file.fault.FaultKind.TheVariants.{Truncated, HeaderSize, Magic, Protocol, HeaderCrc, UndefinedLocal, SplitMessage, FileCrc, TrailingBytes, Memory}
 use Rattle.fit_grammar.specs.declared.file.fault.FileFault.{FileFault}
-use Rattle.fit_grammar.specs.Format.Item.{Item, head_of, DefinitionHead, DeveloperHead, DataHead, content_size}
+use Rattle.fit_grammar.specs.Format.Item.{Item, head_of, DefinitionHead, DataHead, content_size, part_size}
 use Rattle.fit_grammar.specs.Format.Records.{in_force, Records}
 use Rattle.fit_grammar.specs.Format.File.{FileValue, FileOf, IsHeader, IsClosing, ChecksHeader, mark}
 
@@ -45,25 +45,31 @@ HeaderShows _ place bytes = ⊥
 abbrev pub SplitsAtFirst : Front → List ℕ → Type 0
 SplitsAtFirst front tail =
     (byte : ℕ) × (tail ≡ byte ∷ [])
-    × (((local : ℕ) × (head_of byte ≡ DefinitionHead local) × (front.size < length front.records + 6))
+    × (((local : ℕ) × (announced : Bool) × (head_of byte ≡ DefinitionHead local announced) × (front.size < length front.records + 6))
     ⊎ ((local : ℕ) × (offset : Option ℕ) × (head_of byte ≡ DataHead local offset)
     × IsSomeAnd (in_force front.items local) (λ d. front.size < length front.records + (1 + content_size d))))
 
--- six bytes of a definition show that the whole of it passes the end of the data
+-- six bytes of a definition show by the number of its fields that it passes the end of the data; where developer fields are
+-- announced, with their number behind the fields
 abbrev pub SplitsAtCount : Front → List ℕ → Type 0
 SplitsAtCount front tail =
-    (length tail ≡ 6) × ((local : ℕ) × (head_of (slice_index tail 0) ≡ DefinitionHead local))
-    × (front.size < length front.records + (6 + 3 * slice_index tail 5))
+    (length tail ≡ 6) × (local : ℕ) × (announced : Bool) × (head_of (slice_index tail 0) ≡ DefinitionHead local announced)
+    × (front.size < length front.records + (6 + 3 * slice_index tail 5 + part_size announced 0))
+
+-- the bytes of a definition up to the number of its developer fields show by it that the whole passes the end of the data
+abbrev pub SplitsAtDeveloperCount : Front → List ℕ → Type 0
+SplitsAtDeveloperCount front tail =
+    (length tail ≡ 7 + 3 * slice_index tail 5) × (local : ℕ) × (head_of (slice_index tail 0) ≡ DefinitionHead local true)
+    × (front.size < length front.records
+    + (6 + 3 * slice_index tail 5 + part_size true (slice_index tail (6 + 3 * slice_index tail 5))))
 
 -- what the bytes behind a front show
 abbrev pub TailShows : FaultKind → Front → List ℕ → Type 0
 TailShows (UndefinedLocal local) front tail =
     (length front.records < front.size) × (byte : ℕ) × (offset : Option ℕ) × (tail ≡ byte ∷ [])
     × (head_of byte ≡ DataHead local offset) × (in_force front.items local ≡ None)
-TailShows Developer front tail =
-    (length front.records < front.size) × (byte : ℕ) × (tail ≡ byte ∷ []) × (head_of byte ≡ DeveloperHead)
 TailShows SplitMessage front tail =
-    (length front.records < front.size) × (SplitsAtFirst front tail ⊎ SplitsAtCount front tail)
+    (length front.records < front.size) × (SplitsAtFirst front tail ⊎ (SplitsAtCount front tail ⊎ SplitsAtDeveloperCount front tail))
 -- all the records, and two bytes that are not the checksum
 TailShows FileCrc front tail =
     (length front.records ≡ front.size) × (length tail ≡ 2) × (low_first tail ≢ crc (front_bytes front))

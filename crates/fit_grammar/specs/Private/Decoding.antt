@@ -5,7 +5,7 @@ use Rattle.fit_base.specs.Checksum.{crc}
 use Rattle.fit_grammar.specs.declared.definition.Definition.{Definition}
 use Rattle.fit_grammar.specs.declared.file.header.Header.{Header}
 use Rattle.fit_grammar.specs.declared.file.fault.FaultKind.{FaultKind}
-use Rattle.fit_grammar.specs.declared.file.fault.FaultKind.TheVariants.{Truncated, UndefinedLocal, SplitMessage, FileCrc, TrailingBytes, Memory, Developer}
+use Rattle.fit_grammar.specs.declared.file.fault.FaultKind.TheVariants.{Truncated, UndefinedLocal, SplitMessage, FileCrc, TrailingBytes, Memory}
 use Rattle.fit_grammar.specs.declared.file.fault.FileFault.{FileFault}
 use Rattle.fit_grammar.specs.declared.item.ItemFault.TheVariants as items
 use Rattle.fit_grammar.specs.Format.Item.{Item}
@@ -57,7 +57,6 @@ pub record IsWholeLength (definition_for : ℕ → Option Definition) (window : 
 abbrev pub WindowShows : (ℕ → Option Definition) → List ℕ → ℕ → FaultKind → Type 0
 WindowShows definition_for window left (UndefinedLocal local) =
     least_length_of definition_for window ≡ Err (items.UndefinedLocal local)
-WindowShows definition_for window left Developer = least_length_of definition_for window ≡ Err items.Developer
 WindowShows definition_for window left SplitMessage =
     (least : ℕ) × (least_length_of definition_for window ≡ Ok least) × (left < least)
 WindowShows definition_for window left Truncated =

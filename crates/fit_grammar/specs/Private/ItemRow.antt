@@ -3,7 +3,7 @@ use Rattle.std.specs.Prelude.{◌≡◌, ℕ, zero, suc, ◌<◌, List, [], ◌�
 use Rattle.fit_grammar.specs.declared.definition.Definition.{Definition}
 use Rattle.fit_grammar.specs.declared.item.Item.{Item as ReadItem}
 use Rattle.fit_grammar.specs.declared.item.Item.TheVariants as items
-use Rattle.fit_grammar.specs.Format.Item.{Item, Defines, Data, Head, DefinitionHead, DeveloperHead, DataHead, head_of, content_size, item_size}
+use Rattle.fit_grammar.specs.Format.Item.{Item, Defines, Data, Head, DefinitionHead, DataHead, head_of, content_size, item_size}
 use Rattle.fit_grammar.specs.Format.Records.{in_force}
 use Rattle.fit_grammar.specs.Format.Encoding.{encoded_items}
 use Rattle.fit_grammar.specs.Private.DefinitionBytes.{definition_at}
@@ -11,10 +11,10 @@ use Rattle.fit_grammar.specs.Calls.Step.{definition_length_of, item_of}
 use Rattle.fit_grammar.specs.Calls.Table.{behind}
 use Rattle.fit_grammar.specs.Private.ByLookup.{AllDefinedBy}
 
--- the item that bytes begin with, by their head; developer fields are in none
+-- the item that bytes begin with, by their head
 abbrev pub item_by : (ℕ → Option Definition) → Head → List ℕ → Item
-item_by definition_for (DefinitionHead local) bytes = Defines (definition_at (take (definition_length_of bytes) bytes))
-item_by definition_for DeveloperHead bytes = Data 0 None []
+item_by definition_for (DefinitionHead local announced) bytes =
+    Defines (definition_at (take (definition_length_of announced bytes) bytes))
 item_by definition_for (DataHead local offset) bytes =
     Data local offset (take (unwrap_or (option_map content_size (definition_for local)) 0) (drop 1 bytes))
 

@@ -20,4 +20,4 @@ pub record IsWrittenAt (bytes : List ℕ) (len : ℕ) : Type 0 where
 pub record IsWritten (w : Inside) : Type 0 where
   pub at : IsWrittenAt w.bytes w.len
   pub size : w.content_size ≡ content_size (definition_written w)
-  pub bound : w.content_size ≤ 65025
+  pub bound : w.content_size ≤ 130050

@@ -38,8 +38,7 @@ impl WrittenDefinition {
         ensures fits { DefinitionFits d.now }
     {
         let mut bytes = [0; LONGEST_DEFINITION];
-        let len = 6 + 3 * d.fields.len();
-        write_definition(d, &mut bytes);
+        let len = write_definition(d, &mut bytes);
         let content_size = DefinitionMessage::new(&bytes[..len]).content_size();
         WrittenDefinition {
             bytes,

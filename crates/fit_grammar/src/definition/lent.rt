@@ -2,11 +2,11 @@
 
 ghost use Rattle.std.specs.Prelude.{◌≡◌, ◌≤◌, ◌*◌, length, sum_by};
 ghost use Rattle.fit_base.specs.Number.{number};
-ghost use Rattle.fit_grammar.specs.Format.Item.{arch_of, content_size};
-ghost use Rattle.fit_grammar.specs.Private.DefinitionBytes.{fields_in, definition_at, AreDefinition};
+ghost use Rattle.fit_grammar.specs.Format.Item.{arch_of, content_size, fields_size as fields_size_of};
+ghost use Rattle.fit_grammar.specs.Private.DefinitionBytes.{fields_in, developer_in, definition_at, AreDefinition};
 ghost use Rattle.fit_grammar.specs.Private.SizedDefinition.{AreSized};
 
-use crate::definition::{Definition, FieldDefinition};
+use crate::definition::{Definition, DeveloperFieldDefinition, FieldDefinition};
 use arrayvec::ArrayVec;
 use fit_base::{Arch, number_of};
 use std::marker::Model;
@@ -38,12 +38,12 @@ impl<'a> Model for DefinitionMessage<'a> {
 }
 
 impl<'a> DefinitionMessage<'a> {
-    // The definition of these bytes, the sizes of whose fields are added up.
+    // The definition of these bytes, the sizes of whose fields and developer fields are added up.
     pub(crate) fn new(bytes: &'a [u8]) -> Self
         requires { AreDefinition bytes.now }
         ensures { result ≡ definition_at bytes.now }
     {
-        let content_size = sum_of_sizes(fields_behind(bytes));
+        let content_size = sum_of_sizes(fields_behind(bytes)) + sum_of_sizes(developer_behind(bytes));
         DefinitionMessage::of(SizedBytes {
             bytes,
             content_size,
@@ -102,10 +102,25 @@ impl<'a> DefinitionMessage<'a> {
         fields_behind(self.sized.bytes)
     }
 
+    // The bytes of the developer fields, three each.
+    pub(crate) fn developer(&self) -> &'a [u8]
+        ensures fields { developer_in result.now ≡ self.now.developer.items }
+        ensures bound { length result.now ≤ 765 }
+    {
+        developer_behind(self.sized.bytes)
+    }
+
+    // How many bytes of content the fields have.
+    pub(crate) fn fields_size(&self) -> usize
+        ensures { result ≡ fields_size_of self.now }
+    {
+        sum_of_sizes(self.fields())
+    }
+
     /// How many bytes of content a data message has under this definition.
     pub fn content_size(&self) -> usize
         ensures size { result ≡ content_size self.now }
-        ensures bound { result ≤ 65025 }
+        ensures bound { result ≤ 130050 }
     {
         self.sized.content_size
     }
@@ -119,6 +134,7 @@ impl<'a> DefinitionMessage<'a> {
             arch: self.arch(),
             global: self.global(),
             fields: read_fields(self.fields()),
+            developer: read_developer(self.developer()),
         }
     }
 }
@@ -133,10 +149,24 @@ fn fields_behind(bytes: &[u8]) -> &[u8]
     &bytes[6..6 + size]
 }
 
-// The sizes of the fields that these bytes spell, added up.
+// The bytes of the developer fields, behind their number. There is none where they are not announced.
+fn developer_behind(bytes: &[u8]) -> &[u8]
+    requires { AreDefinition bytes.now }
+    ensures fields { developer_in result.now ≡ (definition_at bytes.now).developer.items }
+    ensures bound { length result.now ≤ 765 }
+{
+    let end = 6 + fields_size(bytes[5]);
+    match bytes.get(end + 1..) {
+        Some(rest) => rest,
+        None => &[],
+    }
+}
+
+// The sizes of the fields that these bytes spell, added up. Those of developer fields stand in the same places.
 fn sum_of_sizes(bytes: &[u8]) -> usize
     requires { length bytes.now ≤ 765 }
     ensures sum { result ≡ sum_by (λ field. field.size) (fields_in bytes.now) }
+    ensures developer { result ≡ sum_by (λ field. field.size) (developer_in bytes.now) }
     ensures bound { result ≤ 65025 }
 {
     let mut size = 0;
@@ -179,6 +209,24 @@ fn read_fields(bytes: &[u8]) -> ArrayVec<FieldDefinition, 255>
             number: *number,
             size: *size,
             base: *base,
+        });
+        rest = others;
+    }
+    fields
+}
+
+// The developer fields that these bytes spell, three bytes each.
+fn read_developer(bytes: &[u8]) -> ArrayVec<DeveloperFieldDefinition, 255>
+    requires { length bytes.now ≤ 765 }
+    ensures { result.items ≡ developer_in bytes.now }
+{
+    let mut fields = ArrayVec::new();
+    let mut rest = bytes;
+    while let [number, size, index, others @ ..] = rest {
+        fields.push(DeveloperFieldDefinition {
+            number: *number,
+            size: *size,
+            index: *index,
         });
         rest = others;
     }

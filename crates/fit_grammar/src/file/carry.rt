@@ -72,7 +72,7 @@ pub(crate) fn keep_begun(carry: &mut Vec<u8>, bytes: &[u8]) -> Result<(), FaultK
 // The most bytes that an item can have which begins so.
 fn most_length(file: &File, carry: &[u8]) -> usize
     ensures least { IfOk (least_length_of (in_force file.now.items) carry.now) (λ least. least ≤ result) }
-    ensures longest { 771 ≤ result }
+    ensures longest { 1537 ≤ result }
 {
     match file.least_length(carry) {
         Ok(least) => least.max(LONGEST_DEFINITION),

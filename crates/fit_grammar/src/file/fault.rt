@@ -27,14 +27,12 @@ pub enum FaultKind {
     TrailingBytes,
     /// A growth was refused.
     Memory,
-    /// A definition announces developer fields.
-    Developer,
 }
 
 impl FaultKind {
     ghost use Rattle.fit_grammar.specs.Calls.FaultCode.{kind_code};
 
-    /// The number of the kind, 1 to 11.
+    /// The number of the kind, 1 to 10.
     pub fn code(&self) -> u8
         ensures { result ≡ kind_code self.now }
     {
@@ -49,7 +47,6 @@ impl FaultKind {
             FaultKind::FileCrc => 8,
             FaultKind::TrailingBytes => 9,
             FaultKind::Memory => 10,
-            FaultKind::Developer => 11,
         }
     }
 }

@@ -46,12 +46,11 @@ pub(crate) fn take_item(file: &mut File, window: &[u8], left: usize) -> Result<u
 {
     let used = whole_length(file, window, left)?;
     match read_head(window[0]) {
-        Head::Definition(_) => {
+        Head::Definition(..) => {
             let definition = DefinitionMessage::new(&window[..used]).read();
             file.push_definition(&definition)?;
         }
         Head::Data(local, offset) => file.push_data(local, offset, &window[1..used])?,
-        Head::Developer => unreachable!(),
     }
     Ok(used)
 }
@@ -65,7 +64,6 @@ fn whole_length(file: &File, window: &[u8], left: usize) -> Result<usize, FaultK
     let least = match file.least_length(window) {
         Ok(least) => least,
         Err(ItemFault::UndefinedLocal(local)) => return Err(FaultKind::UndefinedLocal(local)),
-        Err(ItemFault::Developer) => return Err(FaultKind::Developer),
     };
     if least > left {
         return Err(FaultKind::SplitMessage);

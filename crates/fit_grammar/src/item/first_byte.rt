@@ -7,8 +7,8 @@ ghost use Rattle.fit_grammar.specs.Private.FirstByte.{head_view, local_of};
 // What the first byte of an item says, as the specification's `Head`.
 #[derive(Drop)]
 pub(crate) enum Head {
-    Definition(u8),
-    Developer,
+    // A local number, and whether developer fields are announced.
+    Definition(u8, bool),
     Data(u8, Option<u8>),
 }
 
@@ -19,11 +19,7 @@ pub(crate) fn read_head(byte: u8) -> Head
     if byte < 64 {
         Head::Data(byte % 16, None)
     } else if byte < 128 {
-        if byte / 32 % 2 == 0 {
-            Head::Definition(byte % 16)
-        } else {
-            Head::Developer
-        }
+        Head::Definition(byte % 16, byte / 32 % 2 == 1)
     } else {
         Head::Data(byte / 32 % 4, Some(byte % 32))
     }
@@ -34,7 +30,6 @@ pub(crate) fn first_local(byte: u8) -> u8
     ensures { result ≡ local_of (head_of byte) }
 {
     match read_head(byte) {
-        Head::Definition(local) | Head::Data(local, _) => local,
-        Head::Developer => 0,
+        Head::Definition(local, _) | Head::Data(local, _) => local,
     }
 }

@@ -2,28 +2,28 @@
 
 ghost use Rattle.std.specs.Prelude.{◌≡◌, ◌+◌, ◌*◌, ◌<◌, ◌≤◌, ◌++◌, [], length, drop, flat_map};
 ghost use Rattle.std.specs.List.{AllByRecursion};
-ghost use Rattle.fit_grammar.specs.Format.Item.{Defines, Data, field_bytes};
-ghost use Rattle.fit_grammar.specs.Format.Encoding.{arch_byte, two_bytes, data_byte as data_byte_of, encoded_item, HasEncoding};
-ghost use Rattle.fit_grammar.specs.Calls.Possible.{FieldFits, DefinitionFits};
+ghost use Rattle.fit_grammar.specs.Format.Item.{Defines, Data, field_bytes, developer_bytes, developer_part, part_size, has_any, item_size};
+ghost use Rattle.fit_grammar.specs.Format.Encoding.{arch_byte, definition_byte, two_bytes, data_byte as data_byte_of, encoded_item, HasEncoding};
+ghost use Rattle.fit_grammar.specs.Calls.Possible.{FieldFits, DeveloperFieldFits, DefinitionFits};
 
-use crate::definition::{Definition, FieldDefinition};
+use crate::definition::{Definition, DeveloperFieldDefinition, FieldDefinition};
 use fit_base::Arch;
 
-// The number of bytes of a definition of 255 fields, the most that there are.
-pub(crate) const LONGEST_DEFINITION: usize = 771;
+// The number of bytes of a definition of 255 fields and 255 developer fields, the most that there are.
+pub(crate) const LONGEST_DEFINITION: usize = 1537;
 
 /// Writes a definition at the front of `out`, and leaves the bytes behind it. Answers how many bytes it has.
 pub fn write_definition(definition: &Definition, out: &mut [u8]) -> usize
     requires local { definition.now.local < 16 }
-    requires room { 6 + 3 * length definition.now.fields.items ≤ length out.old }
-    ensures count { result ≡ 6 + 3 * length definition.now.fields.items }
+    requires room { item_size (Defines definition.now) ≤ length out.old }
+    ensures count { result ≡ item_size (Defines definition.now) }
     ensures written { out.new ≡ encoded_item (Defines definition.now) ++ drop result out.old }
     // Each number fits into its bytes, as the types say.
     ensures fits { DefinitionFits definition.now }
 {
     let [first, second] = number_bytes(definition.arch, definition.global);
     out[..6].copy_from_slice(&[
-        0x40 + definition.local,
+        first_byte(definition),
         0,
         arch_number(definition.arch),
         first,
@@ -31,7 +31,36 @@ pub fn write_definition(definition: &Definition, out: &mut [u8]) -> usize
         definition.fields.len() as u8,
     ]);
     write_fields(&definition.fields, &mut out[6..]);
-    6 + 3 * definition.fields.len()
+    let end = 6 + 3 * definition.fields.len();
+    end + write_developer_part(&definition.developer, &mut out[end..])
+}
+
+// The first byte of a definition, which announces developer fields where there are any.
+fn first_byte(definition: &Definition) -> u8
+    requires { definition.now.local < 16 }
+    ensures { result ≡ definition_byte definition.now.local (has_any definition.now.developer.items) }
+{
+    if definition.developer.is_empty() {
+        0x40 + definition.local
+    } else {
+        0x60 + definition.local
+    }
+}
+
+// Writes the number of the developer fields and three bytes each, where there are any. Answers how many bytes that are.
+fn write_developer_part(fields: &[DeveloperFieldDefinition], out: &mut [u8]) -> usize
+    requires count { length fields.now < 256 }
+    requires room { part_size (has_any fields.now) (length fields.now) ≤ length out.old }
+    ensures count { result ≡ part_size (has_any fields.now) (length fields.now) }
+    ensures written { out.new ≡ developer_part (has_any fields.now) fields.now ++ drop result out.old }
+    ensures fit { AllByRecursion DeveloperFieldFits fields.now }
+{
+    if fields.is_empty() {
+        return 0;
+    }
+    out[0] = fields.len() as u8;
+    write_developer_fields(fields, &mut out[1..]);
+    1 + 3 * fields.len()
 }
 
 /// Writes a data message at the front of `out`, with a compressed timestamp where an offset is given, and leaves the
@@ -91,5 +120,18 @@ fn write_fields(fields: &[FieldDefinition], out: &mut [u8])
     for (i, field) in fields.iter().enumerate() {
         let FieldDefinition { number, size, base } = field.in_bytes();
         out[3 * i..3 * i + 3].copy_from_slice(&[number, size, base]);
+    }
+}
+
+// Writes the developer fields, three bytes each.
+fn write_developer_fields(fields: &[DeveloperFieldDefinition], out: &mut [u8])
+    requires { 3 * length fields.now ≤ length out.old }
+    ensures written { out.new ≡ flat_map developer_bytes fields.now ++ drop (3 * length fields.now) out.old }
+    // As their types say.
+    ensures fit { AllByRecursion DeveloperFieldFits fields.now }
+{
+    for (i, field) in fields.iter().enumerate() {
+        let DeveloperFieldDefinition { number, size, index } = field.in_bytes();
+        out[3 * i..3 * i + 3].copy_from_slice(&[number, size, index]);
     }
 }

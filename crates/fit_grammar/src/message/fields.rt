@@ -21,7 +21,7 @@ pub struct Fields<'m> {
 }
 
 impl<'m> Model for Fields<'m> {
-    ghost use Rattle.std.specs.Prelude.{◌≡◌, List, ◌++◌, length, sum_by, option_map, IfSome};
+    ghost use Rattle.std.specs.Prelude.{◌≡◌, ◌≤◌, List, ◌++◌, length, sum_by, option_map, IfSome};
     ghost use Rattle.fit_base.specs.Number.{low_first};
     ghost use Rattle.fit_grammar.specs.Format.Message.{MessageField, time_fields, fields_of};
     ghost use Rattle.fit_grammar.specs.Private.DefinitionBytes.{fields_in};
@@ -31,24 +31,24 @@ impl<'m> Model for Fields<'m> {
     ghost view = { λ s. time_fields (option_map (λ bytes. low_first bytes.now) s.time)
         ++ fields_of s.arch (fields_in s.fields.now) s.content.now };
 
-    ghost invariant = { λ s. (sum_by (λ field. field.size) (fields_in s.fields.now) ≡ length s.content.now)
+    ghost invariant = { λ s. (sum_by (λ field. field.size) (fields_in s.fields.now) ≤ length s.content.now)
         × IfSome s.time (λ bytes. length bytes.now ≡ 4) };
 }
 
 impl<'m> Fields<'m> {
-    ghost use Rattle.std.specs.Prelude.{◌≡◌, ◌++◌, length, sum_by, option_map, IfSome};
+    ghost use Rattle.std.specs.Prelude.{◌≡◌, ◌≤◌, ◌++◌, length, sum_by, option_map, IfSome};
     ghost use Rattle.fit_base.specs.Number.{low_first};
     ghost use Rattle.fit_grammar.specs.Format.Message.{time_fields, fields_of};
     ghost use Rattle.fit_grammar.specs.Private.DefinitionBytes.{fields_in};
 
-    // The fields of this content, whose bytes they use up, behind a time of four bytes.
+    // The fields of this content, at whose front their bytes are, behind a time of four bytes.
     pub(crate) fn new(
         time: Option<&'m [u8]>,
         arch: Arch,
         fields: &'m [u8],
         content: &'m [u8],
     ) -> Self
-        requires whole { sum_by (λ field. field.size) (fields_in fields.now) ≡ length content.now }
+        requires within { sum_by (λ field. field.size) (fields_in fields.now) ≤ length content.now }
         requires four { IfSome time (λ bytes. length bytes.now ≡ 4) }
         ensures { result ≡ time_fields (option_map (λ bytes. low_first bytes.now) time.entry)
             ++ fields_of arch (fields_in fields.now) content.now }

@@ -99,7 +99,7 @@ impl Plain {
         ensures fits { OnOk result (IsTooLong self.old.file (Defines d.now) → ⊥) }
         ensures too_long { IsErrOf result PlainFaultKind.TooLong → IsTooLong self.old.file (Defines d.now) }
     {
-        if 6 + 3 * d.fields.len() > self.file.room() {
+        if d.size() > self.file.room() {
             return Err(PlainFaultKind::TooLong);
         }
         self.file.push_definition(d)?;

@@ -1,0 +1,71 @@
+// The developer fields of a message.
+
+use std::marker::Model;
+
+/// A developer field of a message: the index of its developer data, its number, and its bytes. What they mean is told by other
+/// messages of the file, which are not looked at.
+#[derive(Drop)]
+pub struct DeveloperField<'m> {
+    pub index: u8,
+    pub number: u8,
+    pub bytes: &'m [u8],
+}
+
+/// The developer fields of a message in order.
+#[derive(Drop)]
+pub struct DeveloperFields<'m> {
+    // Three bytes a field.
+    fields: &'m [u8],
+    content: &'m [u8],
+}
+
+impl<'m> Model for DeveloperFields<'m> {
+    ghost use Rattle.std.specs.Prelude.{◌≤◌, List, length, sum_by};
+    ghost use Rattle.fit_grammar.specs.Format.Message.{MessageDeveloperField, developer_of};
+    ghost use Rattle.fit_grammar.specs.Private.DefinitionBytes.{developer_in};
+
+    ghost Value = { List MessageDeveloperField };
+
+    ghost view = { λ s. developer_of (developer_in s.fields.now) s.content.now };
+
+    ghost invariant = { λ s. sum_by (λ field. field.size) (developer_in s.fields.now) ≤ length s.content.now };
+}
+
+impl<'m> DeveloperFields<'m> {
+    ghost use Rattle.std.specs.Prelude.{◌≡◌, ◌≤◌, length, sum_by};
+    ghost use Rattle.fit_grammar.specs.Format.Message.{developer_of};
+    ghost use Rattle.fit_grammar.specs.Private.DefinitionBytes.{developer_in};
+
+    // The developer fields of this content, at whose front their bytes are.
+    pub(crate) fn new(fields: &'m [u8], content: &'m [u8]) -> Self
+        requires { sum_by (λ field. field.size) (developer_in fields.now) ≤ length content.now }
+        ensures { result ≡ developer_of (developer_in fields.now) content.now }
+    {
+        DeveloperFields { fields, content }
+    }
+}
+
+impl<'m> Iterator for DeveloperFields<'m> {
+    ghost use Rattle.std.specs.Iterator.{item_count, YieldsFirstBy};
+    ghost use Rattle.fit_grammar.specs.Calls.LentField.{developer_view};
+
+    type Item = DeveloperField<'m>;
+
+    ghost next_gives = { YieldsFirstBy developer_view (λ s. s) };
+
+    ghost remaining = { item_count (λ s. s) };
+
+    fn next(&mut self) -> Option<DeveloperField<'m>> {
+        let [number, size, index, others @ ..] = self.fields else {
+            return None;
+        };
+        let (bytes, rest) = self.content.split_at(*size as usize);
+        self.fields = others;
+        self.content = rest;
+        Some(DeveloperField {
+            index: *index,
+            number: *number,
+            bytes,
+        })
+    }
+}
