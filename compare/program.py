@@ -22,9 +22,11 @@ def framed(records):
 
 
 def long_content(size):
-    """A record of this much content, in fields of type byte."""
+    """A record of this much content, in fields of type byte, and where these are too few in developer fields behind them."""
     sizes = [255] * (size // 255) + [size % 255] * (size % 255 > 0)
-    definition = bytes([0x40, 0, 0, 20, 0, len(sizes)]) + b"".join(bytes([99, own, 13]) for own in sizes)
+    fields, more = (b"".join(bytes([99, own, 13]) for own in part) for part in (sizes[:255], sizes[255:]))
+    definition = bytes([0x60 if more else 0x40, 0, 0, 20, 0, len(fields) // 3]) + fields
+    definition += bytes([len(more) // 3]) + more if more else b""
     return framed(definition + b"\0" + bytes(at % 250 + 1 for at in range(size)))
 
 
@@ -34,10 +36,11 @@ def many_messages(count):
 
 
 def long_beginning(size):
-    """A beginning of a file of so many bytes, behind which zeros are whole messages up to its last byte."""
-    empty, long = (bytes([0x40, 0, 0, 20, 0, fields]) + fields * bytes([99, 255, 13]) for fields in (0, 255))
+    """A beginning of a file of so many bytes, behind which zeros are whole messages up to its last byte, as long as there can be."""
+    empty, fields = bytes([0x40, 0, 0, 20, 0, 0]), 255 * bytes([99, 255, 13])
+    long = bytes([0x60, 0, 0, 20, 0, 255]) + fields + bytes([255]) + fields
     start = bytes([14, 0x10, 100, 0]) + (size - 14).to_bytes(4, "little") + b".FIT\0\0"
-    return start + empty + bytes((size - 15 - len(empty + long)) % (255 * 255 + 1)) + long
+    return start + empty + bytes((size - 15 - len(empty + long)) % (2 * 255 * 255 + 1)) + long
 
 
 class Program:
@@ -80,7 +83,7 @@ def beginnings(fitrec, small):
 
 def sizes(fitrec):
     """Long content and many messages."""
-    for size in (1, 255, 256, 5000, 65025):
+    for size in (1, 255, 256, 5000, 65025, 65026, 130050):
         data = long_content(size)
         yield "content of %d bytes" % size, fitrec.run("show", fitrec.write("long.fit", data)), wanted(data)
     data = many_messages(1000001)
