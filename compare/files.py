@@ -1,4 +1,4 @@
-"""Holds `fitrec show` against the second reader, over each change of one byte of a small file and over files that are
+"""Holds `fitrec show` against the second reader, over each change of one byte of two small files and over files that are
 made at random, whole and damaged."""
 
 import concurrent.futures
@@ -9,6 +9,7 @@ import re
 import subprocess
 import tempfile
 
+from program import framed
 from reader import BASE_TYPES, MESSAGES, checksum, wanted
 
 
@@ -116,9 +117,11 @@ def judge(program, folder, number, data, utc):
 
 
 def check(program, small, files, seed):
-    """Yields a name and a difference, or None, for each file. The small file is one that is shown."""
+    """Yields a name and a difference, or None, for each file. The small file is one that is shown, and one with developer fields
+    is taken too."""
     pick = random.Random(seed)
-    inputs = [(data, False) for data in changes(small)]
+    developer = framed(bytes.fromhex("60 00 00 14 00 01 03 01 02 01 00 02 00 00 64 AB CD"))
+    inputs = [(data, False) for whole in (small, developer) for data in changes(whole)]
     for _ in range(files):
         data = made(pick)
         data = data if pick.random() < 0.5 else damaged(pick, data)

@@ -90,6 +90,26 @@ def sizes(fitrec):
     yield "a million messages", fitrec.run("show", fitrec.write("many.fit", data)), wanted(data)
 
 
+def developer_fields(fitrec):
+    """As many fields and developer fields as there can be, and a definition that is cut at each of its bytes."""
+    for fields, more in ((0, 255), (255, 0), (255, 255)):
+        definition = bytes([0x60, 0, 0, 20, 0, fields]) + fields * bytes([99, 1, 2]) + bytes([more]) + more * bytes([7, 1, 2])
+        data = framed(definition + b"\0" + fields * b"\5" + more * b"\x2A")
+        # where none is announced, that is not written
+        head = "header 14 protocol 1.0 profile 100 data %d\n" % (len(data) - 16 - (more == 0))
+        text = head + "0 record" + fields * " field_99=5" + more * " developer_2_7=0x2A" + "\nmessages 1\n"
+        yield "%d fields and %d developer fields" % (fields, more), fitrec.run("show", fitrec.write("many.fit", data)), (0, text, "")
+    definition = bytes.fromhex("60 00 00 14 00 01 03 01 02 02 00 02 00 01 01 00")
+    for size in range(1, len(definition) + 1):
+        # how many of its bytes show that it does not fit into so many
+        shows = 1 if size < 6 else 6 if size < 10 else 10 if size < 16 else 17
+        for there in range(size + 1):
+            data = bytes([12, 0x10, 100, 0]) + size.to_bytes(4, "little") + b".FIT" + definition[:there]
+            line = "SplitMessage at 12" if there >= shows else "Truncated at %d" % (12 + there)
+            said = fitrec.run("show", fitrec.write("cut.fit", data))
+            yield "a beginning of a definition", said, (1, "", "fitrec: %s\n" % line)
+
+
 def feed(path, count):
     """Writes so many zeros to a pipe of this name, or as many as are read."""
     piece = bytes(1 << 20)
@@ -164,7 +184,7 @@ def check(program, small):
     """Yields a name and a difference, or None, for each run."""
     with tempfile.TemporaryDirectory() as folder:
         fitrec = Program(program, folder)
-        runs = (answers(fitrec, small), beginnings(fitrec, small), sizes(fitrec), limits(fitrec),
+        runs = (answers(fitrec, small), beginnings(fitrec, small), sizes(fitrec), developer_fields(fitrec), limits(fitrec),
                 outputs(fitrec, small), memory(fitrec))
         for rows in runs:
             for name, said, want in rows:
