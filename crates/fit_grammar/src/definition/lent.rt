@@ -156,9 +156,10 @@ fn developer_behind(bytes: &[u8]) -> &[u8]
     ensures bound { length result.now ≤ 765 }
 {
     let end = 6 + fields_size(bytes[5]);
-    match bytes.get(end + 1..) {
-        Some(rest) => rest,
-        None => &[],
+    if end < bytes.len() {
+        &bytes[end + 1..]
+    } else {
+        &[]
     }
 }
 
