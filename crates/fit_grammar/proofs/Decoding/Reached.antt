@@ -19,10 +19,20 @@ part_written false (field ∷ fields) none = let bad = ap length (none refl) in 
 part_written true [] none = omega arith
 part_written true (field ∷ fields) none = omega arith
 
--- a spelling has as many bytes as its item is written in, or one more where a definition announces no developer fields
+part_spelled : (announced : Bool) (fields : List DeveloperFieldDefinition) → (announced ≡ false → fields ≡ [])
+    → part_size announced (length fields) ≤ part_size (has_any fields) (length fields) + 1
+part_spelled false fields none = omega arith
+part_spelled true [] none = omega arith
+part_spelled true (field ∷ fields) none = omega arith
+
+-- a spelling has as many bytes as its item is written in, or one more where a definition announces developer fields and has none
 pub spelled_size : (item : Item) (own : List ℕ) → Spells item own → item_size item ≤ length own
 spelled_size (Defines d) own p = omega (arith, definition_length d own p, part_written p.announced d.developer.items p.none)
 spelled_size (Data local offset content) own p = omega (arith, data_length local offset content own p)
+
+pub spelled_most : (item : Item) (own : List ℕ) → Spells item own → length own ≤ item_size item + 1
+spelled_most (Defines d) own p = omega (arith, definition_length d own p, part_spelled p.announced d.developer.items p.none)
+spelled_most (Data local offset content) own p = omega (arith, data_length local offset content own p)
 
 -- so records have as many bytes as their items are written in, or more
 pub records_size : (before : List Item) (bytes : List ℕ) (items : List Item) → RecordsAfter before bytes items

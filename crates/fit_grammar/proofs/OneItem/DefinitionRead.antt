@@ -94,7 +94,7 @@ spelled_by : (a b c d e n : ℕ) (announced : Bool) (fields rest : List ℕ) (de
 spelled_by a b c d e n announced fields rest developer head whole joined none =
     let part = developer_part announced developer in
     let laid : a ∷ b ∷ c ∷ d ∷ e ∷ n ∷ rest
-        ≡ a ∷ b ∷ c ∷ d ∷ e ∷ length (fields_in fields) ∷ (flat_map field_bytes (fields_in fields) ++ part) =
+    ≡ a ∷ b ∷ c ∷ d ∷ e ∷ length (fields_in fields) ∷ (flat_map field_bytes (fields_in fields) ++ part) =
     rw (fields_in-length n fields whole, fields_in-bytes n fields whole, joined) refl in
     record {
       first = a;

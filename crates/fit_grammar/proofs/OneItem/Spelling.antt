@@ -88,7 +88,7 @@ definition_same d c local arch global items developer =
     let made : (l : ℕ) (a : Arch) (g : ℕ) (fs : List FieldDefinition) (ds : List DeveloperFieldDefinition) → Definition =
     λ l a g fs ds. record { local = l; arch = a; global = g; fields = record { items = fs }; developer = record { items = ds } } in
     let e : made d.local d.arch d.global d.fields.items d.developer.items
-        ≡ made c.local c.arch c.global c.fields.items c.developer.items =
+    ≡ made c.local c.arch c.global c.fields.items c.developer.items =
     rw (local, arch, global, items, developer) refl in
     e
 
@@ -168,8 +168,12 @@ pub definition_length : (d : Definition) (a : List ℕ) (p : SpellsDefinition d 
 definition_length d a p =
     let e = fields_length d.fields.items in
     let f = part_length p.announced d.developer.items in
-    rw p.laid_out (omega (arith, e, f,
-    length-append (flat_map field_bytes d.fields.items) (developer_part p.announced d.developer.items)))
+    rw p.laid_out (omega (
+      arith,
+      e,
+      f,
+      length-append (flat_map field_bytes d.fields.items) (developer_part p.announced d.developer.items),
+    ))
 
 -- its sixth byte is the number of its fields
 pub definition_count : (d : Definition) (a : List ℕ) → SpellsDefinition d a → slice_index a 5 ≡ length d.fields.items

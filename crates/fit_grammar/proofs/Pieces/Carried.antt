@@ -58,8 +58,12 @@ longest_by f (Defines d) first carry x rest most some p defined least long bytes
           sym (get_or_append_left window rest 0 5 (omega arith)) ∙ definition_count d (window ++ rest) p in
           let end = 6 + 3 * length d.fields.items in
           let within : end < length window = omega (arith, more, count, bytes 5) in
-          let part = part_most p.announced (length d.developer.items) (λ is. omega (arith, bytes end,
-          get_or_append_left window rest 0 end within, developer_count d (window ++ rest) p is)) in
+          let part = part_most p.announced (length d.developer.items) (λ is. omega (
+            arith,
+            bytes end,
+            get_or_append_left window rest 0 end within,
+            developer_count d (window ++ rest) p is,
+          )) in
           omega (arith, n, count, bytes 5, part, length-append window rest)
     ]
 longest_by f (Data local offset content) first carry x rest most some p defined least long bytes =

@@ -146,7 +146,11 @@ fn write_developer_fields(fields: &[DeveloperFieldDefinition], out: &mut [u8])
     ensures fit { AllByRecursion DeveloperFieldFits fields.now }
 {
     for (i, field) in fields.iter().enumerate() {
-        let DeveloperFieldDefinition { number, size, index } = field.in_bytes();
+        let DeveloperFieldDefinition {
+            number,
+            size,
+            index,
+        } = field.in_bytes();
         out[3 * i..3 * i + 3].copy_from_slice(&[number, size, index]);
     }
 }
