@@ -66,9 +66,10 @@ pub record ProfileMessage : Type 0 where
 abbrev pub ProfileMessageFits : ProfileMessage → Type 0
 ProfileMessageFits profile_message = AllByRecursion ProfileFieldFits profile_message.fields
 
--- the message that is said, whatever the local number
+-- the message that is said, whatever the local number; it has no developer fields
 abbrev pub as_message : ProfileMessage → Message
-as_message profile_message = record { global = profile_message.global; fields = map message_field profile_message.fields }
+as_message profile_message =
+    record { global = profile_message.global; fields = map message_field profile_message.fields; developer = [] }
 
 -- its definition, low byte first
 abbrev pub field_definition : ProfileField → FieldDefinition
@@ -81,6 +82,7 @@ as_definition profile_message =
       arch = Little;
       global = profile_message.global;
       fields = record { items = map field_definition profile_message.fields };
+      developer = record { items = [] };
     }
 
 -- the bytes of its content, low byte first

@@ -1,6 +1,6 @@
-// The fields of a message, where each has one value.
+// The fields of a message that has no others, where each has one value.
 
-ghost use Rattle.std.specs.Prelude.{◌≡◌, ◌≤◌, List, Some, IfSome, IsSomeAnd, length, map};
+ghost use Rattle.std.specs.Prelude.{◌≡◌, ◌≤◌, List, [], Some, IfSome, IsSomeAnd, length, map};
 ghost use Rattle.std.specs.List.{AllByRecursion};
 ghost use Rattle.fit_grammar.specs.Calls.LentField.{field_view};
 ghost use Rattle.fit_activity.specs.declared.speaking.profile_field.ProfileField.{ProfileField as AnyProfileField};
@@ -9,10 +9,27 @@ ghost use Rattle.fit_activity.specs.Messages.ProfileField.{message_field, Profil
 use crate::hearing::one_value::one_value;
 use crate::speaking::profile_field::ProfileField;
 use arrayvec::ArrayVec;
-use fit_grammar::{Field, Fields};
+use fit_grammar::{Field, Fields, Message};
+
+// The fields, where each has one value of at most four bytes, they are as few as any entry's message has, and there are no
+// developer fields.
+pub(crate) fn profile_fields_in(message: &Message) -> Option<ArrayVec<ProfileField, 15>>
+    ensures some { IfSome result
+        (λ profile_fields. map message_field profile_fields.items ≡ message.now.message.fields) }
+    ensures alone { IfSome result (λ profile_fields. message.now.message.developer ≡ []) }
+    ensures fit { IfSome result (λ profile_fields. AllByRecursion ProfileFieldFits profile_fields.items) }
+    ensures only { (profile_fields : List AnyProfileField) → AllByRecursion IsShort profile_fields
+        → length profile_fields ≤ 15 → map message_field profile_fields ≡ message.now.message.fields
+        → message.now.message.developer ≡ [] → IsSomeAnd result (λ found. found.items ≡ profile_fields) }
+{
+    if message.developer_fields().next().is_some() {
+        return None;
+    }
+    all_of(message.fields())
+}
 
 // The fields, where each has one value of at most four bytes, and they are as few as any entry's message has.
-pub(crate) fn profile_fields_in(fields: Fields) -> Option<ArrayVec<ProfileField, 15>>
+fn all_of(fields: Fields) -> Option<ArrayVec<ProfileField, 15>>
     ensures some { IfSome result (λ profile_fields. map message_field profile_fields.items ≡ fields.entry) }
     ensures fit { IfSome result (λ profile_fields. AllByRecursion ProfileFieldFits profile_fields.items) }
     ensures only { (profile_fields : List AnyProfileField) → AllByRecursion IsShort profile_fields

@@ -48,6 +48,7 @@ impl SpokenMessage {
                 arch: Arch::Little,
                 global: 0,
                 fields: ArrayVec::new(),
+                developer: ArrayVec::new(),
             },
             content: ArrayVec::new(),
         }
@@ -61,6 +62,7 @@ impl SpokenMessage {
         self.definition.arch = Arch::Little;
         self.definition.global = global;
         self.definition.fields.clear();
+        self.definition.developer.clear();
         self.content.clear();
     }
 

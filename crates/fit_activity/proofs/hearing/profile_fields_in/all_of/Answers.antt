@@ -3,7 +3,7 @@ use Rattle.std.proofs.lemmas.Option.{none-some}
 use Rattle.std.proofs.lemmas.Bool.{eqb-true}
 use Rattle.fit_activity.specs.Messages.ProfileField.{message_field, IsShort}
 use Rattle.fit_activity.proofs.OneList.Recognised.{map-same, profile_field-next, profile_field-many}
-use Rattle.fit_activity.proofs.hearing.profile_fields_in.profile_fields_in.Goals as goal
+use Rattle.fit_activity.proofs.hearing.profile_fields_in.all_of.Goals as goal
 
 pub returns-then-is_full-clause-only : goal.returns-then-is_full-clause-only
 returns-then-is_full-clause-only c = λ all short few is.
