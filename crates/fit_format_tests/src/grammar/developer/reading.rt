@@ -47,11 +47,15 @@ fn none_may_be_announced(rt: HostRuntime) {
     let mut table = Table::new();
     let definition = [0x60, 0, 0, 20, 0, 1, 3, 1, 2, 0];
     match next_item(&definition, &table) {
-        Step::Item(Item::Definition(message), used) => {
+        Step::Item(item, used) => {
             assert_eq!(rt; used, 10);
-            assert!(rt; message.read().developer.is_empty());
+            assert_eq!(rt; item.size(), 9);
+            match item {
+                Item::Definition(message) => assert!(rt; message.read().developer.is_empty()),
+                Item::Data(_) => panic!(rt; "a definition was expected"),
+            }
         }
-        _ => panic!(rt; "a definition was expected"),
+        _ => panic!(rt; "an item was expected"),
     }
     define(&rt, &definition, &mut table);
     let message = read_message(&rt, &[0x00, 0x64], &table, 0);
