@@ -28,6 +28,21 @@ pub enum Item<'a> {
     Data(DataMessage<'a>),
 }
 
+impl<'a> Item<'a> {
+    ghost use Rattle.fit_grammar.specs.Format.Item.{item_size};
+    ghost use Rattle.fit_grammar.specs.Calls.Step.{item_of};
+
+    /// How many bytes the item is written as. A definition that announces developer fields and has none was read in one more.
+    pub fn size(&self) -> usize
+        ensures { result ≡ item_size (item_of self.now) }
+    {
+        match self {
+            Item::Definition(definition) => definition.size(),
+            Item::Data(data) => 1 + data.content.len(),
+        }
+    }
+}
+
 /// Why no item can be read, whatever bytes follow.
 #[derive(Clone, Copy, Debug, PartialEq, Eq)]
 pub enum ItemFault {

@@ -43,8 +43,6 @@ pub use item::{
     DataMessage, FileItem, Item, ItemFault, Items, Step, least_length, longest_front, next_item,
     write_data, write_definition,
 };
-pub use message::{
-    DeveloperField, DeveloperFields, Field, Fields, Message, Messages, message_of,
-};
+pub use message::{DeveloperField, DeveloperFields, Field, Fields, Message, Messages, message_of};
 pub use plain::{PlainFault, PlainFaultKind, plain_file};
 pub use to_writer::{WriteFailed, put};

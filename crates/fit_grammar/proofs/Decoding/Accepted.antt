@@ -1,22 +1,21 @@
 -- An exit: an item that begins well, what its bytes may still show, and the input's end within it. For `Shown`.
-use Rattle.std.proofs.Common.{◌≡◌, ℕ, ◌+◌, ◌*◌, ◌<◌, ◌≤◌, List, [], ◌∷◌, ◌++◌, length, take, drop, Option, Some, None, sym, ap, ◌∙◌, arith, inl, inr}
+use Rattle.std.proofs.Common.{◌≡◌, ℕ, ◌+◌, ◌*◌, ◌<◌, ◌≤◌, Bool, true, List, [], ◌∷◌, ◌++◌, length, take, drop, Option, Some, None, sym, ap, ◌∙◌, arith, inl, inr, ◌⊎◌}
 use Rattle.std.specs.Prelude.{slice_index, IsSomeAnd}
-use Rattle.std.proofs.lemmas.List.{length-append, get_or-take, take-append-drop, length-take-le}
+use Rattle.std.proofs.lemmas.List.{length-append, append-nil, get_or-take, take-append-drop, length-take-le}
 use Rattle.fit_grammar.specs.declared.definition.Definition.{Definition}
 use Rattle.fit_grammar.specs.declared.file.fault.FaultKind.{FaultKind}
-use Rattle.fit_grammar.specs.declared.file.fault.FaultKind.TheVariants.{Truncated, HeaderSize, Magic, Protocol, HeaderCrc, UndefinedLocal, SplitMessage, FileCrc, TrailingBytes, Memory, Developer}
-use Rattle.fit_grammar.specs.Format.Item.{Head, head_of, DefinitionHead, DeveloperHead, DataHead, content_size}
+use Rattle.fit_grammar.specs.declared.file.fault.FaultKind.TheVariants.{Truncated, HeaderSize, Magic, Protocol, HeaderCrc, UndefinedLocal, SplitMessage, FileCrc, TrailingBytes, Memory}
+use Rattle.fit_grammar.specs.Format.Item.{Head, head_of, DefinitionHead, DataHead, content_size, part_size}
 use Rattle.fit_grammar.specs.Format.Records.{in_force}
-use Rattle.fit_grammar.specs.Format.Refusal.{Front, front_bytes, front_end, IsFront, TailShows, SplitsAtFirst, SplitsAtCount, Refusal}
+use Rattle.fit_grammar.specs.Format.Refusal.{Front, front_bytes, front_end, IsFront, TailShows, SplitsAtFirst, SplitsAtCount, SplitsAtDeveloperCount, Refusal}
 use Rattle.fit_grammar.proofs.OneItem.Spelling.{spelling_not_empty}
-use Rattle.fit_grammar.proofs.Decoding.Quiet.{item_quiet}
+use Rattle.fit_grammar.proofs.Decoding.Quiet.{item_quiet, same_byte}
 use Rattle.fit_grammar.proofs.Decoding.Blocked.{Blocked, tail_not_empty}
 use Rattle.fit_grammar.proofs.Decoding.Refused.{Stands, refused, cut_short}
 
 -- the first byte behind a front shows no fault: it begins an item whose least length is within the data
 abbrev pub AcceptsHead : Front → Head → Type 0
-AcceptsHead f (DefinitionHead local) = length f.records + 6 ≤ f.size
-AcceptsHead f DeveloperHead = ⊥
+AcceptsHead f (DefinitionHead local announced) = length f.records + 6 ≤ f.size
 AcceptsHead f (DataHead local offset) = IsSomeAnd (in_force f.items local) (λ d. length f.records + (1 + content_size d) ≤ f.size)
 
 none_accepted : (o : Option Definition) (P : Definition → Type 0) → IsSomeAnd o P → o ≡ None → ⊥
@@ -39,22 +38,23 @@ first_accepted : (f : Front) (byte : ℕ) (after tail more : List ℕ) → Accep
     → byte ∷ after ≡ tail ++ more → SplitsAtFirst f tail → ⊥
 first_accepted f byte after tail more a e (other, is, inl h) =
     let same = first_of_tail byte after tail more other e is in
-    let fits = accepts_as f byte (DefinitionHead h.0) a (ap head_of same ∙ h.1) in
-    omega (arith, h.2)
+    let fits = accepts_as f byte (DefinitionHead h.0 h.1) a (ap head_of same ∙ h.2) in
+    omega (arith, h.3)
 first_accepted f byte after tail more a e (other, is, inr h) =
     let same = first_of_tail byte after tail more other e is in
     both_sizes (in_force f.items h.0) (length f.records) f.size (accepts_as f byte (DataHead h.0 h.1) a (ap head_of same ∙ h.2)) h.3
 
--- beside its first byte only a definition's number of fields can show a fault
+-- a number of fields, or of developer fields, shows that the definition passes the end of the data
+abbrev pub SplitsAtCounts : Front → List ℕ → Type 0
+SplitsAtCounts f tail = SplitsAtCount f tail ⊎ SplitsAtDeveloperCount f tail
+
+-- beside its first byte only these numbers of a definition can show a fault
 pub accepted_mute : (kind : FaultKind) (f : Front) (byte : ℕ) (after tail more : List ℕ) → length f.records < f.size
-    → AcceptsHead f (head_of byte) → byte ∷ after ≡ tail ++ more → (SplitsAtCount f tail → ⊥) → TailShows kind f tail → ⊥
+    → AcceptsHead f (head_of byte) → byte ∷ after ≡ tail ++ more → (SplitsAtCounts f tail → ⊥) → TailShows kind f tail → ⊥
 accepted_mute (UndefinedLocal local) f byte after tail more lt a e n sh =
     let same = first_of_tail byte after tail more sh.1 e sh.3 in
     none_accepted (in_force f.items local) (λ d. length f.records + (1 + content_size d) ≤ f.size)
     (accepts_as f byte (DataHead local sh.2) a (ap head_of same ∙ sh.4)) sh.5
-accepted_mute Developer f byte after tail more lt a e n sh =
-    let same = first_of_tail byte after tail more sh.1 e sh.2 in
-    accepts_as f byte DeveloperHead a (ap head_of same ∙ sh.3)
 accepted_mute SplitMessage f byte after tail more lt a e n (l, inl h) = first_accepted f byte after tail more a e h
 accepted_mute SplitMessage f byte after tail more lt a e n (l, inr h) = n h
 accepted_mute FileCrc f byte after tail more lt a e n sh = omega (arith, sh.0)
@@ -66,9 +66,10 @@ accepted_mute HeaderCrc f byte after tail more lt a e n sh = sh
 accepted_mute Truncated f byte after tail more lt a e n sh = sh
 accepted_mute Memory f byte after tail more lt a e n sh = sh
 
--- fewer than six bytes do not show a number of fields
-few_quiet : (f : Front) (tail : List ℕ) → length tail < 6 → SplitsAtCount f tail → ⊥
-few_quiet f tail lt h = omega (arith, h.0)
+-- fewer than six bytes show no number
+few_quiet : (f : Front) (tail : List ℕ) → length tail < 6 → SplitsAtCounts f tail → ⊥
+few_quiet f tail lt (inl h) = omega (arith, h.0)
+few_quiet f tail lt (inr h) = omega (arith, h.0)
 
 -- nothing shorter than one byte shows a fault
 pub stands_one : (b : List ℕ) (f : Front) (rest : List ℕ) → IsFront f → b ≡ front_bytes f ++ rest → Stands b f rest 1
@@ -82,29 +83,82 @@ stands_one b f rest p e = record {
 -- a definition whose number of fields shows that it passes the end of the data
 pub count_refused : (b : List ℕ) (f : Front) (byte : ℕ) (after : List ℕ) → IsFront f
     → b ≡ front_bytes f ++ (byte ∷ after) → length f.records < f.size → AcceptsHead f (head_of byte)
-    → (local : ℕ) → head_of byte ≡ DefinitionHead local → 6 ≤ length (byte ∷ after)
-    → f.size < length f.records + (6 + 3 * slice_index (byte ∷ after) 5) → Refusal b SplitMessage (front_end f)
-count_refused b f byte after p e lt a local head six past =
+    → (local : ℕ) (announced : Bool) → head_of byte ≡ DefinitionHead local announced → 6 ≤ length (byte ∷ after)
+    → f.size < length f.records + (6 + 3 * slice_index (byte ∷ after) 5 + part_size announced 0) → Refusal b SplitMessage (front_end f)
+count_refused b f byte after p e lt a local announced head six past =
     let rest = byte ∷ after in
     let tail = take 6 rest in
     let parts : tail ++ drop 6 rest ≡ rest = take-append-drop 6 rest in
-    let long : length tail ≡ 6 = length-take-le 6 rest six in
     let shown : SplitsAtCount f tail = (
-      long,
-      (local, ap head_of (get_or-take 6 rest 0 0 (omega arith)) ∙ head),
+      length-take-le 6 rest six,
+      local,
+      announced,
+      ap head_of (get_or-take 6 rest 0 0 (omega arith)) ∙ head,
       omega (arith, past, get_or-take 6 rest 5 0 (omega arith)),
     ) in
     refused SplitMessage b f tail (drop 6 rest) (record {
       is_front = p;
       joined = e ∙ ap (λ (l : List ℕ). front_bytes f ++ l) (sym parts);
-      blocked = λ _ item own u joined inside. item_quiet SplitMessage f tail (drop 6 rest) item own u inside (sym joined) (lt, inr shown);
-      mute = λ kind t more is short sh. accepted_mute kind f byte after t more lt a (sym parts ∙ is) (few_quiet f t (omega arith)) sh;
-    }) (lt, inr shown)
+      blocked = λ _ item own u joined inside.
+          item_quiet SplitMessage f tail (drop 6 rest) item own u inside (sym joined) (lt, inr (inl shown));
+      mute = λ kind t more is short sh. accepted_mute kind f byte after t more lt a (sym parts ∙ is)
+          (few_quiet f t (omega (arith, short, length-take-le 6 rest six))) sh;
+    }) (lt, inr (inl shown))
+
+-- where six bytes do not show it, none before the number of developer fields do
+before_count : (f : Front) (rest tail more : List ℕ) (local : ℕ) → 6 ≤ length rest → head_of (slice_index rest 0) ≡ DefinitionHead local true
+    → length f.records + (6 + 3 * slice_index rest 5 + part_size true 0) ≤ f.size → rest ≡ tail ++ more
+    → length tail < 7 + 3 * slice_index rest 5 → SplitsAtCounts f tail → ⊥
+before_count f rest tail more local six head fits joined less (inl (long, l, announced, other, past)) =
+    let e : rest ++ [] ≡ tail ++ more = append-nil rest ∙ joined in
+    let fifth = same_byte rest [] tail more 5 e (omega (arith, six)) (omega (arith, long)) in
+    let first = same_byte rest [] tail more 0 e (omega (arith, six)) (omega (arith, long)) in
+    let same : DefinitionHead local true ≡ DefinitionHead l announced = sym head ∙ ap head_of first ∙ other in
+    let is : announced ≡ true = cc in
+    let part : part_size announced 0 ≡ part_size true 0 = ap (λ (x : Bool). part_size x 0) is in
+    omega (arith, past, fits, fifth, part)
+before_count f rest tail more local six head fits joined less (inr (long, l, other, past)) =
+    let e : rest ++ [] ≡ tail ++ more = append-nil rest ∙ joined in
+    let fifth = same_byte rest [] tail more 5 e (omega (arith, six)) (omega (arith, long)) in
+    omega (arith, long, less, fifth)
+
+-- a definition whose number of developer fields shows that it passes the end of the data
+pub developer_count_refused : (b : List ℕ) (f : Front) (byte : ℕ) (after : List ℕ) → IsFront f
+    → b ≡ front_bytes f ++ (byte ∷ after) → length f.records < f.size → AcceptsHead f (head_of byte)
+    → (local : ℕ) → head_of byte ≡ DefinitionHead local true
+    → 6 + 3 * slice_index (byte ∷ after) 5 < length (byte ∷ after)
+    → length f.records + (6 + 3 * slice_index (byte ∷ after) 5 + part_size true 0) ≤ f.size
+    → f.size < length f.records + (6 + 3 * slice_index (byte ∷ after) 5
+    + part_size true (slice_index (byte ∷ after) (6 + 3 * slice_index (byte ∷ after) 5))) → Refusal b SplitMessage (front_end f)
+developer_count_refused b f byte after p e lt a local head there fits past =
+    let rest = byte ∷ after in
+    let count = slice_index rest 5 in
+    let n = 7 + 3 * count in
+    let tail = take n rest in
+    let parts : tail ++ drop n rest ≡ rest = take-append-drop n rest in
+    let long : length tail ≡ n = length-take-le n rest (omega (arith, there)) in
+    let fifth : slice_index tail 5 ≡ count = get_or-take n rest 5 0 (omega arith) in
+    let last : slice_index tail (6 + 3 * slice_index tail 5) ≡ slice_index rest (6 + 3 * count) =
+    ap (λ (k : ℕ). slice_index tail (6 + 3 * k)) fifth ∙ get_or-take n rest (6 + 3 * count) 0 (omega arith) in
+    let shown : SplitsAtDeveloperCount f tail = (
+      omega (arith, long, fifth),
+      local,
+      ap head_of (get_or-take n rest 0 0 (omega arith)) ∙ head,
+      omega (arith, past, fifth, last),
+    ) in
+    refused SplitMessage b f tail (drop n rest) (record {
+      is_front = p;
+      joined = e ∙ ap (λ (l : List ℕ). front_bytes f ++ l) (sym parts);
+      blocked = λ _ item own u joined inside.
+          item_quiet SplitMessage f tail (drop n rest) item own u inside (sym joined) (lt, inr (inr shown));
+      mute = λ kind t more is short sh. accepted_mute kind f byte after t more lt a (sym parts ∙ is)
+          (before_count f rest t more local (omega (arith, there)) head fits (sym parts ∙ is) (omega (arith, short, long))) sh;
+    }) (lt, inr (inr shown))
 
 -- the bytes end within an item that has begun
 pub ends_within : (b : List ℕ) (f : Front) (byte : ℕ) (after : List ℕ) → IsFront f
     → b ≡ front_bytes f ++ (byte ∷ after) → length f.records < f.size → AcceptsHead f (head_of byte)
-    → Blocked f (byte ∷ after) → ((tail more : List ℕ) → byte ∷ after ≡ tail ++ more → SplitsAtCount f tail → ⊥)
+    → Blocked f (byte ∷ after) → ((tail more : List ℕ) → byte ∷ after ≡ tail ++ more → SplitsAtCounts f tail → ⊥)
     → Refusal b Truncated (length b)
 ends_within b f byte after p e lt a blocked count =
     cut_short b f (byte ∷ after) (record {

@@ -3,7 +3,7 @@ use Rattle.std.proofs.Common.{◌≡◌, ℕ, ◌+◌, ◌<◌, ◌≤◌, List,
 use Rattle.std.proofs.lemmas.List.{length-append, length-take, append-nil}
 use Rattle.fit_grammar.specs.declared.file.frame.Frame.{Frame}
 use Rattle.fit_grammar.specs.declared.file.fault.FaultKind.{FaultKind}
-use Rattle.fit_grammar.specs.declared.file.fault.FaultKind.TheVariants.{Truncated, HeaderSize, Magic, Protocol, HeaderCrc, UndefinedLocal, SplitMessage, FileCrc, TrailingBytes, Memory, Developer}
+use Rattle.fit_grammar.specs.declared.file.fault.FaultKind.TheVariants.{Truncated, HeaderSize, Magic, Protocol, HeaderCrc, UndefinedLocal, SplitMessage, FileCrc, TrailingBytes, Memory}
 use Rattle.fit_grammar.specs.Format.Item.{Item}
 use Rattle.fit_grammar.specs.Format.Refusal.{Front, front_bytes, front_end, IsFront, TailShows, place_behind, ShowsBehind, Shows}
 use Rattle.fit_grammar.proofs.OneItem.Spelling.{spelling_not_empty}
@@ -76,9 +76,9 @@ shows_right_here f rest count kind place s =
 
 pub tail_not_empty : (kind : FaultKind) (g : Front) (tail : List ℕ) → TailShows kind g tail → 1 ≤ length tail
 tail_not_empty (UndefinedLocal local) g tail sh = omega (arith, ap length sh.3)
-tail_not_empty Developer g tail sh = omega (arith, ap length sh.2)
 tail_not_empty SplitMessage g tail (lt, inl h) = omega (arith, ap length h.1)
-tail_not_empty SplitMessage g tail (lt, inr h) = omega (arith, h.0)
+tail_not_empty SplitMessage g tail (lt, inr (inl h)) = omega (arith, h.0)
+tail_not_empty SplitMessage g tail (lt, inr (inr h)) = omega (arith, h.0)
 tail_not_empty FileCrc g tail sh = omega (arith, sh.1)
 tail_not_empty TrailingBytes g tail sh = omega (arith, sh.1)
 tail_not_empty HeaderSize g tail sh = absurd sh

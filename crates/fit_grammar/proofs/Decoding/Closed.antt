@@ -5,7 +5,7 @@ use Rattle.std.proofs.lemmas.List.{length-append}
 use Rattle.fit_base.specs.Number.{low_first}
 use Rattle.fit_base.specs.Checksum.{crc}
 use Rattle.fit_grammar.specs.declared.file.fault.FaultKind.{FaultKind}
-use Rattle.fit_grammar.specs.declared.file.fault.FaultKind.TheVariants.{Truncated, HeaderSize, Magic, Protocol, HeaderCrc, UndefinedLocal, SplitMessage, FileCrc, TrailingBytes, Memory, Developer}
+use Rattle.fit_grammar.specs.declared.file.fault.FaultKind.TheVariants.{Truncated, HeaderSize, Magic, Protocol, HeaderCrc, UndefinedLocal, SplitMessage, FileCrc, TrailingBytes, Memory}
 use Rattle.fit_grammar.specs.Format.File.{FileOf, IsHeader, IsClosing}
 use Rattle.fit_grammar.specs.Format.Refusal.{Front, front_bytes, front_end, IsFront, TailShows, Refusal}
 use Rattle.fit_grammar.proofs.Decoding.Refused.{refused, cut_short, closed_blocked, closing_mute}
@@ -15,7 +15,6 @@ full_mute : (kind : FaultKind) (f : Front) (tail : List ℕ) → length f.record
 full_mute FileCrc f tail full sh = omega (arith, sh.1)
 full_mute TrailingBytes f tail full sh = omega (arith, sh.1)
 full_mute (UndefinedLocal local) f tail full sh = omega (arith, sh.0)
-full_mute Developer f tail full sh = omega (arith, sh.0)
 full_mute SplitMessage f tail full sh = omega (arith, sh.0)
 full_mute HeaderSize f tail full sh = absurd sh
 full_mute Protocol f tail full sh = absurd sh

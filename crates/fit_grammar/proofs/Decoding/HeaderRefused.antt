@@ -4,7 +4,7 @@ use Rattle.std.specs.Prelude.{slice_index, slice_range}
 use Rattle.std.proofs.lemmas.Bool.{cases_lt}
 use Rattle.std.proofs.lemmas.List.{length-append, length-take, drop-take, take-take}
 use Rattle.fit_grammar.specs.declared.file.fault.FaultKind.{FaultKind}
-use Rattle.fit_grammar.specs.declared.file.fault.FaultKind.TheVariants.{Truncated, HeaderSize, Magic, Protocol, HeaderCrc, UndefinedLocal, SplitMessage, FileCrc, TrailingBytes, Memory, Developer}
+use Rattle.fit_grammar.specs.declared.file.fault.FaultKind.TheVariants.{Truncated, HeaderSize, Magic, Protocol, HeaderCrc, UndefinedLocal, SplitMessage, FileCrc, TrailingBytes, Memory}
 use Rattle.fit_grammar.specs.Format.File.{FileValue, FileOf, mark}
 use Rattle.fit_grammar.specs.Format.Refusal.{Front, front_bytes, IsFront, HeaderShows, Shows, Refusal}
 use Rattle.fit_grammar.proofs.Decoding.Headers.{header_at_least, header_first, take_read, take_own}
@@ -67,7 +67,6 @@ header_passed SplitMessage place n count b p lt sh = sh
 header_passed FileCrc place n count b p lt sh = sh
 header_passed TrailingBytes place n count b p lt sh = sh
 header_passed Memory place n count b p lt sh = sh
-header_passed Developer place n count b p lt sh = sh
 
 -- a beginning that is shorter than the header is too short
 beginning_short : (n : ℕ) (b : List ℕ) → (slice_index b 0 ≡ 12) ⊎ (slice_index b 0 ≡ 14) → n < slice_index b 0 → TooShort (take n b)
@@ -120,7 +119,6 @@ nothing_shown SplitMessage place x e sh = sh
 nothing_shown FileCrc place x e sh = sh
 nothing_shown TrailingBytes place x e sh = sh
 nothing_shown Memory place x e sh = sh
-nothing_shown Developer place x e sh = sh
 
 empty_quiet : (kind : FaultKind) (place : ℕ) (x : List ℕ) → length x ≡ 0 → Shows kind place x → ⊥
 empty_quiet kind place x e shown =

@@ -6,7 +6,7 @@ use Rattle.std.proofs.lemmas.List.{append_cancel_left, get_or_append_left, get_o
 use Rattle.fit_base.specs.Number.{low_first}
 use Rattle.fit_grammar.specs.declared.file.frame.Frame.{Frame}
 use Rattle.fit_grammar.specs.declared.file.fault.FaultKind.{FaultKind}
-use Rattle.fit_grammar.specs.declared.file.fault.FaultKind.TheVariants.{Truncated, HeaderSize, Magic, Protocol, HeaderCrc, UndefinedLocal, SplitMessage, FileCrc, TrailingBytes, Memory, Developer}
+use Rattle.fit_grammar.specs.declared.file.fault.FaultKind.TheVariants.{Truncated, HeaderSize, Magic, Protocol, HeaderCrc, UndefinedLocal, SplitMessage, FileCrc, TrailingBytes, Memory}
 use Rattle.fit_grammar.specs.Format.File.{IsHeader, ChecksHeader}
 use Rattle.fit_grammar.specs.Format.Refusal.{HeaderShows}
 
@@ -86,4 +86,3 @@ header_quiet SplitMessage place m h fr s z p sh = sh
 header_quiet FileCrc place m h fr s z p sh = sh
 header_quiet TrailingBytes place m h fr s z p sh = sh
 header_quiet Memory place m h fr s z p sh = sh
-header_quiet Developer place m h fr s z p sh = sh

@@ -1,30 +1,52 @@
 -- A front of the bytes, whose items the file has: behind the header, and behind an item more. For the decoder's loop.
-use Rattle.std.proofs.Common.{◌≡◌, ℕ, ◌+◌, ◌-◌, ◌<◌, ◌^◌, List, [], ◌∷◌, ◌++◌, length, take, drop, refl, sym, ap, subst, ◌∙◌, append_assoc, arith}
+use Rattle.std.proofs.Common.{◌≡◌, ℕ, ◌+◌, ◌-◌, ◌<◌, ◌≤◌, ◌^◌, Bool, true, false, List, [], ◌∷◌, ◌++◌, length, take, drop, refl, sym, ap, subst, ◌∙◌, append_assoc, arith}
 use Rattle.std.proofs.Math.Seq.{drop-append_seam}
 use Rattle.std.proofs.lemmas.List.Sums.{sum_by-cons}
 use Rattle.std.proofs.lemmas.List.{length-append, length-take-le, take-append-drop, append-nil}
+use Rattle.fit_grammar.specs.declared.definition.DeveloperFieldDefinition.{DeveloperFieldDefinition}
 use Rattle.fit_grammar.specs.declared.file.header.Header.{Header}
-use Rattle.fit_grammar.specs.Format.Item.{Item, Defines, Data, Spells, item_size}
+use Rattle.fit_grammar.specs.Format.Item.{Item, Defines, Data, Spells, item_size, part_size, has_any}
 use Rattle.fit_grammar.specs.Format.Records.{IsDefined, RecordsAfter, data_size}
 use Rattle.fit_grammar.specs.Format.File.{FileValue}
 use Rattle.fit_grammar.specs.Format.Refusal.{Front, front_bytes, front_end}
 use Rattle.fit_grammar.specs.Private.Decoding.{BeginsWith, TakesItem, Reached}
 use Rattle.fit_grammar.proofs.OneItem.Spelling.{definition_length, data_length}
 
--- the length of a spelling is the size of its item
-spelled_size : (item : Item) (own : List ℕ) → Spells item own → length own ≡ item_size item
-spelled_size (Defines d) own p = definition_length d own p
-spelled_size (Data local offset content) own p = data_length local offset content own p
+part_written : (announced : Bool) (fields : List DeveloperFieldDefinition) → (announced ≡ false → fields ≡ [])
+    → part_size (has_any fields) (length fields) ≤ part_size announced (length fields)
+part_written false [] none = omega arith
+part_written false (field ∷ fields) none = let bad = ap length (none refl) in absurd (omega (arith, bad))
+part_written true [] none = omega arith
+part_written true (field ∷ fields) none = omega arith
 
--- records are as long as their items say
+part_spelled : (announced : Bool) (fields : List DeveloperFieldDefinition) → (announced ≡ false → fields ≡ [])
+    → part_size announced (length fields) ≤ part_size (has_any fields) (length fields) + 1
+part_spelled false fields none = omega arith
+part_spelled true [] none = omega arith
+part_spelled true (field ∷ fields) none = omega arith
+
+-- a spelling has as many bytes as its item is written in, or one more where a definition announces developer fields and has none
+pub spelled_size : (item : Item) (own : List ℕ) → Spells item own → item_size item ≤ length own
+spelled_size (Defines d) own p = omega (arith, definition_length d own p, part_written p.announced d.developer.items p.none)
+spelled_size (Data local offset content) own p = omega (arith, data_length local offset content own p)
+
+pub spelled_most : (item : Item) (own : List ℕ) → Spells item own → length own ≤ item_size item + 1
+spelled_most (Defines d) own p = omega (arith, definition_length d own p, part_spelled p.announced d.developer.items p.none)
+spelled_most (Data local offset content) own p = omega (arith, data_length local offset content own p)
+
+-- so records have as many bytes as their items are written in, or more
 pub records_size : (before : List Item) (bytes : List ℕ) (items : List Item) → RecordsAfter before bytes items
-    → length bytes ≡ data_size items
-records_size before bytes [] r = ap length r
+    → data_size items ≤ length bytes
+records_size before bytes [] r = omega arith
 records_size before bytes (item ∷ items) r =
-    let rest = records_size (before ++ item ∷ []) r.0 items r.2 in
-    let own = spelled_size item r.1.own r.1.spelled in
-    ap length r.1.joined ∙ length-append r.1.own r.0 ∙ ap (λ (n : ℕ). n + length r.0) own
-    ∙ ap (λ (n : ℕ). item_size item + n) rest ∙ sym (sum_by-cons item_size item items)
+    omega (
+      arith,
+      ap length r.1.joined,
+      length-append r.1.own r.0,
+      spelled_size item r.1.own r.1.spelled,
+      records_size (before ++ item ∷ []) r.0 items r.2,
+      sum_by-cons item_size item items,
+    )
 
 -- one item more
 pub records_more : (before : List Item) (bytes : List ℕ) (items : List Item) (item : Item) (own : List ℕ)

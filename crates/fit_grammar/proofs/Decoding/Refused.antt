@@ -4,7 +4,7 @@ use Rattle.std.proofs.Math.Seq.{take-append_seam}
 use Rattle.std.proofs.lemmas.List.{length-append, append-nil}
 use Rattle.fit_base.specs.Number.{low_first}
 use Rattle.fit_grammar.specs.declared.file.fault.FaultKind.{FaultKind}
-use Rattle.fit_grammar.specs.declared.file.fault.FaultKind.TheVariants.{Truncated, HeaderSize, Magic, Protocol, HeaderCrc, UndefinedLocal, SplitMessage, FileCrc, TrailingBytes, Memory, Developer}
+use Rattle.fit_grammar.specs.declared.file.fault.FaultKind.TheVariants.{Truncated, HeaderSize, Magic, Protocol, HeaderCrc, UndefinedLocal, SplitMessage, FileCrc, TrailingBytes, Memory}
 use Rattle.fit_grammar.specs.Format.File.{FileValue, FileOf, IsClosing}
 use Rattle.fit_grammar.specs.Format.Refusal.{Front, front_bytes, front_end, IsFront, TailShows, place_behind, Shows, Refusal}
 use Rattle.fit_grammar.specs.Calls.Pieces.{ShowsNothing}
@@ -25,7 +25,6 @@ closing_mute FileCrc f closing after tail more full c is lt sh =
     sh.2 (sym (ap low_first one.0) ∙ c.right)
 closing_mute TrailingBytes f closing after tail more full c is lt sh = omega (arith, sh.1)
 closing_mute (UndefinedLocal local) f closing after tail more full c is lt sh = omega (arith, sh.0)
-closing_mute Developer f closing after tail more full c is lt sh = omega (arith, sh.0)
 closing_mute SplitMessage f closing after tail more full c is lt sh = omega (arith, sh.0)
 closing_mute HeaderSize f closing after tail more full c is lt sh = sh
 closing_mute Protocol f closing after tail more full c is lt sh = sh

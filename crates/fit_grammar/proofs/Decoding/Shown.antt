@@ -1,29 +1,31 @@
 -- The exits as the loop meets them: from what an item shows, behind the front that was reached, to the fault of the
 -- bytes. For `read_file`.
-use Rattle.std.proofs.Common.{◌≡◌, ◌≢◌, ℕ, ◌+◌, ◌-◌, ◌*◌, ◌<◌, ◌≤◌, List, [], ◌∷◌, ◌++◌, length, take, drop, Option, Some, None, Ok, Err, cond, Bool, refl, sym, ap, subst, ◌∙◌, arith, inl, inr}
+use Rattle.std.proofs.Common.{◌≡◌, ◌≢◌, ℕ, ◌+◌, ◌-◌, ◌*◌, ◌<◌, ◌≤◌, List, [], ◌∷◌, ◌++◌, length, take, drop, Option, Some, None, Ok, Err, Bool, true, false, refl, sym, ap, subst, ◌∙◌, arith, inl, inr}
 use Rattle.std.specs.Prelude.{slice_index, IsSomeAnd}
 use Rattle.std.proofs.lemmas.Bool.{cases_lt, lt-ltb, le-ltb}
-use Rattle.std.proofs.lemmas.List.{length-append, length-drop, length-take-le, take-append-drop, get_or_append_left}
+use Rattle.std.proofs.lemmas.List.{length-append, length-drop, length-take-le, take-append-drop, get_or_append_left, append-nil}
 use Rattle.std.proofs.Math.Seq.{take-append_seam}
 use Rattle.fit_base.specs.Number.{low_first}
 use Rattle.fit_base.specs.Checksum.{crc}
 use Rattle.fit_grammar.specs.declared.definition.Definition.{Definition}
 use Rattle.fit_grammar.specs.declared.file.fault.FaultKind.{FaultKind}
-use Rattle.fit_grammar.specs.declared.file.fault.FaultKind.TheVariants.{Truncated, HeaderSize, Magic, Protocol, HeaderCrc, UndefinedLocal, SplitMessage, FileCrc, TrailingBytes, Memory, Developer}
+use Rattle.fit_grammar.specs.declared.file.fault.FaultKind.TheVariants.{Truncated, HeaderSize, Magic, Protocol, HeaderCrc, UndefinedLocal, SplitMessage, FileCrc, TrailingBytes, Memory}
 use Rattle.fit_grammar.specs.declared.file.fault.FileFault.{FileFault}
 use Rattle.fit_grammar.specs.declared.item.ItemFault.TheVariants as items
-use Rattle.fit_grammar.specs.Format.Item.{Spells, Head, DefinitionHead, DeveloperHead, DataHead, head_of, content_size}
+use Rattle.fit_grammar.specs.Format.Item.{Spells, Head, DefinitionHead, DataHead, head_of, content_size, part_size}
 use Rattle.fit_grammar.specs.Format.Records.{in_force}
-use Rattle.fit_grammar.specs.Calls.Step.{definition_length_of, data_length_of, length_by, ItemBegun}
+use Rattle.fit_grammar.specs.Calls.Step.{behind_fields, definition_length_of, data_length_of, length_by, ItemBegun}
 use Rattle.fit_grammar.specs.Format.File.{FileValue, IsClosing}
-use Rattle.fit_grammar.specs.Format.Refusal.{Front, front_bytes, front_end, IsFront, SplitsAtFirst, SplitsAtCount, Refusal, IsFaultOf}
+use Rattle.fit_grammar.specs.Format.Refusal.{Front, front_bytes, front_end, IsFront, SplitsAtFirst, Refusal, IsFaultOf}
 use Rattle.fit_grammar.specs.Private.Decoding.{WindowShows, IsItemFault, EndShows, fault_of, Reached}
 use Rattle.fit_grammar.proofs.Decoding.Blocked.{Blocked}
 use Rattle.fit_grammar.proofs.Decoding.Refused.{refused}
-use Rattle.fit_grammar.proofs.Decoding.Accepted.{AcceptsHead, stands_one, count_refused, ends_within, ends_before}
+use Rattle.fit_grammar.proofs.Decoding.Accepted.{AcceptsHead, SplitsAtCounts, stands_one, count_refused, developer_count_refused, ends_within, ends_before}
 use Rattle.fit_grammar.proofs.Decoding.Closed.{closing_cut, closing_wrong, closing_followed}
 use Rattle.fit_grammar.proofs.OneItem.Steps.{item_not_begun}
 use Rattle.fit_grammar.proofs.Decoding.WantOfMemory.{front_before_refusal, item_begins}
+use Rattle.fit_grammar.proofs.Decoding.Quiet.{same_byte}
+use Rattle.fit_grammar.proofs.OneItem.DefinitionRead.{few_fields, all_fields, behind_least}
 use Rattle.fit_grammar.proofs.OneItem.Least.{ok_is}
 use Rattle.fit_grammar.proofs.Decoding.Reached.{rest_there}
 
@@ -32,8 +34,7 @@ use Rattle.fit_grammar.proofs.Decoding.Reached.{rest_there}
 undefined_by : (b : List ℕ) (f : Front) (byte : ℕ) (after : List ℕ) (h : Head) (local : ℕ) → head_of byte ≡ h
     → IsFront f → b ≡ front_bytes f ++ byte ∷ after → length f.records < f.size
     → length_by (in_force f.items) h (byte ∷ after) ≡ Err (items.UndefinedLocal local) → Refusal b (UndefinedLocal local) (front_end f)
-undefined_by b f byte after (DefinitionHead l) local e p j lt is = absurd cc
-undefined_by b f byte after DeveloperHead local e p j lt is = absurd cc
+undefined_by b f byte after (DefinitionHead l n) local e p j lt is = absurd cc
 undefined_by b f byte after (DataHead l o) local e p j lt is = undefined_under (in_force f.items l) refl is
   where
     undefined_under : (d : Option Definition) → in_force f.items l ≡ d
@@ -44,56 +45,61 @@ undefined_by b f byte after (DataHead l o) local e p j lt is = undefined_under (
         (lt, byte, o, refl, rw (← same) e, rw (← same) there)
     undefined_under (Some d) there is = absurd cc
 
-developer_by : (b : List ℕ) (f : Front) (byte : ℕ) (after : List ℕ) (h : Head) → head_of byte ≡ h → IsFront f
-    → b ≡ front_bytes f ++ byte ∷ after → length f.records < f.size
-    → length_by (in_force f.items) h (byte ∷ after) ≡ Err items.Developer → Refusal b Developer (front_end f)
-developer_by b f byte after (DefinitionHead l) e p j lt is = absurd cc
-developer_by b f byte after DeveloperHead e p j lt is =
-    refused Developer b f (byte ∷ []) after (stands_one b f (byte ∷ after) p j) (lt, byte, refl, e)
-developer_by b f byte after (DataHead l o) e p j lt is = developer_under (in_force f.items l) is
-  where
-    developer_under : (d : Option Definition) → data_length_of l d ≡ Err items.Developer → Refusal b Developer (front_end f)
-    developer_under None is = absurd cc
-    developer_under (Some d) is = absurd cc
-
--- the least length of a definition
-few_fields : (window : List ℕ) → length window < 6 → definition_length_of window ≡ 6
-few_fields window lt = ap (λ (t : Bool). cond t 6 (6 + 3 * slice_index window 5)) (lt-ltb (length window) 6 lt)
-
-all_fields : (window : List ℕ) → 6 ≤ length window → definition_length_of window ≡ 6 + 3 * slice_index window 5
-all_fields window le = ap (λ (t : Bool). cond t 6 (6 + 3 * slice_index window 5)) (le-ltb (length window) 6 le)
-
-at_least_six : (window : List ℕ) → 6 ≤ definition_length_of window
-at_least_six window =
+at_least_six : (announced : Bool) (window : List ℕ) → 6 ≤ definition_length_of announced window
+at_least_six announced window =
     elim (cases_lt (length window) 6) [
-      | inl lt ↦ omega (arith, few_fields window lt)
-      | inr le ↦ omega (arith, all_fields window le)
+      | inl lt ↦ omega (arith, few_fields announced window lt)
+      | inr le ↦ omega (arith, all_fields announced window le, behind_least announced (6 + 3 * slice_index window 5) window)
     ]
 
 split_first : (b : List ℕ) (f : Front) (byte : ℕ) (after : List ℕ) → IsFront f → b ≡ front_bytes f ++ byte ∷ after
     → length f.records < f.size → SplitsAtFirst f (byte ∷ []) → Refusal b SplitMessage (front_end f)
 split_first b f byte after p j lt h = refused SplitMessage b f (byte ∷ []) after (stands_one b f (byte ∷ after) p j) (lt, inl h)
 
-split_definition : (b : List ℕ) (f : Front) (byte : ℕ) (after : List ℕ) (local : ℕ)
-    → head_of byte ≡ DefinitionHead local → IsFront f → b ≡ front_bytes f ++ byte ∷ after → length f.records < f.size
-    → f.size < length f.records + definition_length_of (byte ∷ after) → Refusal b SplitMessage (front_end f)
-split_definition b f byte after local e p j lt past =
+-- what passes the end of the data by more than the number of its fields says
+split_behind : (b : List ℕ) (f : Front) (byte : ℕ) (after : List ℕ) (local : ℕ) (announced : Bool)
+    → head_of byte ≡ DefinitionHead local announced → IsFront f → b ≡ front_bytes f ++ byte ∷ after → length f.records < f.size
+    → AcceptsHead f (head_of byte)
+    → length f.records + (6 + 3 * slice_index (byte ∷ after) 5 + part_size announced 0) ≤ f.size
+    → f.size < length f.records + behind_fields announced (6 + 3 * slice_index (byte ∷ after) 5) (byte ∷ after)
+    → Refusal b SplitMessage (front_end f)
+split_behind b f byte after local false e p j lt a fits past = absurd (omega (arith, fits, past))
+split_behind b f byte after local true e p j lt a fits past =
+    let window = byte ∷ after in
+    let end = 6 + 3 * slice_index window 5 in
+    elim (cases_lt end (length window)) [
+      | inl there ↦
+          let all : behind_fields true end window ≡ end + part_size true (slice_index window end) = rw (lt-ltb _ _ there) refl in
+          developer_count_refused b f byte after p j lt a local e there fits (omega (arith, past, all))
+      | inr short ↦
+          let one : behind_fields true end window ≡ end + part_size true 0 = rw (le-ltb _ _ short) refl in
+          absurd (omega (arith, fits, past, one))
+    ]
+
+split_definition : (b : List ℕ) (f : Front) (byte : ℕ) (after : List ℕ) (local : ℕ) (announced : Bool)
+    → head_of byte ≡ DefinitionHead local announced → IsFront f → b ≡ front_bytes f ++ byte ∷ after → length f.records < f.size
+    → f.size < length f.records + definition_length_of announced (byte ∷ after) → Refusal b SplitMessage (front_end f)
+split_definition b f byte after local n e p j lt past =
+    let window = byte ∷ after in
+    let counted = 6 + 3 * slice_index window 5 + part_size n 0 in
     elim (cases_lt f.size (length f.records + 6)) [
-      | inl less ↦ split_first b f byte after p j lt (byte, refl, inl (local, e, less))
-      | inr more ↦ elim (cases_lt (length (byte ∷ after)) 6) [
-        | inl few ↦ absurd (omega (arith, few_fields (byte ∷ after) few))
+      | inl less ↦ split_first b f byte after p j lt (byte, refl, inl (local, n, e, less))
+      | inr more ↦ elim (cases_lt (length window) 6) [
+        | inl few ↦ absurd (omega (arith, few_fields n window few))
         | inr six ↦
-            count_refused b f byte after p j lt (subst (AcceptsHead f) (sym e) more) local e six
-            (omega (arith, all_fields (byte ∷ after) six))
+            let accepts = subst (AcceptsHead f) (sym e) more in
+            elim (cases_lt f.size (length f.records + counted)) [
+              | inl less ↦ count_refused b f byte after p j lt accepts local n e six less
+              | inr fits ↦ split_behind b f byte after local n e p j lt accepts fits (omega (arith, past, all_fields n window six))
+            ]
       ]
     ]
 
 split_by : (b : List ℕ) (f : Front) (byte : ℕ) (after : List ℕ) (h : Head) (least : ℕ) → head_of byte ≡ h → IsFront f
     → b ≡ front_bytes f ++ byte ∷ after → length f.records < f.size
     → length_by (in_force f.items) h (byte ∷ after) ≡ Ok least → f.size < length f.records + least → Refusal b SplitMessage (front_end f)
-split_by b f byte after (DefinitionHead l) least e p j lt is past =
-    split_definition b f byte after l e p j lt (omega (arith, past, ok_is (definition_length_of (byte ∷ after)) least is))
-split_by b f byte after DeveloperHead least e p j lt is past = absurd cc
+split_by b f byte after (DefinitionHead l n) least e p j lt is past =
+    split_definition b f byte after l n e p j lt (omega (arith, past, ok_is (definition_length_of n (byte ∷ after)) least is))
 split_by b f byte after (DataHead l o) least e p j lt is past = split_under (in_force f.items l) refl is
   where
     split_under : (d : Option Definition) → in_force f.items l ≡ d → data_length_of l d ≡ Ok least → Refusal b SplitMessage (front_end f)
@@ -115,9 +121,8 @@ split_by b f byte after (DataHead l o) least e p j lt is past = split_under (in_
 -- the first byte of an item whose least length is within the data
 accepts_by : (f : Front) (byte : ℕ) (after : List ℕ) (h : Head) (least : ℕ)
     → length_by (in_force f.items) h (byte ∷ after) ≡ Ok least → length f.records + least ≤ f.size → AcceptsHead f h
-accepts_by f byte after (DefinitionHead l) least is le =
-    omega (arith, at_least_six (byte ∷ after), ok_is (definition_length_of (byte ∷ after)) least is, le)
-accepts_by f byte after DeveloperHead least is le = absurd cc
+accepts_by f byte after (DefinitionHead l n) least is le =
+    omega (arith, at_least_six n (byte ∷ after), ok_is (definition_length_of n (byte ∷ after)) least is, le)
 accepts_by f byte after (DataHead l o) least is le = accepts_under (in_force f.items l) is
   where
     accepts_under : (d : Option Definition) → data_length_of l d ≡ Ok least
@@ -125,21 +130,52 @@ accepts_by f byte after (DataHead l o) least is le = accepts_under (in_force f.i
     accepts_under None is = absurd cc
     accepts_under (Some d) is = omega (arith, le, ok_is (1 + content_size d) least is)
 
--- a definition whose least length is within the data has a number of fields that is
+-- a definition whose least length is within the data has numbers of fields that are
+counts_within : (f : Front) (window tail more : List ℕ) (l : ℕ) (n : Bool) → head_of (slice_index window 0) ≡ DefinitionHead l n
+    → length f.records + definition_length_of n window ≤ f.size → window ≡ tail ++ more → SplitsAtCounts f tail → ⊥
+counts_within f window tail more l n e le j (inl (six, local, announced, head, past)) =
+    let joined : window ++ [] ≡ tail ++ more = append-nil window ∙ j in
+    let long : 6 ≤ length window = omega (arith, ap length j, length-append tail more, six) in
+    let end = 6 + 3 * slice_index window 5 in
+    let fifth = same_byte window [] tail more 5 joined (omega (arith, long)) (omega (arith, six)) in
+    let first = same_byte window [] tail more 0 joined (omega (arith, long)) (omega (arith, six)) in
+    let same : DefinitionHead l n ≡ DefinitionHead local announced = sym e ∙ ap head_of first ∙ head in
+    let is : announced ≡ n = cc in
+    let part : part_size announced 0 ≡ part_size n 0 = ap (λ (x : Bool). part_size x 0) is in
+    omega (arith, past, part, fifth, all_fields n window long, behind_least n end window, le)
+counts_within f window tail more l n e le j (inr (count, local, head, past)) =
+    let joined : window ++ [] ≡ tail ++ more = append-nil window ∙ j in
+    let long : 6 ≤ length window = omega (arith, ap length j, length-append tail more, count) in
+    let end = 6 + 3 * slice_index window 5 in
+    let fifth = same_byte window [] tail more 5 joined (omega (arith, long)) (omega (arith, count)) in
+    let first = same_byte window [] tail more 0 joined (omega (arith, long)) (omega (arith, count)) in
+    let same : DefinitionHead l n ≡ DefinitionHead local true = sym e ∙ ap head_of first ∙ head in
+    let is : n ≡ true = cc in
+    let there : end < length window = omega (arith, ap length j, length-append tail more, count, fifth) in
+    let all : behind_fields true end window ≡ end + part_size true (slice_index window end) = rw (lt-ltb _ _ there) refl in
+    let whole : definition_length_of n window ≡ behind_fields true end window =
+    all_fields n window long ∙ ap (λ (x : Bool). behind_fields x end window) is in
+    let last : slice_index window end ≡ slice_index tail (6 + 3 * slice_index tail 5) =
+    same_byte window [] tail more end joined there (omega (arith, count, fifth))
+    ∙ ap (λ (k : ℕ). slice_index tail (6 + 3 * k)) fifth in
+    omega (arith, past, fifth, last, all, whole, le)
+
+no_definition : (byte : ℕ) (after tail more : List ℕ) (l : ℕ) (o : Option ℕ) (local : ℕ) (announced : Bool) → head_of byte ≡ DataHead l o
+    → byte ∷ after ≡ tail ++ more → 1 ≤ length tail → head_of (slice_index tail 0) ≡ DefinitionHead local announced → ⊥
+no_definition byte after tail more l o local announced e j some head =
+    let same : byte ≡ slice_index tail 0 = ap (λ (k : List ℕ). slice_index k 0) j ∙ get_or_append_left tail more 0 0 some in
+    let bad : DataHead l o ≡ DefinitionHead local announced = sym e ∙ ap head_of same ∙ head in
+    cc
+
 count_by_head : (f : Front) (byte : ℕ) (after tail more : List ℕ) (h : Head) (least : ℕ) → head_of byte ≡ h
     → length_by (in_force f.items) h (byte ∷ after) ≡ Ok least → length f.records + least ≤ f.size
-    → byte ∷ after ≡ tail ++ more → SplitsAtCount f tail → ⊥
-count_by_head f byte after tail more (DefinitionHead l) least e is le j (six, head, past) =
-    let window = byte ∷ after in
-    let long : 6 ≤ length window = omega (arith, ap length j, length-append tail more, six) in
-    let same : slice_index window 5 ≡ slice_index tail 5 = ap (λ (k : List ℕ). slice_index k 5) j
-    ∙ get_or_append_left tail more 0 5 (omega arith) in
-    omega (arith, past, same, all_fields window long, ok_is (definition_length_of window) least is, le)
-count_by_head f byte after tail more DeveloperHead least e is le j sh = absurd cc
-count_by_head f byte after tail more (DataHead l o) least e is le j (six, head, past) =
-    let same : byte ≡ slice_index tail 0 = ap (λ (k : List ℕ). slice_index k 0) j ∙ get_or_append_left tail more 0 0 (omega arith) in
-    let bad : DataHead l o ≡ DefinitionHead head.0 = sym e ∙ ap head_of same ∙ head.1 in
-    cc
+    → byte ∷ after ≡ tail ++ more → SplitsAtCounts f tail → ⊥
+count_by_head f byte after tail more (DefinitionHead l n) least e is le j sh =
+    counts_within f (byte ∷ after) tail more l n e (omega (arith, le, ok_is (definition_length_of n (byte ∷ after)) least is)) j sh
+count_by_head f byte after tail more (DataHead l o) least e is le j (inl (six, local, announced, head, past)) =
+    no_definition byte after tail more l o local announced e j (omega (arith, six)) head
+count_by_head f byte after tail more (DataHead l o) least e is le j (inr (count, local, head, past)) =
+    no_definition byte after tail more l o local true e j (omega (arith, count)) head
 
 -- no item is whole where one has only begun
 begun_blocked : (f : Front) (window : List ℕ) → ItemBegun (in_force f.items) window → Blocked f window
@@ -157,9 +193,6 @@ window_refused : (kind : FaultKind) (b : List ℕ) (f : Front) (window : List �
 window_refused (UndefinedLocal local) b f [] left p j size some sh = absurd cc
 window_refused (UndefinedLocal local) b f (byte ∷ after) left p j size some sh =
     inl (λ k. cc, undefined_by b f byte after (head_of byte) local refl p j (omega arith) sh)
-window_refused Developer b f [] left p j size some sh = absurd cc
-window_refused Developer b f (byte ∷ after) left p j size some sh =
-    inl (λ k. cc, developer_by b f byte after (head_of byte) refl p j (omega arith) sh)
 window_refused SplitMessage b f [] left p j size some sh = absurd (omega (arith, ok_is 1 sh.0 sh.1, sh.2))
 window_refused SplitMessage b f (byte ∷ after) left p j size some sh =
     inl (λ k. cc, split_by b f byte after (head_of byte) sh.0 refl p j (omega arith) sh.1 (omega (arith, sh.2)))
@@ -248,7 +281,6 @@ end_refused HeaderCrc place b f rest p j full sh = absurd sh
 end_refused (UndefinedLocal local) place b f rest p j full sh = absurd sh
 end_refused SplitMessage place b f rest p j full sh = absurd sh
 end_refused Memory place b f rest p j full sh = absurd sh
-end_refused Developer place b f rest p j full sh = absurd sh
 
 -- the fault behind the records
 pub reached_end_refused : (b : List ℕ) (v : FileValue) (at end : ℕ) (fault : FileFault) → Reached b v at end

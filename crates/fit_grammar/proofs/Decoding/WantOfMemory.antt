@@ -2,7 +2,7 @@
 use Rattle.std.proofs.Common.{◌≡◌, ℕ, ◌<◌, ◌≤◌, List, ◌++◌, length, take, ap, arith, inl, inr, refl}
 use Rattle.std.proofs.lemmas.List.{length-append}
 use Rattle.fit_grammar.specs.declared.file.fault.FaultKind.{FaultKind}
-use Rattle.fit_grammar.specs.declared.file.fault.FaultKind.TheVariants.{Truncated, HeaderSize, Magic, Protocol, HeaderCrc, UndefinedLocal, SplitMessage, FileCrc, TrailingBytes, Memory, Developer}
+use Rattle.fit_grammar.specs.declared.file.fault.FaultKind.TheVariants.{Truncated, HeaderSize, Magic, Protocol, HeaderCrc, UndefinedLocal, SplitMessage, FileCrc, TrailingBytes, Memory}
 use Rattle.fit_grammar.specs.Format.Refusal.{Front, front_bytes, front_end, IsFront, place_behind, Shows, Refusal, ItemBeginsAt}
 use Rattle.fit_grammar.proofs.Decoding.Fronts.{later}
 use Rattle.fit_grammar.proofs.Decoding.Blocked.{behind}
@@ -18,7 +18,6 @@ front_le_place (UndefinedLocal l) f = omega arith
 front_le_place SplitMessage f = omega arith
 front_le_place FileCrc f = omega arith
 front_le_place Memory f = omega arith
-front_le_place Developer f = omega arith
 
 shown_after : (b : List ℕ) (f : Front) (rest : List ℕ) (n place : ℕ) (kind : FaultKind) → IsFront f
     → b ≡ front_bytes f ++ rest → Shows kind place (take n b) → front_end f ≤ place

@@ -8,13 +8,13 @@ use Rattle.fit_base.specs.declared.order.Arch.TheVariants.{Little, Big}
 use Rattle.fit_base.specs.Number.{low_first}
 use Rattle.fit_base.specs.Checksum.{crc, crc_from}
 use Rattle.fit_grammar.specs.declared.file.frame.Frame.{Frame}
-use Rattle.fit_grammar.specs.Format.Item.{Item, Defines, Data, item_size, field_bytes}
+use Rattle.fit_grammar.specs.Format.Item.{Item, Defines, Data, item_size, field_bytes, developer_part, has_any}
 use Rattle.fit_grammar.specs.Format.Records.{RecordsAfter, Records, data_size}
 use Rattle.fit_grammar.specs.Format.Encoding.{two_bytes, four_bytes, encoded_item, encoded_items, header_front, with_checksum, encoded_header, encoded}
 use Rattle.fit_grammar.specs.Format.File.{FileValue, FileOf, IsFrame, ChecksHeader, IsHeader, IsClosing}
 use Rattle.fit_grammar.specs.Calls.Framed.{framed}
 use Rattle.fit_grammar.specs.Calls.Possible.{AllCanFollow, CanBeFile}
-use Rattle.fit_grammar.proofs.OneItem.Spelling.{fields_length}
+use Rattle.fit_grammar.proofs.OneItem.Spelling.{fields_length, part_length}
 use Rattle.fit_grammar.proofs.Encoder.Encoding.{encoded_spells}
 
 two_length : (a : Arch) (n : ℕ) → length (two_bytes a n) ≡ 2
@@ -24,12 +24,15 @@ two_length Big n = refl
 -- an item is written in as many bytes as it has
 pub encoded_item-length : (item : Item) → length (encoded_item item) ≡ item_size item
 encoded_item-length (Defines d) =
+    let fields = flat_map field_bytes d.fields.items in
+    let part = developer_part (has_any d.developer.items) d.developer.items in
     omega (
       arith,
       fields_length d.fields.items,
+      part_length (has_any d.developer.items) d.developer.items,
       two_length d.arch d.global,
-      length-append (two_bytes d.arch d.global)
-          (length d.fields.items ∷ flat_map field_bytes d.fields.items),
+      length-append (two_bytes d.arch d.global) (length d.fields.items ∷ (fields ++ part)),
+      length-append fields part,
     )
 encoded_item-length (Data local offset content) = omega arith
 

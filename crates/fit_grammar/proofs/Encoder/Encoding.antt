@@ -1,20 +1,27 @@
 -- What is written of an item is a spelling of it: for the law of that name, and for what is read again.
-use Rattle.std.proofs.Common.{◌≡◌, ℕ, ◌+◌, ◌*◌, ◌/◌, ◌%◌, ◌<◌, true, false, [], ◌∷◌, Some, None, refl, arith}
+use Rattle.std.proofs.Common.{◌≡◌, ℕ, ◌+◌, ◌*◌, ◌/◌, ◌%◌, ◌<◌, Bool, true, false, List, [], ◌∷◌, Some, None, refl, arith}
 use Rattle.std.specs.Prelude.{nat_lt, nat_eq}
-use Rattle.std.proofs.lemmas.Bool.{lt-ltb, le-ltb, eq-eqb}
+use Rattle.std.proofs.lemmas.Bool.{lt-ltb, le-ltb, eq-eqb, ne_eqb}
 use Rattle.fit_base.specs.declared.order.Arch.{Arch}
 use Rattle.fit_base.specs.declared.order.Arch.TheVariants.{Little, Big}
 use Rattle.fit_base.specs.Number.{number}
+use Rattle.fit_grammar.specs.declared.definition.DeveloperFieldDefinition.{DeveloperFieldDefinition}
 use Rattle.fit_grammar.specs.declared.definition.Definition.{Definition}
-use Rattle.fit_grammar.specs.Format.Item.{Item, Defines, Data, DefinitionHead, DataHead, head_of, arch_of, SpellsDefinition, Spells}
-use Rattle.fit_grammar.specs.Format.Encoding.{arch_byte, two_bytes, encoded_item, HasEncoding}
+use Rattle.fit_grammar.specs.Format.Item.{Item, Defines, Data, DefinitionHead, DataHead, head_of, arch_of, has_any, SpellsDefinition, Spells}
+use Rattle.fit_grammar.specs.Format.Encoding.{arch_byte, two_bytes, definition_byte, encoded_item, HasEncoding}
 
-definition_head : (local : ℕ) → local < 16 → head_of (64 + local) ≡ DefinitionHead local
-definition_head local small =
+pub definition_head : (local : ℕ) (announced : Bool) → local < 16 → head_of (definition_byte local announced) ≡ DefinitionHead local announced
+definition_head local false small =
     let far : nat_lt (64 + local) 64 ≡ false = le-ltb _ _ (omega arith) in
     let near : nat_lt (64 + local) 128 ≡ true = lt-ltb _ _ (omega arith) in
-    let bit : nat_eq ((64 + local) / 32 % 2) 0 ≡ true = eq-eqb _ _ (omega arith) in
+    let bit : nat_eq ((64 + local) / 32 % 2) 1 ≡ false = ne_eqb _ _ (λ e. omega (arith, e)) in
     let low : (64 + local) % 16 ≡ local = omega arith in
+    rw (far, near, bit, low) refl
+definition_head local true small =
+    let far : nat_lt (96 + local) 64 ≡ false = le-ltb _ _ (omega arith) in
+    let near : nat_lt (96 + local) 128 ≡ true = lt-ltb _ _ (omega arith) in
+    let bit : nat_eq ((96 + local) / 32 % 2) 1 ≡ true = eq-eqb _ _ (omega arith) in
+    let low : (96 + local) % 16 ≡ local = omega arith in
     rw (far, near, bit, low) refl
 
 data_head : (local : ℕ) → local < 16 → head_of local ≡ DataHead local None
@@ -46,17 +53,23 @@ global_bytes : (a : Arch) (g : ℕ)
 global_bytes Little g = (g % 256, g / 256, refl, two_little g)
 global_bytes Big g = (g / 256, g % 256, refl, two_big g)
 
+none_there : (fields : List DeveloperFieldDefinition) → has_any fields ≡ false → fields ≡ []
+none_there [] e = refl
+none_there (field ∷ fields) e = absurd cc
+
 encoded_definition : (d : Definition) → d.local < 16 → SpellsDefinition d (encoded_item (Defines d))
 encoded_definition d small =
     let bytes = global_bytes d.arch d.global in
     record {
-      first = 64 + d.local;
+      first = definition_byte d.local (has_any d.developer.items);
       reserved = 0;
       architecture = arch_byte d.arch;
       global_1 = bytes.0;
       global_2 = bytes.1;
+      announced = has_any d.developer.items;
       laid_out = rw bytes.2 refl;
-      head = definition_head d.local small;
+      head = definition_head d.local (has_any d.developer.items) small;
+      none = none_there d.developer.items;
       arch = arch_again d.arch;
       global = bytes.3;
     }

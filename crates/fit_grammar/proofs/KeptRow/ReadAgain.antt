@@ -1,11 +1,11 @@
 -- What items are written as is read as those items again: for a kept definition, a kept row, and `Kept`.
-use Rattle.std.proofs.Common.{◌≡◌, ℕ, zero, suc, ◌+◌, ◌*◌, ◌<◌, ◌≤◌, List, [], ◌∷◌, ◌++◌, length, take, drop, Option, Some, None, refl, sym, ap, subst, ◌∙◌, arith, append-nil, append_assoc, length-append}
+use Rattle.std.proofs.Common.{◌≡◌, ℕ, Bool, true, false, zero, suc, ◌+◌, ◌*◌, ◌<◌, ◌≤◌, List, [], ◌∷◌, ◌++◌, length, take, drop, Option, Some, None, refl, sym, ap, subst, ◌∙◌, arith, append-nil, append_assoc, length-append}
 use Rattle.std.specs.Prelude.{slice_index, IsSomeAnd, unwrap_or, option_map}
 use Rattle.std.proofs.Math.Seq.{take-append_seam, drop-append_seam}
 use Rattle.fit_grammar.specs.declared.definition.Definition.{Definition}
-use Rattle.fit_grammar.specs.Format.Item.{Item, Defines, Data, Head, DefinitionHead, DataHead, head_of, SpellsDefinition, content_size, item_size}
+use Rattle.fit_grammar.specs.Format.Item.{Item, Defines, Data, Head, DefinitionHead, DataHead, head_of, SpellsDefinition, content_size, item_size, part_size, has_any}
 use Rattle.fit_grammar.specs.Format.Records.{in_force, IsDefinedBy}
-use Rattle.fit_grammar.specs.Format.Encoding.{encoded_item, encoded_items, HasEncoding}
+use Rattle.fit_grammar.specs.Format.Encoding.{definition_byte, encoded_item, encoded_items, HasEncoding}
 use Rattle.fit_grammar.specs.Private.DefinitionBytes.{definition_at, AreDefinition}
 use Rattle.fit_grammar.specs.Calls.Step.{ItemAtFront, definition_length_of, length_by}
 use Rattle.fit_grammar.specs.Calls.Table.{behind}
@@ -13,20 +13,29 @@ use Rattle.fit_grammar.specs.Private.ByLookup.{AllDefinedBy}
 use Rattle.fit_grammar.specs.Private.KeptDefinition.{IsWrittenAt}
 use Rattle.fit_grammar.specs.Calls.Possible.{AllCanFollow}
 use Rattle.fit_grammar.specs.Private.ItemRow.{item_by, item_at, items_at, items_under, items_in}
-use Rattle.fit_grammar.proofs.OneItem.Spelling.{definition_one, definition_first, definition_count, definition_length, data_first}
-use Rattle.fit_grammar.proofs.Encoder.Encoding.{encoded_spells}
+use Rattle.fit_grammar.proofs.OneItem.Spelling.{definition_one, definition_first, definition_count, definition_length, developer_count, data_first}
+use Rattle.fit_grammar.proofs.Encoder.Encoding.{definition_head, encoded_spells}
 use Rattle.fit_grammar.proofs.Encoder.Encoded.{encoded_item-length}
-use Rattle.fit_grammar.proofs.OneItem.DefinitionRead.{head_local, definition_spelled}
+use Rattle.fit_grammar.proofs.OneItem.DefinitionRead.{own_head, definition_spelled}
 use Rattle.fit_grammar.proofs.OneItem.Least.{ok, ok_is, least_of_item}
 use Rattle.fit_grammar.proofs.KeptRow.ByLookup.{all_defined}
+
+part_count : (announced : Bool) (count there : ℕ) → (announced ≡ true → there ≡ count) → part_size announced count ≡ part_size announced there
+part_count false count there is = refl
+part_count true count there is = ap (part_size true) (sym (is refl))
 
 -- the bytes that spell a definition are those of one, and are read as it
 pub are_definition : (d : Definition) (bytes : List ℕ) → SpellsDefinition d bytes → AreDefinition bytes
 are_definition d bytes p =
-    let first = definition_first d bytes p in
+    let count = definition_count d bytes p in
+    let long = definition_length d bytes p in
     record {
-      head = first ∙ ap (λ (l : ℕ). DefinitionHead l) (head_local (slice_index bytes 0) d.local first);
-      known = omega (arith, definition_count d bytes p, definition_length d bytes p);
+      announced = p.announced;
+      head = own_head (slice_index bytes 0) d.local p.announced (definition_first d bytes p);
+      fields = omega (arith, count, long);
+      whole = rw count (long ∙ ap (λ (n : ℕ). 6 + 3 * length d.fields.items + n)
+          (part_count p.announced (length d.developer.items) (slice_index bytes (6 + 3 * length d.fields.items))
+          (developer_count d bytes p)));
     }
 
 pub definition_again : (d : Definition) (bytes : List ℕ) → SpellsDefinition d bytes → definition_at bytes ≡ d
@@ -48,14 +57,15 @@ size_is None n h = absurd h
 size_is (Some d) n h = h
 
 length_is : (f : ℕ → Option Definition) (d : Definition) (rest : List ℕ) → d.local < 16
-    → definition_length_of (encoded_item (Defines d) ++ rest) ≡ length (encoded_item (Defines d))
+    → definition_length_of (has_any d.developer.items) (encoded_item (Defines d) ++ rest) ≡ length (encoded_item (Defines d))
 length_is f d rest small =
     let own = encoded_item (Defines d) in
-    let head : head_of (64 + d.local) ≡ DefinitionHead d.local = definition_first d own (encoded_spells (Defines d) small) in
-    let least : ok (definition_length_of (own ++ rest)) ≡ ok (length own) =
+    let announced = has_any d.developer.items in
+    let head : head_of (definition_byte d.local announced) ≡ DefinitionHead d.local announced = definition_head d.local announced small in
+    let least : ok (definition_length_of announced (own ++ rest)) ≡ ok (length own) =
     sym (ap (λ (h : Head). length_by f h (own ++ rest)) head)
     ∙ least_of_item f (own ++ rest) (Defines d) (length own) (encoded_front f (Defines d) rest small tt) in
-    ok_is (definition_length_of (own ++ rest)) (length own) least
+    ok_is (definition_length_of announced (own ++ rest)) (length own) least
 
 -- and is read there
 pub item_at-encoded : (f : ℕ → Option Definition) (item : Item) (rest : List ℕ) → HasEncoding item → IsDefinedBy f item
@@ -63,8 +73,9 @@ pub item_at-encoded : (f : ℕ → Option Definition) (item : Item) (rest : List
 item_at-encoded f (Defines d) rest small defined =
     let own = encoded_item (Defines d) in
     let spelled = encoded_spells (Defines d) small in
-    let head : head_of (64 + d.local) ≡ DefinitionHead d.local = definition_first d own spelled in
-    let front : take (definition_length_of (own ++ rest)) (own ++ rest) ≡ own =
+    let announced = has_any d.developer.items in
+    let head : head_of (definition_byte d.local announced) ≡ DefinitionHead d.local announced = definition_head d.local announced small in
+    let front : take (definition_length_of announced (own ++ rest)) (own ++ rest) ≡ own =
     ap (λ (n : ℕ). take n (own ++ rest)) (length_is f d rest small) ∙ take-append_seam own rest in
     ap (λ (h : Head). item_by f h (own ++ rest)) head
     ∙ ap (λ (bytes : List ℕ). Defines (definition_at bytes)) front
@@ -127,7 +138,7 @@ items_in-push records item written follow =
 
 -- the bytes of a definition in front of others
 pub written_front : (d : Definition) (bytes rest : List ℕ) (len : ℕ) → d.local < 16
-    → bytes ≡ encoded_item (Defines d) ++ rest → len ≡ 6 + 3 * length d.fields.items
+    → bytes ≡ encoded_item (Defines d) ++ rest → len ≡ item_size (Defines d)
     → IsWrittenAt bytes len × (definition_at (take len bytes) ≡ d)
 written_front d bytes rest len small joined len_is =
     let own = encoded_item (Defines d) in

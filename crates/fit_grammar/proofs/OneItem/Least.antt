@@ -1,15 +1,15 @@
 -- What the least length says by what the window holds: a whole item, a beginning of one, or none: for the decoder.
-use Rattle.std.proofs.Common.{◌≡◌, ℕ, ◌+◌, ◌*◌, ◌<◌, ◌≤◌, Bool, List, [], ◌∷◌, ◌++◌, length, take, drop, Option, Some, None, Result, Ok, refl, sym, ap, ◌∙◌, arith, cond}
+use Rattle.std.proofs.Common.{◌≡◌, ℕ, ◌+◌, ◌*◌, ◌<◌, ◌≤◌, Bool, true, List, [], ◌∷◌, ◌++◌, length, take, drop, Option, Some, None, Result, Ok, refl, sym, ap, subst, ◌∙◌, arith}
 use Rattle.std.specs.Prelude.{slice_index, IsSomeAnd}
-use Rattle.std.proofs.lemmas.Bool.{le-ltb}
 use Rattle.std.proofs.lemmas.List.{append-nil, length-take-le, get_or-take, take-append-drop}
 use Rattle.fit_grammar.specs.declared.definition.Definition.{Definition}
 use Rattle.fit_grammar.specs.declared.item.ItemFault.{ItemFault}
-use Rattle.fit_grammar.specs.Format.Item.{Item, Defines, Data, Head, DefinitionHead, DeveloperHead, DataHead, head_of, Spells, SpellsDefinition, content_size}
+use Rattle.fit_grammar.specs.Format.Item.{Item, Defines, Data, Head, DefinitionHead, DataHead, head_of, Spells, SpellsDefinition, content_size, part_size}
 use Rattle.fit_grammar.specs.Format.Records.{IsDefinedBy}
 use Rattle.fit_grammar.specs.Calls.Step.{definition_length_of, data_length_of, length_by, least_length_of, ItemAtFront, ItemBegun}
-use Rattle.fit_grammar.proofs.OneItem.Spelling.{definition_length, definition_count, data_length, spelling_not_empty}
-use Rattle.fit_grammar.proofs.OneItem.DefinitionRead.{begun_empty, begun_definition, begun_data, front_is, definition_spelled}
+use Rattle.fit_grammar.proofs.OneItem.Spelling.{definition_length, definition_count, developer_count, data_length, spelling_not_empty}
+use Rattle.fit_grammar.proofs.OneItem.Lengths.{part_least}
+use Rattle.fit_grammar.proofs.OneItem.DefinitionRead.{all_fields, begun_empty, begun_definition, begun_data, front_is, definition_spelled}
 use Rattle.fit_grammar.specs.Private.DefinitionBytes.{definition_at}
 use Rattle.fit_grammar.proofs.OneItem.Steps.{spelling_head}
 
@@ -38,16 +38,24 @@ least_of_item f [] item used p =
     absurd (omega (arith, p.within, none, spelling_not_empty item (take used no_bytes) p.spelled))
 least_of_item f (first ∷ rest) (Defines d) used p =
     let window = first ∷ rest in
-    let long : length (take used window) ≡ used = length-take-le used window p.within in
-    let n = definition_length d (take used window) p.spelled in
-    let head : head_of first ≡ DefinitionHead d.local = spelling_head (Defines d) (take used window)
-    (drop used window) rest first p.spelled (take-append-drop used window) in
-    let count : slice_index window 5 ≡ length d.fields.items = sym (get_or-take used window 5 0 (omega arith))
-    ∙ definition_count d (take used window) p.spelled in
-    let within = p.within in
-    least_by_head f first rest (DefinitionHead d.local) head
-    ∙ ap (λ (b : Bool). Ok (cond b 6 (6 + 3 * slice_index window 5))) (le-ltb (length window) 6 (omega arith))
-    ∙ ap (λ (k : ℕ). Ok k) (omega arith)
+    let own = take used window in
+    let announced = p.spelled.announced in
+    let developer = length d.developer.items in
+    let end = 6 + 3 * slice_index window 5 in
+    let head : head_of first ≡ DefinitionHead d.local announced =
+    spelling_head (Defines d) own (drop used window) rest first p.spelled (take-append-drop used window) in
+    let whole = definition_length d own p.spelled in
+    let long : length own ≡ used = length-take-le used window p.within in
+    let count : slice_index window 5 ≡ length d.fields.items = sym (get_or-take used window 5 0 (omega (arith, whole, long)))
+    ∙ definition_count d own p.spelled in
+    let used_is : used ≡ end + part_size announced developer = omega (arith, whole, long, count) in
+    let least = part_least announced end developer used window used_is (λ is there.
+    let more : used ≡ end + part_size true developer = subst (λ (b : Bool). used ≡ end + part_size b developer) is used_is in
+    sym (get_or-take used window end 0 (omega (arith, more)))
+    ∙ ap (λ (n : ℕ). slice_index own (6 + 3 * n)) count ∙ developer_count d own p.spelled is) in
+    least_by_head f first rest (DefinitionHead d.local announced) head
+    ∙ ap (λ (k : ℕ). Ok k) (all_fields announced window (omega (arith, whole, long, p.within))
+    ∙ least.exact (omega (arith, least.least, p.within)))
 least_of_item f (first ∷ rest) (Data local offset content) used p =
     let window = first ∷ rest in
     let long : length (take used window) ≡ used = length-take-le used window p.within in
@@ -69,9 +77,8 @@ least_of_data f first rest more local offset content p defined =
 -- a window that is shorter than its least length is a beginning of an item
 begun_by : (f : ℕ → Option Definition) (first : ℕ) (rest : List ℕ) (least : ℕ) (h : Head) → head_of first ≡ h
     → length_by f h (first ∷ rest) ≡ Ok least → length (first ∷ rest) < least → ItemBegun f (first ∷ rest)
-begun_by f first rest least (DefinitionHead l) e is short =
-    begun_definition f (first ∷ rest) l (omega arith) e (omega (arith, ok_is (definition_length_of (first ∷ rest)) least is))
-begun_by f first rest least DeveloperHead e is short = absurd cc
+begun_by f first rest least (DefinitionHead l n) e is short =
+    begun_definition f (first ∷ rest) l n (omega arith) e (omega (arith, ok_is (definition_length_of n (first ∷ rest)) least is))
 begun_by f first rest least (DataHead l o) e is short = begun_under f (f l) first rest least l o refl e is short
   where
     begun_under : (f : ℕ → Option Definition) (d : Option Definition) (first : ℕ) (rest : List ℕ) (least l : ℕ)
@@ -87,12 +94,12 @@ least_begun f [] least e short = begun_empty f
 least_begun f (first ∷ rest) least e short = begun_by f first rest least (head_of first) refl e short
 
 -- a whole definition at the front of a window
-pub definition_whole : (f : ℕ → Option Definition) (window : List ℕ) (used l : ℕ) (d : Definition)
-    → least_length_of f window ≡ Ok used → used ≤ length window → DefinitionHead l ≡ head_of (slice_index window 0)
+pub definition_whole : (f : ℕ → Option Definition) (window : List ℕ) (used l : ℕ) (n : Bool) (d : Definition)
+    → least_length_of f window ≡ Ok used → used ≤ length window → DefinitionHead l n ≡ head_of (slice_index window 0)
     → d ≡ definition_at (take used window) → SpellsDefinition d (take used window)
-definition_whole f [] used l d least le head same = absurd (omega (arith, ok_is 1 used least))
-definition_whole f (first ∷ rest) used l d least le head same =
+definition_whole f [] used l n d least le head same = absurd (omega (arith, ok_is 1 used least))
+definition_whole f (first ∷ rest) used l n d least le head same =
     let window = first ∷ rest in
-    let is : ok (definition_length_of window) ≡ ok used = sym (least_by_head f first rest (DefinitionHead l) (sym head)) ∙ least in
-    let are = front_is window l used (sym head) (omega arith) (sym (ok_is (definition_length_of window) used is)) le in
+    let is : ok (definition_length_of n window) ≡ ok used = sym (least_by_head f first rest (DefinitionHead l n) (sym head)) ∙ least in
+    let are = front_is window l used n (sym head) (omega arith) (sym (ok_is (definition_length_of n window) used is)) le in
     rw same (definition_spelled (take used window) are)

@@ -1,14 +1,15 @@
 -- The least length of the item at the front of a window, against each spelling that begins with it: for `least_length`.
-use Rattle.std.proofs.Common.{◌≡◌, ℕ, ◌+◌, List, [], ◌∷◌, ◌++◌, length, Option, Some, None, Result, Ok, Err, refl, sym, ap, subst, ◌∙◌, inl, inr, arith}
+use Rattle.std.proofs.Common.{◌≡◌, ℕ, ◌+◌, ◌*◌, ◌<◌, Bool, true, false, List, [], ◌∷◌, ◌++◌, length, Option, Some, None, Result, Ok, Err, refl, sym, ap, subst, ◌∙◌, inl, inr, arith}
 use Rattle.std.specs.Prelude.{IsSomeAnd, IfOk, slice_index}
 use Rattle.std.proofs.lemmas.Bool.{cases_lt, lt-ltb, le-ltb}
 use Rattle.std.proofs.lemmas.List.{append-nil, get_or_append_left}
 use Rattle.fit_grammar.specs.declared.definition.Definition.{Definition}
 use Rattle.fit_grammar.specs.declared.item.ItemFault.{ItemFault}
-use Rattle.fit_grammar.specs.Format.Item.{Item, Defines, Data, Head, Spells, SpellsDefinition, content_size}
+use Rattle.fit_grammar.specs.Format.Item.{Item, Defines, Data, Head, Spells, SpellsDefinition, content_size, part_size}
 use Rattle.fit_grammar.specs.Format.Records.{IsDefinedBy}
-use Rattle.fit_grammar.specs.Calls.Step.{IsLeastLength, least_length_of, length_by, definition_length_of, data_length_of}
-use Rattle.fit_grammar.proofs.OneItem.Spelling.{spelling_not_empty, definition_length, definition_count, data_length}
+use Rattle.fit_grammar.specs.Calls.Step.{IsLeastLength, least_length_of, length_by, behind_fields, definition_length_of, data_length_of}
+use Rattle.fit_grammar.proofs.OneItem.Spelling.{spelling_not_empty, definition_length, definition_count, developer_count, data_length}
+use Rattle.fit_grammar.proofs.OneItem.DefinitionRead.{few_fields, all_fields}
 use Rattle.fit_grammar.proofs.OneItem.Steps.{item_head, spelling_head}
 
 abbrev result : {A : Type 0} → A → Result A ItemFault
@@ -17,19 +18,39 @@ result x = Ok x
 ok_one : (a b : ℕ) → result a ≡ result b → a ≡ b
 ok_one a b e = cc
 
-definition_least : (d : Definition) (window rest : List ℕ) → SpellsDefinition d (window ++ rest)
-    → IsLeastLength (definition_length_of window) (length window) (length (window ++ rest))
+-- the least length behind the fields, where the announced part has so many developer fields
+pub part_least : (announced : Bool) (end count whole : ℕ) (window : List ℕ) → whole ≡ end + part_size announced count
+    → (announced ≡ true → end < length window → slice_index window end ≡ count)
+    → IsLeastLength (behind_fields announced end window) (length window) whole
+part_least false end count whole window long there = record { least = omega (arith, long); exact = λ _. omega (arith, long) }
+part_least true end count whole window long there =
+    elim (cases_lt end (length window)) [
+      | inl lt ↦
+          let all : behind_fields true end window ≡ whole =
+          (let e : behind_fields true end window ≡ end + part_size true (slice_index window end) = rw (lt-ltb _ _ lt) refl in
+          e ∙ ap (λ (n : ℕ). end + part_size true n) (there refl lt) ∙ sym long) in
+          record { least = omega (arith, all); exact = λ _. all }
+      | inr ge ↦
+          let one : behind_fields true end window ≡ end + part_size true 0 = rw (le-ltb _ _ ge) refl in
+          record { least = omega (arith, one, long); exact = λ le. absurd (omega (arith, one, le)) }
+    ]
+
+definition_least : (d : Definition) (window rest : List ℕ) (p : SpellsDefinition d (window ++ rest))
+    → IsLeastLength (definition_length_of p.announced window) (length window) (length (window ++ rest))
 definition_least d window rest p =
     let whole = definition_length d (window ++ rest) p in
     elim (cases_lt (length window) 6) [
       | inl short ↦
-          let six : definition_length_of window ≡ 6 = rw (lt-ltb _ _ short) refl in
-          record { least = rw six (omega arith); exact = λ long. absurd (omega arith) }
+          let six = few_fields p.announced window short in
+          record { least = omega (arith, six, whole); exact = λ long. absurd (omega (arith, six, long)) }
       | inr long ↦
           let count : slice_index window 5 ≡ length d.fields.items =
           sym (get_or_append_left window rest 0 5 (omega arith)) ∙ definition_count d (window ++ rest) p in
-          let all : definition_length_of window ≡ length (window ++ rest) = rw (le-ltb _ _ long) (omega arith) in
-          record { least = omega arith; exact = λ _. all }
+          let end = 6 + 3 * slice_index window 5 in
+          let least = part_least p.announced end (length d.developer.items) (length (window ++ rest)) window
+          (omega (arith, whole, count)) (λ announced there. sym (get_or_append_left window rest 0 end there)
+          ∙ ap (λ (n : ℕ). slice_index (window ++ rest) (6 + 3 * n)) count ∙ developer_count d (window ++ rest) p announced) in
+          subst (λ (n : ℕ). IsLeastLength n (length window) (length (window ++ rest))) (sym (all_fields p.announced window long)) least
     ]
 
 data_least : (o : Option Definition) (local n : ℕ) (content : List ℕ) (window whole : ℕ) → whole ≡ 1 + length content
@@ -38,11 +59,11 @@ data_least None local n content window whole long defined e = absurd defined
 data_least (Some d) local n content window whole long defined e =
     sym (ok_one (1 + content_size d) n e) ∙ ap (λ (k : ℕ). 1 + k) defined ∙ sym long
 
-by_head : (f : ℕ → Option Definition) (i : Item) (window rest : List ℕ) (n : ℕ) → Spells i (window ++ rest) → IsDefinedBy f i
-    → length_by f (item_head i) window ≡ Ok n → IsLeastLength n (length window) (length (window ++ rest))
+by_head : (f : ℕ → Option Definition) (i : Item) (window rest : List ℕ) (n : ℕ) (p : Spells i (window ++ rest)) → IsDefinedBy f i
+    → length_by f (item_head i (window ++ rest) p) window ≡ Ok n → IsLeastLength n (length window) (length (window ++ rest))
 by_head f (Defines d) window rest n p defined e =
     subst (λ (k : ℕ). IsLeastLength k (length window) (length (window ++ rest)))
-    (ok_one (definition_length_of window) n e) (definition_least d window rest p)
+    (ok_one (definition_length_of p.announced window) n e) (definition_least d window rest p)
 by_head f (Data local offset content) window rest n p defined e =
     let same = data_least (f local) local n content (length window) (length (window ++ rest))
     (data_length local offset content (window ++ rest) p) defined e in

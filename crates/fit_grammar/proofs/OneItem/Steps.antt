@@ -3,12 +3,12 @@ use Rattle.std.proofs.Common.{◌≡◌, ℕ, List, [], ◌∷◌, ◌++◌, len
 use Rattle.std.specs.Prelude.{IsSomeAnd}
 use Rattle.std.proofs.lemmas.List.{take-append-drop, length-take, append-nil, length-append}
 use Rattle.fit_grammar.specs.declared.definition.Definition.{Definition}
-use Rattle.fit_grammar.specs.declared.item.ItemFault.TheVariants.{UndefinedLocal, Developer}
+use Rattle.fit_grammar.specs.declared.item.ItemFault.TheVariants.{UndefinedLocal}
 use Rattle.fit_grammar.specs.declared.item.Step.{Step}
 use Rattle.fit_grammar.specs.declared.item.Step.TheVariants as steps
-use Rattle.fit_grammar.specs.Format.Item.{Item, Defines, Data, Head, DefinitionHead, DeveloperHead, DataHead, head_of, Spells, content_size}
+use Rattle.fit_grammar.specs.Format.Item.{Item, Defines, Data, Head, DefinitionHead, DataHead, head_of, Spells, content_size}
 use Rattle.fit_grammar.specs.Format.Records.{IsDefinedBy}
-use Rattle.fit_grammar.specs.Calls.Step.{item_of, ItemAtFront, ItemBegun, ShowsUndefined, ShowsDeveloper, StepSays, IsStepItem}
+use Rattle.fit_grammar.specs.Calls.Step.{item_of, ItemAtFront, ItemBegun, ShowsUndefined, StepSays, IsStepItem}
 use Rattle.fit_grammar.proofs.OneItem.Spelling.{spelling_one}
 
 -- one item at the front
@@ -35,12 +35,12 @@ item_not_begun f window i used p q =
     let more = q.more in
     absurd (omega (arith, none, length-append (drop used window) q.rest))
 
--- the head of an item
-abbrev pub item_head : Item → Head
-item_head (Defines d) = DefinitionHead d.local
-item_head (Data local offset content) = DataHead local offset
+-- the head of an item as it is spelled
+abbrev pub item_head : (i : Item) (a : List ℕ) → Spells i a → Head
+item_head (Defines d) a p = DefinitionHead d.local p.announced
+item_head (Data local offset content) a p = DataHead local offset
 
-pub spelling_head : (i : Item) (a x rest : List ℕ) (byte : ℕ) → Spells i a → a ++ x ≡ byte ∷ rest → head_of byte ≡ item_head i
+pub spelling_head : (i : Item) (a x rest : List ℕ) (byte : ℕ) (p : Spells i a) → a ++ x ≡ byte ∷ rest → head_of byte ≡ item_head i a p
 spelling_head (Defines d) a x rest byte p e =
     let laid = sym (ap (λ (z : List ℕ). z ++ x) p.laid_out) ∙ e in
     let first : byte ≡ p.first = cc in
@@ -51,12 +51,12 @@ spelling_head (Data local offset content) a x rest byte p e =
     rw first p.head
 
 front_head : (f : ℕ → Option Definition) (window rest : List ℕ) (i : Item) (used byte : ℕ)
-    → ItemAtFront f window i used → window ≡ byte ∷ rest → head_of byte ≡ item_head i
+    → (p : ItemAtFront f window i used) → window ≡ byte ∷ rest → head_of byte ≡ item_head i (take used window) p.spelled
 front_head f window rest i used byte p e =
     spelling_head i (take used window) (drop used window) rest byte p.spelled (take-append-drop used window ∙ e)
 
 begun_head : (f : ℕ → Option Definition) (window rest : List ℕ) (byte : ℕ) → (p : ItemBegun f window)
-    → window ≡ byte ∷ rest → head_of byte ≡ item_head p.item
+    → window ≡ byte ∷ rest → head_of byte ≡ item_head p.item (window ++ p.rest) p.spelled
 begun_head f window rest byte p e =
     spelling_head p.item (window ++ p.rest) [] (rest ++ p.rest) byte p.spelled
     (append-nil (window ++ p.rest) ∙ ap (λ (x : List ℕ). x ++ p.rest) e)
@@ -65,32 +65,21 @@ undefined_by : (o : Option Definition) (size : Definition → Type 0) → IsSome
 undefined_by None size p e = p
 undefined_by (Some d) size p e = cc
 
-not_undefined : (f : ℕ → Option Definition) (i : Item) (l : ℕ) (o : Option ℕ) → IsDefinedBy f i
-    → item_head i ≡ DataHead l o → f l ≡ None → ⊥
-not_undefined f (Defines d) l o p e none = cc
-not_undefined f (Data local offset content) l o p e none =
+not_undefined : (f : ℕ → Option Definition) (i : Item) (a : List ℕ) (s : Spells i a) (l : ℕ) (o : Option ℕ) → IsDefinedBy f i
+    → item_head i a s ≡ DataHead l o → f l ≡ None → ⊥
+not_undefined f (Defines d) a s l o p e none = cc
+not_undefined f (Data local offset content) a s l o p e none =
     let same : local ≡ l = cc in
     undefined_by (f local) (λ d. content_size d ≡ length content) p (ap f same ∙ none)
-
-not_developer : (i : Item) → item_head i ≡ DeveloperHead → ⊥
-not_developer (Defines d) e = cc
-not_developer (Data local offset content) e = cc
 
 item_not_undefined : (f : ℕ → Option Definition) (window : List ℕ) (i : Item) (used l : ℕ)
     → ItemAtFront f window i used → ShowsUndefined f window l → ⊥
 item_not_undefined f window i used l p q =
-    not_undefined f i l q.offset p.defined (sym (front_head f window q.rest i used q.first p q.joined) ∙ q.head) q.undefined
-
-item_not_developer : (f : ℕ → Option Definition) (window : List ℕ) (i : Item) (used : ℕ) → ItemAtFront f window i used
-    → ShowsDeveloper window → ⊥
-item_not_developer f window i used p q = not_developer i (sym (front_head f window q.rest i used q.first p q.joined) ∙ q.head)
+    not_undefined f i (take used window) p.spelled l q.offset p.defined (sym (front_head f window q.rest i used q.first p q.joined) ∙ q.head) q.undefined
 
 begun_not_undefined : (f : ℕ → Option Definition) (window : List ℕ) (l : ℕ) → ItemBegun f window → ShowsUndefined f window l → ⊥
 begun_not_undefined f window l p q =
-    not_undefined f p.item l q.offset p.defined (sym (begun_head f window q.rest q.first p q.joined) ∙ q.head) q.undefined
-
-begun_not_developer : (f : ℕ → Option Definition) (window : List ℕ) → ItemBegun f window → ShowsDeveloper window → ⊥
-begun_not_developer f window p q = not_developer p.item (sym (begun_head f window q.rest q.first p q.joined) ∙ q.head)
+    not_undefined f p.item (window ++ p.rest) p.spelled l q.offset p.defined (sym (begun_head f window q.rest q.first p q.joined) ∙ q.head) q.undefined
 
 undefined_one : (f : ℕ → Option Definition) (window : List ℕ) (l m : ℕ) → ShowsUndefined f window l → ShowsUndefined f window m → l ≡ m
 undefined_one f window l m p q =
@@ -99,26 +88,17 @@ undefined_one f window l m p q =
     let head : DataHead l p.offset ≡ DataHead m q.offset = sym p.head ∙ ap head_of first ∙ q.head in
     cc
 
-undefined_not_developer : (f : ℕ → Option Definition) (window : List ℕ) (l : ℕ) → ShowsUndefined f window l → ShowsDeveloper window → ⊥
-undefined_not_developer f window l p q =
-    let joined = sym p.joined ∙ q.joined in
-    let first : p.first ≡ q.first = cc in
-    let head : DataHead l p.offset ≡ DeveloperHead = sym p.head ∙ ap head_of first ∙ q.head in
-    cc
-
 pub only_item : (f : ℕ → Option Definition) (window : List ℕ) (step : Step) (i : Item) (used : ℕ)
     → StepSays f window step → ItemAtFront f window i used → IsStepItem step i used
 only_item f window (steps.Item j count) i used says p = items_one f window (item_of j) i count used says p
 only_item f window steps.NeedMore i used says p = absurd (item_not_begun f window i used p says)
 only_item f window (steps.Refused (UndefinedLocal l)) i used says p = absurd (item_not_undefined f window i used l p says)
-only_item f window (steps.Refused Developer) i used says p = absurd (item_not_developer f window i used p says)
 
 pub only_more : (f : ℕ → Option Definition) (window : List ℕ) (step : Step) → StepSays f window step
     → ItemBegun f window → step ≡ steps.NeedMore
 only_more f window (steps.Item j count) says p = absurd (item_not_begun f window (item_of j) count says p)
 only_more f window steps.NeedMore says p = refl
 only_more f window (steps.Refused (UndefinedLocal l)) says p = absurd (begun_not_undefined f window l p says)
-only_more f window (steps.Refused Developer) says p = absurd (begun_not_developer f window p says)
 
 pub only_undefined : (f : ℕ → Option Definition) (window : List ℕ) (step : Step) (l : ℕ) → StepSays f window step
     → ShowsUndefined f window l → step ≡ steps.Refused (UndefinedLocal l)
@@ -126,11 +106,3 @@ only_undefined f window (steps.Item j count) l says p = absurd (item_not_undefin
 only_undefined f window steps.NeedMore l says p = absurd (begun_not_undefined f window l says p)
 only_undefined f window (steps.Refused (UndefinedLocal m)) l says p =
     ap (λ (k : ℕ). steps.Refused (UndefinedLocal k)) (undefined_one f window m l says p)
-only_undefined f window (steps.Refused Developer) l says p = absurd (undefined_not_developer f window l p says)
-
-pub only_developer : (f : ℕ → Option Definition) (window : List ℕ) (step : Step) → StepSays f window step
-    → ShowsDeveloper window → step ≡ steps.Refused Developer
-only_developer f window (steps.Item j count) says p = absurd (item_not_developer f window (item_of j) count says p)
-only_developer f window steps.NeedMore says p = absurd (begun_not_developer f window says p)
-only_developer f window (steps.Refused (UndefinedLocal l)) says p = absurd (undefined_not_developer f window l says p)
-only_developer f window (steps.Refused Developer) says p = refl

@@ -1,5 +1,5 @@
 -- The item that a piece's end cut: with bytes of the next one it is whole, or shows a fault, or is still cut.
-use Rattle.std.proofs.Common.{◌≡◌, ℕ, ◌+◌, ◌-◌, ◌<◌, ◌≤◌, min, List, [], ◌∷◌, ◌++◌, length, take, drop, Option, Some, None, refl, sym, ap, subst, ◌∙◌, append_assoc, arith, inl, inr}
+use Rattle.std.proofs.Common.{◌≡◌, ℕ, ◌+◌, ◌-◌, ◌*◌, ◌<◌, ◌≤◌, Bool, true, false, min, List, [], ◌∷◌, ◌++◌, length, take, drop, Option, Some, None, refl, sym, ap, subst, ◌∙◌, append_assoc, arith, inl, inr}
 use Rattle.std.specs.Prelude.{slice_index, IfOk}
 use Rattle.std.proofs.lemmas.Bool.{cases_lt}
 use Rattle.std.proofs.lemmas.List.{length-append, length-take, length-take-le, take-append-drop, take-take, take_all, get_or_append_left}
@@ -8,14 +8,14 @@ use Rattle.fit_grammar.specs.declared.definition.Definition.{Definition}
 use Rattle.fit_grammar.specs.declared.file.fault.FaultKind.{FaultKind}
 use Rattle.fit_grammar.specs.declared.file.fault.FaultKind.TheVariants.{Truncated, Memory}
 use Rattle.fit_grammar.specs.declared.file.reading.Reading.{Reading}
-use Rattle.fit_grammar.specs.Format.Item.{Item, Defines, Data, Spells}
+use Rattle.fit_grammar.specs.Format.Item.{Item, Defines, Data, Spells, part_size}
 use Rattle.fit_grammar.specs.Format.Records.{in_force, IsDefinedBy}
 use Rattle.fit_grammar.specs.Format.File.{FileValue}
 use Rattle.fit_grammar.specs.Calls.Pieces.{IsShownBy}
 use Rattle.fit_grammar.specs.Calls.Step.{ItemAtFront, ItemBegun, least_length_of}
 use Rattle.fit_grammar.specs.Private.Decoding.{Reached, IsItemFault}
 use Rattle.fit_grammar.specs.Private.Feeding.{StandsBefore, GoesOnFrom, CarriesOn, TakesBegun, fault_in}
-use Rattle.fit_grammar.proofs.OneItem.Spelling.{definition_length, definition_count, data_length}
+use Rattle.fit_grammar.proofs.OneItem.Spelling.{definition_length, definition_count, developer_count, data_length}
 use Rattle.fit_grammar.proofs.OneItem.Steps.{item_not_begun}
 use Rattle.fit_grammar.proofs.OneItem.Least.{least_of_data}
 use Rattle.fit_grammar.proofs.Decoding.Longer.{shown_longer, reached_within}
@@ -39,20 +39,32 @@ behind_begun f window item had used le there begun =
 
 -- ---- where it is still cut, all the bytes were added to it
 
+part_most : (announced : Bool) (count : ℕ) → (announced ≡ true → count < 256) → part_size announced count ≤ 766
+part_most false count few = omega arith
+part_most true count few = omega (arith, few refl)
+
 -- an item that begins so has no more bytes than this
 longest_by : (f : ℕ → Option Definition) (item : Item) (first : ℕ) (carry x rest : List ℕ) (most : ℕ) → 1 ≤ length rest
     → Spells item (((first ∷ carry) ++ x) ++ rest) → IsDefinedBy f item
-    → IfOk (least_length_of f (first ∷ carry)) (λ least. least ≤ most) → 771 ≤ most
+    → IfOk (least_length_of f (first ∷ carry)) (λ least. least ≤ most) → 1537 ≤ most
     → ((i : ℕ) → slice_index ((first ∷ carry) ++ x) i < 256) → length ((first ∷ carry) ++ x) < most
 longest_by f (Defines d) first carry x rest most some p defined least long bytes =
     let window = (first ∷ carry) ++ x in
     let n = definition_length d (window ++ rest) p in
-    elim (cases_lt (length window) 771) [
+    elim (cases_lt (length window) 1537) [
       | inl less ↦ omega arith
       | inr more ↦
           let count : slice_index window 5 ≡ length d.fields.items =
           sym (get_or_append_left window rest 0 5 (omega arith)) ∙ definition_count d (window ++ rest) p in
-          omega (arith, n, count, bytes 5, length-append window rest)
+          let end = 6 + 3 * length d.fields.items in
+          let within : end < length window = omega (arith, more, count, bytes 5) in
+          let part = part_most p.announced (length d.developer.items) (λ is. omega (
+            arith,
+            bytes end,
+            get_or_append_left window rest 0 end within,
+            developer_count d (window ++ rest) p is,
+          )) in
+          omega (arith, n, count, bytes 5, part, length-append window rest)
     ]
 longest_by f (Data local offset content) first carry x rest most some p defined least long bytes =
     let window = (first ∷ carry) ++ x in
@@ -64,7 +76,7 @@ longest_by f (Data local offset content) first carry x rest most some p defined 
     omega (arith, n, length-append window rest)
 
 longest : (f : ℕ → Option Definition) (carry x : List ℕ) (most : ℕ) → 1 ≤ length carry → ItemBegun f (carry ++ x)
-    → IfOk (least_length_of f carry) (λ least. least ≤ most) → 771 ≤ most
+    → IfOk (least_length_of f carry) (λ least. least ≤ most) → 1537 ≤ most
     → ((i : ℕ) → slice_index (carry ++ x) i < 256) → length (carry ++ x) < most
 longest f [] x most some begun least long bytes = absurd (omega arith)
 longest f (first ∷ carry) x most some begun least long bytes =
@@ -77,7 +89,7 @@ pub record Adds (carry piece added : List ℕ) (most own : ℕ) : Type 0 where
   pub bytes : (i : ℕ) → slice_index added i < 256
 
 all_carried : (f : ℕ → Option Definition) (carry piece added : List ℕ) (most own : ℕ) → Adds carry piece added most own
-    → 1 ≤ length carry → ItemBegun f added → IfOk (least_length_of f carry) (λ least. least ≤ most) → 771 ≤ most
+    → 1 ≤ length carry → ItemBegun f added → IfOk (least_length_of f carry) (λ least. least ≤ most) → 1537 ≤ most
     → added ≡ carry ++ piece
 all_carried f carry piece added most own a some begun least long =
     let x = take own piece in
@@ -94,7 +106,7 @@ pub record Carries (old mid : Reading) (piece : List ℕ) (most own : ℕ) : Typ
   pub stays : StaysAt old mid
   pub adds : Adds old.carry.items piece mid.carry.items most own
   pub least : IfOk (least_length_of (in_force old.file.items) old.carry.items) (λ least. least ≤ most)
-  pub longest : 771 ≤ most
+  pub longest : 1537 ≤ most
   pub some : 1 ≤ length old.carry.items
   pub more : old.at < old.end
 

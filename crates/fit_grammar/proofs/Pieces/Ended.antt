@@ -4,7 +4,7 @@ use Rattle.std.proofs.lemmas.List.{append-nil, length-take-le}
 use Rattle.fit_base.specs.Number.{low_first}
 use Rattle.fit_base.specs.Checksum.{crc}
 use Rattle.fit_grammar.specs.declared.file.fault.FaultKind.{FaultKind}
-use Rattle.fit_grammar.specs.declared.file.fault.FaultKind.TheVariants.{Truncated, HeaderSize, Magic, Protocol, HeaderCrc, UndefinedLocal, SplitMessage, FileCrc, TrailingBytes, Memory, Developer}
+use Rattle.fit_grammar.specs.declared.file.fault.FaultKind.TheVariants.{Truncated, HeaderSize, Magic, Protocol, HeaderCrc, UndefinedLocal, SplitMessage, FileCrc, TrailingBytes, Memory}
 use Rattle.fit_grammar.specs.declared.file.fault.FileFault.{FileFault}
 use Rattle.fit_grammar.specs.declared.file.reading.Reading.{Reading}
 use Rattle.fit_grammar.specs.declared.file.frame.Frame.{Frame}
@@ -139,4 +139,3 @@ closing_shown b rest old new HeaderCrc t le stays sh = absurd sh
 closing_shown b rest old new (UndefinedLocal local) t le stays sh = absurd sh
 closing_shown b rest old new SplitMessage t le stays sh = absurd sh
 closing_shown b rest old new Memory t le stays sh = absurd sh
-closing_shown b rest old new Developer t le stays sh = absurd sh

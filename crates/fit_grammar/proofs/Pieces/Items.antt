@@ -2,7 +2,7 @@
 use Rattle.std.proofs.Common.{◌≡◌, ℕ, ◌+◌, ◌-◌, ◌<◌, List, [], ◌++◌, length, drop, Option, refl, sym, ap, subst, ◌∙◌, arith, inl, inr}
 use Rattle.std.proofs.lemmas.List.{length-append, take-append-le, drop-drop}
 use Rattle.fit_grammar.specs.declared.file.fault.FaultKind.{FaultKind}
-use Rattle.fit_grammar.specs.declared.file.fault.FaultKind.TheVariants.{Truncated, HeaderSize, Magic, Protocol, HeaderCrc, UndefinedLocal, SplitMessage, FileCrc, TrailingBytes, Memory, Developer}
+use Rattle.fit_grammar.specs.declared.file.fault.FaultKind.TheVariants.{Truncated, HeaderSize, Magic, Protocol, HeaderCrc, UndefinedLocal, SplitMessage, FileCrc, TrailingBytes, Memory}
 use Rattle.fit_grammar.specs.declared.file.fault.FileFault.{FileFault}
 use Rattle.fit_grammar.specs.declared.file.reading.Reading.{Reading}
 use Rattle.fit_grammar.specs.declared.definition.Definition.{Definition}
@@ -72,7 +72,6 @@ is_at_item v window left (UndefinedLocal l) at len r sh whole e =
 is_at_item v window left SplitMessage at len r sh whole e = record { whole = refl; here = ap (fault_at SplitMessage) e }
 is_at_item v window left FileCrc at len r sh whole e = record { whole = refl; here = ap (fault_at FileCrc) e }
 is_at_item v window left Memory at len r sh whole e = record { whole = refl; here = ap (fault_at Memory) e }
-is_at_item v window left Developer at len r sh whole e = record { whole = refl; here = ap (fault_at Developer) e }
 
 -- the fault that an item shows
 pub item_shown : (b window : List ℕ) (v : FileValue) (at end : ℕ) (new : Reading) (kind : FaultKind) → Reached b v at end

@@ -1,16 +1,18 @@
 -- The plain form says the messages of the items, and none of its items has a compressed timestamp.
-use Rattle.std.proofs.Common.{◌≡◌, ◌<◌, ℕ, List, [], ◌∷◌, ◌++◌, Bool, true, false, length, Option, Some, None, refl, sym, ap, ◌∙◌, arith, append-nil, append_assoc}
+use Rattle.std.proofs.Common.{◌≡◌, ◌<◌, ℕ, List, [], ◌∷◌, ◌++◌, Bool, true, false, length, drop, Option, Some, None, refl, sym, ap, ◌∙◌, arith, append-nil, append_assoc}
 use Rattle.std.specs.Prelude.{slice_set, is_some, unwrap_or}
 use Rattle.std.specs.List.{AllByRecursion}
+use Rattle.std.proofs.Math.Seq.{drop-append-add}
 use Rattle.std.proofs.lemmas.List.{get_or-set_same, length-set}
+use Rattle.std.proofs.lemmas.List.Sums.{sum_by-cons}
 use Rattle.fit_base.specs.declared.order.Arch.{Arch}
 use Rattle.fit_base.specs.declared.order.Arch.TheVariants.{Little, Big}
 use Rattle.fit_base.specs.Value.{Numbers}
 use Rattle.fit_grammar.specs.declared.definition.Definition.{Definition}
 use Rattle.fit_grammar.specs.declared.definition.FieldDefinition.{FieldDefinition}
-use Rattle.fit_grammar.specs.Format.Item.{Item, Defines, Data}
+use Rattle.fit_grammar.specs.Format.Item.{Item, Defines, Data, fields_size}
 use Rattle.fit_grammar.specs.Format.Records.{in_force}
-use Rattle.fit_grammar.specs.Format.Message.{Message, MessageField, fields_of, time_field, message_under, messages_after, time_given}
+use Rattle.fit_grammar.specs.Format.Message.{Message, MessageField, fields_of, developer_of, time_field, message_under, messages_after, time_given}
 use Rattle.std.specs.Prelude.{option_map, option_to_list}
 use Rattle.fit_grammar.specs.Calls.Table.{behind}
 use Rattle.fit_grammar.specs.Calls.LentItem.{LentItem, DefinesHere, DataHere, LentData, messages_in, message_here, AllUnder}
@@ -29,11 +31,26 @@ time_again : (arch : Arch) (time : ℕ) (fields : List FieldDefinition) (content
 time_again Little time fields content = ap (timed_fields (fields_of Little fields content)) (four_again time)
 time_again Big time fields content = ap (timed_fields (fields_of Big fields content)) (four_again time)
 
+-- what stands behind the fields stands there with the time in front too
+developer_again : (d : Definition) (arch : Arch) (time : ℕ) (content : List ℕ)
+    → drop (fields_size (timed_definition true d)) (time_bytes arch time ++ content) ≡ drop (fields_size d) content
+developer_again d Little time content =
+    ap (λ (n : ℕ). drop n (time_bytes Little time ++ content)) (sum_by-cons (λ field. field.size) time_definition d.fields.items)
+    ∙ drop-append-add (time_bytes Little time) content (fields_size d)
+developer_again d Big time content =
+    ap (λ (n : ℕ). drop n (time_bytes Big time ++ content)) (sum_by-cons (λ field. field.size) time_definition d.fields.items)
+    ∙ drop-append-add (time_bytes Big time) content (fields_size d)
+
+abbrev message_by : Definition → List MessageField → List ℕ → Message
+message_by d fields content = record { global = d.global; fields = fields; developer = developer_of d.developer.items content }
+
 message_again : (d : Definition) (time : Option ℕ) (content : List ℕ)
     → message_under (timed_definition (is_some time) d) None (time_front d.arch time ++ content) ≡ message_under d time content
 message_again d None content = refl
 message_again d (Some time) content =
-    ap (λ (fields : List MessageField). record { global = d.global; fields = fields }) (time_again d.arch time d.fields.items content)
+    ap (λ (fields : List MessageField). message_by d fields (drop (fields_size (timed_definition true d)) (time_bytes d.arch time ++ content)))
+    (time_again d.arch time d.fields.items content)
+    ∙ ap (message_by d (time_field time ∷ fields_of d.arch d.fields.items content)) (developer_again d d.arch time content)
 
 -- ---- all messages
 

@@ -58,7 +58,7 @@ pub record SpellsDefinition (d : Definition) (bytes : List ℕ) : Type 0 where
   pub global_2 : ℕ
   pub announced : Bool
   pub laid_out : bytes ≡ first ∷ reserved ∷ architecture ∷ global_1 ∷ global_2 ∷ length d.fields.items
-    ∷ (flat_map field_bytes d.fields.items ++ developer_part announced d.developer.items)
+      ∷ (flat_map field_bytes d.fields.items ++ developer_part announced d.developer.items)
   pub head : head_of first ≡ DefinitionHead d.local announced
   pub none : announced ≡ false → d.developer.items ≡ []
   pub arch : arch_of architecture ≡ d.arch

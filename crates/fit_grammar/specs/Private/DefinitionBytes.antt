@@ -1,5 +1,5 @@
 -- The definition that bytes spell, read from left to right.
-use Rattle.std.specs.Prelude.{◌≡◌, ℕ, ◌+◌, ◌*◌, ◌%◌, ◌≤◌, Bool, List, [], ◌∷◌, length, drop, slice_index, slice_range}
+use Rattle.std.specs.Prelude.{◌≡◌, ℕ, ◌+◌, ◌*◌, ◌%◌, ◌≤◌, Bool, List, [], ◌∷◌, length, map, take, drop, slice_index, slice_range}
 use Rattle.fit_base.specs.Number.{number}
 use Rattle.fit_grammar.specs.declared.definition.FieldDefinition.{FieldDefinition}
 use Rattle.fit_grammar.specs.declared.definition.DeveloperFieldDefinition.{DeveloperFieldDefinition}
@@ -11,10 +11,12 @@ abbrev pub fields_in : List ℕ → List FieldDefinition
 fields_in (number ∷ size ∷ base ∷ bytes) = record { number = number; size = size; base = base } ∷ fields_in bytes
 fields_in _ = []
 
--- and the developer fields
+-- the developer fields that bytes spell, which have their index in the place of a base type
+abbrev pub as_developer : FieldDefinition → DeveloperFieldDefinition
+as_developer field = record { number = field.number; size = field.size; index = field.base }
+
 abbrev pub developer_in : List ℕ → List DeveloperFieldDefinition
-developer_in (number ∷ size ∷ index ∷ bytes) = record { number = number; size = size; index = index } ∷ developer_in bytes
-developer_in _ = []
+developer_in bytes = map as_developer (fields_in bytes)
 
 -- six bytes, the fields, and behind one byte the developer fields
 abbrev pub definition_at : List ℕ → Definition
@@ -23,8 +25,8 @@ definition_at bytes =
       local = slice_index bytes 0 % 16;
       arch = arch_of (slice_index bytes 2);
       global = number (arch_of (slice_index bytes 2)) (slice_range bytes 3 5);
-      fields = record { items = fields_in (slice_range bytes 6 (6 + 3 * slice_index bytes 5)) };
-      developer = record { items = developer_in (drop (7 + 3 * slice_index bytes 5) bytes) };
+      fields = record { items = fields_in (take (3 * slice_index bytes 5) (drop 6 bytes)) };
+      developer = record { items = developer_in (drop (3 * slice_index bytes 5 + 1) (drop 6 bytes)) };
     }
 
 -- the bytes of one definition, no more and no less

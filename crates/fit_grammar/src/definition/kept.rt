@@ -38,7 +38,8 @@ impl WrittenDefinition {
         ensures fits { DefinitionFits d.now }
     {
         let mut bytes = [0; LONGEST_DEFINITION];
-        let len = write_definition(d, &mut bytes);
+        let len = d.size();
+        write_definition(d, &mut bytes);
         let content_size = DefinitionMessage::new(&bytes[..len]).content_size();
         WrittenDefinition {
             bytes,

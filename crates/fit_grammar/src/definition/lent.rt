@@ -2,7 +2,7 @@
 
 ghost use Rattle.std.specs.Prelude.{◌≡◌, ◌≤◌, ◌*◌, length, sum_by};
 ghost use Rattle.fit_base.specs.Number.{number};
-ghost use Rattle.fit_grammar.specs.Format.Item.{arch_of, content_size, fields_size as fields_size_of};
+ghost use Rattle.fit_grammar.specs.Format.Item.{Defines, arch_of, content_size, item_size, fields_size as fields_size_of};
 ghost use Rattle.fit_grammar.specs.Private.DefinitionBytes.{fields_in, developer_in, definition_at, AreDefinition};
 ghost use Rattle.fit_grammar.specs.Private.SizedDefinition.{AreSized};
 
@@ -43,7 +43,8 @@ impl<'a> DefinitionMessage<'a> {
         requires { AreDefinition bytes.now }
         ensures { result ≡ definition_at bytes.now }
     {
-        let content_size = sum_of_sizes(fields_behind(bytes)) + sum_of_sizes(developer_behind(bytes));
+        let content_size = sum_of_sizes(fields_behind(bytes))
+            + sum_of_sizes(developer_behind(bytes));
         DefinitionMessage::of(SizedBytes {
             bytes,
             content_size,
@@ -125,6 +126,13 @@ impl<'a> DefinitionMessage<'a> {
         self.sized.content_size
     }
 
+    // How many bytes the definition is written as.
+    pub(crate) fn size(&self) -> usize
+        ensures { result ≡ item_size (Defines self.now) }
+    {
+        self.read().size()
+    }
+
     /// Reads all of the definition.
     pub fn read(&self) -> Definition
         ensures { result ≡ self.now }
@@ -156,9 +164,10 @@ fn developer_behind(bytes: &[u8]) -> &[u8]
     ensures bound { length result.now ≤ 765 }
 {
     let end = 6 + fields_size(bytes[5]);
-    match bytes.get(end + 1..) {
-        Some(rest) => rest,
-        None => &[],
+    if end < bytes.len() {
+        &bytes[end + 1..]
+    } else {
+        &[]
     }
 }
 

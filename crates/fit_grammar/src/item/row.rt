@@ -33,7 +33,7 @@ impl<'a> FileItem<'a> {
         ensures { result ≡ item_size (item_lent (lent_item self.now)) }
     {
         match self {
-            FileItem::Definition(definition) => definition.read().size(),
+            FileItem::Definition(definition) => definition.size(),
             FileItem::Data(data, _) => 1 + data.content.len(),
         }
     }

@@ -30,9 +30,24 @@ pub fn write_definition(definition: &Definition, out: &mut [u8]) -> usize
         second,
         definition.fields.len() as u8,
     ]);
-    write_fields(&definition.fields, &mut out[6..]);
-    let end = 6 + 3 * definition.fields.len();
-    end + write_developer_part(&definition.developer, &mut out[end..])
+    6 + write_both_lists(definition, &mut out[6..])
+}
+
+// Writes the fields and, behind them, the developer fields where there are any. Answers how many bytes that are.
+fn write_both_lists(definition: &Definition, out: &mut [u8]) -> usize
+    requires { item_size (Defines definition.now) ≤ 6 + length out.old }
+    ensures count { 6 + result ≡ item_size (Defines definition.now) }
+    ensures written { out.new ≡ flat_map field_bytes definition.now.fields.items
+        ++ (developer_part (has_any definition.now.developer.items) definition.now.developer.items
+        ++ drop result out.old) }
+    // As their types say.
+    ensures fields { AllByRecursion FieldFits definition.now.fields.items }
+    ensures developer { AllByRecursion DeveloperFieldFits definition.now.developer.items }
+{
+    let size = 3 * definition.fields.len();
+    let (front, behind) = out.split_at_mut(size);
+    write_fields(&definition.fields, front);
+    size + write_developer_part(&definition.developer, behind)
 }
 
 // The first byte of a definition, which announces developer fields where there are any.
@@ -131,7 +146,11 @@ fn write_developer_fields(fields: &[DeveloperFieldDefinition], out: &mut [u8])
     ensures fit { AllByRecursion DeveloperFieldFits fields.now }
 {
     for (i, field) in fields.iter().enumerate() {
-        let DeveloperFieldDefinition { number, size, index } = field.in_bytes();
+        let DeveloperFieldDefinition {
+            number,
+            size,
+            index,
+        } = field.in_bytes();
         out[3 * i..3 * i + 3].copy_from_slice(&[number, size, index]);
     }
 }

@@ -1,5 +1,5 @@
 use Rattle.fit_grammar.specs.Calls.Table.{definition_in}
-use Rattle.fit_grammar.proofs.OneItem.Steps.{only_item, only_more, only_undefined, only_developer}
+use Rattle.fit_grammar.proofs.OneItem.Steps.{only_item, only_more, only_undefined}
 use Rattle.fit_grammar.proofs.item.next_item.Goals as goal
 
 pub returns-clause-item : goal.returns-clause-item
@@ -10,6 +10,3 @@ returns-clause-more c = only_more (definition_in c.args.table.now) c.args.window
 
 pub returns-clause-undefined : goal.returns-clause-undefined
 returns-clause-undefined c l = only_undefined (definition_in c.args.table.now) c.args.window.now c.step_at.result l c.step_at.ensures.says
-
-pub returns-clause-developer : goal.returns-clause-developer
-returns-clause-developer c = only_developer (definition_in c.args.table.now) c.args.window.now c.step_at.result c.step_at.ensures.says

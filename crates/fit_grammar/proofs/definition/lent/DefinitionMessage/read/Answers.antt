@@ -5,3 +5,4 @@ use Rattle.fit_grammar.proofs.definition.lent.DefinitionMessage.read.Goals as go
 pub returns : goal.returns
 returns c =
     definition_same _ _ c.local.ensures c.arch.ensures c.global.ensures (c.read_fields.ensures ∙ c.fields.ensures.fields)
+    (c.read_developer.ensures ∙ c.developer.ensures.fields)
