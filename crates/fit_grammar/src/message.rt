@@ -68,9 +68,12 @@ impl<'a> Message<'a> {
     pub fn developer_fields(&self) -> DeveloperFields<'_>
         ensures { result ≡ self.now.message.developer }
     {
-        let definition = &self.definition;
-        let (_, content) = self.content.split_at(definition.fields_size());
-        DeveloperFields::new(definition.developer(), content)
+        let fields = self.definition.developer();
+        if fields.is_empty() {
+            return DeveloperFields::new(fields, &[]);
+        }
+        let (_, content) = self.content.split_at(self.definition.fields_size());
+        DeveloperFields::new(fields, content)
     }
 
     /// The time that the message gives: that of its compressed timestamp, else the value of its first
