@@ -80,10 +80,15 @@ fn none_may_be_announced(rt: HostRuntime) -> Result<(), Fail> {
     finds(&rt, rt.alloc(), &body, 72 + 19, &[sample], 1000)
 }
 
-// Seven bytes and three for each field of both kinds: 94 or 97.
+// As it is written it has seven bytes and three for each field of both kinds, and without a developer field one less: 94, 93, 96, 97.
 #[test]
 fn a_definition_has_at_most_96_bytes(rt: HostRuntime) -> Result<(), Fail> {
-    for (fields, developer, is_short) in [(28, 1, true), (29, 0, true), (29, 1, false)] {
+    for (fields, developer, is_short) in [
+        (28, 1, true),
+        (29, 0, true),
+        (30, 0, true),
+        (29, 1, false),
+    ] {
         let mut definition = [0; 97];
         definition[..6].copy_from_slice(&[0x63, 0, 0, 0x14, 0, fields]);
         let end = 6 + 3 * usize::from(fields);
