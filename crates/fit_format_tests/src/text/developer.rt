@@ -96,8 +96,9 @@ fn shows_those_of_each_local_number(rt: HostRuntime) -> Result<(), Fail> {
         (14, 1, 9),
         (15, 1, 9),
     ];
-    for (local, _) in (0..16u8).zip(&fields) {
-        file.define(&definition(local, &[], &fields[..usize::from(local)])?)?;
+    for local in 0..16u8 {
+        let own = fields.get(..usize::from(local)).unwrap_or(&[]);
+        file.define(&definition(local, &[], own)?)?;
     }
     // Fifteen definitions of seven bytes and one of six, 120 fields of three, and as many bytes in each turn.
     let mut text = format!(in rt.alloc();
@@ -107,7 +108,8 @@ fn shows_those_of_each_local_number(rt: HostRuntime) -> Result<(), Fail> {
     let content = [0xA5; 16];
     for turn in 0..2u8 {
         for local in 0..16u8 {
-            file.data(local, None, &content[..usize::from(local)])?;
+            let own = content.get(..usize::from(local)).unwrap_or(&[]);
+            file.data(local, None, own)?;
             text.push_str(&format!(in rt.alloc(); "{} record", 16 * turn + local)?)?;
             for number in 0..local {
                 text.push_str(&format!(in rt.alloc(); " developer_9_{number}=0xA5")?)?;
