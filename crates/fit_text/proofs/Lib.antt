@@ -6,3 +6,4 @@ mod PlanLemmas
 mod TextLemmas
 mod FieldLemmas
 mod DateLemmas
+mod DeveloperLemmas

@@ -1,5 +1,5 @@
 -- What a plan shows is what the text of a message says: for `showing/plan`, `showing/plans`, `showing/column` and `showing/message`.
-use Rattle.std.proofs.lemmas.List.{get_or-set_same, get_or-set_other, get_or_past, drop-append-le, take-append-le, length-drop}
+use Rattle.std.proofs.lemmas.List.{get_or-set_same, get_or-set_other, get_or_past, drop-append-le, take-append-le, length-drop, drop-drop}
 use Rattle.std.specs.Array.{AllOfLen}
 use Rattle.arrayvec.specs.ArrayVec.{ArrayVec}
 use Rattle.std.specs.Prelude.{slice_range}
@@ -28,12 +28,13 @@ use Rattle.fit_text.specs.declared.showing.plan.Plan.{Plan}
 use Rattle.fit_text.specs.declared.showing.plans.Plans.{Plans}
 use Rattle.fit_grammar.specs.declared.definition.Definition.{Definition}
 use Rattle.fit_grammar.specs.declared.definition.FieldDefinition.{FieldDefinition}
-use Rattle.fit_grammar.specs.Format.Message.{fields_of, time_field, time_fields, message_under}
-use Rattle.fit_grammar.specs.Format.Item.{content_size}
+use Rattle.fit_grammar.specs.declared.definition.DeveloperFieldDefinition.{DeveloperFieldDefinition}
+use Rattle.fit_grammar.specs.Format.Message.{fields_of, developer_of, time_field, time_fields, message_under}
+use Rattle.fit_grammar.specs.Format.Item.{fields_size}
 use Rattle.fit_text.specs.Date.{dates_of}
 use Rattle.fit_text.specs.Profile.{FieldNames, names_of_fields}
 use Rattle.fit_text.specs.Plan.{field_at, shown_at, whole_of, ShowsWhole, IsKind, IsWholeOf, IsKindOf, time_definition, time_text, column_text, columns_text, IsColumn, AreColumns, HaveKinds, IsPlanOf, IsPlanIn, IsPlanAt, ArePlansFor}
-use Rattle.fit_text.specs.Text.{IsNumber, plain_text, number_text, numbers_text, message_name, field_name, field_text, message_text}
+use Rattle.fit_text.specs.Text.{IsNumber, plain_text, number_text, numbers_text, message_name, field_name, field_text, developer_text, message_text}
 use Rattle.fit_text.proofs.FieldLemmas.{number_values}
 use Rattle.fit_text.proofs.TextLemmas.{plain_whole, plain_signed, whole_unsigned, whole_signed}
 
@@ -268,6 +269,19 @@ first_text dates arch [] column content bytes behind n some is front back size =
 first_text dates arch (c ∷ columns) column content bytes behind n some is front back size =
     let rest : others (c ∷ columns) ≡ columns = take_all _ columns (omega arith) in rw (front, back, size, is, rest) refl
 
+-- the content behind the first, and behind all of them
+pub first_behind : (columns : List Column) (column : Column) (content behind : List ℕ) (n : ℕ) → 1 ≤ length columns → column ≡ get_or columns 0 column →
+    behind ≡ drop n content → n ≡ column.size →
+    drop (sum_by (λ c. c.size) (others columns)) behind ≡ drop (sum_by (λ c. c.size) columns) content
+first_behind columns column content behind n some is back size =
+    ap (drop (sum_by (λ c. c.size) (others columns))) (back ∙ ap (λ k. drop k content) size)
+    ∙ drop-drop (sum_by (λ c. c.size) (others columns)) column.size content
+    ∙ ap (λ k. drop k content) (sym (first_size columns column some is))
+
+pub no_behind : (columns : List Column) (content : List ℕ) → length columns < 1 → drop (sum_by (λ c. c.size) columns) content ≡ content
+no_behind [] content none = refl
+no_behind (column ∷ columns) content none = absurd (omega arith)
+
 pub no_column : (dates : List ℕ) (arch : Arch) (columns : List Column) (content : List ℕ) → length columns < 1 →
     columns_text dates arch columns content ≡ []
 no_column dates arch [] content none = refl
@@ -275,48 +289,63 @@ no_column dates arch (column ∷ columns) content none = absurd (omega arith)
 
 -- ---- the line of a message
 
-line_parts : (number name times fields : List ℕ) →
-    (number ++ (codes " " ++ name)) ++ (times ++ (fields ++ codes "\n")) ≡ number ++ codes " " ++ name ++ (times ++ fields) ++ codes "\n"
-line_parts number name times fields = simp append_assoc
+line_parts : (number name times fields developer : List ℕ) →
+    (number ++ (codes " " ++ name)) ++ (times ++ (fields ++ (developer ++ codes "\n")))
+    ≡ number ++ codes " " ++ name ++ (times ++ fields) ++ developer ++ codes "\n"
+line_parts number name times fields developer = simp append_assoc
 
 -- the parts of the line, in their order
 pub plan_text : (number : ℕ) (d : Definition) (time : Option ℕ) (content : List ℕ) (plan : Plan) (columns : List Column) →
-    (dates : List ℕ) → dates ≡ dates_of plan.utc plan.global → IfSome time (λ time. time < 2 ^ 32) → IsPlanOf d plan columns →
+    (developer : List DeveloperFieldDefinition) (dates : List ℕ) → dates ≡ dates_of plan.utc plan.global → IfSome time (λ time. time < 2 ^ 32) →
+    IsPlanOf d plan columns developer →
     (decimal number ++ plan.name)
-    ++ (time_text dates plan.time time ++ (columns_text dates plan.arch columns content ++ codes "\n"))
+    ++ (time_text dates plan.time time
+    ++ (columns_text dates plan.arch columns content
+    ++ (flat_map developer_text (developer_of developer (drop (sum_by (λ c. c.size) columns) content)) ++ codes "\n")))
     ≡ message_text plan.utc number (message_under d time content)
-plan_text number d time content plan columns dates is fits h =
+plan_text number d time content plan columns developer dates is fits h =
+    let size = columns_size (names_of_fields d.global) (dates_of plan.utc d.global) d.fields.items columns h.fields in
+    let behind = flat_map developer_text (developer_of d.developer.items (drop (fields_size d) content)) in
     let names = names_of_fields d.global in
     let shown = dates_of plan.utc d.global in
     let texts = flat_map-append (field_text names shown) (time_fields time) (fields_of d.arch d.fields.items content) in
-    rw (is, h.global, h.arch, h.name, time_shown names shown plan.time time fits h.time, columns_show names shown d.arch d.fields.items columns content h.fields)
-    (line_parts (decimal number) (message_name d.global) _ _
-    ∙ ap (λ t. decimal number ++ codes " " ++ message_name d.global ++ t ++ codes "\n") (sym texts))
+    rw (is, h.global, h.arch, h.name, time_shown names shown plan.time time fits h.time, columns_show names shown d.arch d.fields.items columns content h.fields, h.developer, size)
+    (line_parts (decimal number) (message_name d.global) _ _ behind
+    ∙ ap (λ t. decimal number ++ codes " " ++ message_name d.global ++ t ++ behind ++ codes "\n") (sym texts))
 
-pub plan_kinds : (d : Definition) (plan : Plan) (columns : List Column) (dates : List ℕ) → dates ≡ dates_of plan.utc plan.global →
-    IsPlanOf d plan columns → HaveKinds dates columns
-plan_kinds d plan columns dates is h =
+pub plan_kinds : (d : Definition) (plan : Plan) (columns : List Column) (developer : List DeveloperFieldDefinition) (dates : List ℕ) →
+    dates ≡ dates_of plan.utc plan.global → IsPlanOf d plan columns developer → HaveKinds dates columns
+plan_kinds d plan columns developer dates is h =
     rw (is, h.global) (columns_kinds (names_of_fields d.global) (dates_of plan.utc d.global) d.fields.items columns h.fields)
 
-pub plan_size : (d : Definition) (plan : Plan) (columns : List Column) → IsPlanOf d plan columns →
-    sum_by (λ c. c.size) columns ≡ content_size d
-plan_size d plan columns h =
+pub plan_size : (d : Definition) (plan : Plan) (columns : List Column) (developer : List DeveloperFieldDefinition) →
+    IsPlanOf d plan columns developer → sum_by (λ c. c.size) columns ≡ fields_size d
+plan_size d plan columns developer h =
     columns_size (names_of_fields d.global) (dates_of plan.utc d.global) d.fields.items columns h.fields
 
 -- ---- columns in the row of all
 
--- a plan stays where more columns come behind its own
-plan_in_more : (row more : List Column) (utc : Bool) (d : Definition) (plan : Plan) → IsPlanIn row utc d plan → IsPlanIn (row ++ more) utc d plan
-plan_in_more row more utc d plan h =
-    let same : slice_range (row ++ more) plan.first plan.end ≡ slice_range row plan.first plan.end =
-    ap (λ t. take (plan.end - plan.first) t) (drop-append-le plan.first row more (omega (arith, h.order, h.inside)))
-    ∙ take-append-le (plan.end - plan.first) (drop plan.first row) more (omega (arith, h.order, h.inside, length-drop plan.first row)) in
-    record {
-      dated = h.dated;
-      order = h.order;
-      inside = omega (arith, h.inside, length-append row more);
-      is = rw same h.is;
-    }
+-- a part of a row stays where more comes behind the row
+part_in_more : {A : Type 0} (row more : List A) (first end : ℕ) → first ≤ end → end ≤ length row →
+    slice_range (row ++ more) first end ≡ slice_range row first end
+part_in_more row more first end order inside =
+    ap (λ t. take (end - first) t) (drop-append-le first row more (omega (arith, order, inside)))
+    ∙ take-append-le (end - first) (drop first row) more (omega (arith, order, inside, length-drop first row))
+
+-- a plan stays where more columns and developer fields come behind its own
+plan_in_more : (row more : List Column) (developer others : List DeveloperFieldDefinition) (utc : Bool) (d : Definition) (plan : Plan) →
+    IsPlanIn row developer utc d plan → IsPlanIn (row ++ more) (developer ++ others) utc d plan
+plan_in_more row more developer others utc d plan h = record {
+  dated = h.dated;
+  order = h.order;
+  inside = omega (arith, h.inside, length-append row more);
+  developer_order = h.developer_order;
+  developer_inside = omega (arith, h.developer_inside, length-append developer others);
+  is = rw (
+    part_in_more row more plan.first plan.end h.order h.inside,
+    part_in_more developer others plan.developer_first plan.developer_end h.developer_order h.developer_inside,
+  ) h.is;
+}
 
 -- ---- plans, each at the place of its local number
 
@@ -362,12 +391,13 @@ plans_forget definition_for d plans k place h local definition plan there has =
           h local definition plan (sym (get_or-set_other plans.slots k local None None other) ∙ there) (rw no at has)
     ]
 
--- a plan that was made, whose columns came behind the others
-pub plans_set : (definition_for : ℕ → Option Definition) (own : ℕ) (d : Definition) (plans : Plans) (columns : ArrayVec Column) (plan : Plan)
-    (k : ℕ) (more : List Column) → k ≡ own → definition_for own ≡ Some d → IsPlanIn columns.items plans.utc d plan →
-    columns.items ≡ plans.columns.items ++ more → ArePlansFor definition_for plans →
-    ArePlansFor definition_for (record plans { slots = set plans.slots k (Some plan); columns = columns })
-plans_set definition_for own d plans columns plan k more place found good row h local definition other there has =
+-- a plan that was made, whose columns and developer fields came behind the others
+pub plans_set : (definition_for : ℕ → Option Definition) (own : ℕ) (d : Definition) (plans : Plans) (columns : ArrayVec Column)
+    (developer : ArrayVec DeveloperFieldDefinition) (plan : Plan) (k : ℕ) (more : List Column) (fields : List DeveloperFieldDefinition) →
+    k ≡ own → definition_for own ≡ Some d → IsPlanIn columns.items developer.items plans.utc d plan →
+    columns.items ≡ plans.columns.items ++ more → developer.items ≡ plans.developer.items ++ fields → ArePlansFor definition_for plans →
+    ArePlansFor definition_for (record plans { slots = set plans.slots k (Some plan); columns = columns; developer = developer })
+plans_set definition_for own d plans columns developer plan k more fields place found good row behind h local definition other there has =
     elim (same_or_not local k) [
       | inl here ↦
           let one : Some plan ≡ Some other =
@@ -378,7 +408,8 @@ plans_set definition_for own d plans columns plan k more place found good row h 
           rw (← is_plan, ← is_definition) good
       | inr apart ↦
           let kept = sym (get_or-set_other plans.slots k local (Some plan) None apart) ∙ there in
-          rw row (plan_in_more plans.columns.items more plans.utc definition other (h local definition other kept has))
+          rw (row, behind)
+          (plan_in_more plans.columns.items more plans.developer.items fields plans.utc definition other (h local definition other kept has))
     ]
 
 -- the plan of a local number that has one
@@ -391,8 +422,10 @@ pub plan_at : (definition_for : ℕ → Option Definition) (plans : Plans) (loca
     definition_for local ≡ Some d → ArePlansFor definition_for plans → IsPlanAt plans local d
 plan_at definition_for plans local d some has h = plan_by definition_for plans local d _ refl some has h
 
-pub plan_got : (definition_for : ℕ → Option Definition) (plans : Plans) (local : ℕ) (d : Definition) (plan : Plan) (columns : List Column) →
-    get_or plans.slots local None ≡ Some plan → columns ≡ slice_range plans.columns.items plan.first plan.end → definition_for local ≡ Some d →
-    ArePlansFor definition_for plans → IsPlanOf d plan columns × (plan.utc ≡ plans.utc)
-plan_got definition_for plans local d plan columns there is has h =
-    let own = h local d plan there has in (rw is own.is, own.dated)
+pub plan_got : (definition_for : ℕ → Option Definition) (plans : Plans) (local : ℕ) (d : Definition) (plan : Plan) (columns : List Column)
+    (developer : List DeveloperFieldDefinition) → get_or plans.slots local None ≡ Some plan →
+    columns ≡ slice_range plans.columns.items plan.first plan.end →
+    developer ≡ slice_range plans.developer.items plan.developer_first plan.developer_end → definition_for local ≡ Some d →
+    ArePlansFor definition_for plans → IsPlanOf d plan columns developer × (plan.utc ≡ plans.utc)
+plan_got definition_for plans local d plan columns developer there is also has h =
+    let own = h local d plan there has in (rw (is, also) own.is, own.dated)

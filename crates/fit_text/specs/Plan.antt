@@ -8,6 +8,7 @@ use Rattle.fit_base.specs.Base.{row_of}
 use Rattle.fit_base.specs.Number.{number as number_by}
 use Rattle.fit_base.specs.Value.{IsValueSize, values_of}
 use Rattle.fit_grammar.specs.declared.definition.FieldDefinition.{FieldDefinition}
+use Rattle.fit_grammar.specs.declared.definition.DeveloperFieldDefinition.{DeveloperFieldDefinition}
 use Rattle.fit_grammar.specs.declared.definition.Definition.{Definition}
 use Rattle.fit_grammar.specs.Format.Message.{MessageField}
 use Rattle.fit_text.specs.declared.showing.plan.Kind.{Kind}
@@ -86,32 +87,35 @@ abbrev pub HaveKinds : List ℕ → List Column → Type 0
 HaveKinds dates [] = Unit {0}
 HaveKinds dates (column ∷ columns) = IsKind dates column.number column.base column.size column.kind × HaveKinds dates columns
 
--- the plan of a definition, and its columns
-pub record IsPlanOf (d : Definition) (plan : Plan) (columns : List Column) : Type 0 where
+-- the plan of a definition, its columns and its developer fields
+pub record IsPlanOf (d : Definition) (plan : Plan) (columns : List Column) (last : List DeveloperFieldDefinition) : Type 0 where
   pub arch : plan.arch ≡ d.arch
   pub global : plan.global ≡ d.global
   pub name : plan.name ≡ codes " " ++ message_name d.global
   pub time : IsColumn (names_of_fields d.global) (dates_of plan.utc d.global) time_definition plan.time
   pub fields : AreColumns (names_of_fields d.global) (dates_of plan.utc d.global) d.fields.items columns
+  pub developer : last ≡ d.developer.items
 
--- the same, where its columns stand in a row
-pub record IsPlanIn (row : List Column) (utc : Bool) (d : Definition) (plan : Plan) : Type 0 where
+-- the same, where each of them stand in a row
+pub record IsPlanIn (row : List Column) (developer_row : List DeveloperFieldDefinition) (utc : Bool) (d : Definition) (plan : Plan) : Type 0 where
   pub dated : plan.utc ≡ utc
   pub order : plan.first ≤ plan.end
   pub inside : plan.end ≤ length row
-  pub is : IsPlanOf d plan (slice_range row plan.first plan.end)
+  pub developer_order : plan.developer_first ≤ plan.developer_end
+  pub developer_inside : plan.developer_end ≤ length developer_row
+  pub is : IsPlanOf d plan (slice_range row plan.first plan.end) (slice_range developer_row plan.developer_first plan.developer_end)
 
 -- the plan of a local number is that of this definition
 pub record IsPlanAt (plans : Plans) (local : ℕ) (d : Definition) : Type 0 where
   pub plan : Plan
   pub there : get_or plans.slots local None ≡ Some plan
-  pub is : IsPlanIn plans.columns.items plans.utc d plan
+  pub is : IsPlanIn plans.columns.items plans.developer.items plans.utc d plan
 
 -- of each local number that has a plan, it is that of its definition in force
 abbrev pub ArePlansFor : (ℕ → Option Definition) → Plans → Type 0
 ArePlansFor definition_for plans =
     (local : ℕ) (d : Definition) (plan : Plan) → get_or plans.slots local None ≡ Some plan → definition_for local ≡ Some d
-    → IsPlanIn plans.columns.items plans.utc d plan
+    → IsPlanIn plans.columns.items plans.developer.items plans.utc d plan
 
 -- ---- one value of a type
 

@@ -11,7 +11,7 @@ use Rattle.fit_base.specs.Base.{row_of, base_type, has_sign}
 use Rattle.fit_base.specs.Value.{Values, Numbers, Raw}
 use Rattle.fit_grammar.specs.declared.file.frame.Frame.{Frame}
 use Rattle.fit_grammar.specs.Format.Records.{data_size}
-use Rattle.fit_grammar.specs.Format.Message.{Message, MessageField, messages_of}
+use Rattle.fit_grammar.specs.Format.Message.{Message, MessageField, MessageDeveloperField, messages_of}
 use Rattle.fit_grammar.specs.Format.File.{FileValue}
 use Rattle.fit_text.specs.Date.{dates_of, date_in, date_text}
 use Rattle.fit_text.specs.Profile.{FieldNames, message_named, names_of_fields, field_named}
@@ -103,11 +103,17 @@ abbrev pub field_text : FieldNames → List ℕ → MessageField → List ℕ
 field_text names dates field =
     codes " " ++ field_name names field.number ++ codes "=" ++ shown_text (date_in dates field) field
 
+-- a developer field, by the index of its developer data and its number: two digits a byte
+abbrev pub developer_text : MessageDeveloperField → List ℕ
+developer_text field =
+    codes " developer_" ++ decimal field.index ++ codes "_" ++ decimal field.number ++ codes "=" ++ hex_text field.bytes
+
 -- the line of a message, behind its number
 abbrev pub message_text : Bool → ℕ → Message → List ℕ
 message_text utc number message =
     decimal number ++ codes " " ++ message_name message.global
-    ++ flat_map (field_text (names_of_fields message.global) (dates_of utc message.global)) message.fields ++ codes "\n"
+    ++ flat_map (field_text (names_of_fields message.global) (dates_of utc message.global)) message.fields
+    ++ flat_map developer_text message.developer ++ codes "\n"
 
 -- ---- files
 

@@ -3,7 +3,7 @@
 //! `show` writes the text of a `File`, in one pass and with no allocation. Times are numbers, or dates where they are asked for:
 //!
 //!     let mut file = File::new(alloc, frame);
-//!     file.define(&Definition { local: 0, arch: Arch::Little, global: 0, fields })?;
+//!     file.define(&Definition { local: 0, arch: Arch::Little, global: 0, fields, developer: ArrayVec::new() })?;
 //!     file.data(0, None, &[4, 0x00, 0xCA, 0x9A, 0x3B])?;
 //!     show(&file, true, &mut out)?;
 //!

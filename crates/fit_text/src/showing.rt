@@ -3,6 +3,7 @@
 mod bytes;
 mod column;
 mod date;
+mod developer;
 mod field;
 mod file;
 mod header;

@@ -1,6 +1,6 @@
 // The fields of a message, by the columns of its plan.
 
-ghost use Rattle.std.specs.Prelude.{◌≡◌, ◌<◌, ◌≤◌, ◌+◌, ◌*◌, ◌^◌, length, sum_by};
+ghost use Rattle.std.specs.Prelude.{◌≡◌, ◌<◌, ◌≤◌, ◌+◌, ◌*◌, ◌^◌, length, drop, sum_by, IfOk};
 ghost use Rattle.fit_text.specs.declared.writing.TheConstants.{SIZE};
 ghost use Rattle.fit_text.specs.Pen.{Puts, Adds};
 ghost use Rattle.fit_text.specs.Plan.{whole_of, IsKind, HaveKinds, column_text, columns_text};
@@ -12,19 +12,22 @@ use fit_base::{Arch, FieldValue, number_of};
 use fit_grammar::WriteFailed;
 use std::io::Write;
 
-/// The fields of this content, each with its name. Fields of some numbers are shown as dates.
+/// The fields at the front of this content, each with its name. Fields of some numbers are shown as dates. Answers the bytes
+/// behind them.
 // Out of line, so that what its loop needs stays in registers.
 #[inline(never)]
-pub fn put_columns<W: Write>(
+pub fn put_columns<'c, W: Write>(
     pen: &mut Pen<'_, W>,
     dates: &[u8],
     arch: Arch,
     columns: &[Column],
-    content: &[u8],
-) -> Result<(), WriteFailed>
+    content: &'c [u8],
+) -> Result<&'c [u8], WriteFailed>
     requires kinds { HaveKinds dates.now columns.now }
-    requires whole { sum_by (λ column. column.size) columns.now ≡ length content.now }
-    ensures { Puts pen.old pen.new result (columns_text dates.now arch columns.now content.now) }
+    requires within { sum_by (λ column. column.size) columns.now ≤ length content.now }
+    ensures text { Puts pen.old pen.new result (columns_text dates.now arch columns.now content.now) }
+    ensures behind { IfOk result
+        (λ behind. behind.now ≡ drop (sum_by (λ column. column.size) columns.now) content.now) }
 {
     let mut left = columns;
     let mut rest = content;
@@ -34,7 +37,7 @@ pub fn put_columns<W: Write>(
         left = others;
         rest = behind;
     }
-    Ok(())
+    Ok(rest)
 }
 
 /// A field with its name. Fields of some numbers are shown as dates.

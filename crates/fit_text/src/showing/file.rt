@@ -85,8 +85,8 @@ fn put_messages<W: Write>(pen: &mut Pen<'_, W>, utc: bool, file: &File) -> Resul
             }
             FileItem::Data(message, time) => {
                 plans.settle(message.local, &message.definition);
-                let (plan, columns) = plans.get(message.local);
-                put_message(pen, plan, columns, number, &message, time)?;
+                let (plan, columns, developer) = plans.get(message.local);
+                put_message(pen, plan, columns, developer, number, &message, time)?;
                 number += 1;
             }
         }

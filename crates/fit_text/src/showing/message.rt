@@ -8,22 +8,25 @@ ghost use Rattle.fit_text.specs.Text.{message_text};
 
 use crate::showing::column::{put_column, put_columns};
 use crate::showing::date::dates_of;
+use crate::showing::developer::put_developer_fields;
 use crate::showing::plan::{Column, Plan};
 use crate::writing::Pen;
 use fit_base::Arch;
-use fit_grammar::{DataMessage, WriteFailed};
+use fit_grammar::{DataMessage, DeveloperFieldDefinition, WriteFailed};
 use std::io::Write;
 
-/// The line of a message: its number, its name, the time of its compressed timestamp, if it has one, and its fields.
+/// The line of a message: its number, its name, the time of its compressed timestamp, if it has one, its fields and its
+/// developer fields.
 pub fn put_message<W: Write>(
     pen: &mut Pen<'_, W>,
     plan: &Plan,
     columns: &[Column],
+    developer: &[DeveloperFieldDefinition],
     number: u64,
     message: &DataMessage<'_>,
     time: Option<u32>,
 ) -> Result<(), WriteFailed>
-    requires { IsPlanOf message.now.definition plan.now columns.now }
+    requires { IsPlanOf message.now.definition plan.now columns.now developer.now }
     ensures { Puts pen.old pen.new result
         (message_text plan.now.utc number
         (message_under message.now.definition time message.now.content.now)) }
@@ -33,7 +36,8 @@ pub fn put_message<W: Write>(
     pen.add_label(&plan.name);
     let dates = dates_of(plan.utc, plan.global);
     put_time(pen, dates, &plan.time, time)?;
-    put_columns(pen, dates, plan.arch, columns, message.content)?;
+    let behind = put_columns(pen, dates, plan.arch, columns, message.content)?;
+    put_developer_fields(pen, developer, behind)?;
     pen.put(b"\n")
 }
 

@@ -12,7 +12,7 @@ use crate::showing::date::dates_of;
 use crate::writing::Label;
 use arrayvec::ArrayVec;
 use fit_base::{Arch, BaseType};
-use fit_grammar::{Definition, FieldDefinition};
+use fit_grammar::{Definition, DeveloperFieldDefinition, FieldDefinition};
 
 // The field that holds the time of a compressed timestamp.
 const TIMESTAMP: u8 = 253;
@@ -57,10 +57,11 @@ impl Column {
     }
 }
 
-/// The most columns of all plans together.
+/// The most columns of all plans together, and the most developer fields.
 pub const COLUMNS: usize = 256;
 
-/// How the messages of one definition are shown. Its columns stand in a row, beside those of other plans.
+/// How the messages of one definition are shown. Its columns stand in a row, beside those of other plans, and its developer
+/// fields in another.
 #[derive(Drop)]
 pub struct Plan {
     /// Whether times are shown as dates.
@@ -76,20 +77,36 @@ pub struct Plan {
     pub first: usize,
     /// The place behind its last one.
     pub end: usize,
+    /// The place of its first developer field in their row.
+    pub developer_first: usize,
+    /// The place behind its last one.
+    pub developer_end: usize,
 }
 
 impl Plan {
-    /// The plan of this definition. Its columns come behind those in the row, where there is room for them.
-    pub fn new(utc: bool, definition: &Definition, columns: &mut ArrayVec<Column, COLUMNS>) -> Self
-        requires { length columns.old.items + length definition.now.fields.items ≤ COLUMNS }
-        ensures plan { IsPlanIn columns.new.items utc definition.now result }
+    /// The plan of this definition. Its columns and its developer fields come behind those in the rows, where there is room
+    /// for them.
+    pub fn new(
+        utc: bool,
+        definition: &Definition,
+        columns: &mut ArrayVec<Column, COLUMNS>,
+        developer: &mut ArrayVec<DeveloperFieldDefinition, COLUMNS>,
+    ) -> Self
+        requires columns { length columns.old.items + length definition.now.fields.items ≤ COLUMNS }
+        requires developer { length developer.old.items + length definition.now.developer.items ≤ COLUMNS }
+        ensures plan { IsPlanIn columns.new.items developer.new.items utc definition.now result }
         ensures behind { (own : List AnyColumn) × (columns.new.items ≡ columns.old.items ++ own) }
+        ensures developer { developer.new.items ≡ developer.old.items ++ definition.now.developer.items }
     {
         let global = definition.global;
         let names = profile::fields_of(global);
         let dates = dates_of(utc, global);
         let first = columns.len();
         add_columns(columns, names, dates, definition.fields.as_slice());
+        let developer_first = developer.len();
+        developer
+            .try_extend_from_slice(definition.developer.as_slice())
+            .unwrap();
         Plan {
             utc,
             arch: definition.arch,
@@ -98,6 +115,8 @@ impl Plan {
             time: time_column(names, dates),
             first,
             end: columns.len(),
+            developer_first,
+            developer_end: developer.len(),
         }
     }
 }

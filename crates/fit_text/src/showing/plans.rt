@@ -9,7 +9,7 @@ ghost use Rattle.fit_text.specs.Plan.{ArePlansFor, IsPlanAt};
 
 use crate::showing::plan::{COLUMNS, Column, Plan};
 use arrayvec::ArrayVec;
-use fit_grammar::{Definition, DefinitionMessage};
+use fit_grammar::{Definition, DefinitionMessage, DeveloperFieldDefinition};
 
 /// For each of the sixteen local numbers the plan of its definition, or none. A plan is made where the first message of its
 /// definition is met.
@@ -20,6 +20,8 @@ pub struct Plans {
     pub slots: [Option<Plan>; 16],
     /// The columns of the plans, those of one behind those of another.
     pub columns: ArrayVec<Column, COLUMNS>,
+    /// Their developer fields, likewise.
+    pub developer: ArrayVec<DeveloperFieldDefinition, COLUMNS>,
 }
 
 impl Plans {
@@ -32,6 +34,7 @@ impl Plans {
             utc,
             slots: no_plans(),
             columns: ArrayVec::new(),
+            developer: ArrayVec::new(),
         }
     }
 
@@ -59,7 +62,7 @@ impl Plans {
         }
     }
 
-    // Makes the plan of a local number that has this definition. Where the row has no room for its columns, all others go.
+    // Makes the plan of a local number that has this definition. Where the rows have no room for what it has, all others go.
     fn set(&mut self, local: u8, definition: &Definition)
         requires { local < 16 }
         ensures utc { self.new.utc ≡ self.old.utc }
@@ -68,35 +71,46 @@ impl Plans {
             → definition_for local ≡ Some definition.now
             → ArePlansFor definition_for self.old → ArePlansFor definition_for self.new }
     {
-        self.make_room(definition.fields.len());
-        let plan = Plan::new(self.utc, definition, &mut self.columns);
+        self.make_room(definition.fields.len(), definition.developer.len());
+        let plan = Plan::new(self.utc, definition, &mut self.columns, &mut self.developer);
         self.slots[usize::from(local)] = Some(plan);
     }
 
-    // Makes room for so many columns: all plans go where there is none.
-    fn make_room(&mut self, count: usize)
-        requires { count ≤ 255 }
+    // Makes room for so many columns and developer fields: all plans go where there is none.
+    fn make_room(&mut self, columns: usize, developer: usize)
+        requires columns { columns ≤ 255 }
+        requires developer { developer ≤ 255 }
         ensures utc { self.new.utc ≡ self.old.utc }
-        ensures room { length self.new.columns.items + count ≤ COLUMNS }
+        ensures room { length self.new.columns.items + columns ≤ COLUMNS }
+        ensures developer_room { length self.new.developer.items + developer ≤ COLUMNS }
         ensures plans { (definition_for : ℕ → Option AnyDefinition) → ArePlansFor definition_for self.old
             → ArePlansFor definition_for self.new }
     {
-        if count > self.columns.remaining_capacity() {
+        if columns > self.columns.remaining_capacity()
+            || developer > self.developer.remaining_capacity()
+        {
             self.slots = no_plans();
             self.columns.clear();
+            self.developer.clear();
         }
     }
 
-    /// The plan of a local number that has one, and its columns.
+    /// The plan of a local number that has one, its columns and its developer fields.
     #[inline]
-    pub fn get(&self, local: u8) -> (&Plan, &[Column])
+    pub fn get(&self, local: u8) -> (&Plan, &[Column], &[DeveloperFieldDefinition])
         requires { (d : AnyDefinition) × IsPlanAt self.now local d }
         ensures plan { slice_index_or self.now.slots local None ≡ Some result.0.now }
         ensures columns { result.1.now
             ≡ slice_range self.now.columns.items result.0.now.first result.0.now.end }
+        ensures developer { result.2.now ≡ slice_range self.now.developer.items
+            result.0.now.developer_first result.0.now.developer_end }
     {
         match self.slots.get(usize::from(local)) {
-            Some(Some(plan)) => (plan, &self.columns.as_slice()[plan.first..plan.end]),
+            Some(Some(plan)) => (
+                plan,
+                &self.columns.as_slice()[plan.first..plan.end],
+                &self.developer.as_slice()[plan.developer_first..plan.developer_end],
+            ),
             _ => unreachable!(),
         }
     }

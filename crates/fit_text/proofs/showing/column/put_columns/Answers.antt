@@ -1,10 +1,10 @@
-use Rattle.std.proofs.Common.{arith}
+use Rattle.std.proofs.Common.{sym, ◌∙◌, arith}
 use Rattle.fit_text.proofs.PenLemmas.{leaves_less, leaves_off}
-use Rattle.fit_text.proofs.PlanLemmas.{first_size, other_kinds, first_text}
+use Rattle.fit_text.proofs.PlanLemmas.{first_size, first_behind, no_behind, other_kinds, first_text}
 use Rattle.fit_text.proofs.showing.column.put_columns.Goals as goal
 
-pub returns-in_err-put_column : goal.returns-in_err-put_column
-returns-in_err-put_column g c =
+pub returns-in_err-put_column-clause-text : goal.returns-in_err-put_column-clause-text
+returns-in_err-put_column-clause-text g c =
     leaves_off _ c.from_residual.ensures.0 c.loop-left.invariant.put c.in_err-put_column.ensures
     (first_text c.args.dates.now c.args.arch c.loop-left.left.now c.column-item.result c.loop-left.rest.now _ _ _ c.in-len1-up.len_at_least
     c.column-item.is c.split_at.ensures.front c.split_at.ensures.back c.from.ensures)
@@ -16,8 +16,14 @@ loop-left-preserved g c =
     let size = first_size left column c.in-len1-up.len_at_least c.column-item.is in
     record {
       kinds = other_kinds c.args.dates.now left c.in-len1-up.len_at_least c.loop-left.invariant.kinds;
-      whole = omega (arith, size, c.loop-left.invariant.whole, c.split_at.ensures.back_len, c.from.ensures);
+      within = omega (arith, size, c.loop-left.invariant.within, c.split_at.ensures.back_len, c.from.ensures);
+      behind = first_behind left column c.loop-left.rest.now _ _ c.in-len1-up.len_at_least c.column-item.is c.split_at.ensures.back c.from.ensures
+          ∙ c.loop-left.invariant.behind;
       put = leaves_less _ c.loop-left.invariant.put c.in_ok-put_column.ensures
           (first_text c.args.dates.now c.args.arch left column c.loop-left.rest.now _ _ _ c.in-len1-up.len_at_least
           c.column-item.is c.split_at.ensures.front c.split_at.ensures.back c.from.ensures);
     }
+
+pub returns-clause-behind : goal.returns-clause-behind
+returns-clause-behind g c =
+    sym (no_behind c.loop-left.left.now c.loop-left.rest.now c.in_default.len_below) ∙ c.loop-left.invariant.behind

@@ -1,4 +1,4 @@
-use Rattle.std.proofs.Common.{◌≡◌, length, sum_by}
+use Rattle.std.proofs.Common.{◌≡◌, ◌≤◌, length, drop, sum_by}
 use Rattle.fit_text.specs.Plan.{HaveKinds, columns_text}
 use Rattle.fit_text.proofs.PenLemmas.{Leaves}
 use Rattle.fit_text.proofs.showing.column.put_columns.Given as goal
@@ -6,7 +6,8 @@ use Rattle.fit_text.proofs.showing.column.put_columns.Given as goal
 abbrev pub invariant-loop-left : goal.invariant-loop-left
 invariant-loop-left g l = record {
   kinds : HaveKinds l.dates l.left;
-  whole : sum_by (λ column. column.size) l.left ≡ length l.rest;
+  within : sum_by (λ column. column.size) l.left ≤ length l.rest;
+  behind : drop (sum_by (λ column. column.size) l.left) l.rest ≡ drop (sum_by (λ column. column.size) l.initial.left) l.initial.rest;
   put : Leaves l.initial.pen l.pen (columns_text l.dates l.arch l.initial.left l.initial.rest) (columns_text l.dates l.arch l.left l.rest);
 }
 

@@ -70,7 +70,7 @@ put_message-requires g c =
     let steps = c.in-Some.ensures.steps ∙ ap (λ item. lent_item item ∷ c.next.new.self) c.in-Data.is in
     let under = rw steps at c.loop-item.invariant.1.under in
     let plans = c.settle.ensures.plans definition_for under.1 c.loop-item.invariant.1.plans in
-    (plan_got definition_for _ message.local message.definition _ _ c.get.ensures.plan c.get.ensures.columns under.1 plans).0
+    (plan_got definition_for _ message.local message.definition _ _ _ c.get.ensures.plan c.get.ensures.columns c.get.ensures.developer under.1 plans).0
 
 pub returns-in_err-put_message-in-Data-clause-text : goal.returns-in_err-put_message-in-Data-clause-text
 returns-in_err-put_message-in-Data-clause-text g c =
@@ -80,7 +80,7 @@ returns-in_err-put_message-in-Data-clause-text g c =
     let steps = c.in-Some.ensures.steps ∙ ap (λ item. lent_item item ∷ c.next.new.self) c.in-Data.is in
     let under = rw steps at kept.under in
     let plans = c.settle.ensures.plans definition_for under.1 kept.plans in
-    let got = plan_got definition_for _ message.local message.definition _ _ c.get.ensures.plan c.get.ensures.columns under.1 plans in
+    let got = plan_got definition_for _ message.local message.definition _ _ _ c.get.ensures.plan c.get.ensures.columns c.get.ensures.developer under.1 plans in
     let utc = got.1 ∙ c.settle.ensures.utc ∙ kept.utc in
     leaves_off _ c.from_residual.ensures.0 kept.put (rw utc at c.in_err-put_message-in-Data.ensures)
     (ap (λ items. flat_map (λ row. message_text c.args.utc row.0 row.1) (enumerate_from c.loop-item.number (messages_in items))) steps)
@@ -93,7 +93,7 @@ loop-item-preserved g c =
     let steps = c.in-Some.ensures.steps ∙ ap (λ item. lent_item item ∷ c.next.new.self) c.in-Data.is in
     let under = rw steps at kept.under in
     let plans = c.settle.ensures.plans definition_for under.1 kept.plans in
-    let got = plan_got definition_for _ message.local message.definition _ _ c.get.ensures.plan c.get.ensures.columns under.1 plans in
+    let got = plan_got definition_for _ message.local message.definition _ _ _ c.get.ensures.plan c.get.ensures.columns c.get.ensures.developer under.1 plans in
     let utc = got.1 ∙ c.settle.ensures.utc ∙ kept.utc in (
       definition_for,
       record {

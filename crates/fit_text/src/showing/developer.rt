@@ -1,0 +1,51 @@
+// The developer fields of a message.
+
+ghost use Rattle.std.specs.Prelude.{◌≡◌, ◌≤◌, length, sum_by};
+ghost use Rattle.std.specs.List.{flat_map};
+ghost use Rattle.fit_grammar.specs.Format.Message.{developer_of};
+ghost use Rattle.fit_text.specs.Pen.{Puts};
+ghost use Rattle.fit_text.specs.Text.{developer_text};
+
+use crate::showing::bytes::put_hex;
+use crate::writing::Pen;
+use fit_grammar::{DeveloperFieldDefinition, WriteFailed};
+use std::io::Write;
+
+/// The developer fields at the front of this content.
+pub fn put_developer_fields<W: Write>(
+    pen: &mut Pen<'_, W>,
+    fields: &[DeveloperFieldDefinition],
+    content: &[u8],
+) -> Result<(), WriteFailed>
+    requires { sum_by (λ field. field.size) fields.now ≤ length content.now }
+    ensures { Puts pen.old pen.new result
+        (flat_map developer_text (developer_of fields.now content.now)) }
+{
+    let mut left = fields;
+    let mut rest = content;
+    while let [field, others @ ..] = left {
+        let (bytes, behind) = rest.split_at(usize::from(field.size));
+        put_developer_field(pen, field, bytes)?;
+        left = others;
+        rest = behind;
+    }
+    Ok(())
+}
+
+// A developer field: the index of its developer data, its number, and two digits a byte.
+fn put_developer_field<W: Write>(
+    pen: &mut Pen<'_, W>,
+    field: &DeveloperFieldDefinition,
+    bytes: &[u8],
+) -> Result<(), WriteFailed>
+    ensures { Puts pen.old pen.new result
+        (developer_text (record { index = field.now.index; number = field.now.number; bytes = bytes.now })) }
+{
+    pen.room()?;
+    pen.add(b" developer_");
+    pen.add_number(u64::from(field.index));
+    pen.add(b"_");
+    pen.add_number(u64::from(field.number));
+    pen.add(b"=");
+    put_hex(pen, bytes)
+}
