@@ -1,4 +1,4 @@
-"""Holds `fitrec show` against the second reader, over each change of one byte of a small file and over files that are
+"""Holds `fitrec show` against the second reader, over each change of one byte of two small files and over files that are
 made at random, whole and damaged."""
 
 import concurrent.futures
@@ -9,6 +9,7 @@ import re
 import subprocess
 import tempfile
 
+from program import framed
 from reader import BASE_TYPES, MESSAGES, checksum, wanted
 
 
@@ -16,12 +17,25 @@ def two(value):
     return value.to_bytes(2, "little")
 
 
+def developer_fields(pick, many):
+    """What a definition announces of developer fields, and how many bytes of a data message they have; None where it announces none."""
+    if not many and pick.random() < 0.7:
+        return None, 0
+    count = 255 if many else pick.choice([0, 0, 1, 1, 2, 3, 5])
+    sizes = [pick.choice([0, 1, 1, 2, 4, pick.randrange(256)]) for _ in range(count)]
+    sizes = [255] * count if many and pick.random() < 0.1 else sizes
+    fields = [bytes([pick.choice([0, 1, pick.randrange(256)]), size, pick.choice([0, 0, 1, pick.randrange(256)])]) for size in sizes]
+    return bytes([count]) + b"".join(fields), sum(sizes)
+
+
 def definition(pick):
     """The bytes of a definition, and what its data messages need."""
     local, big = pick.choice([pick.randrange(4), pick.randrange(16)]), pick.randrange(2)
     message = pick.choice([*MESSAGES, 20, 20, pick.randrange(65536)])
     fields = []
-    for _ in range(pick.choice([0, 1, 1, 2, 3, 5, 11])):
+    # now and then as many as there can be, of one kind or of both
+    many = pick.random()
+    for _ in range(255 if many < 0.006 else pick.choice([0, 1, 1, 2, 3, 5, 11])):
         base = pick.choice([*BASE_TYPES, 0x91, 0x06, 0xFF])
         value = BASE_TYPES.get(base, ("", 1, 0))[1]
         size = pick.choice([value, value, 0, 2 * value, 3 * value, pick.randrange(10)])
@@ -29,11 +43,13 @@ def definition(pick):
         if field in (253, 2, 4) and pick.random() < 0.7:
             base, size = 0x86, 4
         fields.append((field, size, base))
-    # reserved bits and bytes may be anything, and now and then developer fields are announced
-    first = 0x40 | local | pick.choice([0, 0, 0, 0x10]) | (0x20 if pick.random() < 0.02 else 0)
+    behind, size = developer_fields(pick, 0.003 < many < 0.01)
+    # reserved bits and bytes may be anything
+    first = 0x40 | local | pick.choice([0, 0, 0, 0x10]) | (0 if behind is None else 0x20)
     head = bytes([first, pick.choice([0, 7]), big | pick.choice([0, 0, 0xFE])])
     number = message.to_bytes(2, "big" if big else "little")
-    return head + number + bytes([len(fields)]) + b"".join(map(bytes, fields)), local, sum(f[1] for f in fields)
+    spelled = head + number + bytes([len(fields)]) + b"".join(map(bytes, fields)) + (behind or b"")
+    return spelled, local, sum(f[1] for f in fields) + size
 
 
 def data_message(pick, local, size):
@@ -60,7 +76,7 @@ def made(pick):
             records += data_message(pick, local, sizes[local])
     header, size = pick.choice([12, 14, 14]), len(records)
     if pick.random() < 0.1:
-        size = max(0, size + pick.choice([-3, -1, 1, 5]))
+        size = max(0, size + pick.choice([-3, -1, 1, 5, -pick.randrange(size + 1)]))
     start = bytes([header, pick.choice([0x10, 0x20, 0x2F])]) + two(pick.randrange(65536))
     start += size.to_bytes(4, "little") + b".FIT"
     if header == 14:
@@ -101,9 +117,11 @@ def judge(program, folder, number, data, utc):
 
 
 def check(program, small, files, seed):
-    """Yields a name and a difference, or None, for each file. The small file is one that is shown."""
+    """Yields a name and a difference, or None, for each file. The small file is one that is shown, and one with developer fields
+    is taken too."""
     pick = random.Random(seed)
-    inputs = [(data, False) for data in changes(small)]
+    developer = framed(bytes.fromhex("60 00 00 14 00 01 03 01 02 01 00 02 00 00 64 AB CD"))
+    inputs = [(data, False) for whole in (small, developer) for data in changes(whole)]
     for _ in range(files):
         data = made(pick)
         data = data if pick.random() < 0.5 else damaged(pick, data)

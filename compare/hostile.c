@@ -111,6 +111,17 @@ static void mend(void) {
     put_number(size - 2, 2, checksum(bytes, size - 2));
 }
 
+/* Puts the number of some long fields and three bytes each; answers how many bytes these are. */
+static size_t put_long_fields(unsigned char *to) {
+    size_t count = to[0] = below(3) ? 255 : below(256);
+    for (size_t at = 1; at < 1 + 3 * count; at += 3) {
+        to[at] = next() >> 40;
+        to[at + 1] = below(2) ? 255 : a_byte();
+        to[at + 2] = a_byte();
+    }
+    return 1 + 3 * count;
+}
+
 static void mutate(void) {
     int own = below(source_count), other = below(source_count);
     size_t from, count;
@@ -144,15 +155,12 @@ static void mutate(void) {
             put_number(4, 4, below(3) ? next() >> 32 : below(2) ? size : 0xFFFFFFFF);
             break;
         case 10: {
-            /* A definition of many long fields. */
-            unsigned char large[6 + 3 * 255] = {0x40 | below(16), 0, below(2), below(40), 0, 0};
-            large[5] = below(3) ? 255 : below(256);
-            for (count = 6; count < sizeof large; count += 3) {
-                large[count] = next() >> 40;
-                large[count + 1] = below(2) ? 255 : a_byte();
-                large[count + 2] = a_byte();
-            }
-            put_bytes(at, 0, large, 6 + 3 * (below(2) ? large[5] : below(255)));
+            /* A definition of many long fields, and mostly of as many developer fields behind them. */
+            unsigned char large[7 + 6 * 255] = {(below(3) ? 0x60 : 0x40) | below(16), 0, below(2), below(40), 0};
+            size_t whole = 5 + put_long_fields(large + 5);
+            if (large[0] & 0x20)
+                whole += put_long_fields(large + whole);
+            put_bytes(at, 0, large, below(2) ? whole : below(whole));
             break;
         }
         default:

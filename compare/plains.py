@@ -68,9 +68,9 @@ def rides(fitrec):
 
 
 def widest(fields):
-    """A message of this many fields with a compressed timestamp, behind one without."""
-    definition = bytes([0x40, 0, 0, 20, 0, fields]) + fields * bytes([3, 1, 2])
-    return framed(definition + b"\0" + bytes(fields) + b"\x85" + bytes(fields))
+    """A message of this many fields with a compressed timestamp, behind one without, each with 255 developer fields."""
+    definition = bytes([0x60, 0, 0, 20, 0, fields]) + fields * bytes([3, 1, 2]) + bytes([255]) + 255 * bytes([7, 1, 0])
+    return framed(definition + b"\0" + bytes(fields + 255) + b"\x85" + bytes(fields + 255))
 
 
 def limits(fitrec):
@@ -80,7 +80,7 @@ def limits(fitrec):
             yield "the widest definition", judge(fitrec, folder, fields, widest(fields))[1]
         place = Place(folder, widest(255))
         said = run(fitrec, "plain", place.source, place.out)
-        want = (1, "", "fitrec: TooLong at 1041\n"), (OLD, ["in.fit", "out.fit"])
+        want = (1, "", "fitrec: TooLong at 2062\n"), (OLD, ["in.fit", "out.fit"])
         yield "refused, and nothing made", differs((said, place.left()), want)
         data = many_messages(1000000)
         place = Place(folder, data)

@@ -22,9 +22,11 @@ def framed(records):
 
 
 def long_content(size):
-    """A record of this much content, in fields of type byte."""
+    """A record of this much content, in fields of type byte, and where these are too few in developer fields behind them."""
     sizes = [255] * (size // 255) + [size % 255] * (size % 255 > 0)
-    definition = bytes([0x40, 0, 0, 20, 0, len(sizes)]) + b"".join(bytes([99, own, 13]) for own in sizes)
+    fields, more = (b"".join(bytes([99, own, 13]) for own in part) for part in (sizes[:255], sizes[255:]))
+    definition = bytes([0x60 if more else 0x40, 0, 0, 20, 0, len(fields) // 3]) + fields
+    definition += bytes([len(more) // 3]) + more if more else b""
     return framed(definition + b"\0" + bytes(at % 250 + 1 for at in range(size)))
 
 
@@ -34,10 +36,11 @@ def many_messages(count):
 
 
 def long_beginning(size):
-    """A beginning of a file of so many bytes, behind which zeros are whole messages up to its last byte."""
-    empty, long = (bytes([0x40, 0, 0, 20, 0, fields]) + fields * bytes([99, 255, 13]) for fields in (0, 255))
+    """A beginning of a file of so many bytes, behind which zeros are whole messages up to its last byte, as long as there can be."""
+    empty, fields = bytes([0x40, 0, 0, 20, 0, 0]), 255 * bytes([99, 255, 13])
+    long = bytes([0x60, 0, 0, 20, 0, 255]) + fields + bytes([255]) + fields
     start = bytes([14, 0x10, 100, 0]) + (size - 14).to_bytes(4, "little") + b".FIT\0\0"
-    return start + empty + bytes((size - 15 - len(empty + long)) % (255 * 255 + 1)) + long
+    return start + empty + bytes((size - 15 - len(empty + long)) % (2 * 255 * 255 + 1)) + long
 
 
 class Program:
@@ -80,11 +83,31 @@ def beginnings(fitrec, small):
 
 def sizes(fitrec):
     """Long content and many messages."""
-    for size in (1, 255, 256, 5000, 65025):
+    for size in (1, 255, 256, 5000, 65025, 65026, 130050):
         data = long_content(size)
         yield "content of %d bytes" % size, fitrec.run("show", fitrec.write("long.fit", data)), wanted(data)
     data = many_messages(1000001)
     yield "a million messages", fitrec.run("show", fitrec.write("many.fit", data)), wanted(data)
+
+
+def developer_fields(fitrec):
+    """As many fields and developer fields as there can be, and a definition that is cut at each of its bytes."""
+    for fields, more in ((0, 255), (255, 0), (255, 255)):
+        definition = bytes([0x60, 0, 0, 20, 0, fields]) + fields * bytes([99, 1, 2]) + bytes([more]) + more * bytes([7, 1, 2])
+        data = framed(definition + b"\0" + fields * b"\5" + more * b"\x2A")
+        # where none is announced, that is not written
+        head = "header 14 protocol 1.0 profile 100 data %d\n" % (len(data) - 16 - (more == 0))
+        text = head + "0 record" + fields * " field_99=5" + more * " developer_2_7=0x2A" + "\nmessages 1\n"
+        yield "%d fields and %d developer fields" % (fields, more), fitrec.run("show", fitrec.write("many.fit", data)), (0, text, "")
+    definition = bytes.fromhex("60 00 00 14 00 01 03 01 02 02 00 02 00 01 01 00")
+    for size in range(1, len(definition) + 1):
+        # how many of its bytes show that it does not fit into so many
+        shows = 1 if size < 6 else 6 if size < 10 else 10 if size < 16 else 17
+        for there in range(size + 1):
+            data = bytes([12, 0x10, 100, 0]) + size.to_bytes(4, "little") + b".FIT" + definition[:there]
+            line = "SplitMessage at 12" if there >= shows else "Truncated at %d" % (12 + there)
+            said = fitrec.run("show", fitrec.write("cut.fit", data))
+            yield "a beginning of a definition", said, (1, "", "fitrec: %s\n" % line)
 
 
 def feed(path, count):
@@ -161,7 +184,7 @@ def check(program, small):
     """Yields a name and a difference, or None, for each run."""
     with tempfile.TemporaryDirectory() as folder:
         fitrec = Program(program, folder)
-        runs = (answers(fitrec, small), beginnings(fitrec, small), sizes(fitrec), limits(fitrec),
+        runs = (answers(fitrec, small), beginnings(fitrec, small), sizes(fitrec), developer_fields(fitrec), limits(fitrec),
                 outputs(fitrec, small), memory(fitrec))
         for rows in runs:
             for name, said, want in rows:

@@ -138,31 +138,39 @@ def whole(data, at, end, size):
     wait(data, at + size)
 
 
+def triples(data):
+    """Three bytes each."""
+    return [tuple(data[at:at + 3]) for at in range(0, len(data), 3)]
+
+
 def show(data, utc=False):
     """The text of a file, with times as dates or as they are."""
     header, size = read_header(data)
     at, end = header, header + size
-    definitions, before, lines = {}, 0, []
+    definitions, before, lines, needless = {}, 0, [], 0
     while at < end:
         wait(data, at + 1)
         first = data[at]
         if first & 0xC0 == 0x40:
-            if first & 0x20:
-                raise Refused("Developer at %d" % at)
             whole(data, at, end, 6)
-            count = data[at + 5]
-            whole(data, at, end, 6 + 3 * count)
+            is_announced = first >> 5 & 1
+            size = 6 + 3 * data[at + 5] + is_announced
+            whole(data, at, end, size)
+            count = is_announced and data[at + size - 1]
+            whole(data, at, end, size + 3 * count)
             big = bool(data[at + 2] & 1)
-            fields = [tuple(data[at + 6 + 3 * i:at + 9 + 3 * i]) for i in range(count)]
-            definitions[first & 15] = big, number(data[at + 3:at + 5], big), fields
-            at += 6 + 3 * count
+            fields, developer = triples(data[at + 6:at + size - is_announced]), triples(data[at + size:at + size + 3 * count])
+            definitions[first & 15] = big, number(data[at + 3:at + 5], big), fields, developer
+            # what announces no developer field is not written
+            needless += is_announced and not count
+            at += size + 3 * count
             continue
         compressed = first & 0x80
         local = first >> 5 & 3 if compressed else first & 15
         if local not in definitions:
             raise Refused("UndefinedLocal(%d) at %d" % (local, at))
-        big, message, fields = definitions[local]
-        whole(data, at, end, 1 + sum(size for _, size, _ in fields))
+        big, message, fields, developer = definitions[local]
+        whole(data, at, end, 1 + sum(size for _, size, _ in fields + developer))
         at += 1
         shown, stated = [], None
         if compressed:
@@ -183,6 +191,9 @@ def show(data, utc=False):
         name, names = MESSAGES.get(message, ("message_%d" % message, {}))
         names = names | COMMON
         pairs = "".join(" %s=%s" % (names.get(field, "field_%d" % field), text) for field, text in shown)
+        for field, length, index in developer:
+            pairs += " developer_%d_%d=%s" % (index, field, hexadecimal(data[at:at + length]) if length else "")
+            at += length
         lines.append("%d %s%s\n" % (len(lines), name, pairs))
     wait(data, end + 2)
     if number(data[end:end + 2], False) != checksum(data[:end]):
@@ -190,7 +201,7 @@ def show(data, utc=False):
     if len(data) > end + 2:
         raise Refused("TrailingBytes at %d" % (end + 2))
     versions = data[1] >> 4, data[1] & 15, number(data[2:4], False)
-    head = "header %d protocol %d.%d profile %d data %d\n" % (header, *versions, size)
+    head = "header %d protocol %d.%d profile %d data %d\n" % (header, *versions, end - header - needless)
     return head + "".join(lines) + "messages %d\n" % len(lines)
 
 
@@ -209,9 +220,11 @@ def item_size(data, sizes):
         return None
     first = data[0]
     if first & 0xC0 == 0x40:
-        size = 6 + 3 * data[5] if len(data) >= 6 and not first & 0x20 else len(data) + 1
+        fields = size = 6 + 3 * data[5] if len(data) >= 6 else len(data) + 1
+        if first & 0x20:
+            size += 1 + 3 * data[size] if size < len(data) else 1
         if size <= len(data):
-            sizes[first & 15] = sum(data[7:size:3])
+            sizes[first & 15] = sum(data[7:fields:3]) + sum(data[fields + 2:size:3])
     else:
         size = 1 + sizes.get(first >> 5 & 3 if first & 0x80 else first & 15, len(data))
     return size if size <= len(data) else None
@@ -238,8 +251,12 @@ def plained(data):
     while at < end:
         own = data[at:at + item_size(data[at:end], sizes)]
         if own[0] & 0xC0 == 0x40:
+            # what is announced and not there is not written
+            fields = 6 + 3 * own[5]
+            behind = own[fields:] if len(own) > fields + 1 else b""
+            first = 0x40 | (0x20 if behind else 0) | own[0] & 15
             # the number of the definition, its bytes, and whether the last one written has the time in front
-            kept[own[0] & 15] = bytes([0x40 | own[0] & 15, 0, own[2] & 1]) + own[3:], False
+            kept[own[0] & 15] = bytes([first, 0, own[2] & 1]) + own[3:fields] + behind, False
             out += kept[own[0] & 15][0]
         else:
             compressed = own[0] > 0x7F

@@ -8,6 +8,7 @@ use fit_activity::{Entry, Refusal, Sample, Speech, Sport, Start, Totals, speak, 
 use std::process::Abort;
 
 mod activities;
+mod developer;
 mod messages;
 mod refusals;
 mod replays;

@@ -1,6 +1,7 @@
 // Values from outside, sizes, and failures of memory and of writers.
 
 mod decoding;
+mod developer;
 mod files;
 mod fronts;
 mod items;

@@ -1,5 +1,6 @@
 // What files say, as text, and text on its way to a writer.
 
+mod developer;
 mod names;
 mod showing;
 mod writing;

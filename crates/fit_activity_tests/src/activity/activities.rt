@@ -108,6 +108,7 @@ fn definition(local: u8, arch: Arch, global: u16, fields: &[[u8; 3]]) -> Definit
         arch,
         global,
         fields: list,
+        developer: ArrayVec::new(),
     }
 }
 

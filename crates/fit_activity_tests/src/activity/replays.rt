@@ -13,7 +13,7 @@ use std::alloc::Global;
 use std::process::Abort;
 
 // What the messages of a file tell, if they are all heard.
-fn replay(file: &File) -> Option<Replay> {
+pub(super) fn replay(file: &File) -> Option<Replay> {
     // Every file has fewer than 2^32 messages.
     let _frame = file.frame();
     let mut replay = Replay::new();

@@ -26,7 +26,7 @@ pub(crate) const COMPRESSED: [u8; 53] = [
     0x65, 0x80, 0x66, 0x18, 0xCC,
 ];
 
-fn outcome(alloc: Global, bytes: &[u8]) -> Option<(FaultKind, usize)> {
+pub(crate) fn outcome(alloc: Global, bytes: &[u8]) -> Option<(FaultKind, usize)> {
     match decode_file(alloc, bytes) {
         Ok(_) => None,
         Err(fault) => Some((fault.kind, fault.place)),
@@ -43,7 +43,11 @@ fn edited(alloc: Global, edits: &[(usize, u8)]) -> Result<Vec<u8>, AllocError> {
     Ok(bytes)
 }
 
-fn behind_header(alloc: Global, size: u8, records: &[u8]) -> Result<Vec<u8>, AllocError> {
+pub(crate) fn behind_header(
+    alloc: Global,
+    size: u8,
+    records: &[u8],
+) -> Result<Vec<u8>, AllocError> {
     let mut bytes = [
         0x0C, 0x10, 0x64, 0x00, size, 0x00, 0x00, 0x00, 0x2E, 0x46, 0x49, 0x54,
     ]
@@ -138,7 +142,7 @@ fn refused_at_the_first_byte_that_shows_it(rt: HostRuntime) -> Result<(), Fail> 
         ),
         (1, [0x40].as_slice(), FaultKind::SplitMessage, 12),
         (9, [0x40].as_slice(), FaultKind::Truncated, 13),
-        (7, [0x60].as_slice(), FaultKind::Developer, 12),
+        (7, [0x60].as_slice(), FaultKind::Truncated, 13),
         (
             8,
             [0x40, 0, 0, 0, 0, 1].as_slice(),

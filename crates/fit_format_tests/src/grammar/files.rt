@@ -36,6 +36,7 @@ fn file_id(local: u8) -> Definition
         arch: Arch::Little,
         global: 0,
         fields,
+        developer: ArrayVec::new(),
     }
 }
 
@@ -73,6 +74,7 @@ fn the_example_of_the_crate(rt: HostRuntime) -> Result<(), Fail> {
         arch: Arch::Little,
         global: 20,
         fields,
+        developer: ArrayVec::new(),
     })?;
     file.data(0, None, &[100])?;
     encode_file(&file, &mut bytes)?;
@@ -171,7 +173,7 @@ fn check_kept(rt: &impl Abort, file: &File, before: u32, size: u32, answer: Resu
 fn numbers_of_faults(rt: HostRuntime) {
     assert_eq!(rt; FaultKind::Truncated.code(), 1);
     assert_eq!(rt; FaultKind::UndefinedLocal(3).code(), 6);
-    assert_eq!(rt; FaultKind::Developer.code(), 11);
+    assert_eq!(rt; FaultKind::Memory.code(), 10);
     assert_eq!(rt; PutFault::Memory.code(), 4);
     assert_eq!(rt; EncodeFault::Write.code(), 1);
 }

@@ -1,6 +1,7 @@
 // The longest row of whole items that bytes begin with. The lengths are from outside: by hand, item by item.
 
 use crate::grammar::decoding::{COMPRESSED, REDEFINED};
+use crate::grammar::developer::ANEW;
 use crate::known_files::FILE_ID;
 use fit_grammar::longest_front;
 use std::test::Fail;
@@ -27,6 +28,7 @@ fn a_front_ends_behind_a_whole_item(rt: HostRuntime) -> Result<(), Fail> {
             37,
             [15, 22, 31, 33, 35, 37].as_slice(),
         ),
+        (ANEW.as_slice(), 43, [13, 17, 26, 28, 41, 43].as_slice()),
     ] {
         for size in 0..=size {
             let front = longest_front(&file[14..14 + size]);
@@ -36,15 +38,16 @@ fn a_front_ends_behind_a_whole_item(rt: HostRuntime) -> Result<(), Fail> {
     Ok(())
 }
 
-// Behind the definition of local number 0 stand data of another one, one of it that is cut short, developer fields, a
-// definition that is cut short, and the checksum of a file.
+// Behind the definition of local number 0 stand data of another one, one of it that is cut short, definitions that are cut
+// short in their fields and in their developer fields, and nothing.
 #[test]
 fn a_front_ends_before_what_is_no_item(rt: HostRuntime) -> Result<(), Fail> {
     let definition = [0x40, 0, 0, 20, 0, 1, 3, 1, 2];
     for behind in [
         [0x05, 0x64, 0, 0, 0, 0, 0, 0, 0].as_slice(),
         [0xA0].as_slice(),
-        [0x60, 0, 0, 20, 0, 0, 0].as_slice(),
+        [0x60, 0, 0, 20, 0, 0].as_slice(),
+        [0x61, 0, 0, 20, 0, 0, 1, 2, 3].as_slice(),
         [0x41, 0, 0, 20, 0, 255, 3, 1].as_slice(),
         [].as_slice(),
     ] {

@@ -6,14 +6,14 @@ use std::process::Abort;
 use std::test::*;
 
 // Asserts that each shorter window only begins the item.
-fn assert_begun(rt: &impl Abort, bytes: &[u8], table: &Table) {
+pub(super) fn assert_begun(rt: &impl Abort, bytes: &[u8], table: &Table) {
     for count in 0..bytes.len() {
         assert!(rt; matches!(next_item(&bytes[..count], table), Step::NeedMore));
     }
 }
 
 // Takes the definition that the bytes are.
-fn define(rt: &impl Abort, bytes: &[u8], table: &mut Table) {
+pub(super) fn define(rt: &impl Abort, bytes: &[u8], table: &mut Table) {
     assert_begun(rt, bytes, table);
     match next_item(bytes, table) {
         Step::Item(item, used) => match item {
@@ -29,7 +29,7 @@ fn define(rt: &impl Abort, bytes: &[u8], table: &mut Table) {
 }
 
 // The message that the bytes are.
-fn read_message<'a>(
+pub(super) fn read_message<'a>(
     rt: &impl Abort,
     bytes: &'a [u8],
     table: &'a Table,
@@ -46,7 +46,7 @@ fn read_message<'a>(
 }
 
 // Asserts that the fields have these numbers, base types and values, one value each.
-fn assert_fields(rt: &impl Abort, message: &Message, rows: &[(u8, u8, u64)]) {
+pub(super) fn assert_fields(rt: &impl Abort, message: &Message, rows: &[(u8, u8, u64)]) {
     let mut seen = 0;
     for field in message.fields() {
         assert!(rt; seen < rows.len());
@@ -151,14 +151,21 @@ fn high_byte_first(rt: HostRuntime) {
     }
 }
 
-// A definition of 255 fields of 255 bytes each.
+// A definition of 255 fields and 255 developer fields of 255 bytes each.
 fn largest_definition(rt: &impl Abort) -> Definition {
     let mut fields = ArrayVec::new();
+    let mut developer = ArrayVec::new();
     for number in 0..255u8 {
         let added = fields.try_push(FieldDefinition {
             number,
             size: 255,
             base: 0x0D,
+        });
+        assert!(rt; added.is_ok());
+        let added = developer.try_push(DeveloperFieldDefinition {
+            number,
+            size: 255,
+            index: 254,
         });
         assert!(rt; added.is_ok());
     }
@@ -167,19 +174,20 @@ fn largest_definition(rt: &impl Abort) -> Definition {
         arch: Arch::Big,
         global: 0xFF00,
         fields,
+        developer,
     }
 }
 
 // Asserts that the bytes are the largest data message, and that one byte less only begins it.
 fn assert_largest(rt: &impl Abort, bytes: &[u8], table: &Table) {
-    assert_eq!(rt; bytes.len(), 65026);
-    assert_eq!(rt; least_length(&bytes[..1], table).ok(), Some(65026));
+    assert_eq!(rt; bytes.len(), 130_051);
+    assert_eq!(rt; least_length(&bytes[..1], table).ok(), Some(130_051));
     let front = bytes.len() - 1;
     assert!(rt; matches!(next_item(&bytes[..front], table), Step::NeedMore));
     match next_item(bytes, table) {
         Step::Item(Item::Data(data), _) => {
             assert_eq!(rt; data.local, 15);
-            assert_eq!(rt; data.content.len(), 65025);
+            assert_eq!(rt; data.content.len(), 130_050);
             assert_eq!(rt; data.definition.global(), 0xFF00);
         }
         _ => panic!(rt; "a data message was expected"),
@@ -190,13 +198,14 @@ fn assert_largest(rt: &impl Abort, bytes: &[u8], table: &Table) {
 fn the_largest_definition_and_its_data(rt: HostRuntime) {
     let definition = largest_definition(&rt);
     assert!(rt; definition.local == 15 && definition.fields.len() == 255);
-    let mut bytes = [0u8; 771];
-    assert_eq!(rt; write_definition(&definition, &mut bytes), 771);
+    assert!(rt; definition.developer.len() == 255);
+    let mut bytes = [0u8; 1537];
+    assert_eq!(rt; write_definition(&definition, &mut bytes), 1537);
     let mut table = Table::new();
     define(&rt, &bytes, &mut table);
-    let content = [1u8; 65025];
-    let mut item = [0u8; 65026];
-    assert_eq!(rt; write_data(15, None, &content, &mut item), 65026);
+    let content = [1u8; 130_050];
+    let mut item = [0u8; 130_051];
+    assert_eq!(rt; write_data(15, None, &content, &mut item), 130_051);
     assert_largest(&rt, &item, &table);
 }
 
@@ -217,17 +226,18 @@ fn each_local_number(rt: HostRuntime) {
 fn each_first_byte(rt: HostRuntime) {
     let table = Table::new();
     for first in 0..=255u8 {
-        let window = [first, 0, 0, 0, 0, 0];
+        let window = [first, 0, 0, 0, 0, 0, 0];
         match next_item(&window, &table) {
             Step::Item(item, used) => {
-                assert!(rt; 0x40 <= first && first < 0x60);
-                assert_eq!(rt; used, 6);
+                assert!(rt; 0x40 <= first && first < 0x80);
+                // One that announces developer fields has their number.
+                let wanted = if first & 0x20 == 0 { 6 } else { 7 };
+                assert_eq!(rt; used, wanted);
                 match item {
                     Item::Definition(message) => assert_eq!(rt; message.local(), first & 0x0F),
                     Item::Data(_) => panic!(rt; "there is no definition"),
                 }
             }
-            Step::Refused(ItemFault::Developer) => assert!(rt; 0x60 <= first && first < 0x80),
             Step::Refused(ItemFault::UndefinedLocal(local)) if first < 0x40 => {
                 assert_eq!(rt; local, first & 0x0F);
             }

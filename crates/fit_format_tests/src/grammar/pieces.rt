@@ -21,7 +21,7 @@ fn read_in_pieces(alloc: Global, bytes: &[u8], size: usize) -> Result<File, File
 }
 
 // Reads bytes in two pieces, with an empty one between them.
-fn read_in_two(alloc: Global, front: &[u8], back: &[u8]) -> Result<File, FileFault> {
+pub(super) fn read_in_two(alloc: Global, front: &[u8], back: &[u8]) -> Result<File, FileFault> {
     let mut decoder = Decoder::new(alloc);
     decoder.feed(front)?;
     decoder.feed(&[])?;
@@ -29,7 +29,7 @@ fn read_in_two(alloc: Global, front: &[u8], back: &[u8]) -> Result<File, FileFau
     decoder.finish()
 }
 
-fn written(alloc: Global, file: &File) -> Result<Vec<u8>, EncodeFault> {
+pub(super) fn written(alloc: Global, file: &File) -> Result<Vec<u8>, EncodeFault> {
     let mut bytes = Vec::new(alloc);
     encode_file(file, &mut bytes)?;
     Ok(bytes)
@@ -82,7 +82,12 @@ fn an_unfinished_file_is_cut_short(rt: HostRuntime) {
 }
 
 // The byte that shows a fault is refused, and no byte before it.
-fn check_shown_by_last(rt: &impl Abort, alloc: Global, bytes: &[u8], fault: (FaultKind, usize)) {
+pub(super) fn check_shown_by_last(
+    rt: &impl Abort,
+    alloc: Global,
+    bytes: &[u8],
+    fault: (FaultKind, usize),
+) {
     let mut decoder = Decoder::new(alloc);
     for at in 0..bytes.len() {
         let answer = fault_of(decoder.feed(&bytes[at..at + 1]));
@@ -112,18 +117,18 @@ fn refused_with_the_byte_that_shows_it(rt: HostRuntime) -> Result<(), Fail> {
     Ok(())
 }
 
-// A definition of 255 fields and a message of 65,025 bytes, cut at one place, or at a hundred and more.
+// A definition of 255 fields and 255 developer fields and a message of 130,050 bytes, cut at one place, or at a hundred and more.
 #[test]
 fn long_items_are_cut(rt: HostRuntime) -> Result<(), Fail> {
     let alloc = rt.alloc();
     let mut file = empty_file(alloc);
-    file.define(&definition_of(&rt, 65_025))?;
-    file.data(3, Some(31), content_of(alloc, 65_025)?.as_slice())?;
+    file.define(&definition_of(&rt, 130_050))?;
+    file.data(3, Some(31), content_of(alloc, 130_050)?.as_slice())?;
     let bytes = written(alloc, &file)?;
     let bytes = bytes.as_slice();
-    assert_eq!(rt; bytes.len(), 65_813);
+    assert_eq!(rt; bytes.len(), 131_604);
     for cut in [
-        14, 15, 19, 20, 784, 785, 786, 40_000, 65_810, 65_811, 65_812,
+        14, 15, 19, 20, 784, 785, 786, 1_550, 1_551, 1_552, 40_000, 131_601, 131_602, 131_603,
     ] {
         let (front, back) = bytes.split_at(cut);
         let read = read_in_two(alloc, front, back)?;

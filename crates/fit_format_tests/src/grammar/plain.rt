@@ -4,8 +4,8 @@ use crate::slow::Slow;
 use arrayvec::ArrayVec;
 use fit_base::Arch;
 use fit_grammar::{
-    Definition, FieldDefinition, File, Frame, PlainFault, PlainFaultKind, decode_file, encode_file,
-    plain_file,
+    Definition, DeveloperFieldDefinition, FieldDefinition, File, Frame, PlainFault, PlainFaultKind,
+    decode_file, encode_file, plain_file,
 };
 use std::alloc::Global;
 use std::test::Fail;
@@ -26,6 +26,21 @@ const PLAIN: [u8; 67] = [
     0x66, 0xC8, 0x43,
 ];
 
+// An offset of 3 over a developer field, and a definition that announces none.
+const DEVELOPER: [u8; 41] = [
+    0x0E, 0x10, 0x64, 0x00, 0x19, 0x00, 0x00, 0x00, 0x2E, 0x46, 0x49, 0x54, 0xE0, 0x88, 0x60, 0x00,
+    0x00, 0x14, 0x00, 0x01, 0x03, 0x01, 0x02, 0x01, 0x00, 0x02, 0x00, 0x83, 0x64, 0xAB, 0xCD, 0x61,
+    0x00, 0x00, 0x14, 0x00, 0x00, 0x00, 0x01, 0x46, 0x84,
+];
+
+// The same messages, the first under a definition that has field 253, and nothing announced for the second.
+const PLAIN_DEVELOPER: [u8; 60] = [
+    0x0E, 0x10, 0x64, 0x00, 0x2C, 0x00, 0x00, 0x00, 0x2E, 0x46, 0x49, 0x54, 0x23, 0xA3, 0x60, 0x00,
+    0x00, 0x14, 0x00, 0x01, 0x03, 0x01, 0x02, 0x01, 0x00, 0x02, 0x00, 0x60, 0x00, 0x00, 0x14, 0x00,
+    0x02, 0xFD, 0x04, 0x86, 0x03, 0x01, 0x02, 0x01, 0x00, 0x02, 0x00, 0x00, 0x03, 0x00, 0x00, 0x00,
+    0x64, 0xAB, 0xCD, 0x41, 0x00, 0x00, 0x14, 0x00, 0x00, 0x01, 0x36, 0x8F,
+];
+
 // What is made of these bytes; a fault of theirs is none of what is made.
 fn made(alloc: Global, bytes: &[u8]) -> Option<Result<File, PlainFault>> {
     match decode_file(alloc, bytes) {
@@ -36,12 +51,16 @@ fn made(alloc: Global, bytes: &[u8]) -> Option<Result<File, PlainFault>> {
 
 #[test]
 fn times_are_written_out(rt: HostRuntime) -> Result<(), Fail> {
-    for bytes in [COMPRESSED.as_slice(), PLAIN.as_slice()] {
+    for (bytes, wanted) in [
+        (COMPRESSED.as_slice(), PLAIN.as_slice()),
+        (PLAIN.as_slice(), PLAIN.as_slice()),
+        (DEVELOPER.as_slice(), PLAIN_DEVELOPER.as_slice()),
+    ] {
         match made(rt.alloc(), bytes) {
             Some(Ok(plain)) => {
                 let mut out = Slow::new(rt.alloc(), 128, 128);
                 encode_file(&plain, &mut out)?;
-                assert!(rt; out.written() == PLAIN.as_slice());
+                assert!(rt; out.written() == wanted);
             }
             _ => panic!(rt; "it has a plain form"),
         }
@@ -49,7 +68,7 @@ fn times_are_written_out(rt: HostRuntime) -> Result<(), Fail> {
     Ok(())
 }
 
-// A file with a compressed timestamp under a definition of so many fields without content.
+// A file with a compressed timestamp under a definition of so many fields without content, and 255 developer fields.
 fn widest(alloc: Global, count: usize) -> File {
     let mut file = File::new(
         alloc,
@@ -67,24 +86,33 @@ fn widest(alloc: Global, count: usize) -> File {
             base: 0x02,
         });
     }
+    let mut developer = ArrayVec::new();
+    for number in 0..255u8 {
+        let _ = developer.try_push(DeveloperFieldDefinition {
+            number,
+            size: 0,
+            index: 0,
+        });
+    }
     let definition = Definition {
         local: 3,
         arch: Arch::Little,
         global: 20,
         fields,
+        developer,
     };
     let _ = file.define(&definition);
     let _ = file.data(3, Some(5), &[]);
     file
 }
 
-// 14 bytes of a header, and 6 and 3 times 255 of a definition.
+// 14 bytes of a header, and 7 and 3 times 510 of a definition.
 #[test]
 fn a_definition_of_256_fields_is_too_long(rt: HostRuntime) {
     assert!(rt; plain_file(rt.alloc(), &widest(rt.alloc(), 254)).is_ok());
     let fault = PlainFault {
         kind: PlainFaultKind::TooLong,
-        place: 785,
+        place: 1551,
     };
     let refused = plain_file(rt.alloc(), &widest(rt.alloc(), 255));
     assert_eq!(rt; refused.err(), Some(fault));

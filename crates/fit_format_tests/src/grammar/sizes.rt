@@ -6,25 +6,39 @@ use crate::known_files::empty_file;
 use crate::slow::Slow;
 use arrayvec::ArrayVec;
 use fit_base::Arch;
-use fit_grammar::{Definition, FieldDefinition, File, decode_file, encode_file, put};
+use fit_grammar::{
+    Definition, DeveloperFieldDefinition, FieldDefinition, File, decode_file, encode_file, put,
+};
 use std::alloc::{AllocError, Global};
 use std::process::Abort;
 use std::test::Fail;
 
-// A definition of a record whose content has this size: fields of 255 bytes, and one of the rest.
+// A definition of a record whose content has this size: fields of 255 bytes, and one of the rest. Behind 255 fields they are
+// developer fields.
 pub(crate) fn definition_of(rt: &impl Abort, size: usize) -> Definition
     ensures { result.local ≡ 3 }
 {
     let mut fields = ArrayVec::new();
+    let mut developer = ArrayVec::new();
     let mut left = size;
     for _ in 0..size.div_ceil(255) {
         let own = left.min(255);
-        let field = FieldDefinition {
-            number: 99,
-            size: own as u8,
-            base: 0x0D,
+        let is_added = if fields.is_full() {
+            let field = DeveloperFieldDefinition {
+                number: 7,
+                size: own as u8,
+                index: 1,
+            };
+            developer.try_push(field).is_ok()
+        } else {
+            let field = FieldDefinition {
+                number: 99,
+                size: own as u8,
+                base: 0x0D,
+            };
+            fields.try_push(field).is_ok()
         };
-        assert!(rt; fields.try_push(field).is_ok());
+        assert!(rt; is_added);
         left -= own;
     }
     Definition {
@@ -32,6 +46,7 @@ pub(crate) fn definition_of(rt: &impl Abort, size: usize) -> Definition
         arch: Arch::Big,
         global: 20,
         fields,
+        developer,
     }
 }
 
@@ -51,6 +66,9 @@ fn shown(alloc: Global, file: &File) -> Result<Vec<u8>, AllocError> {
         for field in message.fields() {
             content.extend_from_slice(field.value.raw())?;
         }
+        for field in message.developer_fields() {
+            content.extend_from_slice(field.bytes)?;
+        }
     }
     Ok(content)
 }
@@ -58,17 +76,24 @@ fn shown(alloc: Global, file: &File) -> Result<Vec<u8>, AllocError> {
 #[test]
 fn long_content(rt: HostRuntime) -> Result<(), Fail> {
     let alloc = rt.alloc();
-    for (size, fields) in [(255, 1), (256, 2), (5_000, 20), (65_025, 255)] {
+    // How many bytes their definition has: six, three for each field, and with developer fields one more.
+    for (size, spelled) in [
+        (255, 9),
+        (256, 12),
+        (5_000, 66),
+        (65_025, 771),
+        (65_026, 775),
+        (130_050, 1_537),
+    ] {
         let definition = definition_of(&rt, size);
-        assert_eq!(rt; definition.fields.len(), fields);
         let content = content_of(alloc, size)?;
         let mut file = empty_file(alloc);
         file.define(&definition)?;
         file.data(3, Some(31), content.as_slice())?;
-        assert_eq!(rt; file.data_size() as usize, 6 + 3 * fields + 1 + size);
+        assert_eq!(rt; file.data_size() as usize, spelled + 1 + size);
         let mut bytes = Vec::new(alloc);
         encode_file(&file, &mut bytes)?;
-        let at = 14 + 6 + 3 * fields;
+        let at = 14 + spelled;
         assert_eq!(rt; bytes.len(), at + 1 + size + 2);
         let item = bytes
             .as_slice()

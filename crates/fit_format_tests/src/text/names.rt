@@ -135,6 +135,7 @@ fn put_fields(file: &mut File, global: u16, first: u8, last: u8) -> Result<(), F
         arch: Arch::Little,
         global,
         fields,
+        developer: ArrayVec::new(),
     })?;
     file.data(0, None, &[])?;
     Ok(())
@@ -194,6 +195,7 @@ fn names_messages_and_fields(rt: HostRuntime) -> Result<(), Fail> {
             arch: Arch::Little,
             global: number,
             fields: ArrayVec::new(),
+            developer: ArrayVec::new(),
         })?;
         file.data(0, None, &[])?;
         match message_name(number) {

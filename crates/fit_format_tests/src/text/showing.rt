@@ -31,6 +31,7 @@ fn text_of(
         arch,
         global,
         fields,
+        developer: ArrayVec::new(),
     })?;
     file.data(0, None, bytes)?;
     let mut out = Vec::new(rt.alloc());
@@ -219,6 +220,7 @@ fn definition(local: u8, global: u16, number: u8, last: u8) -> Result<Definition
         arch: Arch::Little,
         global,
         fields,
+        developer: ArrayVec::new(),
     })
 }
 
@@ -239,6 +241,7 @@ fn the_example_of_the_crate(rt: HostRuntime) -> Result<(), Fail> {
         arch: Arch::Little,
         global: 0,
         fields,
+        developer: ArrayVec::new(),
     })?;
     file.data(0, None, &[4, 0x00, 0xCA, 0x9A, 0x3B])?;
     let mut out = Vec::new(rt.alloc());

@@ -31,7 +31,7 @@ const HIGH_FIRST: [u8; 14] = [
 ];
 
 // A body of a beginning and what stands behind it.
-fn body_of(rt: &HostRuntime, beginning: &[u8], behind: &[u8]) -> Result<Vec<u8>, Fail> {
+pub(super) fn body_of(rt: &HostRuntime, beginning: &[u8], behind: &[u8]) -> Result<Vec<u8>, Fail> {
     let mut body = beginning.to_vec(rt.alloc())?;
     body.extend_from_slice(behind)?;
     Ok(body)
@@ -39,7 +39,7 @@ fn body_of(rt: &HostRuntime, beginning: &[u8], behind: &[u8]) -> Result<Vec<u8>,
 
 // Tests that a recovery of so many bytes of a body, behind which there may be more, finds samples alone: these, of which
 // the last is so many ms behind the start.
-fn finds(
+pub(super) fn finds(
     rt: &impl Abort,
     alloc: Global,
     body: &[u8],

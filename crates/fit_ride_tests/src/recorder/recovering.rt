@@ -417,11 +417,6 @@ fn what_is_no_recording_is_damaged(rt: HostRuntime) -> Result<(), Fail> {
     assert!(rt; is_damaged_by(&rt, &record)?);
     // A second start.
     assert!(rt; is_damaged_by(&rt, &START_RECORDS)?);
-    // A definition with a developer field.
-    let developer = [
-        0x61, 0x00, 0x00, 0x14, 0x00, 0x01, 0x03, 0x01, 0x02, 0x01, 0x00, 0x01, 0x00,
-    ];
-    assert!(rt; is_damaged_by(&rt, &developer)?);
     // A record under a local number without a definition.
     assert!(rt; is_damaged_by(&rt, &[0x03, 0x02, 0xCA, 0x9A, 0x3B, 0x65])?);
     // No records at all.

@@ -1,0 +1,125 @@
+// Developer fields as they are shown, each in the text of a whole file.
+
+ghost use Rattle.std.specs.Prelude.{◌≡◌, IfOk};
+
+use crate::known_files::empty_file;
+use arrayvec::ArrayVec;
+use fit_base::Arch;
+use fit_grammar::{Definition, DeveloperFieldDefinition, FieldDefinition};
+use fit_text::show;
+use std::test::Fail;
+
+// A definition of a record with these fields and developer fields, three bytes each.
+fn definition(
+    local: u8,
+    fields: &[(u8, u8, u8)],
+    developer: &[(u8, u8, u8)],
+) -> Result<Definition, Fail>
+    ensures { IfOk result (λ d. d.local ≡ local) }
+{
+    let mut own = ArrayVec::new();
+    for (number, size, base) in fields {
+        own.try_push(FieldDefinition {
+            number: *number,
+            size: *size,
+            base: *base,
+        })?;
+    }
+    let mut more = ArrayVec::new();
+    for (number, size, index) in developer {
+        more.try_push(DeveloperFieldDefinition {
+            number: *number,
+            size: *size,
+            index: *index,
+        })?;
+    }
+    Ok(Definition {
+        local,
+        arch: Arch::Big,
+        global: 20,
+        fields: own,
+        developer: more,
+    })
+}
+
+// No date, whatever the number is, and the bytes as they stand.
+#[test]
+fn shows_them_behind_the_fields(rt: HostRuntime) -> Result<(), Fail> {
+    let mut file = empty_file(rt.alloc());
+    let fields = [(0, 2, 0), (7, 0, 250), (253, 4, 1)];
+    file.define(&definition(0, &[(3, 1, 0x02)], &fields)?)?;
+    file.data(0, None, &[0x64, 0xAB, 0x0C, 0x3B, 0x9A, 0xCA, 0x00])?;
+    file.data(0, Some(3), &[0x65, 0xFF, 0xFF, 0, 0, 0, 0])?;
+    file.define(&definition(0, &[(3, 1, 0x02)], &[])?)?;
+    file.data(0, None, &[0x66])?;
+    file.define(&definition(0, &[], &[(5, 1, 2)])?)?;
+    file.data(0, None, &[0x67])?;
+    let mut out = Vec::new(rt.alloc());
+    show(&file, true, &mut out)?;
+    // Definitions of 19, 9 and 10 bytes, and messages of 8, 8, 2 and 2.
+    let lines = [
+        "header 14 protocol 1.0 profile 100 data 58",
+        "0 record heart_rate=100 developer_0_0=0xAB0C developer_250_7= developer_1_253=0x3B9ACA00",
+        "1 record timestamp=3 heart_rate=101 developer_0_0=0xFFFF developer_250_7= developer_1_253=0x00000000",
+        "2 record heart_rate=102",
+        "3 record developer_2_5=0x67",
+        "messages 4",
+    ];
+    let mut text = String::new(rt.alloc());
+    for line in lines {
+        text.push_str(line)?;
+        text.push_str("\n")?;
+    }
+    assert_eq!(rt; out.as_slice(), text.as_bytes());
+    Ok(())
+}
+
+// Each local number has as many of them as it says, of one byte each, and its messages take turns.
+#[test]
+fn shows_those_of_each_local_number(rt: HostRuntime) -> Result<(), Fail> {
+    let mut file = empty_file(rt.alloc());
+    let fields: [(u8, u8, u8); 16] = [
+        (0, 1, 9),
+        (1, 1, 9),
+        (2, 1, 9),
+        (3, 1, 9),
+        (4, 1, 9),
+        (5, 1, 9),
+        (6, 1, 9),
+        (7, 1, 9),
+        (8, 1, 9),
+        (9, 1, 9),
+        (10, 1, 9),
+        (11, 1, 9),
+        (12, 1, 9),
+        (13, 1, 9),
+        (14, 1, 9),
+        (15, 1, 9),
+    ];
+    for local in 0..16u8 {
+        let own = fields.get(..usize::from(local)).unwrap_or(&[]);
+        file.define(&definition(local, &[], own)?)?;
+    }
+    // Fifteen definitions of seven bytes and one of six, 120 fields of three, and as many bytes in each turn.
+    let mut text = format!(in rt.alloc();
+        "header 14 protocol 1.0 profile 100 data {}\n",
+        111 + 360 + 2 * 136
+    )?;
+    let content = [0xA5; 16];
+    for turn in 0..2u8 {
+        for local in 0..16u8 {
+            let own = content.get(..usize::from(local)).unwrap_or(&[]);
+            file.data(local, None, own)?;
+            text.push_str(&format!(in rt.alloc(); "{} record", 16 * turn + local)?)?;
+            for number in 0..local {
+                text.push_str(&format!(in rt.alloc(); " developer_9_{number}=0xA5")?)?;
+            }
+            text.push_str("\n")?;
+        }
+    }
+    text.push_str("messages 32\n")?;
+    let mut out = Vec::new(rt.alloc());
+    show(&file, false, &mut out)?;
+    assert_eq!(rt; out.as_slice(), text.as_bytes());
+    Ok(())
+}
