@@ -67,13 +67,16 @@ const RIDE: [(u16, &[[u8; 3]], &[u8]); 4] = [
 
 // How many of the messages say something of a ride.
 fn told(file: &File) -> usize {
-    file.messages()
-        .filter(|message| {
-            file_id_of(message).is_some()
-                || sport_of(message).is_some()
-                || entry_of(message).is_some()
-        })
-        .count()
+    let mut told = 0usize;
+    for message in file.messages() {
+        if file_id_of(&message).is_some()
+            || sport_of(&message).is_some()
+            || entry_of(&message).is_some()
+        {
+            told = told.saturating_add(1);
+        }
+    }
+    told
 }
 
 // The message of this place has one of this size, and the others none; behind the last place no message has one.
