@@ -1,4 +1,4 @@
-use Rattle.std.proofs.Common.{ℕ, ◌∙◌, ap, length, sum_by, length-append, arith}
+use Rattle.std.proofs.Common.{ℕ, ap, length, sum_by, length-append, arith}
 use Rattle.std.proofs.lemmas.List.{length-drop}
 use Rattle.std.proofs.lemmas.Fmt.{length-decimal-le}
 use Rattle.fit_text.proofs.PenLemmas.{puts_then, puts_stop, puts_same, puts_more}
