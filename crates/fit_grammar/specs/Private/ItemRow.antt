@@ -1,5 +1,5 @@
 -- Rows of items in the bytes that they are written as, one after another.
-use Rattle.std.specs.Prelude.{◌≡◌, ℕ, zero, suc, ◌<◌, List, [], ◌∷◌, take, drop, length, slice_index, Option, Some, None, unwrap_or, option_map}
+use Rattle.std.specs.Prelude.{◌≡◌, ℕ, zero, suc, ◌<◌, List, [], ◌∷◌, take, drop, length, slice_index, Option, Some, unwrap_or, option_map}
 use Rattle.fit_grammar.specs.declared.definition.Definition.{Definition}
 use Rattle.fit_grammar.specs.declared.item.Item.{Item as ReadItem}
 use Rattle.fit_grammar.specs.declared.item.Item.TheVariants as items

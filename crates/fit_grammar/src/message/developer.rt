@@ -28,7 +28,8 @@ impl<'m> Model for DeveloperFields<'m> {
 
     ghost view = { λ s. developer_of (developer_in s.fields.now) s.content.now };
 
-    ghost invariant = { λ s. sum_by (λ field. field.size) (developer_in s.fields.now) ≤ length s.content.now };
+    ghost invariant = { λ s.
+        sum_by (λ field. field.size) (developer_in s.fields.now) ≤ length s.content.now };
 }
 
 impl<'m> DeveloperFields<'m> {

@@ -1,4 +1,4 @@
-use Rattle.std.proofs.Common.{◌+◌, ◌-◌, ◌*◌, drop, take, ap, ◌∙◌, arith, ℕ}
+use Rattle.std.proofs.Common.{◌+◌, ◌-◌, drop, take, ap, arith, ℕ}
 use Rattle.std.proofs.lemmas.List.{length-take}
 use Rattle.fit_grammar.specs.Private.DefinitionBytes.{fields_in}
 use Rattle.fit_grammar.proofs.definition.lent.fields_behind.Goals as goal

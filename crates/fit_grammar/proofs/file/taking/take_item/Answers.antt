@@ -1,4 +1,4 @@
-use Rattle.std.proofs.Common.{◌+◌, ◌-◌, length, take, drop, ◌∙◌, arith}
+use Rattle.std.proofs.Common.{◌-◌, take, drop, ◌∙◌, arith}
 use Rattle.std.proofs.lemmas.List.{length-take-le, length-take}
 use Rattle.fit_grammar.specs.Format.Item.{Defines, SpellsDefinition}
 use Rattle.fit_grammar.specs.Format.Records.{in_force}
