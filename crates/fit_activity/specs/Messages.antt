@@ -2,6 +2,7 @@
 pub mod ProfileField
 pub mod ProfileMessage
 pub mod RideMessages
+pub mod SpokenMessage
 pub mod MessageBytes
 pub mod Compressed
 pub mod EntryOf

@@ -19,7 +19,7 @@ pub use data_message::DataMessage;
 use first_byte::{Head, first_local, read_head};
 pub use front::longest_front;
 pub use row::{FileItem, Items};
-pub use writing::{write_data, write_definition};
+pub use writing::{write_data, write_definition, write_native_definition};
 
 /// An item of a file's records. It holds a few words, and no definition.
 #[derive(Drop)]

@@ -3,7 +3,8 @@
 //! A file is a header (`Frame`), a row of items and a closing checksum. An `Item` is a definition, which says how the
 //! data messages of its local number are laid out from there on, or a `DataMessage` under the definition in force; a
 //! `Table` has these. `next_item` reads the item at the front of some bytes, and `message_of` makes the `Message` of a
-//! data message, with its time and its `Fields`. `write_definition` and `write_data` write items.
+//! data message, with its time and its `Fields`. `write_definition`, `write_native_definition` and `write_data` write
+//! items.
 //!
 //! `decode_file` reads a whole file into a `File`, or refuses it for what its shortest bad beginning shows. A `Decoder`
 //! does the same of a file that comes in pieces, wherever they are cut: it is fed one after another. A `File` is
@@ -41,7 +42,7 @@ pub use file::{
 };
 pub use item::{
     DataMessage, FileItem, Item, ItemFault, Items, Step, least_length, longest_front, next_item,
-    write_data, write_definition,
+    write_data, write_definition, write_native_definition,
 };
 pub use message::{DeveloperField, DeveloperFields, Field, Fields, Message, Messages, message_of};
 pub use plain::{PlainFault, PlainFaultKind, plain_file};

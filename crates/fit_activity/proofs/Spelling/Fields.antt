@@ -12,7 +12,7 @@ use Rattle.fit_grammar.specs.declared.definition.FieldDefinition.{FieldDefinitio
 use Rattle.fit_grammar.specs.declared.definition.Definition.{Definition}
 use Rattle.fit_activity.specs.declared.recording.entry.Sample.{Sample as AnySample}
 use Rattle.fit_activity.specs.declared.speaking.profile_field.ProfileField.{ProfileField}
-use Rattle.fit_activity.specs.declared.speaking.speech.SpokenMessage.{SpokenMessage}
+use Rattle.fit_activity.specs.Messages.SpokenMessage.{SpokenMessage}
 use Rattle.fit_activity.specs.Messages.ProfileField.{ProfileFieldFits, OptionFits, profile_field, signed_profile_field, present, field_definition, field_content, content_length}
 use Rattle.fit_activity.specs.Messages.ProfileMessage.{sample_options, sample_fields}
 use Rattle.fit_activity.specs.Messages.MessageBytes.{CanPut, HasPut}
@@ -29,7 +29,7 @@ with_fields d fields = record d { fields = record { items = fields } }
 pub record IsPutting (old now : SpokenMessage) (fields rest : List ProfileField) : Type 0 where
   pub head : now.definition ≡ with_fields old.definition now.definition.fields.items
   pub fields' : now.definition.fields.items ++ map field_definition rest ≡ old.definition.fields.items ++ map field_definition fields
-  pub content : now.content.items ++ flat_map field_content rest ≡ old.content.items ++ flat_map field_content fields
+  pub content : now.content ++ flat_map field_content rest ≡ old.content ++ flat_map field_content fields
   pub can : CanPut now rest
 
 rest-behind : {X : Type 0} (x : X) (xs : List X) → take (length (x ∷ xs) - 1) (drop 1 (x ∷ xs)) ≡ xs
@@ -41,12 +41,12 @@ putting-none old fields can = record { head = refl; fields' = refl; content = re
 
 pub putting-one : (old now new : SpokenMessage) (fields rest : List ProfileField) (field : ProfileField)
     → new.definition ≡ record now.definition { fields = record { items = now.definition.fields.items ++ field_definition field ∷ [] } }
-    → new.content.items ≡ now.content.items ++ field_content field
+    → new.content ≡ now.content ++ field_content field
     → IsPutting old now fields (field ∷ rest) → IsPutting old new fields rest
 putting-one old now new fields rest field definition content is =
     let items = ap (λ d. d.fields.items) definition in
     let added = length_push now.definition.fields.items (field_definition field) in
-    let bytes = length-append now.content.items (field_content field) in
+    let bytes = length-append now.content (field_content field) in
     let own = length-bytes 0 (row_of field.base).size field.value in
     let total = sum_by-cons (λ f. (row_of f.base).size) field rest in record {
       head = definition ∙ ap (λ d. with_fields d (now.definition.fields.items ++ field_definition field ∷ [])) is.head
@@ -54,7 +54,7 @@ putting-one old now new fields rest field definition content is =
       fields' = ap (λ xs. xs ++ map field_definition rest) items
           ∙ append_assoc now.definition.fields.items (field_definition field ∷ []) (map field_definition rest) ∙ is.fields';
       content = ap (λ xs. xs ++ flat_map field_content rest) content
-          ∙ append_assoc now.content.items (field_content field) (flat_map field_content rest) ∙ is.content;
+          ∙ append_assoc now.content (field_content field) (flat_map field_content rest) ∙ is.content;
       can = record {
         fit = is.can.fit.1;
         few = omega (arith, is.can.few, ap length items, added);
@@ -65,7 +65,7 @@ putting-one old now new fields rest field definition content is =
 -- the same, as a loop over the front of the rest has it
 pub putting-next : (old now new : SpokenMessage) (fields rest : List ProfileField) (d : ProfileField) → 1 ≤ length rest
     → new.definition ≡ record now.definition { fields = record { items = now.definition.fields.items ++ field_definition (get_or rest 0 d) ∷ [] } }
-    → new.content.items ≡ now.content.items ++ field_content (get_or rest 0 d)
+    → new.content ≡ now.content ++ field_content (get_or rest 0 d)
     → IsPutting old now fields rest → IsPutting old new fields (take (length rest - 1) (drop 1 rest))
 putting-next old now new fields [] d some definition content is = absurd (omega arith)
 putting-next old now new fields (field ∷ rest) d some definition content is =
@@ -91,7 +91,7 @@ putting-all old now fields (field ∷ rest) none is = absurd (omega arith)
 putting-all old now fields [] none is =
     let items = sym (append-nil now.definition.fields.items) ∙ is.fields' in record {
       definition = is.head ∙ ap (λ xs. with_fields old.definition xs) items;
-      content = sym (append-nil now.content.items) ∙ is.content;
+      content = sym (append-nil now.content) ∙ is.content;
     }
 
 -- the fields that are there, at the front of the rest
@@ -124,7 +124,7 @@ content-short (field ∷ fields) fit =
     omega (arith, content-short fields fit.1, fit.0.short, total)
 
 -- the fields that are there have room in a message that has one at most
-pub present-can : (m : SpokenMessage) (fields : List (Option ProfileField)) → length m.definition.fields.items ≤ 1 → length m.content.items ≤ 4 → length fields ≤ 11
+pub present-can : (m : SpokenMessage) (fields : List (Option ProfileField)) → length m.definition.fields.items ≤ 1 → length m.content ≤ 4 → length fields ≤ 11
     → content_length (present fields) ≤ 29 → AllByRecursion OptionFits fields → CanPut m (present fields)
 present-can m fields one four few short fit =
     let less = length-filter_map-le (λ (field : Option ProfileField). field) fields in record {

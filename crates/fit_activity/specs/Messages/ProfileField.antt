@@ -9,6 +9,7 @@ use Rattle.fit_base.specs.Number.{as_unsigned}
 use Rattle.fit_base.specs.Value.{Values, Numbers}
 use Rattle.fit_grammar.specs.declared.definition.FieldDefinition.{FieldDefinition}
 use Rattle.fit_grammar.specs.declared.definition.Definition.{Definition}
+use Rattle.fit_grammar.specs.Format.Item.{native_definition}
 use Rattle.fit_grammar.specs.Format.Message.{Message, MessageField}
 use Rattle.fit_activity.specs.declared.speaking.profile_field.ProfileField.{ProfileField}
 
@@ -77,13 +78,7 @@ field_definition field = record { number = field.number; size = (row_of field.ba
 
 abbrev pub as_definition : ProfileMessage → Definition
 as_definition profile_message =
-    record {
-      local = profile_message.local;
-      arch = Little;
-      global = profile_message.global;
-      fields = record { items = map field_definition profile_message.fields };
-      developer = record { items = [] };
-    }
+    native_definition profile_message.local Little profile_message.global (map field_definition profile_message.fields)
 
 -- the bytes of its content, low byte first
 abbrev pub field_content : ProfileField → List ℕ

@@ -1,21 +1,43 @@
 // Messages as they are handed on.
 
-ghost use Rattle.std.specs.Prelude.{◌≡◌, ◌+◌, ◌≤◌, ◌<◌, ◌++◌, ◌∷◌, [], length};
+ghost use Rattle.std.specs.Prelude.{◌≡◌, ◌+◌, ◌≤◌, ◌<◌, ◌++◌, ◌∷◌, [], length, drop};
 ghost use Rattle.std.specs.List.{AllByRecursion};
 ghost use Rattle.fit_base.specs.declared.base.BaseType.TheVariants as types;
+ghost use Rattle.fit_grammar.specs.Format.Item.{Defines, item_size};
+ghost use Rattle.fit_grammar.specs.Format.Encoding.{encoded_item};
+ghost use Rattle.fit_grammar.specs.Calls.Possible.{DefinitionFits};
 ghost use Rattle.fit_activity.specs.Messages.ProfileField.{profile_field, field_definition, field_content, content_length, present, ProfileFieldFits, OptionFits};
 
 use crate::speaking::profile_field::ProfileField;
 use arrayvec::ArrayVec;
 use fit_base::Arch;
-use fit_grammar::{Definition, FieldDefinition};
+use fit_grammar::{Definition, FieldDefinition, write_native_definition};
 use std::marker::Model;
 
-/// A message as it is handed on: its definition, and the bytes of its content under it, low byte first.
+// How many fields a message has at the most: those of a session.
+const MOST_FIELDS: usize = 19;
+
+/// A message as it is handed on: its definition, which has no developer fields, and the bytes of its content under it, low
+/// byte first. Contracts see the two.
 #[derive(Debug, Drop)]
 pub struct SpokenMessage {
-    pub definition: Definition,
-    pub content: ArrayVec<u8, 41>,
+    local: u8,
+    global: u16,
+    fields: ArrayVec<FieldDefinition, MOST_FIELDS>,
+    content: ArrayVec<u8, 41>,
+}
+
+impl Model for SpokenMessage {
+    ghost use Rattle.fit_base.specs.declared.order.Arch.TheVariants.{Little};
+    ghost use Rattle.fit_grammar.specs.Format.Item.{native_definition};
+    ghost use Rattle.fit_activity.specs.Messages.SpokenMessage.{SpokenMessage as AnyMessage};
+
+    ghost Value = { AnyMessage };
+
+    ghost view = { λ s. record {
+      definition = native_definition s.local Little s.global s.fields.items;
+      content = s.content.items;
+    } };
 }
 
 /// The messages that one entry says, or a start, or the end of a recording: at most four. It is made once and used
@@ -28,7 +50,7 @@ pub struct Speech {
 
 impl Model for Speech {
     ghost use Rattle.std.specs.Prelude.{List, take, ◌≤◌};
-    ghost use Rattle.fit_activity.specs.declared.speaking.speech.SpokenMessage.{SpokenMessage as AnyMessage};
+    ghost use Rattle.fit_activity.specs.Messages.SpokenMessage.{SpokenMessage as AnyMessage};
 
     ghost Value = { List AnyMessage };
 
@@ -40,16 +62,53 @@ impl Model for Speech {
 impl SpokenMessage {
     ghost use Rattle.fit_activity.specs.Messages.MessageBytes.{spelled, CanPut, HasPut, CanSay};
 
+    /// The local message number.
+    pub fn local(&self) -> u8
+        ensures { result ≡ self.now.definition.local }
+    {
+        self.local
+    }
+
+    /// Its definition.
+    pub fn definition(&self) -> Definition
+        ensures { result ≡ self.now.definition }
+    {
+        let mut fields = ArrayVec::new();
+        fields.try_extend_from_slice(&self.fields).unwrap();
+        Definition {
+            local: self.local,
+            arch: Arch::Little,
+            global: self.global,
+            fields,
+            developer: ArrayVec::new(),
+        }
+    }
+
+    /// The bytes of its content.
+    pub fn content(&self) -> &[u8]
+        ensures { result.now ≡ self.now.content }
+    {
+        &self.content
+    }
+
+    /// Writes its definition at the front of `out`, as `write_definition` does.
+    pub fn write_definition(&self, out: &mut [u8]) -> usize
+        requires local { self.now.definition.local < 16 }
+        requires room { item_size (Defines self.now.definition) ≤ length out.old }
+        ensures count { result ≡ item_size (Defines self.now.definition) }
+        ensures written { out.new ≡ encoded_item (Defines self.now.definition) ++ drop result out.old }
+        // Each number fits into its bytes, as the types say.
+        ensures fits { DefinitionFits self.now.definition }
+    {
+        write_native_definition(self.local, Arch::Little, self.global, &self.fields, out)
+    }
+
     // No message yet.
     fn new() -> SpokenMessage {
         SpokenMessage {
-            definition: Definition {
-                local: 0,
-                arch: Arch::Little,
-                global: 0,
-                fields: ArrayVec::new(),
-                developer: ArrayVec::new(),
-            },
+            local: 0,
+            global: 0,
+            fields: ArrayVec::new(),
             content: ArrayVec::new(),
         }
     }
@@ -58,26 +117,24 @@ impl SpokenMessage {
     fn begin(&mut self, local: u8, global: u16)
         ensures { self.new ≡ spelled (record { local = local; global = global; fields = [] }) }
     {
-        self.definition.local = local;
-        self.definition.arch = Arch::Little;
-        self.definition.global = global;
-        self.definition.fields.clear();
-        self.definition.developer.clear();
+        self.local = local;
+        self.global = global;
+        self.fields.clear();
         self.content.clear();
     }
 
     // A field more.
     fn put(&mut self, field: &ProfileField)
         requires fits { ProfileFieldFits field.now }
-        requires few { length self.old.definition.fields.items < 255 }
-        requires short { length self.old.content.items + content_length (field.now ∷ []) ≤ 41 }
+        requires few { length self.old.definition.fields.items < 19 }
+        requires short { length self.old.content + content_length (field.now ∷ []) ≤ 41 }
         ensures fields { self.new.definition ≡ record self.old.definition {
           fields = record { items = self.old.definition.fields.items ++ field_definition field.now ∷ [] };
         } }
-        ensures content { self.new.content.items ≡ self.old.content.items ++ field_content field.now }
+        ensures content { self.new.content ≡ self.old.content ++ field_content field.now }
     {
         let size = field.base.size();
-        self.definition.fields.push(FieldDefinition {
+        self.fields.push(FieldDefinition {
             number: field.number,
             size: size as u8,
             base: field.base.code(),

@@ -25,10 +25,10 @@ fn short_ride(rt: &impl Abort, alloc: Global, left_out: &[u16]) -> Result<File, 
 
 fn put_but(file: &mut File, speech: &Speech, left_out: &[u16]) -> Result<(), Fail> {
     for message in speech.messages() {
-        let definition = &message.definition;
+        let definition = &message.definition();
         if definition.local < 16 && !left_out.contains(&definition.global) {
             file.define(definition)?;
-            file.data(definition.local, None, &message.content)?;
+            file.data(definition.local, None, message.content())?;
         }
     }
     Ok(())

@@ -26,9 +26,9 @@ pub(super) fn put(file: &mut File, speech: &Speech) -> Result<(), PutFault> {
 
 pub(super) fn put_messages(file: &mut File, messages: &[SpokenMessage]) -> Result<(), PutFault> {
     for message in messages {
-        if message.definition.local < 16 {
-            file.define(&message.definition)?;
-            file.data(message.definition.local, None, &message.content)?;
+        if message.local() < 16 {
+            file.define(&message.definition())?;
+            file.data(message.local(), None, message.content())?;
         }
     }
     Ok(())
@@ -63,7 +63,7 @@ fn says_a_start(rt: HostRuntime) -> Result<(), Fail> {
     assert_eq!(rt; speech.messages().len(), 3);
     let mut bytes = Vec::new(rt.alloc());
     for message in speech.messages() {
-        bytes.extend_from_slice(&message.content)?;
+        bytes.extend_from_slice(message.content())?;
     }
     assert_eq!(rt;
         bytes.as_slice(),
@@ -77,7 +77,7 @@ fn says_a_start(rt: HostRuntime) -> Result<(), Fail> {
     // The fields of file_id, sport and event: number, size, base type.
     let mut fields = Vec::new(rt.alloc());
     for message in speech.messages() {
-        for field in &message.definition.fields {
+        for field in &message.definition().fields {
             fields.push(field.number)?;
             fields.push(field.size)?;
             fields.push(field.base)?;
@@ -94,7 +94,7 @@ fn says_a_start(rt: HostRuntime) -> Result<(), Fail> {
     );
     let mut heads = Vec::new(rt.alloc());
     for message in speech.messages() {
-        heads.push((message.definition.local, message.definition.global))?;
+        heads.push((message.local(), message.definition().global))?;
     }
     assert_eq!(rt; heads.as_slice(), [(4, 0), (5, 12), (6, 21)].as_slice());
     Ok(())
@@ -199,7 +199,7 @@ fn says_the_end_behind_a_stop(rt: HostRuntime) -> Result<(), Fail> {
     speak_closing(&ride(&rt, &[Entry::Stop(T + 3)]), &mut speech);
     let mut heads = Vec::new(rt.alloc());
     for message in speech.messages() {
-        heads.push((message.definition.local, message.definition.global))?;
+        heads.push((message.local(), message.definition().global))?;
     }
     assert_eq!(rt; heads.as_slice(), [(7, 19), (8, 18), (9, 34)].as_slice());
     Ok(())
@@ -226,7 +226,7 @@ fn says_a_sample(rt: HostRuntime) -> Result<(), Fail> {
     say(&rt, &[], Entry::Sample(full), &mut speech);
     let mut bytes = Vec::new(rt.alloc());
     for message in speech.messages() {
-        bytes.extend_from_slice(&message.content)?;
+        bytes.extend_from_slice(message.content())?;
     }
     assert_eq!(rt;
         bytes.as_slice(),
@@ -239,7 +239,7 @@ fn says_a_sample(rt: HostRuntime) -> Result<(), Fail> {
     );
     let mut numbers = Vec::new(rt.alloc());
     for message in speech.messages() {
-        for field in &message.definition.fields {
+        for field in &message.definition().fields {
             numbers.push(field.number)?;
         }
     }
@@ -251,8 +251,8 @@ fn says_a_sample(rt: HostRuntime) -> Result<(), Fail> {
     say(&rt, &[], Entry::Sample(Sample::new(T)), &mut speech);
     assert_eq!(rt; speech.messages().len(), 1);
     for message in speech.messages() {
-        assert_eq!(rt; message.definition.local, 0);
-        assert_eq!(rt; message.content.len(), 4);
+        assert_eq!(rt; message.local(), 0);
+        assert_eq!(rt; message.content().len(), 4);
     }
     Ok(())
 }
@@ -266,8 +266,8 @@ fn says_a_close_sample_without_its_time(rt: HostRuntime) -> Result<(), Fail> {
     assert_eq!(rt; close, Some(0));
     assert_eq!(rt; speech.messages().len(), 1);
     for message in speech.messages() {
-        assert_eq!(rt; message.definition.fields.len(), 1);
-        assert_eq!(rt; message.content.as_slice(), [100].as_slice());
+        assert_eq!(rt; message.definition().fields.len(), 1);
+        assert_eq!(rt; message.content(), [100].as_slice());
     }
     for far in [
         with_heart_rate(T + 33, 100),
@@ -277,7 +277,7 @@ fn says_a_close_sample_without_its_time(rt: HostRuntime) -> Result<(), Fail> {
         assert_eq!(rt; say_compressed(&rt, &entries, far, &mut speech), None);
         assert_eq!(rt; speech.messages().len(), 1);
         for message in speech.messages() {
-            assert!(rt; message.content.len() >= 4);
+            assert!(rt; message.content().len() >= 4);
         }
     }
     Ok(())

@@ -149,13 +149,13 @@ fn put_changed(
     place: usize,
 ) -> Result<(), PutFault> {
     let mut content = Vec::new(alloc);
-    content.extend_from_slice(&message.content)?;
+    content.extend_from_slice(message.content())?;
     if let Some(byte) = content.get_mut(place) {
         *byte ^= 1;
     }
-    if message.definition.local < 16 {
-        file.define(&message.definition)?;
-        file.data(message.definition.local, None, &content)?;
+    if message.local() < 16 {
+        file.define(&message.definition())?;
+        file.data(message.local(), None, &content)?;
     }
     Ok(())
 }

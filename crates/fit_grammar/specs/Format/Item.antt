@@ -90,6 +90,11 @@ abbrev pub has_any : List DeveloperFieldDefinition → Bool
 has_any [] = false
 has_any (field ∷ fields) = true
 
+-- a definition without developer fields
+abbrev pub native_definition : ℕ → Arch → ℕ → List FieldDefinition → Definition
+native_definition local arch global fields =
+    record { local = local; arch = arch; global = global; fields = record { items = fields }; developer = record { items = [] } }
+
 -- how many bytes an item has as it is written
 abbrev pub item_size : Item → ℕ
 item_size (Defines d) = 6 + 3 * length d.fields.items + part_size (has_any d.developer.items) (length d.developer.items)

@@ -1,8 +1,8 @@
 // Writing items, in the one form with every reserved bit and byte 0.
 
-ghost use Rattle.std.specs.Prelude.{◌≡◌, ◌+◌, ◌*◌, ◌<◌, ◌≤◌, ◌++◌, [], length, drop, flat_map};
+ghost use Rattle.std.specs.Prelude.{◌≡◌, ◌+◌, ◌*◌, ◌<◌, ◌≤◌, ◌++◌, ◌∷◌, [], length, drop, flat_map};
 ghost use Rattle.std.specs.List.{AllByRecursion};
-ghost use Rattle.fit_grammar.specs.Format.Item.{Defines, Data, field_bytes, developer_bytes, developer_part, part_size, has_any, item_size};
+ghost use Rattle.fit_grammar.specs.Format.Item.{Defines, Data, field_bytes, developer_bytes, developer_part, part_size, has_any, item_size, native_definition};
 ghost use Rattle.fit_grammar.specs.Format.Encoding.{arch_byte, definition_byte, two_bytes, data_byte as data_byte_of, encoded_item, HasEncoding};
 ghost use Rattle.fit_grammar.specs.Calls.Possible.{FieldFits, DeveloperFieldFits, DefinitionFits};
 
@@ -21,33 +21,59 @@ pub fn write_definition(definition: &Definition, out: &mut [u8]) -> usize
     // Each number fits into its bytes, as the types say.
     ensures fits { DefinitionFits definition.now }
 {
-    let [first, second] = number_bytes(definition.arch, definition.global);
-    out[..6].copy_from_slice(&[
-        first_byte(definition),
-        0,
-        arch_number(definition.arch),
-        first,
-        second,
-        definition.fields.len() as u8,
-    ]);
-    6 + write_both_lists(definition, &mut out[6..])
+    let Definition { arch, global, .. } = *definition;
+    let (front, behind) = out.split_at_mut(6 + 3 * definition.fields.len());
+    write_front(first_byte(definition), arch, global, &definition.fields, front)
+        + write_developer_part(&definition.developer, behind)
 }
 
-// Writes the fields and, behind them, the developer fields where there are any. Answers how many bytes that are.
-fn write_both_lists(definition: &Definition, out: &mut [u8]) -> usize
-    requires { item_size (Defines definition.now) ≤ 6 + length out.old }
-    ensures count { 6 + result ≡ item_size (Defines definition.now) }
-    ensures written { out.new ≡ flat_map field_bytes definition.now.fields.items
-        ++ (developer_part (has_any definition.now.developer.items) definition.now.developer.items
-        ++ drop result out.old) }
-    // As their types say.
-    ensures fields { AllByRecursion FieldFits definition.now.fields.items }
-    ensures developer { AllByRecursion DeveloperFieldFits definition.now.developer.items }
+/// The same of the definition of these fields, which has no developer fields.
+pub fn write_native_definition(
+    local: u8,
+    arch: Arch,
+    global: u16,
+    fields: &[FieldDefinition],
+    out: &mut [u8],
+) -> usize
+    requires local { local < 16 }
+    requires count { length fields.now < 256 }
+    requires room { 6 + 3 * length fields.now ≤ length out.old }
+    ensures count { result ≡ 6 + 3 * length fields.now }
+    ensures written { out.new
+        ≡ encoded_item (Defines (native_definition local arch global fields.now)) ++ drop result out.old }
+    ensures fits { DefinitionFits (native_definition local arch global fields.now) }
 {
-    let size = 3 * definition.fields.len();
-    let (front, behind) = out.split_at_mut(size);
-    write_fields(&definition.fields, front);
-    size + write_developer_part(&definition.developer, behind)
+    write_front(0x40 + local, arch, global, fields, out)
+}
+
+// Writes the six bytes of a definition that come first, this the very first, and its fields. Answers how many bytes that are.
+fn write_front(
+    first: u8,
+    arch: Arch,
+    global: u16,
+    fields: &[FieldDefinition],
+    out: &mut [u8],
+) -> usize
+    requires count { length fields.now < 256 }
+    requires room { 6 + 3 * length fields.now ≤ length out.old }
+    ensures count { result ≡ 6 + 3 * length fields.now }
+    ensures written { out.new ≡ first ∷ 0 ∷ arch_byte arch ∷ (two_bytes arch global ++ length fields.now
+        ∷ (flat_map field_bytes fields.now ++ drop result out.old)) }
+    // As their types say.
+    ensures global { global < 65536 }
+    ensures fields { AllByRecursion FieldFits fields.now }
+{
+    let [low, high] = number_bytes(arch, global);
+    out[..6].copy_from_slice(&[
+        first,
+        0,
+        arch_number(arch),
+        low,
+        high,
+        fields.len() as u8,
+    ]);
+    write_fields(fields, &mut out[6..]);
+    6 + 3 * fields.len()
 }
 
 // The first byte of a definition, which announces developer fields where there are any.
@@ -85,6 +111,8 @@ pub fn write_data(local: u8, offset: Option<u8>, content: &[u8], out: &mut [u8])
     requires room { 1 + length content.now ≤ length out.old }
     ensures count { result ≡ 1 + length content.now }
     ensures written { out.new ≡ encoded_item (Data local offset content.now) ++ drop result out.old }
+    // As its type says.
+    ensures bytes { AllByRecursion (λ byte. byte < 256) content.now }
 {
     let used = 1 + content.len();
     out[0] = data_byte(local, offset);

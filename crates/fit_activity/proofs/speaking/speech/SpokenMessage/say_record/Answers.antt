@@ -9,7 +9,7 @@ put_present-requires c =
     let begun = c.begin.new.self in
     let fields = ap (λ d. length d.fields.items) c.put.ensures.fields ∙ length_push begun.definition.fields.items (field_definition c.uint32.result) in
     let none : length begun.definition.fields.items ≡ 0 = ap (λ m. length m.definition.fields.items) c.begin.ensures in
-    let content = ap length c.put.ensures.content ∙ length-append begun.content.items (field_content c.uint32.result) in
-    let empty : length begun.content.items ≡ 0 = ap (λ m. length m.content.items) c.begin.ensures in
+    let content = ap length c.put.ensures.content ∙ length-append begun.content (field_content c.uint32.result) in
+    let empty : length begun.content ≡ 0 = ap (λ m. length m.content) c.begin.ensures in
     let four : length (field_content c.uint32.result) ≡ 4 = ap (λ field. length (field_content field)) c.uint32.ensures.profile_field in
     present-can _ _ (omega (arith, fields, none)) (omega (arith, content, empty, four)) c.requires.few c.requires.short c.requires.fit
