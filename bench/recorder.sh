@@ -1,6 +1,7 @@
 #!/bin/sh
 # What `hand`, `commit` and `recover` of fit_recorder cost over the memory disk and over two files in a fresh folder,
-# each beside the same calls of the device with no recorder, and how many bytes a recorder has.
+# and a commit of fit_journal in each form of a journal; each beside the same calls of the device with no recorder, and
+# how many bytes a recorder has.
 # It proves and builds in a temporary folder, so that the repository stays as it is; the two files are there too.
 set -eu
 
@@ -12,7 +13,7 @@ trap 'exit 1' HUP INT TERM
 mkdir -p "$work/repo/crates"
 {
     grep -E '^(fit_base|fit_grammar|fit_activity|fit_disk|fit_journal|fit_recorder):' "$root/crates.txt"
-    echo 'bench_recorder: fit_activity fit_disk fit_recorder'
+    echo 'bench_recorder: fit_activity fit_disk fit_journal fit_recorder'
 } > "$work/repo/crates.txt"
 for name in base grammar activity disk journal recorder; do cp -r "$root/crates/fit_$name" "$work/repo/crates"; done
 mkdir -p "$work/repo/crates/bench_recorder/src"
@@ -33,13 +34,15 @@ program, work = sys.argv[1:]
 rows = []
 for sample, name in (("nine", "nine fields"), ("one", "heart rate")):
     for before in (10_000, 100_000, 500_000):
-        rows.append(("hand, %s, behind %d" % (name, before), "hand", "write", sample, before, 20_000))
+        rows.append(("hand, %s, behind %d" % (name, before), "hand", "write", sample, before, 200_000))
 for before in (10_000, 100_000, 500_000):
     rows.append(("commit, behind %d" % before, "commit", "sync", "nine", before, 1000))
 for sample, name in (("nine", "nine fields"), ("one", "heart rate")):
     for timed in (10_000, 200_000):
         rows.append(("recover, %s, of %d" % (name, timed), "recover", "read", sample, 0, timed))
 rows.append(("recover, a body of one sample", "recover", "read", "nine", 0, 1))
+rows.append(("journal, two slots in turn", "turns", "keep_in_turns", "nine", 100, 1000))
+rows.append(("journal, a row of slots", "row", "keep_in_row", "nine", 100, 1000))
 
 # The nanoseconds of a task, by the samples or calls that are timed.
 def once(task, sample, before, timed, on_files):
