@@ -23,8 +23,14 @@ pub fn write_definition(definition: &Definition, out: &mut [u8]) -> usize
 {
     let Definition { arch, global, .. } = *definition;
     let (front, behind) = out.split_at_mut(6 + 3 * definition.fields.len());
-    write_front(first_byte(definition), arch, global, &definition.fields, front)
-        + write_developer_part(&definition.developer, behind)
+    let used = write_front(
+        first_byte(definition),
+        arch,
+        global,
+        &definition.fields,
+        front,
+    );
+    used + write_developer_part(&definition.developer, behind)
 }
 
 /// The same of the definition of these fields, which has no developer fields.
@@ -64,14 +70,7 @@ fn write_front(
     ensures fields { AllByRecursion FieldFits fields.now }
 {
     let [low, high] = number_bytes(arch, global);
-    out[..6].copy_from_slice(&[
-        first,
-        0,
-        arch_number(arch),
-        low,
-        high,
-        fields.len() as u8,
-    ]);
+    out[..6].copy_from_slice(&[first, 0, arch_number(arch), low, high, fields.len() as u8]);
     write_fields(fields, &mut out[6..]);
     6 + 3 * fields.len()
 }
