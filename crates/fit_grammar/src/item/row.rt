@@ -85,6 +85,7 @@ impl<'a> Iterator for Items<'a> {
 
     ghost remaining = { item_count (λ s. s) };
 
+    #[inline(always)] // Else a loop over items has each of them written to memory and read again.
     fn next(&mut self) -> Option<FileItem<'a>> {
         if self.rest.is_empty() {
             return None;

@@ -41,6 +41,7 @@ impl<'a> Iterator for Messages<'a> {
 
     ghost remaining = { item_count (λ s. s) };
 
+    #[inline(always)] // As the items that it walks over.
     fn next(&mut self) -> Option<Message<'a>> {
         while let Some(item) = self.items.next() {
             if let FileItem::Data(data, time) = item {
