@@ -1,5 +1,6 @@
 // Scripts that are run over a disk in memory. The answers, the files and the choice bytes are from outside.
 
+use fit_grammar::{decode_file, encode_file};
 use fit_world::world::run;
 use fit_world::{Answer, check_bytes, parse_script, show_bytes};
 use std::test::Fail;
@@ -168,9 +169,10 @@ fn an_entry_needs_a_recorder(rt: HostRuntime) -> Result<(), Fail> {
     Ok(())
 }
 
-// A ride of three hundred samples and a stop, of which each minute is made safe: each event is done, and none is left out.
+// A ride of three hundred samples and a stop, of which each minute is made safe: with ample memory each event is done, and none is
+// left out; and its file is read in pieces and whole, written again, and shown.
 #[test]
-fn a_run_goes_on_to_its_last_event(rt: HostRuntime) -> Result<(), Fail> {
+fn ample_memory_succeeds(rt: HostRuntime) -> Result<(), Fail> {
     let mut script = format!(in rt.alloc(); "start 1000000000 7 running\n")?;
     for second in 1..=300u32 {
         let sample = format!(in rt.alloc(); "sample {}\n", 1_000_000_000 + second)?;
@@ -189,11 +191,19 @@ fn a_run_goes_on_to_its_last_event(rt: HostRuntime) -> Result<(), Fail> {
         .filter(|answer| **answer == Answer::Done)
         .count();
     assert_eq!(rt; done, 306);
+    let file = file_in(answers.last());
     let mut out = Vec::new(rt.alloc());
-    check_bytes(rt.alloc(), file_in(answers.last()), &mut out)?;
+    check_bytes(rt.alloc(), file, &mut out)?;
     assert_eq!(rt;
         out.as_slice(),
         b"ok records=300 laps=1 sessions=1 start=1000000000 elapsed_ms=301000 timer_ms=301000 distance_cm=-\n".as_slice()
     );
+    let read = decode_file(rt.alloc(), file)?;
+    let mut written = Vec::new(rt.alloc());
+    encode_file(&read, &mut written)?;
+    assert!(rt; written.as_slice() == file);
+    let mut shown = Vec::new(rt.alloc());
+    show_bytes(rt.alloc(), file, false, &mut shown)?;
+    assert!(rt; shown.as_slice().ends_with(b"\nmessages 307\n"));
     Ok(())
 }
