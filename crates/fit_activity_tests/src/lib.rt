@@ -4,3 +4,5 @@
 
 #[cfg(test)]
 mod activity;
+#[cfg(test)]
+mod equality;

@@ -5,6 +5,8 @@
 #[cfg(test)]
 mod disk;
 #[cfg(test)]
+mod equality;
+#[cfg(test)]
 mod journal;
 #[cfg(test)]
 mod journal_adopted;

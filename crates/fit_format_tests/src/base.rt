@@ -1,5 +1,6 @@
 // Values from outside: the checksums are known ones, and the rows are those of the protocol's table.
 
+use crate::equality::equal;
 use fit_base::{Arch, BaseType, Crc, FieldValue, put};
 use std::process::Abort;
 
@@ -17,9 +18,9 @@ struct Case<'a> {
 fn the_example_of_the_crate(rt: HostRuntime) {
     let field = FieldValue::new(0x84, Arch::Little, &[0xC8, 0x00, 0xFF, 0xFF]);
     assert_eq!(rt; field.count(), 2);
-    assert_eq!(rt; field.unsigned(0), 200);
+    equal(&rt, field.unsigned(0), 200);
     assert!(rt; field.is_invalid(1));
-    assert_eq!(rt; Crc::of(b"123456789"), 0xBB3D);
+    equal(&rt, Crc::of(b"123456789"), 0xBB3D);
 }
 
 #[test]
@@ -27,15 +28,15 @@ fn checksums(rt: HostRuntime) {
     let header = [
         0x0E, 0x10, 0x64, 0x00, 0x12, 0x00, 0x00, 0x00, 0x2E, 0x46, 0x49, 0x54,
     ];
-    assert_eq!(rt; Crc::of(&[]), 0);
-    assert_eq!(rt; Crc::of(b"123456789"), 0xBB3D);
-    assert_eq!(rt; Crc::of(&header), 0x3BA1);
+    equal(&rt, Crc::of(&[]), 0);
+    equal(&rt, Crc::of(b"123456789"), 0xBB3D);
+    equal(&rt, Crc::of(&header), 0x3BA1);
     let mut pieces = Crc::new();
     pieces.add(&header[..5]);
     pieces.add(&header[5..]);
-    assert_eq!(rt; pieces.value(), 0x3BA1);
+    equal(&rt, pieces.value(), 0x3BA1);
     pieces.add(&[0xA1, 0x3B]);
-    assert_eq!(rt; pieces.value(), 0);
+    equal(&rt, pieces.value(), 0);
 }
 
 #[test]
@@ -61,14 +62,14 @@ fn types_by_their_bytes(rt: HostRuntime) {
     ];
     for (code, size, signed) in rows {
         let base = BaseType::of(code).expect(&rt, "a row of the table");
-        assert_eq!(rt; base.code(), code);
+        equal(&rt, base.code(), code);
         assert_eq!(rt; base.size(), size, "of {code}");
         assert_eq!(rt; base.is_signed(), signed, "of {code}");
     }
     let known = (0..=255)
         .filter(|code| BaseType::of(*code).is_some())
         .count();
-    assert_eq!(rt; known, 17);
+    equal(&rt, known, 17);
 }
 
 // Each type at 0, at its greatest value and at its invalid one, or where 0 is invalid at another.
@@ -279,8 +280,8 @@ fn a_byte_field_that_is_all_ff(rt: HostRuntime) {
     let unknown = FieldValue::new(0x91, Arch::Big, &[0xFF, 0xFF]);
     assert!(rt; unknown.is_raw());
     assert_eq!(rt; unknown.count(), 0);
-    assert_eq!(rt; unknown.base(), 0x91);
-    assert_eq!(rt; unknown.arch(), Arch::Big);
+    equal(&rt, unknown.base(), 0x91);
+    equal(&rt, unknown.arch(), Arch::Big);
 }
 
 #[test]
@@ -314,11 +315,11 @@ fn check_signed(rt: &impl Abort, code: u8, arch: Arch, bytes: &[u8], want: &[i64
 
 #[test]
 fn text_ends_at_a_zero_byte(rt: HostRuntime) {
-    assert_eq!(rt; text_of(b"ride\0\0"), Some("ride"));
-    assert_eq!(rt; text_of(b"ride"), Some("ride"));
-    assert_eq!(rt; text_of(b"\0ride"), Some(""));
-    assert_eq!(rt; text_of(&[0x61, 0x00, 0xFF]), Some("a"));
-    assert_eq!(rt; text_of(&[0x61, 0xFF, 0x00]), None);
+    equal(&rt, text_of(b"ride\0\0"), Some("ride"));
+    equal(&rt, text_of(b"ride"), Some("ride"));
+    equal(&rt, text_of(b"\0ride"), Some(""));
+    equal(&rt, text_of(&[0x61, 0x00, 0xFF]), Some("a"));
+    equal(&rt, text_of(&[0x61, 0xFF, 0x00]), None);
 }
 
 fn text_of(bytes: &[u8]) -> Option<&str> {
@@ -329,20 +330,20 @@ fn text_of(bytes: &[u8]) -> Option<&str> {
 fn puts_and_reads_back(rt: HostRuntime) {
     let mut one = [0];
     put(BaseType::Sint8, Arch::Little, -128, &mut one);
-    assert_eq!(rt; one, [0x80]);
+    equal(&rt, one, [0x80]);
     put(BaseType::Byte, Arch::Big, 255, &mut one);
-    assert_eq!(rt; one, [0xFF]);
+    equal(&rt, one, [0xFF]);
     let mut two = [0, 0];
     put(BaseType::Sint16, Arch::Big, -2, &mut two);
-    assert_eq!(rt; two, [0xFF, 0xFE]);
-    assert_eq!(rt; FieldValue::new(0x83, Arch::Big, &two).signed(0), -2);
+    equal(&rt, two, [0xFF, 0xFE]);
+    equal(&rt, FieldValue::new(0x83, Arch::Big, &two).signed(0), -2);
     put(BaseType::Uint16z, Arch::Little, 1, &mut two);
-    assert_eq!(rt; two, [0x01, 0x00]);
+    equal(&rt, two, [0x01, 0x00]);
     let mut four = [0, 0, 0, 0];
     put(BaseType::Uint32, Arch::Little, 0x1234_5678, &mut four);
-    assert_eq!(rt; four, [0x78, 0x56, 0x34, 0x12]);
+    equal(&rt, four, [0x78, 0x56, 0x34, 0x12]);
     put(BaseType::Sint32, Arch::Big, 2_147_483_647, &mut four);
-    assert_eq!(rt; four, [0x7F, 0xFF, 0xFF, 0xFF]);
+    equal(&rt, four, [0x7F, 0xFF, 0xFF, 0xFF]);
     let mut eight = [0, 0, 0, 0, 0, 0, 0, 0];
     put(
         BaseType::Float64,
@@ -350,10 +351,14 @@ fn puts_and_reads_back(rt: HostRuntime) {
         0x3FF0_0000_0000_0000,
         &mut eight,
     );
-    assert_eq!(rt; eight, [0x3F, 0xF0, 0, 0, 0, 0, 0, 0]);
+    equal(&rt, eight, [0x3F, 0xF0, 0, 0, 0, 0, 0, 0]);
     let back = FieldValue::new(0x89, Arch::Big, &eight);
-    assert_eq!(rt; back.unsigned(0), 0x3FF0_0000_0000_0000);
+    equal(&rt, back.unsigned(0), 0x3FF0_0000_0000_0000);
     put(BaseType::Sint64, Arch::Little, -2, &mut eight);
-    assert_eq!(rt; eight, [0xFE, 0xFF, 0xFF, 0xFF, 0xFF, 0xFF, 0xFF, 0xFF]);
-    assert_eq!(rt; FieldValue::new(0x8E, Arch::Little, &eight).signed(0), -2);
+    equal(&rt, eight, [0xFE, 0xFF, 0xFF, 0xFF, 0xFF, 0xFF, 0xFF, 0xFF]);
+    equal(
+        &rt,
+        FieldValue::new(0x8E, Arch::Little, &eight).signed(0),
+        -2,
+    );
 }

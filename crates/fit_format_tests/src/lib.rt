@@ -5,6 +5,8 @@
 #[cfg(test)]
 mod base;
 #[cfg(test)]
+mod equality;
+#[cfg(test)]
 mod grammar;
 #[cfg(test)]
 mod known_files;

@@ -8,7 +8,7 @@ use fit_activity::{Entry, Start};
 use fit_disk::{Memory, Which};
 use fit_recorder::{RecFault, Recorder, erase, recover, resume};
 use fit_world::{Answer, Command, Event};
-use std::alloc::Global;
+use std::alloc::{AllocError, Global};
 use std::test::Fail;
 
 // The recorder that runs, or the disk alone.
@@ -59,7 +59,11 @@ fn hand(recorder: &mut Recorder<Memory>, entry: &Entry) -> Answer
     }
 }
 
-fn stop(alloc: Global, mut recorder: Recorder<Memory>, time: u32) -> Result<(Played, Answer), Fail>
+fn stop(
+    alloc: Global,
+    mut recorder: Recorder<Memory>,
+    time: u32,
+) -> Result<(Played, Answer), AllocError>
     requires { GoesOn true memory_story recorder }
     ensures { IfOk result (λ done. IfOk done.0 (GoesOn true memory_story)) }
 {
@@ -71,7 +75,7 @@ fn stop(alloc: Global, mut recorder: Recorder<Memory>, time: u32) -> Result<(Pla
     Ok((Err(disk), Answer::Stopped { file }))
 }
 
-fn repair(alloc: Global, disk: &mut Memory) -> Result<Answer, Fail> {
+fn repair(alloc: Global, disk: &mut Memory) -> Result<Answer, AllocError> {
     match recover(disk) {
         Ok(summary) => Ok(Answer::Recovered {
             summary,
@@ -91,7 +95,7 @@ fn ride_on(
     ensures { IfOk result (λ done. IfOk done.0 (GoesOn true memory_story)) }
 {
     match command {
-        Command::Entry(Entry::Stop(time)) => stop(alloc, recorder, *time),
+        Command::Entry(Entry::Stop(time)) => Ok(stop(alloc, recorder, *time)?),
         Command::Entry(entry) => {
             let answer = hand(&mut recorder, entry);
             Ok((Ok(recorder), answer))
@@ -135,7 +139,7 @@ fn rest(
     mut disk: Memory,
     command: &Command,
     choices: &[u8],
-) -> Result<(Memory, Answer, usize), Fail> {
+) -> Result<(Memory, Answer, usize), AllocError> {
     let mut taken = 0;
     let answer = match command {
         Command::Recover => repair(alloc, &mut disk)?,

@@ -1,8 +1,10 @@
 // Scripts that are run over a disk in memory. The answers, the files and the choice bytes are from outside.
 
+use crate::equality::equal;
 use fit_grammar::{decode_file, encode_file};
 use fit_world::world::run;
 use fit_world::{Answer, check_bytes, parse_script, show_bytes};
+use std::alloc::AllocError;
 use std::test::Fail;
 
 // A start, ten samples and no commit.
@@ -58,7 +60,7 @@ pub fn file_in(answer: Option<&Answer>) -> &[u8] {
 }
 
 // The lines of the answers to a script.
-pub fn text_of(rt: &HostRuntime, script: &str, choices: &[u8]) -> Result<String, Fail> {
+pub fn text_of(rt: &HostRuntime, script: &str, choices: &[u8]) -> Result<String, AllocError> {
     let mut text = String::new(rt.alloc());
     if let Some(answers) = answers_to(rt, script, choices) {
         for answer in &answers {
@@ -70,36 +72,40 @@ pub fn text_of(rt: &HostRuntime, script: &str, choices: &[u8]) -> Result<String,
 }
 
 #[test]
-fn a_start_that_lost_its_power_leaves_nothing(rt: HostRuntime) -> Result<(), Fail> {
+fn a_start_that_lost_its_power_leaves_nothing(rt: HostRuntime) -> Result<(), AllocError> {
     let script =
         "cut 5\nstart 1000000000 7 running\npower\nrecover\nerase\nstart 1000000000 7 running\n";
     let text = text_of(&rt, script, &[])?;
-    assert_eq!(rt; text.as_str(), "ok\nDevice\nok\nNothingRecorded\nok\nok\n");
+    equal(
+        &rt,
+        text.as_str(),
+        "ok\nDevice\nok\nNothingRecorded\nok\nok\n",
+    );
     Ok(())
 }
 
 // Whether a start that lost its power at the write of its gate is recovered, is for the choice bytes.
 #[test]
-fn the_choices_say_what_a_power_cut_leaves(rt: HostRuntime) -> Result<(), Fail> {
+fn the_choices_say_what_a_power_cut_leaves(rt: HostRuntime) -> Result<(), AllocError> {
     let script = "cut 10\nstart 1000000000 7 running\npower\nrecover\n";
     let text = text_of(&rt, script, &[])?;
-    assert_eq!(rt; text.as_str(), "ok\nDevice\nok\nNothingRecorded\n");
+    equal(&rt, text.as_str(), "ok\nDevice\nok\nNothingRecorded\n");
     let text = text_of(&rt, script, &GATE)?;
     let left = format!(in rt.alloc(); "ok\nDevice\nok\n{START_ALONE}")?;
-    assert_eq!(rt; text.as_str(), left.as_str());
+    equal(&rt, text.as_str(), left.as_str());
     let Some(answers) = answers_to(&rt, script, &GATE) else {
         return Ok(assert!(rt; false));
     };
     let Some(others) = answers_to(&rt, TEN_SAMPLES, &[]) else {
         return Ok(assert!(rt; false));
     };
-    assert_eq!(rt; file_in(answers.last()), file_in(others.last()));
+    equal(&rt, file_in(answers.last()), file_in(others.last()));
     Ok(())
 }
 
 // Each power cut takes its choice bytes behind those of the one before.
 #[test]
-fn the_choices_go_on(rt: HostRuntime) -> Result<(), Fail> {
+fn the_choices_go_on(rt: HostRuntime) -> Result<(), AllocError> {
     let script =
         "cut 10\nstart 1000000000 7 running\npower\nrecover\nerase\ncut 10\nstart 1000000000 7 running\npower\nrecover\n";
     let mut choices = [0; 18];
@@ -108,40 +114,41 @@ fn the_choices_go_on(rt: HostRuntime) -> Result<(), Fail> {
     let first = format!(in rt.alloc();
         "ok\nDevice\nok\n{START_ALONE}ok\nok\nDevice\nok\nNothingRecorded\n"
     )?;
-    assert_eq!(rt; text.as_str(), first.as_str());
+    equal(&rt, text.as_str(), first.as_str());
     choices[8] = 0;
     choices[17] = 0xA5;
     let text = text_of(&rt, script, &choices)?;
     let second = format!(in rt.alloc();
         "ok\nDevice\nok\nNothingRecorded\nok\nok\nDevice\nok\n{START_ALONE}"
     )?;
-    assert_eq!(rt; text.as_str(), second.as_str());
+    equal(&rt, text.as_str(), second.as_str());
     Ok(())
 }
 
 #[test]
-fn what_was_not_committed_is_gone(rt: HostRuntime) -> Result<(), Fail> {
+fn what_was_not_committed_is_gone(rt: HostRuntime) -> Result<(), AllocError> {
     let text = text_of(&rt, TEN_SAMPLES, &[])?;
     let wanted = format!(in rt.alloc();
         "ok\nok\nok\nok\nok\nok\nok\nok\nok\nok\nok\nok\n{START_ALONE}"
     )?;
-    assert_eq!(rt; text.as_str(), wanted.as_str());
+    equal(&rt, text.as_str(), wanted.as_str());
     let Some(answers) = answers_to(&rt, TEN_SAMPLES, &[]) else {
         return Ok(assert!(rt; false));
     };
     let file = file_in(answers.last());
-    assert_eq!(rt; file.len(), 340);
+    equal(&rt, file.len(), 340);
     assert!(rt; file.starts_with(&START_FRONT));
     Ok(())
 }
 
 #[test]
-fn what_was_committed_is_recovered(rt: HostRuntime) -> Result<(), Fail> {
+fn what_was_committed_is_recovered(rt: HostRuntime) -> Result<(), AllocError> {
     let script = format!(in rt.alloc(); "{TWO_LAPS}power\nrecover\n")?;
     let text = text_of(&rt, script.as_str(), &[])?;
-    assert_eq!(rt;
+    equal(
+        &rt,
         text.as_str(),
-        "ok\nok\nok\nok\nok\nok\nok\nok records=3 laps=2 sessions=1 start=1000000000 elapsed_ms=2000 timer_ms=2000 distance_cm=-\n"
+        "ok\nok\nok\nok\nok\nok\nok\nok records=3 laps=2 sessions=1 start=1000000000 elapsed_ms=2000 timer_ms=2000 distance_cm=-\n",
     );
     let mut out = Vec::new(rt.alloc());
     if let Some(answers) = answers_to(&rt, script.as_str(), &[]) {
@@ -153,19 +160,19 @@ fn what_was_committed_is_recovered(rt: HostRuntime) -> Result<(), Fail> {
 }
 
 #[test]
-fn a_call_that_fails_ends_the_recording(rt: HostRuntime) -> Result<(), Fail> {
+fn a_call_that_fails_ends_the_recording(rt: HostRuntime) -> Result<(), AllocError> {
     let script =
         "start 1000000000 7 running\nsample 1000000000 hr=100\nfail 1\ncommit\nsample 1000000001\nrecover\n";
     let text = text_of(&rt, script, &[])?;
     let wanted = format!(in rt.alloc(); "ok\nok\nok\nDevice\nFailed\n{START_ALONE}")?;
-    assert_eq!(rt; text.as_str(), wanted.as_str());
+    equal(&rt, text.as_str(), wanted.as_str());
     Ok(())
 }
 
 #[test]
-fn an_entry_needs_a_recorder(rt: HostRuntime) -> Result<(), Fail> {
+fn an_entry_needs_a_recorder(rt: HostRuntime) -> Result<(), AllocError> {
     let text = text_of(&rt, "sample 1000000000\n", &[])?;
-    assert_eq!(rt; text.as_str(), "NoRecorder\n");
+    equal(&rt, text.as_str(), "NoRecorder\n");
     Ok(())
 }
 
@@ -185,18 +192,19 @@ fn ample_memory_succeeds(rt: HostRuntime) -> Result<(), Fail> {
     let Some(answers) = answers_to(&rt, script.as_str(), &[]) else {
         return Ok(assert!(rt; false));
     };
-    assert_eq!(rt; answers.len(), 307);
+    equal(&rt, answers.len(), 307);
     let done = answers
         .iter()
         .filter(|answer| **answer == Answer::Done)
         .count();
-    assert_eq!(rt; done, 306);
+    equal(&rt, done, 306);
     let file = file_in(answers.last());
     let mut out = Vec::new(rt.alloc());
     check_bytes(rt.alloc(), file, &mut out)?;
-    assert_eq!(rt;
+    equal(
+        &rt,
         out.as_slice(),
-        b"ok records=300 laps=1 sessions=1 start=1000000000 elapsed_ms=301000 timer_ms=301000 distance_cm=-\n".as_slice()
+        b"ok records=300 laps=1 sessions=1 start=1000000000 elapsed_ms=301000 timer_ms=301000 distance_cm=-\n".as_slice(),
     );
     let read = decode_file(rt.alloc(), file)?;
     let mut written = Vec::new(rt.alloc());

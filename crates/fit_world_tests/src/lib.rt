@@ -5,6 +5,8 @@
 #[cfg(test)]
 mod direct;
 #[cfg(test)]
+mod equality;
+#[cfg(test)]
 mod failing;
 #[cfg(test)]
 mod histories;

@@ -1,10 +1,12 @@
 // Output that fails, and memory that is refused, where a file is shown or checked.
 
+use crate::equality::equal;
 use crate::failing::Failing;
 use crate::replays::stopped_ride;
 use fit_base::Crc;
 use fit_grammar::{FaultKind, FileFault};
 use fit_world::{TellFault, check_bytes, show_bytes};
+use std::alloc::AllocError;
 use std::test::Fail;
 
 // A file of one message: file_id with a type and a time.
@@ -18,7 +20,7 @@ pub const ONE_MESSAGE_TEXT: &str =
     "header 14 protocol 1.0 profile 100 data 18\n0 file_id type=4 time_created=1000000000\nmessages 1\n";
 
 // A file with these records and right checksums.
-fn framed(rt: &HostRuntime, records: &[u8]) -> Result<Vec<u8>, Fail> {
+fn framed(rt: &HostRuntime, records: &[u8]) -> Result<Vec<u8>, AllocError> {
     let mut bytes = Vec::from_slice(rt.alloc(), &[0x0E, 0x10, 0x64, 0x00])?;
     bytes.extend_from_slice(&(records.len() as u64).to_le_bytes()[..4])?;
     bytes.extend_from_slice(b".FIT")?;
@@ -31,7 +33,7 @@ fn framed(rt: &HostRuntime, records: &[u8]) -> Result<Vec<u8>, Fail> {
 }
 
 // A file of many messages without fields, and its text, which is several buffers long.
-fn long_file(rt: &HostRuntime) -> Result<(Vec<u8>, Vec<u8>), Fail> {
+fn long_file(rt: &HostRuntime) -> Result<(Vec<u8>, Vec<u8>), AllocError> {
     let mut records = Vec::from_slice(rt.alloc(), &[0x40, 0, 0, 0xE8, 3, 0])?;
     let mut text = Vec::new(rt.alloc());
     text.extend_from_slice(b"header 14 protocol 1.0 profile 100 data 2006\n")?;
@@ -55,7 +57,7 @@ fn is_told(done: Result<(), TellFault>, text: &[u8], out: &Failing) -> bool {
 
 // Where each call of the output in turn fails, for a text of one buffer and of several.
 #[test]
-fn says_where_output_fails(rt: HostRuntime) -> Result<(), Fail> {
+fn says_where_output_fails(rt: HostRuntime) -> Result<(), AllocError> {
     let (bytes, text) = long_file(&rt)?;
     let one = (ONE_MESSAGE.as_slice(), ONE_MESSAGE_TEXT.as_bytes(), 10);
     for (bytes, text, step) in [one, (bytes.as_slice(), text.as_slice(), 5000)] {
@@ -77,7 +79,7 @@ fn says_where_output_fails(rt: HostRuntime) -> Result<(), Fail> {
 
 // The output takes nothing, or all and does not hand it on, or little at a time.
 #[test]
-fn says_what_output_does(rt: HostRuntime) -> Result<(), Fail> {
+fn says_what_output_does(rt: HostRuntime) -> Result<(), AllocError> {
     let (bytes, text) = long_file(&rt)?;
     let (bytes, text) = (bytes.as_slice(), text.as_slice());
     let mut none = Failing::new(rt.alloc(), 0, usize::MAX);
@@ -86,8 +88,8 @@ fn says_what_output_does(rt: HostRuntime) -> Result<(), Fail> {
     let mut kept = Failing::new(rt.alloc(), usize::MAX, usize::MAX);
     kept.flushes = 0;
     let done = show_bytes(rt.alloc(), bytes, false, &mut kept);
-    assert_eq!(rt; done, Err(TellFault::Output));
-    assert_eq!(rt; kept.held.as_slice(), text);
+    equal(&rt, done, Err(TellFault::Output));
+    equal(&rt, kept.held.as_slice(), text);
     for step in [1, 3, 8191, 8193] {
         let mut slow = Failing::new(rt.alloc(), step, usize::MAX);
         let done = show_bytes(rt.alloc(), bytes, false, &mut slow);
@@ -120,10 +122,10 @@ fn a_check_says_where_its_output_fails(rt: HostRuntime) -> Result<(), Fail> {
 
 // Run with each allocation refused in turn: nothing is shown, and want of memory is told at an item.
 #[test]
-fn says_that_memory_is_refused(rt: HostRuntime) -> Result<(), Fail> {
+fn says_that_memory_is_refused(rt: HostRuntime) -> Result<(), AllocError> {
     let mut out = Vec::with_capacity(rt.alloc(), 128)?;
     match show_bytes(rt.alloc(), &ONE_MESSAGE, false, &mut out) {
-        Ok(()) => assert_eq!(rt; out.as_slice(), ONE_MESSAGE_TEXT.as_bytes()),
+        Ok(()) => equal(&rt, out.as_slice(), ONE_MESSAGE_TEXT.as_bytes()),
         Err(fault) => {
             let at = |place| {
                 TellFault::File(FileFault {
@@ -132,7 +134,7 @@ fn says_that_memory_is_refused(rt: HostRuntime) -> Result<(), Fail> {
                 })
             };
             assert!(rt; fault == at(14) || fault == at(26));
-            assert_eq!(rt; out.len(), 0);
+            equal(&rt, out.len(), 0);
         }
     }
     Ok(())

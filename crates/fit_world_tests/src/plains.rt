@@ -1,5 +1,6 @@
 // Files that are made plain, with bytes from outside.
 
+use crate::equality::equal;
 use crate::failing::Failing;
 use crate::output::ONE_MESSAGE;
 use fit_grammar::{FaultKind, FileFault, PlainFault, PlainFaultKind};
@@ -32,8 +33,8 @@ fn a_file_is_made_plain(rt: HostRuntime) -> Result<(), Fail> {
         let mut out = Vec::new(rt.alloc());
         let mut from = bytes;
         let done = plain_input(rt.alloc(), &mut from, 128, &mut out);
-        assert_eq!(rt; done, Ok(messages));
-        assert_eq!(rt; out.as_slice(), made);
+        equal(&rt, done, Ok(messages));
+        equal(&rt, out.as_slice(), made);
     }
     Ok(())
 }
@@ -47,13 +48,13 @@ fn what_is_no_file_is_not_made_plain(rt: HostRuntime) -> Result<(), Fail> {
         place: 40,
     };
     let done = plain_input(rt.alloc(), &mut from, 128, &mut out);
-    assert_eq!(rt; done, Err(TellFault::File(fault)));
+    equal(&rt, done, Err(TellFault::File(fault)));
     assert!(rt; out.is_empty());
     let fault = PlainFault {
         kind: PlainFaultKind::Memory,
         place: 14,
     };
-    assert_eq!(rt; TellFault::Plain(fault).code(), 5);
+    equal(&rt, TellFault::Plain(fault).code(), 5);
     Ok(())
 }
 
@@ -74,6 +75,6 @@ fn an_output_of_a_plain_file_that_fails_is_told(rt: HostRuntime) -> Result<(), F
 fn so_many_messages_are_told(rt: HostRuntime) -> Result<(), Fail> {
     let mut out = Vec::new(rt.alloc());
     assert!(rt; print_messages(41, &mut out).is_ok());
-    assert_eq!(rt; out.as_slice(), b"messages 41\n".as_slice());
+    equal(&rt, out.as_slice(), b"messages 41\n".as_slice());
     Ok(())
 }

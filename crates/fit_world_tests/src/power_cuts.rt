@@ -1,7 +1,9 @@
 // Power cuts at each call of the device, in a commit and in a recovery, with all that they may leave as one byte or another.
 
+use crate::equality::equal;
 use crate::histories::{answers_to, file_in};
 use fit_world::Answer;
+use std::alloc::AllocError;
 use std::test::Fail;
 
 // How many calls of the device a commit makes: the first writes what waits in the page.
@@ -31,7 +33,9 @@ fn records_in(answers: &[Answer]) -> Option<u32> {
 
 // A recovery keeps what was committed, or what the commit had begun to commit, whatever was left.
 #[test]
-fn a_power_cut_in_a_commit_leaves_a_length_that_was_begun(rt: HostRuntime) -> Result<(), Fail> {
+fn a_power_cut_in_a_commit_leaves_a_length_that_was_begun(
+    rt: HostRuntime,
+) -> Result<(), AllocError> {
     let mut kept = [false; 2];
     for k in 1..=COMMIT_CALLS {
         let script = format!(in rt.alloc(); "{ONE_COMMIT}cut {k}\ncommit\npower\nrecover\n")?;
@@ -51,13 +55,13 @@ fn a_power_cut_in_a_commit_leaves_a_length_that_was_begun(rt: HostRuntime) -> Re
             }
         }
     }
-    assert_eq!(rt; kept, [true, true]);
+    equal(&rt, kept, [true, true]);
     Ok(())
 }
 
 // A recovery that was cut off anywhere and is made again leaves the bytes of one that was not.
 #[test]
-fn a_power_cut_in_a_recovery_changes_nothing(rt: HostRuntime) -> Result<(), Fail> {
+fn a_power_cut_in_a_recovery_changes_nothing(rt: HostRuntime) -> Result<(), AllocError> {
     let whole = format!(in rt.alloc(); "{TWO_LAPS}recover\n")?;
     let Some(wanted) = answers_to(&rt, whole.as_str(), &[]) else {
         return Ok(assert!(rt; false));
@@ -82,6 +86,6 @@ fn a_recovery_of_a_stopped_recording_changes_nothing(rt: HostRuntime) -> Result<
     };
     let stopped = file_in(answers.get(2));
     assert!(rt; !stopped.is_empty());
-    assert_eq!(rt; file_in(answers.last()), stopped);
+    equal(&rt, file_in(answers.last()), stopped);
     Ok(())
 }

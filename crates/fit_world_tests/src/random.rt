@@ -8,7 +8,7 @@ use fit_disk::{Memory, Which};
 use fit_recorder::RecFault;
 use fit_world::world::run;
 use fit_world::{Answer, Command, parse_script, play, read_script, simulate};
-use std::alloc::Global;
+use std::alloc::{AllocError, Global};
 use std::process::Abort;
 use std::test::Fail;
 
@@ -67,7 +67,7 @@ impl Noise {
     }
 
     // One setting of a sample, or none.
-    fn setting(&mut self, alloc: Global) -> Result<String, Fail> {
+    fn setting(&mut self, alloc: Global) -> Result<String, AllocError> {
         let text = match self.below(16) {
             0 => format!(in alloc; " lat={} long=-{}", self.below(9), self.below(9))?,
             1 => format!(in alloc; " alt={}", self.below(65_537).min(65_535))?,
@@ -85,7 +85,7 @@ impl Noise {
     }
 
     // The line of a start.
-    fn start(&mut self, alloc: Global) -> Result<String, Fail> {
+    fn start(&mut self, alloc: Global) -> Result<String, AllocError> {
         let time = self.time();
         self.start = time;
         self.rides = true;
@@ -104,7 +104,7 @@ impl Noise {
     }
 
     // The line of an event that is likely while a recorder runs.
-    fn line_of_a_ride(&mut self, alloc: Global) -> Result<String, Fail> {
+    fn line_of_a_ride(&mut self, alloc: Global) -> Result<String, AllocError> {
         let line = match self.below(40) {
             0..19 => {
                 let setting = self.setting(alloc)?;
@@ -123,7 +123,7 @@ impl Noise {
     }
 
     // The line of one that is likely while none runs; each ends the one that does.
-    fn line_between(&mut self, alloc: Global) -> Result<String, Fail> {
+    fn line_between(&mut self, alloc: Global) -> Result<String, AllocError> {
         self.rides = false;
         let line = match self.below(24) {
             0..6 => self.start(alloc)?,
@@ -140,7 +140,7 @@ impl Noise {
     }
 
     // The line of any event.
-    fn line(&mut self, alloc: Global) -> Result<String, Fail> {
+    fn line(&mut self, alloc: Global) -> Result<String, AllocError> {
         match self.below(20) {
             0 => Ok(format!(in alloc; "fail {}\n", self.call())?),
             1 => Ok(format!(in alloc; "cut {}\n", self.call())?),
@@ -152,7 +152,7 @@ impl Noise {
     }
 
     // A script, which mostly begins with a start.
-    fn script(&mut self, alloc: Global) -> Result<String, Fail> {
+    fn script(&mut self, alloc: Global) -> Result<String, AllocError> {
         self.now = 1_000_000_000;
         self.start = self.now;
         self.rides = false;
@@ -356,7 +356,7 @@ fn random_histories_go_by_the_table(rt: HostRuntime) -> Result<(), Fail> {
 }
 
 // The lines of a script but those that speak of a disk whose failures are arranged.
-fn replayed_lines(alloc: Global, script: &str) -> Result<String, Fail> {
+fn replayed_lines(alloc: Global, script: &str) -> Result<String, AllocError> {
     let mut text = String::new(alloc);
     for line in script.lines() {
         let is_simulated = line.starts_with("fail")

@@ -1,11 +1,11 @@
 // Inputs that are read to their end, or not.
 
+use crate::equality::equal;
 use crate::output::{ONE_MESSAGE, ONE_MESSAGE_TEXT};
 use fit_grammar::{FaultKind, FileFault};
 use fit_world::{ReadFault, TellFault, read_all, show_input};
 use std::alloc::Global;
 use std::io::{self, Read};
-use std::test::Fail;
 
 // A reader that gives some bytes a call, and refuses each call behind some.
 #[derive(Drop)]
@@ -80,7 +80,7 @@ fn tells_a_failed_read_from_too_much(rt: HostRuntime) {
 fn tells_want_of_memory(rt: HostRuntime) {
     let read = outcome(rt.alloc(), 10, 3, usize::MAX);
     if !is_all(&read, 10) {
-        assert_eq!(rt; read.err(), Some(ReadFault::NoMemory));
+        equal(&rt, read.err(), Some(ReadFault::NoMemory));
     }
 }
 

@@ -1,12 +1,13 @@
 // Rides that go on: what is answered to them and what their files hold is from outside, and the rows of the table are tried, each
 // with an answer that may come and with one that may not.
 
+use crate::equality::equal;
 use crate::histories::{answers_to, file_in, text_of};
 use crate::table::is_history;
 use fit_activity::Refusal;
 use fit_recorder::RecFault;
 use fit_world::{Answer, check_bytes, parse_script, show_bytes};
-use std::alloc::Global;
+use std::alloc::{AllocError, Global};
 use std::test::Fail;
 
 // A ride that lost its power behind its one commit, and goes on to its stop.
@@ -40,7 +41,7 @@ fn shown(alloc: Global, file: &[u8]) -> Result<Vec<u8>, Fail> {
 #[test]
 fn a_ride_goes_on_behind_its_last_commit(rt: HostRuntime) -> Result<(), Fail> {
     let text = text_of(&rt, GONE_ON, &[])?;
-    assert_eq!(rt; text.as_str(), "ok\nok\nok\nok\nok\nok\nok\nok\n");
+    equal(&rt, text.as_str(), "ok\nok\nok\nok\nok\nok\nok\nok\n");
     let Some(answers) = answers_to(&rt, GONE_ON, &[]) else {
         return Ok(assert!(rt; false));
     };
@@ -56,23 +57,27 @@ fn a_ride_goes_on_behind_its_last_commit(rt: HostRuntime) -> Result<(), Fail> {
     );
     let mut out = Vec::new(rt.alloc());
     check_bytes(rt.alloc(), file, &mut out)?;
-    assert_eq!(rt;
+    equal(
+        &rt,
         out.as_slice(),
-        b"ok records=2 laps=1 sessions=1 start=1000000000 elapsed_ms=2000 timer_ms=2000 distance_cm=-\n".as_slice()
+        b"ok records=2 laps=1 sessions=1 start=1000000000 elapsed_ms=2000 timer_ms=2000 distance_cm=-\n".as_slice(),
     );
     Ok(())
 }
 
 #[test]
-fn a_stopped_ride_and_one_that_is_not_there_do_not_go_on(rt: HostRuntime) -> Result<(), Fail> {
+fn a_stopped_ride_and_one_that_is_not_there_do_not_go_on(
+    rt: HostRuntime,
+) -> Result<(), AllocError> {
     let script = format!(in rt.alloc(); "{GONE_ON}reopen\nsample 1000000003\n")?;
     let text = text_of(&rt, script.as_str(), &[])?;
-    assert_eq!(rt;
+    equal(
+        &rt,
         text.as_str(),
-        "ok\nok\nok\nok\nok\nok\nok\nok\nRefused(Stopped)\nNoRecorder\n"
+        "ok\nok\nok\nok\nok\nok\nok\nok\nRefused(Stopped)\nNoRecorder\n",
     );
     let text = text_of(&rt, "reopen\n", &[])?;
-    assert_eq!(rt; text.as_str(), "NothingRecorded\n");
+    equal(&rt, text.as_str(), "NothingRecorded\n");
     Ok(())
 }
 
@@ -95,9 +100,10 @@ fn a_recovered_ride_goes_on(rt: HostRuntime) -> Result<(), Fail> {
     let script =
         "start 1000000000 7 running\nsample 1000000000 hr=100\ncommit\nrecover\nreopen\nsample 1000000002 hr=110\nstop 1000000002\n";
     let text = text_of(&rt, script, &[])?;
-    assert_eq!(rt;
+    equal(
+        &rt,
         text.as_str(),
-        "ok\nok\nok\nok records=1 laps=1 sessions=1 start=1000000000 elapsed_ms=0 timer_ms=0 distance_cm=-\nok\nok\nok\n"
+        "ok\nok\nok\nok records=1 laps=1 sessions=1 start=1000000000 elapsed_ms=0 timer_ms=0 distance_cm=-\nok\nok\nok\n",
     );
     let Some(answers) = answers_to(&rt, script, &[]) else {
         return Ok(assert!(rt; false));
@@ -117,7 +123,7 @@ fn may_come(rt: &HostRuntime, script: &str, last: Option<Answer>) -> Result<bool
         answers.pop();
         answers.push(answer)?;
     }
-    is_history(rt.alloc(), &events, &answers)
+    Ok(is_history(rt.alloc(), &events, &answers)?)
 }
 
 // A ride that has no stop, one that has, one whose reopening fails, and none.

@@ -1,9 +1,11 @@
 // Scripts that are played over a disk in memory. The lines are from outside.
 
+use crate::equality::equal;
 use crate::failing::Failing;
 use fit_disk::{Memory, Which};
 use fit_recorder::recover;
 use fit_world::{ReplayFault, ScriptFaultKind, TellFault, check_bytes, play, read_script};
+use std::alloc::AllocError;
 use std::test::Fail;
 
 // Five events, of which each second commits one record more.
@@ -27,11 +29,11 @@ fn the_example_of_the_crate(rt: HostRuntime) -> Result<(), Fail> {
     let mut out = Vec::new(alloc);
     let events = read_script(alloc, b"start 1000000000 7 running\nstop 1000000001\n")?;
     let (disk, played) = play(Memory::new(alloc), events.as_slice(), &mut out);
-    assert_eq!(rt; played, Ok(0));
+    equal(&rt, played, Ok(0));
     check_bytes(alloc, disk.content(Which::Data), &mut out)?;
     let text =
         "1 start: ok\n2 stop: ok\nok records=0 laps=1 sessions=1 start=1000000000 elapsed_ms=1000 timer_ms=1000 distance_cm=-\n";
-    assert_eq!(rt; out.as_slice(), text.as_bytes());
+    equal(&rt, out.as_slice(), text.as_bytes());
     Ok(())
 }
 
@@ -44,8 +46,8 @@ fn a_stopped_ride_is_erased_and_another_begins(rt: HostRuntime) -> Result<(), Fa
     let mut out = Vec::new(rt.alloc());
     let events = read_script(rt.alloc(), script.as_bytes())?;
     let (_, played) = play(Memory::new(rt.alloc()), events.as_slice(), &mut out);
-    assert_eq!(rt; played, Ok(1));
-    assert_eq!(rt; out.as_slice(), text.as_bytes());
+    equal(&rt, played, Ok(1));
+    equal(&rt, out.as_slice(), text.as_bytes());
     Ok(())
 }
 
@@ -78,12 +80,16 @@ fn a_replay_ends_where_its_output_fails(rt: HostRuntime) {
     let mut out = Failing::new(rt.alloc(), usize::MAX, usize::MAX);
     out.flushes = 0;
     assert!(rt; keeps(&rt, &mut out, 0));
-    assert_eq!(rt; out.held.as_slice(), b"1 start: ok\n".as_slice());
+    equal(&rt, out.held.as_slice(), b"1 start: ok\n".as_slice());
     // The flush of the third line alone fails: later ones would go well.
     let mut out = Failing::new(rt.alloc(), usize::MAX, usize::MAX);
     out.flushes = 2;
     assert!(rt; keeps(&rt, &mut out, 1));
-    assert_eq!(rt; out.held.as_slice(), &TWO_COMMITS_ANSWERS.as_bytes()[..38]);
+    equal(
+        &rt,
+        out.held.as_slice(),
+        &TWO_COMMITS_ANSWERS.as_bytes()[..38],
+    );
 }
 
 // The bytes are no text, a line is none of a script, or an event is only simulated: the first of these is told.
@@ -114,7 +120,7 @@ fn a_script_that_is_not_replayed(rt: HostRuntime) {
 
 // Run with each allocation refused in turn: want of memory is told at a line, or the device of the disk failed.
 #[test]
-fn a_replay_says_that_memory_is_refused(rt: HostRuntime) -> Result<(), Fail> {
+fn a_replay_says_that_memory_is_refused(rt: HostRuntime) -> Result<(), AllocError> {
     let mut out = Vec::with_capacity(rt.alloc(), 256)?;
     match read_script(rt.alloc(), TWO_COMMITS.as_bytes()) {
         Ok(events) => {
@@ -123,8 +129,8 @@ fn a_replay_says_that_memory_is_refused(rt: HostRuntime) -> Result<(), Fail> {
             assert!(rt; disk.spent() != (played == Ok(0)) && disk.spent() != all);
         }
         Err(ReplayFault::Script(fault)) => {
-            assert_eq!(rt; fault.kind, ScriptFaultKind::Memory);
-            assert_eq!(rt; out.len(), 0);
+            equal(&rt, fault.kind, ScriptFaultKind::Memory);
+            equal(&rt, out.len(), 0);
         }
         Err(_) => assert!(rt; false),
     }

@@ -1,5 +1,6 @@
 // Files that are salvaged, with bytes and numbers from outside.
 
+use crate::equality::equal;
 use crate::failing::Failing;
 use fit_grammar::{FaultKind, FileFault};
 use fit_world::{SalvageFault, Salvaged, print_salvaged, salvage_bytes};
@@ -50,8 +51,8 @@ fn the_longest_row_is_saved(rt: HostRuntime) -> Result<(), Fail> {
     ] {
         let mut out = Vec::new(rt.alloc());
         let salvaged = salvage_bytes(bytes, &mut out);
-        assert_eq!(rt; salvaged, Ok(Salvaged { kept, looked_at }));
-        assert_eq!(rt; out.as_slice(), saved);
+        equal(&rt, salvaged, Ok(Salvaged { kept, looked_at }));
+        equal(&rt, out.as_slice(), saved);
     }
     Ok(())
 }
@@ -67,11 +68,12 @@ fn what_begins_with_no_header_is_refused(rt: HostRuntime) -> Result<(), Fail> {
     ] {
         let mut out = Vec::new(rt.alloc());
         let fault = FileFault { kind, place };
-        assert_eq!(rt;
+        equal(
+            &rt,
             salvage_bytes(bytes, &mut out),
-            Err(SalvageFault::File(fault))
+            Err(SalvageFault::File(fault)),
         );
-        assert_eq!(rt; SalvageFault::File(fault).code(), 1);
+        equal(&rt, SalvageFault::File(fault).code(), 1);
         assert!(rt; out.is_empty());
     }
     Ok(())
@@ -86,10 +88,10 @@ fn an_output_that_fails_is_told(rt: HostRuntime) -> Result<(), Fail> {
         assert_eq!(rt; salvaged, Err(SalvageFault::Output), "{calls}");
         assert!(rt; WHOLE.starts_with(&out.held), "{calls}");
     }
-    assert_eq!(rt; SalvageFault::Output.code(), 2);
+    equal(&rt, SalvageFault::Output.code(), 2);
     let mut out = Failing::new(rt.alloc(), 3, 20);
     assert!(rt; salvage_bytes(WHOLE.as_slice(), &mut out).is_ok());
-    assert_eq!(rt; out.held.as_slice(), WHOLE.as_slice());
+    equal(&rt, out.held.as_slice(), WHOLE.as_slice());
     Ok(())
 }
 
@@ -101,6 +103,6 @@ fn so_many_bytes_are_told(rt: HostRuntime) -> Result<(), Fail> {
     };
     let mut out = Vec::new(rt.alloc());
     assert!(rt; print_salvaged(salvaged, &mut out).is_ok());
-    assert_eq!(rt; out.as_slice(), b"kept 12 of 17\n".as_slice());
+    equal(&rt, out.as_slice(), b"kept 12 of 17\n".as_slice());
     Ok(())
 }

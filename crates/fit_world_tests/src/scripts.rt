@@ -1,5 +1,6 @@
 // Scripts whose events and faults are known from outside.
 
+use crate::equality::equal;
 use fit_activity::{Entry, Sample, Sport, Start};
 use fit_world::ScriptFaultKind::{
     BadNumber, ExtraWord, MissingWord, RepeatedKey, UnknownKey, UnknownWord,
@@ -249,11 +250,12 @@ fn counts_lines(rt: HostRuntime) {
     ] {
         assert!(rt; has_events(&rt, text, &[lap, commit]), "{text:?}");
     }
-    assert_eq!(rt;
+    equal(
+        &rt,
         fault_of(&rt, "lap 1\n\n# x\nlap\nstop"),
-        Some((MissingWord, 4))
+        Some((MissingWord, 4)),
     );
-    assert_eq!(rt; fault_of(&rt, "stop\nlap"), Some((MissingWord, 1)));
+    equal(&rt, fault_of(&rt, "stop\nlap"), Some((MissingWord, 1)));
 }
 
 #[test]
@@ -268,7 +270,7 @@ fn numbers_of_faults(rt: HostRuntime) {
         ScriptFaultKind::Memory,
     ];
     for (place, kind) in kinds.iter().enumerate() {
-        assert_eq!(rt; usize::from(kind.code()), place + 1);
+        equal(&rt, usize::from(kind.code()), place + 1);
     }
 }
 
@@ -280,9 +282,9 @@ fn a_script_tells_want_of_memory(rt: HostRuntime) {
         command: Command::Commit,
     };
     match parse_script(rt.alloc(), "commit\ncommit") {
-        Ok(events) => assert_eq!(rt; events.as_slice(), [commit(1), commit(2)].as_slice()),
+        Ok(events) => equal(&rt, events.as_slice(), [commit(1), commit(2)].as_slice()),
         Err(fault) => {
-            assert_eq!(rt; fault.kind, ScriptFaultKind::Memory);
+            equal(&rt, fault.kind, ScriptFaultKind::Memory);
             assert!(rt; fault.line == 1 || fault.line == 2);
         }
     }

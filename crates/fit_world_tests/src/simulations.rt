@@ -1,7 +1,9 @@
 // Scripts that are simulated: output that fails, and memory that is refused. The lines are from outside.
 
 use super::failing::Failing;
+use crate::equality::equal;
 use fit_world::{SimulateFault, simulate};
+use std::alloc::AllocError;
 use std::test::Fail;
 
 // The power goes at the write that makes the start count.
@@ -17,7 +19,7 @@ const CHOICES: [u8; 9] = [0, 0, 0, 0, 0, 0, 0, 0, 0xA5];
 fn a_simulation_is_told(rt: HostRuntime) -> Result<(), Fail> {
     let mut out = Vec::new(rt.alloc());
     simulate(rt.alloc(), CUT_OFF.as_bytes(), &CHOICES, &mut out)?;
-    assert_eq!(rt; out.as_slice(), CUT_OFF_ANSWERS.as_bytes());
+    equal(&rt, out.as_slice(), CUT_OFF_ANSWERS.as_bytes());
     Ok(())
 }
 
@@ -38,8 +40,8 @@ fn a_simulation_says_where_its_output_fails(rt: HostRuntime) {
     let mut kept = Failing::new(rt.alloc(), usize::MAX, usize::MAX);
     kept.flushes = 0;
     let done = simulate(rt.alloc(), CUT_OFF.as_bytes(), &CHOICES, &mut kept);
-    assert_eq!(rt; done, Err(SimulateFault::Output));
-    assert_eq!(rt; kept.held.as_slice(), text);
+    equal(&rt, done, Err(SimulateFault::Output));
+    equal(&rt, kept.held.as_slice(), text);
 }
 
 // The bytes are no text, or a line is none of a script: the first of these is told.
@@ -61,13 +63,13 @@ fn a_script_that_is_not_simulated(rt: HostRuntime) {
 
 // Run with each allocation refused in turn: nothing is told but the want of memory.
 #[test]
-fn a_simulation_says_that_memory_is_refused(rt: HostRuntime) -> Result<(), Fail> {
+fn a_simulation_says_that_memory_is_refused(rt: HostRuntime) -> Result<(), AllocError> {
     let mut out = Vec::with_capacity(rt.alloc(), 256)?;
     match simulate(rt.alloc(), CUT_OFF.as_bytes(), &CHOICES, &mut out) {
-        Ok(()) => assert_eq!(rt; out.as_slice(), CUT_OFF_ANSWERS.as_bytes()),
+        Ok(()) => equal(&rt, out.as_slice(), CUT_OFF_ANSWERS.as_bytes()),
         Err(fault) => {
             assert!(rt; fault.code() == 2 || fault == SimulateFault::NoMemory);
-            assert_eq!(rt; out.len(), 0);
+            equal(&rt, out.len(), 0);
         }
     }
     Ok(())

@@ -2,6 +2,7 @@
 // goes on; by `world::run`, and again by direct calls. How many calls there are is that of the description.
 
 use crate::direct;
+use crate::equality::equal;
 use crate::histories::file_in;
 use crate::table::is_history;
 use fit_activity::Summary;
@@ -100,7 +101,7 @@ fn cut_each_call_of_a_recovery(rt: &impl Abort, alloc: Global) -> Result<(), Fai
     let script = format!(in alloc; "{RIDE}recover\n")?;
     let whole = answers_to(rt, alloc, script.as_str(), &[])?;
     let wanted = file_in(whole.last());
-    assert_eq!(rt; wanted.len(), 14 + 72 + 11 + 2 + 87 + 252 + 2);
+    equal(rt, wanted.len(), 14 + 72 + 11 + 2 + 87 + 252 + 2);
     for choices in CHOICES {
         for k in 1..=RECOVERY_CALLS + 1 {
             let script = format!(in alloc; "{RIDE}cut {k}\nrecover\npower\nrecover\n")?;

@@ -8,9 +8,9 @@ use fit_activity::{Entry, Refusal, Start, Summary};
 use fit_recorder::RecFault;
 use fit_world::{Answer, Command, Event};
 use list::{Recorded, has_stopped, refusal_of, start_fits, sums_of};
-use std::alloc::Global;
+use std::alloc::{AllocError, Global};
 use std::test::Fail;
-use telling::{Told, told_by, told_of};
+use telling::{told_by, told_of};
 
 // A beginning of the list may be recorded, no shorter than the promise.
 #[derive(Debug, Drop)]
@@ -20,7 +20,7 @@ struct Claim {
 }
 
 // All of this list is recorded.
-fn whole(alloc: Global, list: &[Recorded]) -> Result<Claim, Fail> {
+fn whole(alloc: Global, list: &[Recorded]) -> Result<Claim, AllocError> {
     Ok(Claim {
         list: Vec::from_slice(alloc, list)?,
         promise: list.len(),
@@ -50,7 +50,7 @@ fn is_device(answer: &Answer) -> bool {
 
 impl Table {
     /// Two empty files: the one claim is that nothing is recorded.
-    pub fn new(alloc: Global) -> Result<Table, Fail> {
+    pub fn new(alloc: Global) -> Result<Table, AllocError> {
         let mut claims = Vec::new(alloc);
         claims.push(whole(alloc, &[])?)?;
         Ok(Table {
@@ -65,7 +65,7 @@ impl Table {
     }
 
     /// Whether the answer may come to the command. The recording stands behind it then.
-    pub fn allows(&mut self, command: &Command, answer: &Answer) -> Result<bool, Fail> {
+    pub fn allows(&mut self, command: &Command, answer: &Answer) -> Result<bool, AllocError> {
         if is_device(answer) && !self.cut && !self.fail {
             return Ok(false);
         }
@@ -92,7 +92,7 @@ impl Table {
     }
 
     // From here on all of this list is recorded, and nothing else.
-    fn keep(&mut self, list: &[Recorded]) -> Result<(), Fail> {
+    fn keep(&mut self, list: &[Recorded]) -> Result<(), AllocError> {
         let mut claims = Vec::new(self.alloc);
         claims.push(whole(self.alloc, list)?)?;
         self.claims = claims;
@@ -123,7 +123,7 @@ impl Table {
         *answer == Answer::Done
     }
 
-    fn start(&mut self, start: &Start, answer: &Answer) -> Result<bool, Fail> {
+    fn start(&mut self, start: &Start, answer: &Answer) -> Result<bool, AllocError> {
         self.end();
         let fits = start_fits(start);
         match answer {
@@ -149,7 +149,7 @@ impl Table {
     }
 
     // An entry that is no stop. No history here has so many that there is no room.
-    fn hand(&mut self, entry: &Entry, answer: &Answer) -> Result<bool, Fail> {
+    fn hand(&mut self, entry: &Entry, answer: &Answer) -> Result<bool, AllocError> {
         if !self.riding || self.broken {
             return Ok(self.is_idle(answer));
         }
@@ -175,7 +175,7 @@ impl Table {
     }
 
     // The entry is handed in.
-    fn add(&mut self, entry: &Entry) -> Result<(), Fail> {
+    fn add(&mut self, entry: &Entry) -> Result<(), AllocError> {
         for claim in &mut self.claims {
             claim.list.push(Recorded::Added(*entry))?;
         }
@@ -207,7 +207,7 @@ impl Table {
         }
     }
 
-    fn stop(&mut self, time: u32, answer: &Answer) -> Result<bool, Fail> {
+    fn stop(&mut self, time: u32, answer: &Answer) -> Result<bool, AllocError> {
         if !self.riding || self.broken {
             return Ok(self.is_idle(answer));
         }
@@ -232,7 +232,7 @@ impl Table {
     }
 
     // Of the lists that the recorder was handed, those whose file this is.
-    fn keep_told(&mut self, file: &[u8]) -> Result<(), Fail> {
+    fn keep_told(&mut self, file: &[u8]) -> Result<(), AllocError> {
         let mut kept = Vec::new(self.alloc);
         if let Some(told) = told_by(self.alloc, file)? {
             for claim in &self.claims {
@@ -253,7 +253,7 @@ impl Table {
         }
     }
 
-    fn recover(&mut self, answer: &Answer) -> Result<bool, Fail> {
+    fn recover(&mut self, answer: &Answer) -> Result<bool, AllocError> {
         self.end();
         match answer {
             Answer::Recovered { summary, file } => self.recovered(summary, file),
@@ -269,7 +269,7 @@ impl Table {
 
     // The file is that of a beginning of some claim, no shorter than it promises and not empty. Two beginnings may have one file:
     // where the last ends with a stop at the time of the entry before it.
-    fn recovered(&mut self, summary: &Summary, file: &[u8]) -> Result<bool, Fail> {
+    fn recovered(&mut self, summary: &Summary, file: &[u8]) -> Result<bool, AllocError> {
         let Some(told) = told_by(self.alloc, file)? else {
             return Ok(false);
         };
@@ -288,7 +288,7 @@ impl Table {
     }
 
     // A ride that has no stop goes on.
-    fn reopen(&mut self, answer: &Answer) -> Result<bool, Fail> {
+    fn reopen(&mut self, answer: &Answer) -> Result<bool, AllocError> {
         self.end();
         match answer {
             Answer::Done => {
@@ -310,7 +310,7 @@ impl Table {
     }
 
     // What may be recorded and has no stop: the beginnings of each claim, no shorter than it promises and not empty.
-    fn keep_beginnings(&mut self) -> Result<(), Fail> {
+    fn keep_beginnings(&mut self) -> Result<(), AllocError> {
         let mut kept: Vec<Claim> = Vec::new(self.alloc);
         for claim in &self.claims {
             for len in claim.promise.max(1)..claim.list.len().saturating_add(1) {
@@ -326,7 +326,7 @@ impl Table {
         Ok(())
     }
 
-    fn erase(&mut self, answer: &Answer) -> Result<bool, Fail> {
+    fn erase(&mut self, answer: &Answer) -> Result<bool, AllocError> {
         self.end();
         match answer {
             Answer::Done => {
@@ -345,7 +345,7 @@ impl Table {
 }
 
 /// Whether these answers may come to these events over two empty files.
-pub fn is_history(alloc: Global, events: &[Event], answers: &[Answer]) -> Result<bool, Fail> {
+pub fn is_history(alloc: Global, events: &[Event], answers: &[Answer]) -> Result<bool, AllocError> {
     if events.len() != answers.len() {
         return Ok(false);
     }

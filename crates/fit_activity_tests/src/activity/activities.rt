@@ -4,16 +4,17 @@ ghost use Rattle.std.specs.Prelude.{◌≡◌, ◌≤◌, length};
 
 use super::messages::empty_file;
 use super::{START, ride};
+use crate::equality::equal;
 use arrayvec::ArrayVec;
 use fit_activity::{ActivityFault, Speech, Summary, check_activity, speak_closing, speak_start};
 use fit_base::Arch;
-use fit_grammar::{Definition, FieldDefinition, File, decode_file};
+use fit_grammar::{Definition, FieldDefinition, File, PutFault, decode_file};
 use std::alloc::Global;
 use std::process::Abort;
 use std::test::Fail;
 
 // The messages of a start at T and of its end, but for those of these global numbers.
-fn short_ride(rt: &impl Abort, alloc: Global, left_out: &[u16]) -> Result<File, Fail> {
+fn short_ride(rt: &impl Abort, alloc: Global, left_out: &[u16]) -> Result<File, PutFault> {
     let mut file = empty_file(alloc);
     let mut speech = Speech::new();
     speak_start(&START, &mut speech);
@@ -23,7 +24,7 @@ fn short_ride(rt: &impl Abort, alloc: Global, left_out: &[u16]) -> Result<File, 
     Ok(file)
 }
 
-fn put_but(file: &mut File, speech: &Speech, left_out: &[u16]) -> Result<(), Fail> {
+fn put_but(file: &mut File, speech: &Speech, left_out: &[u16]) -> Result<(), PutFault> {
     for message in speech.messages() {
         let definition = &message.definition();
         if definition.local < 16 && !left_out.contains(&definition.global) {
@@ -35,7 +36,7 @@ fn put_but(file: &mut File, speech: &Speech, left_out: &[u16]) -> Result<(), Fai
 }
 
 #[test]
-fn accepts_a_short_ride(rt: HostRuntime) -> Result<(), Fail> {
+fn accepts_a_short_ride(rt: HostRuntime) -> Result<(), PutFault> {
     let file = short_ride(&rt, rt.alloc(), &[])?;
     let summary = Summary {
         records: 0,
@@ -46,7 +47,7 @@ fn accepts_a_short_ride(rt: HostRuntime) -> Result<(), Fail> {
         timer_ms: Some(0),
         distance_cm: None,
     };
-    assert_eq!(rt; check_activity(&file), Ok(summary));
+    equal(&rt, check_activity(&file), Ok(summary));
     Ok(())
 }
 
@@ -55,12 +56,12 @@ fn tells_what_is_missing(rt: HostRuntime) -> Result<(), Fail> {
     let fault = |left_out: &[u16]| -> Result<Option<ActivityFault>, Fail> {
         Ok(check_activity(&short_ride(&rt, rt.alloc(), left_out)?).err())
     };
-    assert_eq!(rt; fault(&[0])?, Some(ActivityFault::NoFileId));
-    assert_eq!(rt; fault(&[0, 19, 18, 34])?, Some(ActivityFault::NoFileId));
-    assert_eq!(rt; fault(&[19, 18, 34])?, Some(ActivityFault::NoLap));
-    assert_eq!(rt; fault(&[18, 34])?, Some(ActivityFault::NoSession));
-    assert_eq!(rt; fault(&[18])?, Some(ActivityFault::NoSession));
-    assert_eq!(rt; fault(&[34])?, Some(ActivityFault::NoActivity));
+    equal(&rt, fault(&[0])?, Some(ActivityFault::NoFileId));
+    equal(&rt, fault(&[0, 19, 18, 34])?, Some(ActivityFault::NoFileId));
+    equal(&rt, fault(&[19, 18, 34])?, Some(ActivityFault::NoLap));
+    equal(&rt, fault(&[18, 34])?, Some(ActivityFault::NoSession));
+    equal(&rt, fault(&[18])?, Some(ActivityFault::NoSession));
+    equal(&rt, fault(&[34])?, Some(ActivityFault::NoActivity));
     Ok(())
 }
 
@@ -77,13 +78,15 @@ const SMALL: [u8; 34] = [
 
 #[test]
 fn judges_known_files(rt: HostRuntime) -> Result<(), Fail> {
-    assert_eq!(rt;
+    equal(
+        &rt,
         check_activity(&decode_file(rt.alloc(), &EMPTY)?),
-        Err(ActivityFault::NoFileId)
+        Err(ActivityFault::NoFileId),
     );
-    assert_eq!(rt;
+    equal(
+        &rt,
         check_activity(&decode_file(rt.alloc(), &SMALL)?),
-        Err(ActivityFault::NoLap)
+        Err(ActivityFault::NoLap),
     );
     Ok(())
 }
@@ -113,7 +116,7 @@ fn definition(local: u8, arch: Arch, global: u16, fields: &[[u8; 3]]) -> Definit
 }
 
 // Adds messages of no field.
-fn put_empty(file: &mut File, globals: &[u16]) -> Result<(), Fail> {
+fn put_empty(file: &mut File, globals: &[u16]) -> Result<(), PutFault> {
     for global in globals {
         file.define(&definition(0, Arch::Little, *global, &[]))?;
         file.data(0, None, &[])?;
@@ -126,7 +129,7 @@ fn with_file_id(
     alloc: Global,
     fields: &[[u8; 3]],
     content: &[u8],
-) -> Result<Result<Summary, ActivityFault>, Fail>
+) -> Result<Result<Summary, ActivityFault>, PutFault>
     requires { length fields.now ≤ 255 }
 {
     let mut file = empty_file(alloc);
@@ -137,7 +140,7 @@ fn with_file_id(
 }
 
 #[test]
-fn wants_the_type_of_an_activity(rt: HostRuntime) -> Result<(), Fail> {
+fn wants_the_type_of_an_activity(rt: HostRuntime) -> Result<(), PutFault> {
     let none = Summary {
         records: 0,
         laps: 1,
@@ -148,32 +151,35 @@ fn wants_the_type_of_an_activity(rt: HostRuntime) -> Result<(), Fail> {
         distance_cm: None,
     };
     let wrong = Err(ActivityFault::NotActivity);
-    assert_eq!(rt; with_file_id(rt.alloc(), &[[0, 1, 0]], &[4])?, Ok(none));
-    assert_eq!(rt; with_file_id(rt.alloc(), &[[0, 1, 0]], &[5])?, wrong);
-    assert_eq!(rt; with_file_id(rt.alloc(), &[[0, 1, 0]], &[0xFF])?, wrong);
-    assert_eq!(rt; with_file_id(rt.alloc(), &[[0, 1, 2]], &[4])?, wrong);
-    assert_eq!(rt; with_file_id(rt.alloc(), &[[0, 2, 0]], &[4, 4])?, wrong);
-    assert_eq!(rt; with_file_id(rt.alloc(), &[[1, 1, 0]], &[4])?, wrong);
-    assert_eq!(rt; with_file_id(rt.alloc(), &[], &[])?, wrong);
+    equal(&rt, with_file_id(rt.alloc(), &[[0, 1, 0]], &[4])?, Ok(none));
+    equal(&rt, with_file_id(rt.alloc(), &[[0, 1, 0]], &[5])?, wrong);
+    equal(&rt, with_file_id(rt.alloc(), &[[0, 1, 0]], &[0xFF])?, wrong);
+    equal(&rt, with_file_id(rt.alloc(), &[[0, 1, 2]], &[4])?, wrong);
+    equal(&rt, with_file_id(rt.alloc(), &[[0, 2, 0]], &[4, 4])?, wrong);
+    equal(&rt, with_file_id(rt.alloc(), &[[1, 1, 0]], &[4])?, wrong);
+    equal(&rt, with_file_id(rt.alloc(), &[], &[])?, wrong);
     // The first of two fields counts.
-    assert_eq!(rt;
+    equal(
+        &rt,
         with_file_id(rt.alloc(), &[[0, 1, 0], [0, 1, 0]], &[4, 5])?,
-        Ok(none)
+        Ok(none),
     );
-    assert_eq!(rt;
+    equal(
+        &rt,
         with_file_id(rt.alloc(), &[[0, 1, 0], [0, 1, 0]], &[5, 4])?,
-        wrong
+        wrong,
     );
-    assert_eq!(rt;
+    equal(
+        &rt,
         with_file_id(rt.alloc(), &[[0, 1, 2], [0, 1, 0]], &[4, 4])?,
-        wrong
+        wrong,
     );
     Ok(())
 }
 
 // The first session counts, and in it the first field of a number.
 #[test]
-fn reads_the_first_session(rt: HostRuntime) -> Result<(), Fail> {
+fn reads_the_first_session(rt: HostRuntime) -> Result<(), PutFault> {
     let mut file = empty_file(rt.alloc());
     file.define(&definition(0, Arch::Little, 0, &[[0, 1, 0]]))?;
     file.data(0, None, &[4])?;
@@ -201,7 +207,7 @@ fn reads_the_first_session(rt: HostRuntime) -> Result<(), Fail> {
         timer_ms: None,
         distance_cm: None,
     };
-    assert_eq!(rt; check_activity(&file), Ok(summary));
+    equal(&rt, check_activity(&file), Ok(summary));
     Ok(())
 }
 
@@ -215,6 +221,6 @@ fn numbers_faults(rt: HostRuntime) {
         ActivityFault::NoActivity,
     ];
     for (i, fault) in faults.iter().enumerate() {
-        assert_eq!(rt; fault.code() as usize, i + 1);
+        equal(&rt, fault.code() as usize, i + 1);
     }
 }

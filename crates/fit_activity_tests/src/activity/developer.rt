@@ -4,6 +4,7 @@ ghost use Rattle.std.specs.Prelude.{◌≡◌, IfOk};
 
 use super::messages::empty_file;
 use super::replays::replay;
+use crate::equality::equal;
 use arrayvec::ArrayVec;
 use fit_activity::{Summary, check_activity, entry_of, file_id_of, sport_of};
 use fit_base::Arch;
@@ -128,6 +129,6 @@ fn an_activity_may_have_them(rt: HostRuntime) -> Result<(), Fail> {
         timer_ms: None,
         distance_cm: None,
     };
-    assert_eq!(rt; check_activity(&file), Ok(summary));
+    equal(&rt, check_activity(&file), Ok(summary));
     Ok(())
 }

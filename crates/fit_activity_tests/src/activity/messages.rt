@@ -1,12 +1,13 @@
 // What rides say, as bytes and as messages that are read again.
 
 use super::{START, T, ride, say, say_compressed, with_distance, with_heart_rate};
+use crate::equality::equal;
 use fit_activity::{
     Entry, Sample, Speech, SpokenMessage, Sport, Start, entry_of, file_id_of, speak_closing,
     speak_start, sport_of,
 };
 use fit_grammar::{File, Frame, Message, PutFault};
-use std::alloc::Global;
+use std::alloc::{AllocError, Global};
 use std::process::Abort;
 use std::test::Fail;
 
@@ -35,7 +36,7 @@ pub(super) fn put_messages(file: &mut File, messages: &[SpokenMessage]) -> Resul
 }
 
 // The global numbers of a file's messages, and the values of their fields.
-fn values(alloc: Global, file: &File) -> Result<Vec<u64>, std::alloc::AllocError> {
+fn values(alloc: Global, file: &File) -> Result<Vec<u64>, AllocError> {
     let mut values = Vec::new(alloc);
     for message in file.messages() {
         values.push(u64::from(message.global()))?;
@@ -57,21 +58,22 @@ const NO_U32: u64 = 0xFFFF_FFFF;
 const AT: u64 = 1_000_000_000;
 
 #[test]
-fn says_a_start(rt: HostRuntime) -> Result<(), Fail> {
+fn says_a_start(rt: HostRuntime) -> Result<(), AllocError> {
     let mut speech = Speech::new();
     speak_start(&START, &mut speech);
-    assert_eq!(rt; speech.messages().len(), 3);
+    equal(&rt, speech.messages().len(), 3);
     let mut bytes = Vec::new(rt.alloc());
     for message in speech.messages() {
         bytes.extend_from_slice(message.content())?;
     }
-    assert_eq!(rt;
+    equal(
+        &rt,
         bytes.as_slice(),
         [
             0x04, 0xFF, 0x00, 0x01, 0x00, 0x07, 0x00, 0x00, 0x00, 0x00, 0xCA, 0x9A, 0x3B, 0x01,
             0x00, 0x00, 0xCA, 0x9A, 0x3B, 0x00, 0x00,
         ]
-        .as_slice()
+        .as_slice(),
     );
 
     // The fields of file_id, sport and event: number, size, base type.
@@ -83,25 +85,26 @@ fn says_a_start(rt: HostRuntime) -> Result<(), Fail> {
             fields.push(field.base)?;
         }
     }
-    assert_eq!(rt;
+    equal(
+        &rt,
         fields.as_slice(),
         [
             0x00, 0x01, 0x00, 0x01, 0x02, 0x84, 0x02, 0x02, 0x84, 0x03, 0x04, 0x8C, 0x04, 0x04,
             0x86, 0x00, 0x01, 0x00, 0x01, 0x01, 0x00, 0xFD, 0x04, 0x86, 0x00, 0x01, 0x00, 0x01,
             0x01, 0x00,
         ]
-        .as_slice()
+        .as_slice(),
     );
     let mut heads = Vec::new(rt.alloc());
     for message in speech.messages() {
         heads.push((message.local(), message.definition().global))?;
     }
-    assert_eq!(rt; heads.as_slice(), [(4, 0), (5, 12), (6, 21)].as_slice());
+    equal(&rt, heads.as_slice(), [(4, 0), (5, 12), (6, 21)].as_slice());
     Ok(())
 }
 
 #[test]
-fn says_a_lap_and_the_end(rt: HostRuntime) -> Result<(), Fail> {
+fn says_a_lap_and_the_end(rt: HostRuntime) -> Result<(), PutFault> {
     let entries = [
         with_heart_rate(T, 100),
         with_heart_rate(T + 1, 101),
@@ -116,7 +119,8 @@ fn says_a_lap_and_the_end(rt: HostRuntime) -> Result<(), Fail> {
     put(&mut file, &speech)?;
     speak_closing(&ride(&rt, &entries), &mut speech);
     put(&mut file, &speech)?;
-    assert_eq!(rt;
+    equal(
+        &rt,
         values(rt.alloc(), &file)?.as_slice(),
         [
             19,
@@ -186,7 +190,7 @@ fn says_a_lap_and_the_end(rt: HostRuntime) -> Result<(), Fail> {
             26,
             1,
         ]
-        .as_slice()
+        .as_slice(),
     );
     assert!(rt; NO_U8 == 255);
     Ok(())
@@ -194,20 +198,24 @@ fn says_a_lap_and_the_end(rt: HostRuntime) -> Result<(), Fail> {
 
 // Behind a stop no event is said again.
 #[test]
-fn says_the_end_behind_a_stop(rt: HostRuntime) -> Result<(), Fail> {
+fn says_the_end_behind_a_stop(rt: HostRuntime) -> Result<(), AllocError> {
     let mut speech = Speech::new();
     speak_closing(&ride(&rt, &[Entry::Stop(T + 3)]), &mut speech);
     let mut heads = Vec::new(rt.alloc());
     for message in speech.messages() {
         heads.push((message.local(), message.definition().global))?;
     }
-    assert_eq!(rt; heads.as_slice(), [(7, 19), (8, 18), (9, 34)].as_slice());
+    equal(
+        &rt,
+        heads.as_slice(),
+        [(7, 19), (8, 18), (9, 34)].as_slice(),
+    );
     Ok(())
 }
 
 // A sample with all fields: latitude and temperature below zero go by two's complement.
 #[test]
-fn says_a_sample(rt: HostRuntime) -> Result<(), Fail> {
+fn says_a_sample(rt: HostRuntime) -> Result<(), AllocError> {
     let full = Sample {
         time: T,
         lat: Some(-2),
@@ -228,14 +236,15 @@ fn says_a_sample(rt: HostRuntime) -> Result<(), Fail> {
     for message in speech.messages() {
         bytes.extend_from_slice(message.content())?;
     }
-    assert_eq!(rt;
+    equal(
+        &rt,
         bytes.as_slice(),
         [
             0x00, 0xCA, 0x9A, 0x3B, 0xFE, 0xFF, 0xFF, 0xFF, 0x01, 0x00, 0x00, 0x00, 0x28, 0x0A,
             0x65, 0x5A, 0x39, 0x30, 0x00, 0x00, 0x88, 0x13, 0xFA, 0x00, 0xFB, 0x70, 0x11, 0x01,
             0x00, 0xFE, 0xFF, 0xFF, 0xFF,
         ]
-        .as_slice()
+        .as_slice(),
     );
     let mut numbers = Vec::new(rt.alloc());
     for message in speech.messages() {
@@ -243,16 +252,17 @@ fn says_a_sample(rt: HostRuntime) -> Result<(), Fail> {
             numbers.push(field.number)?;
         }
     }
-    assert_eq!(rt;
+    equal(
+        &rt,
         numbers.as_slice(),
-        [253, 0, 1, 2, 3, 4, 5, 6, 7, 13, 73, 78].as_slice()
+        [253, 0, 1, 2, 3, 4, 5, 6, 7, 13, 73, 78].as_slice(),
     );
 
     say(&rt, &[], Entry::Sample(Sample::new(T)), &mut speech);
-    assert_eq!(rt; speech.messages().len(), 1);
+    equal(&rt, speech.messages().len(), 1);
     for message in speech.messages() {
-        assert_eq!(rt; message.local(), 0);
-        assert_eq!(rt; message.content().len(), 4);
+        equal(&rt, message.local(), 0);
+        equal(&rt, message.content().len(), 4);
     }
     Ok(())
 }
@@ -263,19 +273,19 @@ fn says_a_close_sample_without_its_time(rt: HostRuntime) -> Result<(), Fail> {
     let entries = [Entry::Lap(T + 1)];
     let mut speech = Speech::new();
     let close = say_compressed(&rt, &entries, with_heart_rate(T + 32, 100), &mut speech);
-    assert_eq!(rt; close, Some(0));
-    assert_eq!(rt; speech.messages().len(), 1);
+    equal(&rt, close, Some(0));
+    equal(&rt, speech.messages().len(), 1);
     for message in speech.messages() {
-        assert_eq!(rt; message.definition().fields.len(), 1);
-        assert_eq!(rt; message.content(), [100].as_slice());
+        equal(&rt, message.definition().fields.len(), 1);
+        equal(&rt, message.content(), [100].as_slice());
     }
     for far in [
         with_heart_rate(T + 33, 100),
         Entry::Sample(Sample::new(T + 1)),
         Entry::Pause(T + 1),
     ] {
-        assert_eq!(rt; say_compressed(&rt, &entries, far, &mut speech), None);
-        assert_eq!(rt; speech.messages().len(), 1);
+        equal(&rt, say_compressed(&rt, &entries, far, &mut speech), None);
+        equal(&rt, speech.messages().len(), 1);
         for message in speech.messages() {
             assert!(rt; message.content().len() >= 4);
         }
@@ -293,7 +303,7 @@ fn entry_in(file: &File) -> Option<Entry> {
 }
 
 #[test]
-fn reads_entries_again(rt: HostRuntime) -> Result<(), Fail> {
+fn reads_entries_again(rt: HostRuntime) -> Result<(), PutFault> {
     let full = Sample {
         time: T + 1,
         lat: Some(i32::MIN),
@@ -332,12 +342,12 @@ fn reads_entries_again(rt: HostRuntime) -> Result<(), Fail> {
         let mut file = empty_file(rt.alloc());
         say(&rt, &[], entry, &mut speech);
         put(&mut file, &speech)?;
-        assert_eq!(rt; entry_in(&file), Some(entry));
+        equal(&rt, entry_in(&file), Some(entry));
     }
     let mut file = empty_file(rt.alloc());
     say(&rt, &[Entry::Pause(T)], Entry::Resume(T + 1), &mut speech);
     put(&mut file, &speech)?;
-    assert_eq!(rt; entry_in(&file), Some(Entry::Resume(T + 1)));
+    equal(&rt, entry_in(&file), Some(Entry::Resume(T + 1)));
     Ok(())
 }
 
@@ -347,7 +357,7 @@ fn heard(message: &Message) -> (Option<(u32, u32)>, Option<Sport>, Option<Entry>
 }
 
 #[test]
-fn reads_starts_and_ends_again(rt: HostRuntime) -> Result<(), Fail> {
+fn reads_starts_and_ends_again(rt: HostRuntime) -> Result<(), PutFault> {
     for sport in [Sport::Generic, Sport::Running, Sport::Cycling] {
         let start = Start {
             time: T,
@@ -365,9 +375,9 @@ fn reads_starts_and_ends_again(rt: HostRuntime) -> Result<(), Fail> {
         ]
         .into_iter();
         for message in file.messages() {
-            assert_eq!(rt; Some(heard(&message)), wanted.next());
+            equal(&rt, Some(heard(&message)), wanted.next());
         }
-        assert_eq!(rt; wanted.next(), None);
+        equal(&rt, wanted.next(), None);
     }
 
     // The lap that closes a recording, the session and the activity are no entry's.
@@ -376,7 +386,7 @@ fn reads_starts_and_ends_again(rt: HostRuntime) -> Result<(), Fail> {
     let mut file = empty_file(rt.alloc());
     put(&mut file, &speech)?;
     for message in file.messages() {
-        assert_eq!(rt; heard(&message), (None, None, None));
+        equal(&rt, heard(&message), (None, None, None));
     }
     Ok(())
 }

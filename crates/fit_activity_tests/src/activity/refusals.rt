@@ -1,72 +1,87 @@
 // Why entries are refused: each cause alone, at its bound, and beside each later one.
 
 use super::{T, refusal, ride, with_distance, with_heart_rate};
+use crate::equality::equal;
 use fit_activity::{Entry, Refusal, Sample};
 use std::test::Fail;
 
 #[test]
 fn refuses_as_known(rt: HostRuntime) {
     let far = [with_distance(T + 10, 500)];
-    assert_eq!(rt;
+    equal(
+        &rt,
         refusal(&rt, &far, Entry::Sample(Sample::new(T + 9))),
-        Some(Refusal::Time)
+        Some(Refusal::Time),
     );
-    assert_eq!(rt;
+    equal(
+        &rt,
         refusal(&rt, &far, with_distance(T + 10, 499)),
-        Some(Refusal::Distance)
+        Some(Refusal::Distance),
     );
-    assert_eq!(rt; refusal(&rt, &far, with_distance(T + 10, 500)), None);
-    assert_eq!(rt;
+    equal(&rt, refusal(&rt, &far, with_distance(T + 10, 500)), None);
+    equal(
+        &rt,
         refusal(&rt, &far, with_heart_rate(T + 10, 255)),
-        Some(Refusal::Value(3))
+        Some(Refusal::Value(3)),
     );
-    assert_eq!(rt; refusal(&rt, &far, Entry::Pause(T + 10)), None);
+    equal(&rt, refusal(&rt, &far, Entry::Pause(T + 10)), None);
 
     let paused = [with_distance(T + 10, 500), Entry::Pause(T + 10)];
-    assert_eq!(rt;
+    equal(
+        &rt,
         refusal(&rt, &paused, with_heart_rate(T + 10, 90)),
-        Some(Refusal::TimerStopped)
+        Some(Refusal::TimerStopped),
     );
-    assert_eq!(rt;
+    equal(
+        &rt,
         refusal(&rt, &paused, Entry::Pause(T + 11)),
-        Some(Refusal::TimerStopped)
+        Some(Refusal::TimerStopped),
     );
-    assert_eq!(rt; refusal(&rt, &paused, Entry::Lap(T + 11)), None);
-    assert_eq!(rt; refusal(&rt, &paused, Entry::Stop(T + 11)), None);
-    assert_eq!(rt; refusal(&rt, &paused, Entry::Resume(T + 12)), None);
+    equal(&rt, refusal(&rt, &paused, Entry::Lap(T + 11)), None);
+    equal(&rt, refusal(&rt, &paused, Entry::Stop(T + 11)), None);
+    equal(&rt, refusal(&rt, &paused, Entry::Resume(T + 12)), None);
 
     let resumed = [
         with_distance(T + 10, 500),
         Entry::Pause(T + 10),
         Entry::Resume(T + 12),
     ];
-    assert_eq!(rt;
+    equal(
+        &rt,
         refusal(&rt, &resumed, Entry::Resume(T + 12)),
-        Some(Refusal::TimerRunning)
+        Some(Refusal::TimerRunning),
     );
-    assert_eq!(rt;
+    equal(
+        &rt,
         refusal(&rt, &resumed, Entry::Lap(T + 4_000_001)),
-        Some(Refusal::TooLong)
+        Some(Refusal::TooLong),
     );
-    assert_eq!(rt; refusal(&rt, &resumed, Entry::Lap(T + 4_000_000)), None);
+    equal(&rt, refusal(&rt, &resumed, Entry::Lap(T + 4_000_000)), None);
 }
 
 #[test]
 fn refuses_times(rt: HostRuntime) {
-    assert_eq!(rt; refusal(&rt, &[], Entry::Lap(T - 1)), Some(Refusal::Time));
-    assert_eq!(rt; refusal(&rt, &[], Entry::Lap(T)), None);
-    assert_eq!(rt;
+    equal(
+        &rt,
+        refusal(&rt, &[], Entry::Lap(T - 1)),
+        Some(Refusal::Time),
+    );
+    equal(&rt, refusal(&rt, &[], Entry::Lap(T)), None);
+    equal(
+        &rt,
         refusal(&rt, &[], Entry::Lap(0xFFFF_FFFF)),
-        Some(Refusal::Time)
+        Some(Refusal::Time),
     );
-    assert_eq!(rt;
+    equal(
+        &rt,
         refusal(&rt, &[], Entry::Lap(0xFFFF_FFFE)),
-        Some(Refusal::TooLong)
+        Some(Refusal::TooLong),
     );
-    assert_eq!(rt; refusal(&rt, &[], Entry::Stop(T + 4_000_000)), None);
-    assert_eq!(rt;
+    equal(&rt, refusal(&rt, &[], Entry::Stop(T + 4_000_000)), None);
+    equal(
+        &rt,
         refusal(&rt, &[], Entry::Stop(T + 4_000_001)),
-        Some(Refusal::TooLong)
+        Some(Refusal::TooLong),
     );
 }
 
@@ -77,59 +92,70 @@ fn refuses_invalid_values(rt: HostRuntime) {
         enhanced_altitude: Some(0xFFFF_FFFF),
         ..Sample::new(T)
     };
-    assert_eq!(rt;
+    equal(
+        &rt,
         refusal(&rt, &[], Entry::Sample(worst)),
-        Some(Refusal::Value(78))
+        Some(Refusal::Value(78)),
     );
     worst.enhanced_speed = Some(0xFFFF_FFFF);
-    assert_eq!(rt;
+    equal(
+        &rt,
         refusal(&rt, &[], Entry::Sample(worst)),
-        Some(Refusal::Value(73))
+        Some(Refusal::Value(73)),
     );
     worst.temperature = Some(0x7F);
-    assert_eq!(rt;
+    equal(
+        &rt,
         refusal(&rt, &[], Entry::Sample(worst)),
-        Some(Refusal::Value(13))
+        Some(Refusal::Value(13)),
     );
     worst.power = Some(0xFFFF);
-    assert_eq!(rt;
+    equal(
+        &rt,
         refusal(&rt, &[], Entry::Sample(worst)),
-        Some(Refusal::Value(7))
+        Some(Refusal::Value(7)),
     );
     worst.speed = Some(0xFFFF);
-    assert_eq!(rt;
+    equal(
+        &rt,
         refusal(&rt, &[], Entry::Sample(worst)),
-        Some(Refusal::Value(6))
+        Some(Refusal::Value(6)),
     );
     worst.distance = Some(0xFFFF_FFFF);
-    assert_eq!(rt;
+    equal(
+        &rt,
         refusal(&rt, &[], Entry::Sample(worst)),
-        Some(Refusal::Value(5))
+        Some(Refusal::Value(5)),
     );
     worst.cadence = Some(0xFF);
-    assert_eq!(rt;
+    equal(
+        &rt,
         refusal(&rt, &[], Entry::Sample(worst)),
-        Some(Refusal::Value(4))
+        Some(Refusal::Value(4)),
     );
     worst.heart_rate = Some(0xFF);
-    assert_eq!(rt;
+    equal(
+        &rt,
         refusal(&rt, &[], Entry::Sample(worst)),
-        Some(Refusal::Value(3))
+        Some(Refusal::Value(3)),
     );
     worst.altitude = Some(0xFFFF);
-    assert_eq!(rt;
+    equal(
+        &rt,
         refusal(&rt, &[], Entry::Sample(worst)),
-        Some(Refusal::Value(2))
+        Some(Refusal::Value(2)),
     );
     worst.long = Some(0x7FFF_FFFF);
-    assert_eq!(rt;
+    equal(
+        &rt,
         refusal(&rt, &[], Entry::Sample(worst)),
-        Some(Refusal::Value(1))
+        Some(Refusal::Value(1)),
     );
     worst.lat = Some(0x7FFF_FFFF);
-    assert_eq!(rt;
+    equal(
+        &rt,
         refusal(&rt, &[], Entry::Sample(worst)),
-        Some(Refusal::Value(0))
+        Some(Refusal::Value(0)),
     );
 }
 
@@ -150,7 +176,7 @@ fn allows_extreme_values(rt: HostRuntime) {
         enhanced_speed: Some(0xFFFF_FFFE),
         enhanced_altitude: Some(0xFFFF_FFFE),
     };
-    assert_eq!(rt; refusal(&rt, &[], Entry::Sample(most)), None);
+    equal(&rt, refusal(&rt, &[], Entry::Sample(most)), None);
     let least = Sample {
         lat: Some(i32::MIN),
         long: Some(-1),
@@ -158,10 +184,11 @@ fn allows_extreme_values(rt: HostRuntime) {
         temperature: Some(-128),
         ..Sample::new(T)
     };
-    assert_eq!(rt; refusal(&rt, &[], Entry::Sample(least)), None);
-    assert_eq!(rt;
+    equal(&rt, refusal(&rt, &[], Entry::Sample(least)), None);
+    equal(
+        &rt,
         refusal(&rt, &[Entry::Sample(most)], Entry::Sample(least)),
-        Some(Refusal::Distance)
+        Some(Refusal::Distance),
     );
 }
 
@@ -174,21 +201,25 @@ fn answers_the_first_cause(rt: HostRuntime) {
         ..Sample::new(T + 4_000_001)
     };
     let stopped = [with_distance(T + 10, 500), Entry::Stop(T + 10)];
-    assert_eq!(rt;
+    equal(
+        &rt,
         refusal(&rt, &stopped, Entry::Stop(T + 10)),
-        Some(Refusal::Stopped)
+        Some(Refusal::Stopped),
     );
-    assert_eq!(rt;
+    equal(
+        &rt,
         refusal(&rt, &stopped, Entry::Stop(T + 9)),
-        Some(Refusal::Stopped)
+        Some(Refusal::Stopped),
     );
-    assert_eq!(rt;
+    equal(
+        &rt,
         refusal(&rt, &stopped, Entry::Sample(bad)),
-        Some(Refusal::Stopped)
+        Some(Refusal::Stopped),
     );
-    assert_eq!(rt;
+    equal(
+        &rt,
         refusal(&rt, &stopped, Entry::Resume(T + 10)),
-        Some(Refusal::Stopped)
+        Some(Refusal::Stopped),
     );
 
     let paused = [with_distance(T + 10, 500), Entry::Pause(T + 10)];
@@ -196,47 +227,55 @@ fn answers_the_first_cause(rt: HostRuntime) {
         time: 0xFFFF_FFFF,
         ..bad
     };
-    assert_eq!(rt;
+    equal(
+        &rt,
         refusal(&rt, &paused, Entry::Sample(invalid)),
-        Some(Refusal::Time)
+        Some(Refusal::Time),
     );
-    assert_eq!(rt;
+    equal(
+        &rt,
         refusal(&rt, &paused, Entry::Sample(bad)),
-        Some(Refusal::TooLong)
+        Some(Refusal::TooLong),
     );
     let late = Sample {
         time: T + 10,
         ..bad
     };
-    assert_eq!(rt;
+    equal(
+        &rt,
         refusal(&rt, &paused, Entry::Sample(late)),
-        Some(Refusal::TimerStopped)
+        Some(Refusal::TimerStopped),
     );
 
     let far = [with_distance(T + 10, 500)];
-    assert_eq!(rt;
+    equal(
+        &rt,
         refusal(&rt, &far, Entry::Resume(T + 9)),
-        Some(Refusal::Time)
+        Some(Refusal::Time),
     );
-    assert_eq!(rt;
+    equal(
+        &rt,
         refusal(&rt, &far, Entry::Resume(T + 4_000_001)),
-        Some(Refusal::TooLong)
+        Some(Refusal::TooLong),
     );
-    assert_eq!(rt;
+    equal(
+        &rt,
         refusal(&rt, &far, Entry::Resume(T + 10)),
-        Some(Refusal::TimerRunning)
+        Some(Refusal::TimerRunning),
     );
-    assert_eq!(rt;
+    equal(
+        &rt,
         refusal(&rt, &far, Entry::Sample(late)),
-        Some(Refusal::Value(7))
+        Some(Refusal::Value(7)),
     );
     let less = Sample {
         power: None,
         ..late
     };
-    assert_eq!(rt;
+    equal(
+        &rt,
         refusal(&rt, &far, Entry::Sample(less)),
-        Some(Refusal::Distance)
+        Some(Refusal::Distance),
     );
 }
 
@@ -244,15 +283,16 @@ fn answers_the_first_cause(rt: HostRuntime) {
 fn counts_laps(rt: HostRuntime) -> Result<(), Fail> {
     let laps = vec![in rt.alloc(); Entry::Lap(T); 999]?;
     assert_eq!(rt; laps.len(), 999);
-    assert_eq!(rt; refusal(&rt, &laps[..998], Entry::Lap(T)), None);
+    equal(&rt, refusal(&rt, &laps[..998], Entry::Lap(T)), None);
     let totals = ride(&rt, &laps);
-    assert_eq!(rt; totals.check(&Entry::Lap(T)), Err(Refusal::TooManyLaps));
-    assert_eq!(rt;
+    equal(&rt, totals.check(&Entry::Lap(T)), Err(Refusal::TooManyLaps));
+    equal(
+        &rt,
         totals.check(&Entry::Lap(T + 4_000_001)),
-        Err(Refusal::TooLong)
+        Err(Refusal::TooLong),
     );
-    assert_eq!(rt; totals.check(&Entry::Stop(T)), Ok(()));
-    assert_eq!(rt; totals.session().laps, 1000);
+    equal(&rt, totals.check(&Entry::Stop(T)), Ok(()));
+    equal(&rt, totals.session().laps, 1000);
     Ok(())
 }
 
@@ -269,6 +309,6 @@ fn numbers_refusals(rt: HostRuntime) {
         Refusal::Stopped,
     ];
     for (i, refusal) in refusals.iter().enumerate() {
-        assert_eq!(rt; refusal.code() as usize, i + 1);
+        equal(&rt, refusal.code() as usize, i + 1);
     }
 }

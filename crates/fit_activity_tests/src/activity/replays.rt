@@ -4,6 +4,7 @@ ghost use Rattle.std.specs.Prelude.{◌<◌, ◌^◌, length};
 
 use super::messages::{empty_file, put, put_messages};
 use super::{START, T, ride, say, with_distance, with_heart_rate};
+use crate::equality::equal;
 use fit_activity::{
     Entry, Replay, Sample, Speech, SpokenMessage, Start, Summary, check_activity, speak_closing,
     speak_start,
@@ -60,11 +61,11 @@ fn hears_a_ride_again(rt: HostRuntime) -> Result<(), PutFault> {
         let told = replay.into_recording();
         let (totals, _) = told.expect(&rt, "a start and entries");
         let wanted = ride(&rt, &entries[..count]);
-        assert_eq!(rt; totals.session(), wanted.session());
-        assert_eq!(rt; totals.lap(), wanted.lap());
-        assert_eq!(rt; totals.activity(), wanted.activity());
-        assert_eq!(rt; totals.running(), wanted.running());
-        assert_eq!(rt; totals.stopped(), wanted.stopped());
+        equal(&rt, totals.session(), wanted.session());
+        equal(&rt, totals.lap(), wanted.lap());
+        equal(&rt, totals.activity(), wanted.activity());
+        equal(&rt, totals.running(), wanted.running());
+        equal(&rt, totals.stopped(), wanted.stopped());
     }
     Ok(())
 }
@@ -108,9 +109,10 @@ fn sums_up_the_finished_file(rt: HostRuntime) -> Result<(), PutFault> {
         timer_ms: Some(9_000),
         distance_cm: Some(250),
     };
-    assert_eq!(rt;
+    equal(
+        &rt,
         summaries(&rt, rt.alloc(), &entries)?,
-        (Some(whole), Some(whole))
+        (Some(whole), Some(whole)),
     );
 
     // Cut off while it stands in its second lap, and behind its start.
@@ -122,9 +124,10 @@ fn sums_up_the_finished_file(rt: HostRuntime) -> Result<(), PutFault> {
         distance_cm: Some(100),
         ..whole
     };
-    assert_eq!(rt;
+    equal(
+        &rt,
         summaries(&rt, rt.alloc(), &entries[..4])?,
-        (Some(paused), Some(paused))
+        (Some(paused), Some(paused)),
     );
     let begun = Summary {
         records: 0,
@@ -134,9 +137,10 @@ fn sums_up_the_finished_file(rt: HostRuntime) -> Result<(), PutFault> {
         distance_cm: None,
         ..whole
     };
-    assert_eq!(rt;
+    equal(
+        &rt,
         summaries(&rt, rt.alloc(), &[])?,
-        (Some(begun), Some(begun))
+        (Some(begun), Some(begun)),
     );
     Ok(())
 }

@@ -3,6 +3,7 @@
 ghost use Rattle.std.specs.Prelude.{◌<◌, ◌^◌, length};
 
 use super::{START, T, ride, with_distance, with_heart_rate};
+use crate::equality::equal;
 use fit_activity::{Entry, Refusal, Sample, Sport, Start};
 use std::process::Abort;
 
@@ -22,8 +23,8 @@ fn times_laps(rt: HostRuntime) {
         Entry::Lap(T + 5),
         Entry::Stop(T + 8),
     ];
-    assert_eq!(rt; lap_times(&rt, &turned[..2]), (5000, 5000));
-    assert_eq!(rt; lap_times(&rt, &turned), (3000, 3000));
+    equal(&rt, lap_times(&rt, &turned[..2]), (5000, 5000));
+    equal(&rt, lap_times(&rt, &turned), (3000, 3000));
 
     let paused = [
         Entry::Pause(T + 5),
@@ -31,8 +32,8 @@ fn times_laps(rt: HostRuntime) {
         Entry::Resume(T + 7),
         Entry::Stop(T + 8),
     ];
-    assert_eq!(rt; lap_times(&rt, &paused[..1]), (5000, 5000));
-    assert_eq!(rt; lap_times(&rt, &paused), (3000, 1000));
+    equal(&rt, lap_times(&rt, &paused[..1]), (5000, 5000));
+    equal(&rt, lap_times(&rt, &paused), (3000, 1000));
 }
 
 // The distance and the average speed of a ride.
@@ -50,27 +51,34 @@ fn measures_distances(rt: HostRuntime) {
         with_distance(T + 10, 12345),
         Entry::Stop(T + 10),
     ];
-    assert_eq!(rt; distance_and_speed(&rt, &far), (Some(12345), Some(12345)));
+    equal(
+        &rt,
+        distance_and_speed(&rt, &far),
+        (Some(12345), Some(12345)),
+    );
     let near = [with_distance(T + 7, 100), Entry::Stop(T + 7)];
-    assert_eq!(rt; distance_and_speed(&rt, &near), (Some(100), Some(142)));
+    equal(&rt, distance_and_speed(&rt, &near), (Some(100), Some(142)));
     let fast = [with_distance(T + 1, 100_000), Entry::Stop(T + 1)];
-    assert_eq!(rt; distance_and_speed(&rt, &fast), (Some(100_000), None));
+    equal(&rt, distance_and_speed(&rt, &fast), (Some(100_000), None));
 
     // The greatest speed that a field holds, and one mm/s more.
     let greatest = [with_distance(T + 10, 65534), Entry::Stop(T + 10)];
-    assert_eq!(rt;
+    equal(
+        &rt,
         distance_and_speed(&rt, &greatest),
-        (Some(65534), Some(65534))
+        (Some(65534), Some(65534)),
     );
     let invalid = [with_distance(T + 10, 65535), Entry::Stop(T + 10)];
-    assert_eq!(rt; distance_and_speed(&rt, &invalid), (Some(65535), None));
-    assert_eq!(rt;
+    equal(&rt, distance_and_speed(&rt, &invalid), (Some(65535), None));
+    equal(
+        &rt,
         distance_and_speed(&rt, &[with_distance(T, 5)]),
-        (Some(5), None)
+        (Some(5), None),
     );
-    assert_eq!(rt;
+    equal(
+        &rt,
         distance_and_speed(&rt, &[Entry::Stop(T + 3)]),
-        (None, None)
+        (None, None),
     );
 }
 
@@ -82,13 +90,13 @@ fn measures_a_lap_from_its_beginning(rt: HostRuntime) {
         with_distance(T + 20, 800),
     ];
     let totals = ride(&rt, &entries);
-    assert_eq!(rt; totals.lap().index, 1);
-    assert_eq!(rt; totals.lap().stretch.distance, Some(300));
-    assert_eq!(rt; totals.session().stretch.distance, Some(800));
+    equal(&rt, totals.lap().index, 1);
+    equal(&rt, totals.lap().stretch.distance, Some(300));
+    equal(&rt, totals.session().stretch.distance, Some(800));
 
     // None in this lap, which begins where 800 is known.
     let none = ride(&rt, &[with_distance(T + 10, 800), Entry::Lap(T + 10)]);
-    assert_eq!(rt; none.lap().stretch.distance, Some(0));
+    equal(&rt, none.lap().stretch.distance, Some(0));
 }
 
 // A ride of two laps, with 100 and 101 in the first, and 110 in the second.
@@ -101,35 +109,40 @@ fn adds_up_a_ride_of_two_laps(rt: HostRuntime) {
         with_heart_rate(T + 2, 110),
     ];
     let first = ride(&rt, &entries[..2]).lap();
-    assert_eq!(rt; first.index, 0);
-    assert_eq!(rt; (first.stretch.start, first.stretch.end), (T, T + 1));
-    assert_eq!(rt; first.stretch.average_heart_rate, Some(100));
-    assert_eq!(rt; first.stretch.greatest_heart_rate, Some(101));
+    equal(&rt, first.index, 0);
+    equal(&rt, (first.stretch.start, first.stretch.end), (T, T + 1));
+    equal(&rt, first.stretch.average_heart_rate, Some(100));
+    equal(&rt, first.stretch.greatest_heart_rate, Some(101));
 
     let totals = ride(&rt, &entries);
     let second = totals.lap();
-    assert_eq!(rt; second.index, 1);
-    assert_eq!(rt; (second.stretch.start, second.stretch.end), (T + 2, T + 2));
-    assert_eq!(rt; (second.stretch.elapsed, second.stretch.timer), (0, 0));
-    assert_eq!(rt; second.stretch.average_heart_rate, Some(110));
-    assert_eq!(rt; second.stretch.greatest_heart_rate, Some(110));
+    equal(&rt, second.index, 1);
+    equal(
+        &rt,
+        (second.stretch.start, second.stretch.end),
+        (T + 2, T + 2),
+    );
+    equal(&rt, (second.stretch.elapsed, second.stretch.timer), (0, 0));
+    equal(&rt, second.stretch.average_heart_rate, Some(110));
+    equal(&rt, second.stretch.greatest_heart_rate, Some(110));
 
     let session = totals.session();
-    assert_eq!(rt; (session.laps, session.sport), (2, Sport::Running));
-    assert_eq!(rt;
+    equal(&rt, (session.laps, session.sport), (2, Sport::Running));
+    equal(
+        &rt,
         (session.stretch.elapsed, session.stretch.timer),
-        (2000, 2000)
+        (2000, 2000),
     );
-    assert_eq!(rt; session.stretch.average_heart_rate, Some(103));
-    assert_eq!(rt; session.stretch.greatest_heart_rate, Some(110));
-    assert_eq!(rt; session.stretch.average_power, None);
-    assert_eq!(rt; session.stretch.distance, None);
+    equal(&rt, session.stretch.average_heart_rate, Some(103));
+    equal(&rt, session.stretch.greatest_heart_rate, Some(110));
+    equal(&rt, session.stretch.average_power, None);
+    equal(&rt, session.stretch.distance, None);
 
     let activity = totals.activity();
-    assert_eq!(rt; (activity.time, activity.timer), (T + 2, 2000));
+    equal(&rt, (activity.time, activity.timer), (T + 2, 2000));
     assert!(rt; totals.running());
     assert!(rt; !totals.stopped());
-    assert_eq!(rt; totals.end_time(), T + 2);
+    equal(&rt, totals.end_time(), T + 2);
 }
 
 // The greatest speed and power, which stand in the first lap; floors of averages.
@@ -156,16 +169,18 @@ fn adds_up_speed_and_power(rt: HostRuntime) {
     ];
     let totals = ride(&rt, &entries);
     let session = totals.session().stretch;
-    assert_eq!(rt; session.greatest_speed, Some(9000));
-    assert_eq!(rt;
+    equal(&rt, session.greatest_speed, Some(9000));
+    equal(
+        &rt,
         (session.average_power, session.greatest_power),
-        (Some(200), Some(400))
+        (Some(200), Some(400)),
     );
     let lap = totals.lap().stretch;
-    assert_eq!(rt; lap.greatest_speed, Some(7000));
-    assert_eq!(rt;
+    equal(&rt, lap.greatest_speed, Some(7000));
+    equal(
+        &rt,
         (lap.average_power, lap.greatest_power),
-        (Some(100), Some(100))
+        (Some(100), Some(100)),
     );
     assert!(rt; !totals.running());
 }
@@ -193,24 +208,34 @@ fn greatest_speeds(rt: &impl Abort, entries: &[Entry]) -> (Option<u16>, Option<u
 fn takes_the_greater_speed(rt: HostRuntime) {
     let first = with_speeds(T, Some(5000), Some(6000));
     let second = with_speeds(T + 1, Some(5500), None);
-    assert_eq!(rt;
+    equal(
+        &rt,
         greatest_speeds(&rt, &[first, second, Entry::Stop(T + 1)]),
-        (Some(6000), Some(6000))
+        (Some(6000), Some(6000)),
     );
     let second = with_speeds(T + 1, Some(5500), Some(70_000));
-    assert_eq!(rt;
+    equal(
+        &rt,
         greatest_speeds(&rt, &[first, second, Entry::Stop(T + 1)]),
-        (None, None)
+        (None, None),
     );
     let alone = [with_speeds(T, None, Some(65_534))];
-    assert_eq!(rt; greatest_speeds(&rt, &alone), (Some(65_534), Some(65_534)));
+    equal(
+        &rt,
+        greatest_speeds(&rt, &alone),
+        (Some(65_534), Some(65_534)),
+    );
     let turned = [with_speeds(T, Some(6000), Some(5000))];
-    assert_eq!(rt; greatest_speeds(&rt, &turned), (Some(6000), Some(6000)));
+    equal(&rt, greatest_speeds(&rt, &turned), (Some(6000), Some(6000)));
     let same = [with_speeds(T, Some(6000), Some(6000))];
-    assert_eq!(rt; greatest_speeds(&rt, &same), (Some(6000), Some(6000)));
+    equal(&rt, greatest_speeds(&rt, &same), (Some(6000), Some(6000)));
     let zero = [with_speeds(T, None, Some(0))];
-    assert_eq!(rt; greatest_speeds(&rt, &zero), (Some(0), Some(0)));
-    assert_eq!(rt; greatest_speeds(&rt, &[with_distance(T, 5)]), (None, None));
+    equal(&rt, greatest_speeds(&rt, &zero), (Some(0), Some(0)));
+    equal(
+        &rt,
+        greatest_speeds(&rt, &[with_distance(T, 5)]),
+        (None, None),
+    );
 }
 
 // A lap whose greatest speed is more than its field holds, and one where it is not.
@@ -221,14 +246,14 @@ fn tells_no_greatest_speed_above_65534(rt: HostRuntime) {
         Entry::Lap(T + 1),
         with_speeds(T + 1, Some(300), Some(65_533)),
     ];
-    assert_eq!(rt; greatest_speeds(&rt, &entries[..1]), (None, None));
-    assert_eq!(rt; greatest_speeds(&rt, &entries), (Some(65_533), None));
+    equal(&rt, greatest_speeds(&rt, &entries[..1]), (None, None));
+    equal(&rt, greatest_speeds(&rt, &entries), (Some(65_533), None));
 
     // What is above it is none, however far; the greatest value that is none itself is refused.
     let far = [with_speeds(T, Some(1), Some(0xFFFF_FFFE))];
-    assert_eq!(rt; greatest_speeds(&rt, &far), (None, None));
+    equal(&rt, greatest_speeds(&rt, &far), (None, None));
     let wrapped = [with_speeds(T, None, Some(65_536 + 7))];
-    assert_eq!(rt; greatest_speeds(&rt, &wrapped), (None, None));
+    equal(&rt, greatest_speeds(&rt, &wrapped), (None, None));
 }
 
 // Averages are of distances, whatever the speeds are.
@@ -242,12 +267,13 @@ fn averages_no_speeds(rt: HostRuntime) {
         })
     };
     let entries = [sample(T, 0, 9000), sample(T + 10, 12345, 70_000)];
-    assert_eq!(rt;
+    equal(
+        &rt,
         distance_and_speed(&rt, &entries),
-        (Some(12345), Some(12345))
+        (Some(12345), Some(12345)),
     );
     let standing = [with_speeds(T + 1, Some(5000), Some(6000))];
-    assert_eq!(rt; distance_and_speed(&rt, &standing), (None, None));
+    equal(&rt, distance_and_speed(&rt, &standing), (None, None));
 }
 
 #[test]
@@ -258,17 +284,18 @@ fn checks_starts(rt: HostRuntime) {
         sport: Sport::Generic,
     }
     .check();
-    assert_eq!(rt; START.check(), Ok(()));
-    assert_eq!(rt; at(0x1000_0000), Ok(()));
-    assert_eq!(rt; at(0x1000_0000 - 1), Err(Refusal::Time));
-    assert_eq!(rt; at(0xFFFF_FFFE), Ok(()));
-    assert_eq!(rt; at(0xFFFF_FFFF), Err(Refusal::Time));
-    assert_eq!(rt;
+    equal(&rt, START.check(), Ok(()));
+    equal(&rt, at(0x1000_0000), Ok(()));
+    equal(&rt, at(0x1000_0000 - 1), Err(Refusal::Time));
+    equal(&rt, at(0xFFFF_FFFE), Ok(()));
+    equal(&rt, at(0xFFFF_FFFF), Err(Refusal::Time));
+    equal(
+        &rt,
         (
             Sport::Generic.number(),
             Sport::Running.number(),
-            Sport::Cycling.number()
+            Sport::Cycling.number(),
         ),
-        (0, 1, 2)
+        (0, 1, 2),
     );
 }

@@ -1,11 +1,10 @@
 // Power cuts behind calls that failed, and a file that is long. The expected contents are worked out by hand.
 
-use super::{cut, cycle, expect, size, sync, write};
-use fit_disk::{Memory, Which};
-use std::test::Fail;
+use super::{cut, cycle, expect, sync, write};
+use fit_disk::{DeviceError, Memory, Which};
 
 #[test]
-fn a_write_that_failed_at_place_0_was_begun(rt: HostRuntime) -> Result<(), Fail> {
+fn a_write_that_failed_at_place_0_was_begun(rt: HostRuntime) -> Result<(), DeviceError> {
     let mut disk = Memory::new(rt.alloc());
     write(&mut disk, Which::Data, 0, b"abcd")?;
     sync(&mut disk, Which::Data)?;
@@ -18,7 +17,7 @@ fn a_write_that_failed_at_place_0_was_begun(rt: HostRuntime) -> Result<(), Fail>
 }
 
 #[test]
-fn a_cut_of_the_journal_that_failed_was_begun(rt: HostRuntime) -> Result<(), Fail> {
+fn a_cut_of_the_journal_that_failed_was_begun(rt: HostRuntime) -> Result<(), DeviceError> {
     let mut disk = Memory::new(rt.alloc());
     write(&mut disk, Which::Journal, 0, b"abcdef")?;
     sync(&mut disk, Which::Journal)?;

@@ -3,7 +3,6 @@
 use super::{cut, cycle, expect, sync, write};
 use fit_disk::{DeviceError, Memory, Which};
 use std::alloc::Global;
-use std::test::Fail;
 
 // The data file is synced as `abcd`, and its two middle bytes are written over.
 fn torn(alloc: Global) -> Result<Memory, DeviceError> {
@@ -15,7 +14,7 @@ fn torn(alloc: Global) -> Result<Memory, DeviceError> {
 }
 
 #[test]
-fn only_the_written_middle_varies(rt: HostRuntime) -> Result<(), Fail> {
+fn only_the_written_middle_varies(rt: HostRuntime) -> Result<(), DeviceError> {
     let cases: [(&[u8], usize, &[u8]); 5] = [
         (&[], 0, b"a\0\0d"),
         (&[0, 0, 0, 0, 0xA5], 5, b"a\xA5\0d"),
@@ -37,7 +36,7 @@ fn only_the_written_middle_varies(rt: HostRuntime) -> Result<(), Fail> {
 }
 
 #[test]
-fn the_length_of_what_was_not_synced_varies(rt: HostRuntime) -> Result<(), Fail> {
+fn the_length_of_what_was_not_synced_varies(rt: HostRuntime) -> Result<(), DeviceError> {
     let cases: [(&[u8], usize, &[u8]); 6] = [
         (&[], 0, b""),
         (&[2, 0, 0, 0, 0xA5, 0xFF], 6, b"\xA5\xFF"),
@@ -57,7 +56,7 @@ fn the_length_of_what_was_not_synced_varies(rt: HostRuntime) -> Result<(), Fail>
 }
 
 #[test]
-fn a_cut_may_come_back_as_any_bytes(rt: HostRuntime) -> Result<(), Fail> {
+fn a_cut_may_come_back_as_any_bytes(rt: HostRuntime) -> Result<(), DeviceError> {
     let cases: [(&[u8], usize, &[u8]); 4] = [
         (&[], 0, b"ab"),
         (
@@ -82,7 +81,7 @@ fn a_cut_may_come_back_as_any_bytes(rt: HostRuntime) -> Result<(), Fail> {
 }
 
 #[test]
-fn the_data_file_takes_its_choices_first(rt: HostRuntime) -> Result<(), Fail> {
+fn the_data_file_takes_its_choices_first(rt: HostRuntime) -> Result<(), DeviceError> {
     let mut disk = Memory::new(rt.alloc());
     write(&mut disk, Which::Journal, 0, b"j")?;
     write(&mut disk, Which::Data, 0, b"d")?;
@@ -98,7 +97,7 @@ fn the_data_file_takes_its_choices_first(rt: HostRuntime) -> Result<(), Fail> {
 }
 
 #[test]
-fn what_was_left_is_kept_from_then_on(rt: HostRuntime) -> Result<(), Fail> {
+fn what_was_left_is_kept_from_then_on(rt: HostRuntime) -> Result<(), DeviceError> {
     let mut disk = torn(rt.alloc())?;
     cycle(&rt, &mut disk, &[0, 0, 0, 0, 0xA5, 0xFF], 6);
     cycle(&rt, &mut disk, &[7, 7, 7], 3);
@@ -112,7 +111,7 @@ fn what_was_left_is_kept_from_then_on(rt: HostRuntime) -> Result<(), Fail> {
 }
 
 #[test]
-fn a_failed_write_was_begun(rt: HostRuntime) -> Result<(), Fail> {
+fn a_failed_write_was_begun(rt: HostRuntime) -> Result<(), DeviceError> {
     let mut disk = torn(rt.alloc())?;
     sync(&mut disk, Which::Data)?;
     disk.fail_at(1);
@@ -124,7 +123,7 @@ fn a_failed_write_was_begun(rt: HostRuntime) -> Result<(), Fail> {
 }
 
 #[test]
-fn a_failed_cut_was_begun(rt: HostRuntime) -> Result<(), Fail> {
+fn a_failed_cut_was_begun(rt: HostRuntime) -> Result<(), DeviceError> {
     let mut disk = torn(rt.alloc())?;
     sync(&mut disk, Which::Data)?;
     disk.fail_at(1);
@@ -136,7 +135,7 @@ fn a_failed_cut_was_begun(rt: HostRuntime) -> Result<(), Fail> {
 }
 
 #[test]
-fn a_failed_sync_keeps_nothing_new_and_loses_nothing(rt: HostRuntime) -> Result<(), Fail> {
+fn a_failed_sync_keeps_nothing_new_and_loses_nothing(rt: HostRuntime) -> Result<(), DeviceError> {
     let mut disk = torn(rt.alloc())?;
     disk.fail_at(1);
     assert!(rt; sync(&mut disk, Which::Data).is_err());

@@ -1,5 +1,6 @@
 // The two real files of a folder.
 
+use crate::equality::equal;
 use fit_disk::{Disk, Files, OpenFault, Which};
 use std::fs::{self, Permissions};
 use std::os::unix::fs::PermissionsExt;
@@ -18,15 +19,15 @@ fn files_are_made_and_keep_what_was_written(rt: HostRuntime) -> Result<(), Fail>
     {
         let mut files = Files::open(&rt, folder)?;
         let mut buffer = [0x2E; 6];
-        assert_eq!(rt; files.size(Which::Data)?, 0);
+        equal(&rt, files.size(Which::Data)?, 0);
         files.write(Which::Data, 0, b"abcd")?;
         files.write(Which::Data, 2, b"XYZ")?;
         files.write(Which::Journal, 0, b"journal")?;
         files.cut(Which::Journal, 1)?;
-        assert_eq!(rt; files.read(Which::Data, 1, &mut buffer)?, 4);
-        assert_eq!(rt; buffer, *b"bXYZ..");
-        assert_eq!(rt; files.read(Which::Data, 5, &mut buffer)?, 0);
-        assert_eq!(rt; files.size(Which::Journal)?, 1);
+        equal(&rt, files.read(Which::Data, 1, &mut buffer)?, 4);
+        equal(&rt, buffer, *b"bXYZ..");
+        equal(&rt, files.read(Which::Data, 5, &mut buffer)?, 0);
+        equal(&rt, files.size(Which::Journal)?, 1);
         files.sync(Which::Data)?;
         files.sync(Which::Journal)?;
         // Nobody else opens them meanwhile.
@@ -35,19 +36,21 @@ fn files_are_made_and_keep_what_was_written(rt: HostRuntime) -> Result<(), Fail>
         assert!(rt; files.write(Which::Data, u64::MAX, b"x").is_err());
         assert!(rt; files.read(Which::Data, u64::MAX, &mut buffer).is_err());
         assert!(rt; files.cut(Which::Data, u64::MAX).is_err());
-        assert_eq!(rt; files.size(Which::Data)?, 5);
+        equal(&rt, files.size(Which::Data)?, 5);
     }
     let mut files = Files::open(&rt, folder)?;
     let mut buffer = [0; 5];
-    assert_eq!(rt; files.read(Which::Data, 0, &mut buffer)?, 5);
-    assert_eq!(rt; buffer, *b"abXYZ");
-    assert_eq!(rt;
+    equal(&rt, files.read(Which::Data, 0, &mut buffer)?, 5);
+    equal(&rt, buffer, *b"abXYZ");
+    equal(
+        &rt,
         fs::read(&rt, "fit_disk_test_kept/activity.fit")?.as_slice(),
-        b"abXYZ".as_slice()
+        b"abXYZ".as_slice(),
     );
-    assert_eq!(rt;
+    equal(
+        &rt,
         fs::read(&rt, "fit_disk_test_kept/activity.frj")?.as_slice(),
-        b"j".as_slice()
+        b"j".as_slice(),
     );
     drop(files);
     fs::remove_dir_all(&rt, folder)?;
@@ -63,8 +66,8 @@ fn a_folder_that_cannot_hold_the_files_is_refused(rt: HostRuntime) -> Result<(),
     fs::create_dir(&rt, "fit_disk_test_refused/activity.frj")?;
     assert!(rt; is_refused(&rt, folder));
     fs::remove_dir_all(&rt, folder)?;
-    assert_eq!(rt; OpenFault::Open.code(), 1);
-    assert_eq!(rt; OpenFault::Memory.code(), 2);
+    equal(&rt, OpenFault::Open.code(), 1);
+    equal(&rt, OpenFault::Memory.code(), 2);
     Ok(())
 }
 
@@ -96,7 +99,7 @@ fn want_of_memory_is_told(rt: HostRuntime) -> Result<(), Fail> {
         Err(OpenFault::Memory) => Files::open(&rt, folder)?,
         opened => opened?,
     };
-    assert_eq!(rt; files.size(Which::Data)?, 0);
+    equal(&rt, files.size(Which::Data)?, 0);
     drop(files);
     fs::remove_dir_all(&rt, folder)?;
     Ok(())

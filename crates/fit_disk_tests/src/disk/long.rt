@@ -1,15 +1,15 @@
 // A data file of 16 MiB: memory is there for it, and a power cut behind its writes comes to its end.
 
 use super::{cycle, size, sync, write};
-use fit_disk::{Memory, Which};
-use std::test::Fail;
+use crate::equality::equal;
+use fit_disk::{DeviceError, Memory, Which};
 
 const PIECE: usize = 65_536;
 
 const PIECES: usize = 256;
 
 // Fills the data file with a byte, a piece at a time.
-fn fill(disk: &mut Memory, byte: u8) -> Result<(), Fail> {
+fn fill(disk: &mut Memory, byte: u8) -> Result<(), DeviceError> {
     let bytes = [byte; PIECE];
     for number in 0..PIECES {
         write(disk, Which::Data, number * PIECE, &bytes)?;
@@ -18,19 +18,19 @@ fn fill(disk: &mut Memory, byte: u8) -> Result<(), Fail> {
 }
 
 #[test]
-fn a_file_of_16_mib_is_filled_and_comes_back(rt: HostRuntime) -> Result<(), Fail> {
+fn a_file_of_16_mib_is_filled_and_comes_back(rt: HostRuntime) -> Result<(), DeviceError> {
     let mut disk = Memory::new(rt.alloc());
     fill(&mut disk, 0x5A)?;
-    assert_eq!(rt; size(&mut disk, Which::Data)?, 16_777_216);
+    equal(&rt, size(&mut disk, Which::Data)?, 16_777_216);
     sync(&mut disk, Which::Data)?;
     fill(&mut disk, 0x6B)?;
     assert!(rt; !disk.spent());
-    assert_eq!(rt; disk.content(Which::Data).last().copied(), Some(0x6B));
+    equal(&rt, disk.content(Which::Data).last().copied(), Some(0x6B));
     // Each place of it varies.
     cycle(&rt, &mut disk, &[0, 0, 0, 0, 0xA5], 5);
     let content = disk.content(Which::Data);
     assert_eq!(rt; content.len(), 16_777_216);
-    assert_eq!(rt; &content[..3], [0xA5, 0, 0].as_slice());
-    assert_eq!(rt; content.last().copied(), Some(0));
+    equal(&rt, &content[..3], [0xA5, 0, 0].as_slice());
+    equal(&rt, content.last().copied(), Some(0));
     Ok(())
 }

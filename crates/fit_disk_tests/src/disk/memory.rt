@@ -1,23 +1,23 @@
 // Reads, writes, cuts and syncs of the memory disk, and its scheduled and refused calls.
 
 use super::{cut, cycle, expect, read, size, sync, write};
+use crate::equality::equal;
 use fit_disk::{DeviceError, Memory, Which};
-use std::test::Fail;
 
 #[test]
-fn reads_what_was_written(rt: HostRuntime) -> Result<(), Fail> {
+fn reads_what_was_written(rt: HostRuntime) -> Result<(), DeviceError> {
     let mut disk = Memory::new(rt.alloc());
     let mut buffer = [0x2E; 6];
-    assert_eq!(rt; size(&mut disk, Which::Data)?, 0);
-    assert_eq!(rt; read(&mut disk, Which::Data, 0, &mut buffer)?, 0);
+    equal(&rt, size(&mut disk, Which::Data)?, 0);
+    equal(&rt, read(&mut disk, Which::Data, 0, &mut buffer)?, 0);
     write(&mut disk, Which::Data, 0, b"abcd")?;
-    assert_eq!(rt; size(&mut disk, Which::Data)?, 4);
-    assert_eq!(rt; read(&mut disk, Which::Data, 0, &mut buffer)?, 4);
-    assert_eq!(rt; buffer, *b"abcd..");
-    assert_eq!(rt; read(&mut disk, Which::Data, 2, &mut buffer[..1])?, 1);
-    assert_eq!(rt; buffer, *b"cbcd..");
+    equal(&rt, size(&mut disk, Which::Data)?, 4);
+    equal(&rt, read(&mut disk, Which::Data, 0, &mut buffer)?, 4);
+    equal(&rt, buffer, *b"abcd..");
+    equal(&rt, read(&mut disk, Which::Data, 2, &mut buffer[..1])?, 1);
+    equal(&rt, buffer, *b"cbcd..");
     for at in [4, 5, u64::MAX] {
-        assert_eq!(rt; read(&mut disk, Which::Data, at, &mut buffer)?, 0);
+        equal(&rt, read(&mut disk, Which::Data, at, &mut buffer)?, 0);
     }
     // Over the end, at the end, and nothing.
     write(&mut disk, Which::Data, 2, b"XYZ")?;
@@ -25,13 +25,13 @@ fn reads_what_was_written(rt: HostRuntime) -> Result<(), Fail> {
     write(&mut disk, Which::Data, 6, b"")?;
     write(&mut disk, Which::Data, 0, b"A")?;
     expect(&rt, &disk, Which::Data, b"AbXYZ!");
-    assert_eq!(rt; read(&mut disk, Which::Data, 3, &mut buffer)?, 3);
+    equal(&rt, read(&mut disk, Which::Data, 3, &mut buffer)?, 3);
     expect(&rt, &disk, Which::Journal, b"");
     Ok(())
 }
 
 #[test]
-fn cuts_and_syncs_change_no_other_byte(rt: HostRuntime) -> Result<(), Fail> {
+fn cuts_and_syncs_change_no_other_byte(rt: HostRuntime) -> Result<(), DeviceError> {
     let mut disk = Memory::new(rt.alloc());
     write(&mut disk, Which::Journal, 0, b"abcdef")?;
     write(&mut disk, Which::Data, 0, b"1")?;
@@ -106,13 +106,13 @@ fn a_schedule_replaces_the_pending_one(rt: HostRuntime) {
     disk.fail_at(1);
     disk.fail_at(3);
     for expected in [false, false, true, false] {
-        assert_eq!(rt; sync(&mut disk, Which::Data).is_err(), expected);
+        equal(&rt, sync(&mut disk, Which::Data).is_err(), expected);
     }
     // One call of both kinds: it fails once, and the power is gone and stays so.
     disk.fail_at(2);
     disk.cut_at(2);
     for expected in [false, true, true] {
-        assert_eq!(rt; sync(&mut disk, Which::Data).is_err(), expected);
+        equal(&rt, sync(&mut disk, Which::Data).is_err(), expected);
     }
     disk.cut_at(9);
     assert!(rt; sync(&mut disk, Which::Data).is_err());
@@ -129,7 +129,7 @@ fn a_schedule_replaces_the_pending_one(rt: HostRuntime) {
 // Run with each allocation refused in turn: the call that wanted it fails and changes nothing, the disk says
 // that it is spent, and the same call made again goes on.
 #[test]
-fn a_refused_growth_changes_nothing(rt: HostRuntime) -> Result<(), Fail> {
+fn a_refused_growth_changes_nothing(rt: HostRuntime) -> Result<(), DeviceError> {
     let mut disk = Memory::new(rt.alloc());
     let mut was_refused = false;
     for number in 1..=12 {
@@ -144,12 +144,12 @@ fn a_refused_growth_changes_nothing(rt: HostRuntime) -> Result<(), Fail> {
                 disk.content(Which::Data).len(),
                 disk.content(Which::Journal).len(),
             ];
-            assert_eq!(rt; after, before);
+            equal(&rt, after, before);
             assert!(rt; disk.spent());
             call(&mut disk, number)?;
         }
     }
-    assert_eq!(rt; disk.spent(), was_refused);
+    equal(&rt, disk.spent(), was_refused);
     expect(&rt, &disk, Which::Data, b"abe");
     expect(&rt, &disk, Which::Journal, b"c");
     cycle(&rt, &mut disk, &[0, 0, 0, 0, 1, 0, 0, 0, 0xA5], 9);

@@ -1,11 +1,10 @@
 // Which places vary where written ranges touch, overlap or leave a gap. The expected contents are worked out by hand.
 
 use super::{cycle, expect, sync, write};
-use fit_disk::{Memory, Which};
-use std::test::Fail;
+use fit_disk::{DeviceError, Memory, Which};
 
 #[test]
-fn just_the_written_places_vary(rt: HostRuntime) -> Result<(), Fail> {
+fn just_the_written_places_vary(rt: HostRuntime) -> Result<(), DeviceError> {
     // Two writes, each a place and a number of bytes, over ten bytes.
     let cases: [([(usize, usize); 2], &[u8]); 8] = [
         // Behind each other, and with a gap of one byte.

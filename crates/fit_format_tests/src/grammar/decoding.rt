@@ -1,8 +1,9 @@
 // Files and bytes that are no files, with faults and places from outside. Checksums were computed by another
 // program, bit by bit.
 
+use crate::equality::equal;
 use crate::known_files::{EMPTY, FILE_ID};
-use fit_grammar::{FaultKind, decode_file, encode_file};
+use fit_grammar::{FaultKind, FileFault, decode_file, encode_file};
 use std::alloc::{AllocError, Global};
 use std::test::*;
 
@@ -57,7 +58,7 @@ pub(crate) fn behind_header(
 }
 
 #[test]
-fn files_are_read(rt: HostRuntime) -> Result<(), Fail> {
+fn files_are_read(rt: HostRuntime) -> Result<(), FileFault> {
     for (bytes, size) in [
         (EMPTY.as_slice(), 0),
         (SHORT_HEADER.as_slice(), 0),
@@ -66,7 +67,7 @@ fn files_are_read(rt: HostRuntime) -> Result<(), Fail> {
         (COMPRESSED.as_slice(), 37),
     ] {
         let file = decode_file(rt.alloc(), bytes)?;
-        assert_eq!(rt; file.data_size(), size);
+        equal(&rt, file.data_size(), size);
     }
     Ok(())
 }
@@ -83,7 +84,7 @@ fn what_is_read_is_written_again(rt: HostRuntime) -> Result<(), Fail> {
         let file = decode_file(rt.alloc(), bytes)?;
         let mut written = Vec::new(rt.alloc());
         encode_file(&file, &mut written)?;
-        assert_eq!(rt; written.as_slice(), bytes);
+        equal(&rt, written.as_slice(), bytes);
     }
     Ok(())
 }
@@ -92,46 +93,56 @@ fn what_is_read_is_written_again(rt: HostRuntime) -> Result<(), Fail> {
 fn a_beginning_is_cut_short(rt: HostRuntime) {
     for len in 0..FILE_ID.len() {
         let fault = outcome(rt.alloc(), &FILE_ID[..len]);
-        assert_eq!(rt; fault, Some((FaultKind::Truncated, len)));
+        equal(&rt, fault, Some((FaultKind::Truncated, len)));
     }
 }
 
 #[test]
-fn one_byte_is_wrong(rt: HostRuntime) -> Result<(), Fail> {
+fn one_byte_is_wrong(rt: HostRuntime) -> Result<(), AllocError> {
     let alloc = rt.alloc();
     let crc = edited(alloc, &[(27, 0x05)])?;
-    assert_eq!(rt; outcome(alloc, &crc), Some((FaultKind::FileCrc, 32)));
+    equal(&rt, outcome(alloc, &crc), Some((FaultKind::FileCrc, 32)));
     let header = edited(alloc, &[(12, 0xA0)])?;
-    assert_eq!(rt; outcome(alloc, &header), Some((FaultKind::HeaderCrc, 12)));
+    equal(
+        &rt,
+        outcome(alloc, &header),
+        Some((FaultKind::HeaderCrc, 12)),
+    );
     let magic = edited(alloc, &[(9, 0x00)])?;
-    assert_eq!(rt; outcome(alloc, &magic), Some((FaultKind::Magic, 8)));
+    equal(&rt, outcome(alloc, &magic), Some((FaultKind::Magic, 8)));
     let mut longer = edited(alloc, &[])?;
     longer.push(0)?;
-    assert_eq!(rt;
+    equal(
+        &rt,
         outcome(alloc, &longer),
-        Some((FaultKind::TrailingBytes, 34))
+        Some((FaultKind::TrailingBytes, 34)),
     );
     Ok(())
 }
 
 #[test]
-fn a_header_without_its_checksum(rt: HostRuntime) -> Result<(), Fail> {
+fn a_header_without_its_checksum(rt: HostRuntime) -> Result<(), AllocError> {
     let alloc = rt.alloc();
     let old = edited(alloc, &[(12, 0), (13, 0)])?;
-    assert_eq!(rt; outcome(alloc, &old), Some((FaultKind::FileCrc, 32)));
+    equal(&rt, outcome(alloc, &old), Some((FaultKind::FileCrc, 32)));
     let right = edited(alloc, &[(12, 0), (13, 0), (32, 0x74), (33, 0x55)])?;
-    assert_eq!(rt; outcome(alloc, &right), None);
+    equal(&rt, outcome(alloc, &right), None);
     Ok(())
 }
 
 #[test]
-fn refused_at_the_first_byte_that_shows_it(rt: HostRuntime) -> Result<(), Fail> {
+fn refused_at_the_first_byte_that_shows_it(rt: HostRuntime) -> Result<(), AllocError> {
     let alloc = rt.alloc();
-    assert_eq!(rt; outcome(alloc, &[]), Some((FaultKind::Truncated, 0)));
-    assert_eq!(rt; outcome(alloc, &[0x0D]), Some((FaultKind::HeaderSize, 0)));
-    assert_eq!(rt;
+    equal(&rt, outcome(alloc, &[]), Some((FaultKind::Truncated, 0)));
+    equal(
+        &rt,
+        outcome(alloc, &[0x0D]),
+        Some((FaultKind::HeaderSize, 0)),
+    );
+    equal(
+        &rt,
         outcome(alloc, &[0x0E, 0x30]),
-        Some((FaultKind::Protocol, 1))
+        Some((FaultKind::Protocol, 1)),
     );
     for (size, records, kind, place) in [
         (
@@ -157,7 +168,7 @@ fn refused_at_the_first_byte_that_shows_it(rt: HostRuntime) -> Result<(), Fail> 
         ),
     ] {
         let bytes = behind_header(alloc, size, records)?;
-        assert_eq!(rt; outcome(alloc, &bytes), Some((kind, place)));
+        equal(&rt, outcome(alloc, &bytes), Some((kind, place)));
     }
     Ok(())
 }
@@ -170,16 +181,17 @@ fn tells_which_item_wants_memory(rt: HostRuntime) {
         match outcome(rt.alloc(), &FILE_ID) {
             None => {}
             Some((kind, place)) => {
-                assert_eq!(rt; kind, FaultKind::Memory);
+                equal(&rt, kind, FaultKind::Memory);
                 assert!(rt; place == 14 || place == 26, "{place}");
             }
         }
         let promised = [
             0x0C, 0x10, 0x64, 0x00, 0xFF, 0xFF, 0xFF, 0xFF, 0x2E, 0x46, 0x49, 0x54,
         ];
-        assert_eq!(rt;
+        equal(
+            &rt,
             outcome(rt.alloc(), &promised),
-            Some((FaultKind::Truncated, 12))
+            Some((FaultKind::Truncated, 12)),
         );
     }
 }

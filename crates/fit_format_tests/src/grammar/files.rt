@@ -2,6 +2,7 @@
 
 ghost use Rattle.std.specs.Prelude.{◌≡◌};
 
+use crate::equality::equal;
 use crate::known_files::{FILE_ID, empty_file};
 use crate::slow::Slow;
 use arrayvec::ArrayVec;
@@ -80,19 +81,19 @@ fn the_example_of_the_crate(rt: HostRuntime) -> Result<(), Fail> {
     encode_file(&file, &mut bytes)?;
     let read = decode_file(alloc, bytes.as_slice())?;
     let message = read.messages().next().expect(&rt, "one message");
-    assert_eq!(rt; message.global(), 20);
+    equal(&rt, message.global(), 20);
     Ok(())
 }
 
 #[test]
-fn writes_a_file(rt: HostRuntime) -> Result<(), Fail> {
+fn writes_a_file(rt: HostRuntime) -> Result<(), PutFault> {
     let mut file = small_file(rt.alloc())?;
     assert!(rt; is_written(rt.alloc(), &file, &FILE_ID));
-    assert_eq!(rt; file.data(5, None, &[0]), Err(PutFault::UndefinedLocal));
+    equal(&rt, file.data(5, None, &[0]), Err(PutFault::UndefinedLocal));
     assert!(rt; is_written(rt.alloc(), &file, &FILE_ID));
-    assert_eq!(rt; file.data(0, None, &[4]), Err(PutFault::Length));
+    equal(&rt, file.data(0, None, &[4]), Err(PutFault::Length));
     assert!(rt; is_written(rt.alloc(), &file, &FILE_ID));
-    assert_eq!(rt; file.data(0, Some(32), &CONTENT), Err(PutFault::Length));
+    equal(&rt, file.data(0, Some(32), &CONTENT), Err(PutFault::Length));
     assert!(rt; is_written(rt.alloc(), &file, &FILE_ID));
     Ok(())
 }
@@ -103,13 +104,13 @@ fn offsets_need_a_low_local_number(rt: HostRuntime) -> Result<(), Fail> {
     file.define(&file_id(4))?;
     let mut before = Slow::new(rt.alloc(), 128, 128);
     encode_file(&file, &mut before)?;
-    assert_eq!(rt; file.data(4, Some(0), &CONTENT), Err(PutFault::Length));
+    equal(&rt, file.data(4, Some(0), &CONTENT), Err(PutFault::Length));
     assert!(rt; is_written(rt.alloc(), &file, before.written()));
     Ok(())
 }
 
 #[test]
-fn lends_messages_with_their_times(rt: HostRuntime) -> Result<(), Fail> {
+fn lends_messages_with_their_times(rt: HostRuntime) -> Result<(), PutFault> {
     let mut file = small_file(rt.alloc())?;
     file.data(0, Some(3), &CONTENT)?;
     let mut times = [None; 2];
@@ -119,27 +120,27 @@ fn lends_messages_with_their_times(rt: HostRuntime) -> Result<(), Fail> {
         times[count] = message.time();
         count += 1;
     }
-    assert_eq!(rt; count, 2);
+    equal(&rt, count, 2);
     // file_id has no field 253, and the offset counts from 0
-    assert_eq!(rt; times, [None, Some(3)]);
+    equal(&rt, times, [None, Some(3)]);
     Ok(())
 }
 
 #[test]
-fn a_failing_writer_has_a_beginning(rt: HostRuntime) -> Result<(), Fail> {
+fn a_failing_writer_has_a_beginning(rt: HostRuntime) -> Result<(), PutFault> {
     let file = small_file(rt.alloc())?;
     for calls in 0..16 {
         let mut out = Slow::new(rt.alloc(), 5, calls);
         let answer = encode_file(&file, &mut out);
         assert!(rt; FILE_ID.starts_with(out.written()));
         if out.written().len() == 34 {
-            assert_eq!(rt; answer, Ok(()));
+            equal(&rt, answer, Ok(()));
         } else {
-            assert_eq!(rt; answer, Err(EncodeFault::Write));
+            equal(&rt, answer, Err(EncodeFault::Write));
         }
     }
     let mut full = Slow::new(rt.alloc(), 0, 9);
-    assert_eq!(rt; encode_file(&file, &mut full), Err(EncodeFault::Write));
+    equal(&rt, encode_file(&file, &mut full), Err(EncodeFault::Write));
     Ok(())
 }
 
@@ -153,7 +154,7 @@ fn keeps_the_file_without_memory(rt: HostRuntime) {
         check_kept(&rt, &file, before, 12, defined);
         let before = file.data_size();
         match file.data(0, None, &CONTENT) {
-            Err(PutFault::UndefinedLocal) => assert_eq!(rt; before, 0),
+            Err(PutFault::UndefinedLocal) => equal(&rt, before, 0),
             added => check_kept(&rt, &file, before, 6, added),
         }
     }
@@ -161,19 +162,19 @@ fn keeps_the_file_without_memory(rt: HostRuntime) {
 
 fn check_kept(rt: &impl Abort, file: &File, before: u32, size: u32, answer: Result<(), PutFault>) {
     match answer {
-        Ok(()) => assert_eq!(rt; file.data_size().wrapping_sub(before), size),
+        Ok(()) => equal(rt, file.data_size().wrapping_sub(before), size),
         Err(fault) => {
-            assert_eq!(rt; fault, PutFault::Memory);
-            assert_eq!(rt; file.data_size(), before);
+            equal(rt, fault, PutFault::Memory);
+            equal(rt, file.data_size(), before);
         }
     }
 }
 
 #[test]
 fn numbers_of_faults(rt: HostRuntime) {
-    assert_eq!(rt; FaultKind::Truncated.code(), 1);
-    assert_eq!(rt; FaultKind::UndefinedLocal(3).code(), 6);
-    assert_eq!(rt; FaultKind::Memory.code(), 10);
-    assert_eq!(rt; PutFault::Memory.code(), 4);
-    assert_eq!(rt; EncodeFault::Write.code(), 1);
+    equal(&rt, FaultKind::Truncated.code(), 1);
+    equal(&rt, FaultKind::UndefinedLocal(3).code(), 6);
+    equal(&rt, FaultKind::Memory.code(), 10);
+    equal(&rt, PutFault::Memory.code(), 4);
+    equal(&rt, EncodeFault::Write.code(), 1);
 }

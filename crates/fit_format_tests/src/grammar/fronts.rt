@@ -1,9 +1,11 @@
 // The longest row of whole items that bytes begin with. The lengths are from outside: by hand, item by item.
 
+use crate::equality::equal;
 use crate::grammar::decoding::{COMPRESSED, REDEFINED};
 use crate::grammar::developer::ANEW;
 use crate::known_files::FILE_ID;
 use fit_grammar::longest_front;
+use std::alloc::AllocError;
 use std::test::Fail;
 
 // Each beginning of some records has as its front the last of these places that it reaches.
@@ -41,7 +43,7 @@ fn a_front_ends_behind_a_whole_item(rt: HostRuntime) -> Result<(), Fail> {
 // Behind the definition of local number 0 stand data of another one, one of it that is cut short, definitions that are cut
 // short in their fields and in their developer fields, and nothing.
 #[test]
-fn a_front_ends_before_what_is_no_item(rt: HostRuntime) -> Result<(), Fail> {
+fn a_front_ends_before_what_is_no_item(rt: HostRuntime) -> Result<(), AllocError> {
     let definition = [0x40, 0, 0, 20, 0, 1, 3, 1, 2];
     for behind in [
         [0x05, 0x64, 0, 0, 0, 0, 0, 0, 0].as_slice(),
@@ -54,26 +56,26 @@ fn a_front_ends_before_what_is_no_item(rt: HostRuntime) -> Result<(), Fail> {
         let mut bytes = definition.to_vec(rt.alloc())?;
         bytes.extend_from_slice(&[0x00, 0x64])?;
         bytes.extend_from_slice(behind)?;
-        assert_eq!(rt; longest_front(bytes.as_slice()), 11);
+        equal(&rt, longest_front(bytes.as_slice()), 11);
         // Without the definition not even the first is one.
-        assert_eq!(rt; longest_front(&bytes.as_slice()[9..]), 0);
+        equal(&rt, longest_front(&bytes.as_slice()[9..]), 0);
     }
     Ok(())
 }
 
 // A million messages without content, and as many definitions.
 #[test]
-fn a_front_of_many_items(rt: HostRuntime) -> Result<(), Fail> {
+fn a_front_of_many_items(rt: HostRuntime) -> Result<(), AllocError> {
     let definition = [0x40, 0, 0, 0xE8, 3, 0];
     let mut bytes = definition.to_vec(rt.alloc())?;
     for _ in 0..1_000_000u32 {
         bytes.push(0)?;
     }
-    assert_eq!(rt; longest_front(bytes.as_slice()), 1_000_006);
+    equal(&rt, longest_front(bytes.as_slice()), 1_000_006);
     for _ in 0..1_000_000u32 {
         bytes.extend_from_slice(&definition)?;
     }
     bytes.push(0x0F)?;
-    assert_eq!(rt; longest_front(bytes.as_slice()), 7_000_006);
+    equal(&rt, longest_front(bytes.as_slice()), 7_000_006);
     Ok(())
 }

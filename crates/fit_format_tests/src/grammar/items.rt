@@ -1,4 +1,5 @@
 // Items as other writers write them, at every window.
+use crate::equality::equal;
 use arrayvec::ArrayVec;
 use fit_base::Arch;
 use fit_grammar::*;
@@ -18,7 +19,7 @@ pub(super) fn define(rt: &impl Abort, bytes: &[u8], table: &mut Table) {
     match next_item(bytes, table) {
         Step::Item(item, used) => match item {
             Item::Definition(message) => {
-                assert_eq!(rt; used, bytes.len());
+                equal(rt, used, bytes.len());
                 let definition = message.read();
                 table.take(&definition);
             }
@@ -38,7 +39,7 @@ pub(super) fn read_message<'a>(
     assert_begun(rt, bytes, table);
     match next_item(bytes, table) {
         Step::Item(item, used) => {
-            assert_eq!(rt; used, bytes.len());
+            equal(rt, used, bytes.len());
             message_of(&item, before).expect(rt, "a data message was expected")
         }
         _ => panic!(rt; "an item was expected"),
@@ -51,13 +52,13 @@ pub(super) fn assert_fields(rt: &impl Abort, message: &Message, rows: &[(u8, u8,
     for field in message.fields() {
         assert!(rt; seen < rows.len());
         let (number, base, value) = rows[seen];
-        assert_eq!(rt; field.number, number);
-        assert_eq!(rt; field.value.base(), base);
+        equal(rt, field.number, number);
+        equal(rt, field.value.base(), base);
         assert_eq!(rt; field.value.count(), 1);
-        assert_eq!(rt; field.value.unsigned(0), value);
+        equal(rt, field.value.unsigned(0), value);
         seen += 1;
     }
-    assert_eq!(rt; seen, rows.len());
+    equal(rt, seen, rows.len());
 }
 
 #[test]
@@ -69,8 +70,8 @@ fn a_second_definition_of_a_local_number(rt: HostRuntime) {
         &mut table,
     );
     let first = read_message(&rt, &[0x00, 0x64], &table, 0);
-    assert_eq!(rt; first.global(), 20);
-    assert_eq!(rt; first.time(), None);
+    equal(&rt, first.global(), 20);
+    equal(&rt, first.time(), None);
     assert_fields(&rt, &first, &[(3, 0x02, 100)]);
     define(
         &rt,
@@ -93,8 +94,8 @@ fn compressed_timestamps(rt: HostRuntime) {
         &mut table,
     );
     let event = read_message(&rt, &[0x06, 0x00, 0xCA, 0x9A, 0x3B, 0x00, 0x00], &table, 0);
-    assert_eq!(rt; event.global(), 21);
-    assert_eq!(rt; event.time(), Some(1_000_000_000));
+    equal(&rt, event.global(), 21);
+    equal(&rt, event.time(), Some(1_000_000_000));
     define(
         &rt,
         &[0x40, 0x00, 0x00, 0x14, 0x00, 0x01, 0x03, 0x01, 0x02],
@@ -107,7 +108,7 @@ fn compressed_timestamps(rt: HostRuntime) {
         ([0x80, 0x66], 1_000_000_032, 102),
     ] {
         let record = read_message(&rt, &bytes, &table, time);
-        assert_eq!(rt; record.time(), Some(then));
+        equal(&rt, record.time(), Some(then));
         assert_fields(
             &rt,
             &record,
@@ -128,9 +129,9 @@ fn a_time_that_is_invalid_states_nothing(rt: HostRuntime) {
         &mut table,
     );
     let bytes = [0, 5, 0, 0xFF, 0xFF, 0xFF, 0xFF, 7, 0, 0, 0];
-    assert_eq!(rt; read_message(&rt, &bytes, &table, 9).time(), Some(7));
+    equal(&rt, read_message(&rt, &bytes, &table, 9).time(), Some(7));
     let bytes = [0, 5, 0, 0xFF, 0xFF, 0xFF, 0xFF, 0xFF, 0xFF, 0xFF, 0xFF];
-    assert_eq!(rt; read_message(&rt, &bytes, &table, 9).time(), None);
+    equal(&rt, read_message(&rt, &bytes, &table, 9).time(), None);
 }
 
 #[test]
@@ -142,12 +143,12 @@ fn high_byte_first(rt: HostRuntime) {
         &mut table,
     );
     let message = read_message(&rt, &[0x00, 0x00, 0x01, 0x00, 0x02], &table, 0);
-    assert_eq!(rt; message.global(), 20);
+    equal(&rt, message.global(), 20);
     for field in message.fields() {
-        assert_eq!(rt; field.number, 99);
+        equal(&rt, field.number, 99);
         assert_eq!(rt; field.value.count(), 2);
-        assert_eq!(rt; field.value.unsigned(0), 1);
-        assert_eq!(rt; field.value.unsigned(1), 2);
+        equal(&rt, field.value.unsigned(0), 1);
+        equal(&rt, field.value.unsigned(1), 2);
     }
 }
 
@@ -181,14 +182,14 @@ fn largest_definition(rt: &impl Abort) -> Definition {
 // Asserts that the bytes are the largest data message, and that one byte less only begins it.
 fn assert_largest(rt: &impl Abort, bytes: &[u8], table: &Table) {
     assert_eq!(rt; bytes.len(), 130_051);
-    assert_eq!(rt; least_length(&bytes[..1], table).ok(), Some(130_051));
+    equal(rt, least_length(&bytes[..1], table).ok(), Some(130_051));
     let front = bytes.len() - 1;
     assert!(rt; matches!(next_item(&bytes[..front], table), Step::NeedMore));
     match next_item(bytes, table) {
         Step::Item(Item::Data(data), _) => {
-            assert_eq!(rt; data.local, 15);
-            assert_eq!(rt; data.content.len(), 130_050);
-            assert_eq!(rt; data.definition.global(), 0xFF00);
+            equal(rt, data.local, 15);
+            equal(rt, data.content.len(), 130_050);
+            equal(rt, data.definition.global(), 0xFF00);
         }
         _ => panic!(rt; "a data message was expected"),
     }
@@ -200,12 +201,12 @@ fn the_largest_definition_and_its_data(rt: HostRuntime) {
     assert!(rt; definition.local == 15 && definition.fields.len() == 255);
     assert!(rt; definition.developer.len() == 255);
     let mut bytes = [0u8; 1537];
-    assert_eq!(rt; write_definition(&definition, &mut bytes), 1537);
+    equal(&rt, write_definition(&definition, &mut bytes), 1537);
     let mut table = Table::new();
     define(&rt, &bytes, &mut table);
     let content = [1u8; 130_050];
     let mut item = [0u8; 130_051];
-    assert_eq!(rt; write_data(15, None, &content, &mut item), 130_051);
+    equal(&rt, write_data(15, None, &content, &mut item), 130_051);
     assert_largest(&rt, &item, &table);
 }
 
@@ -218,7 +219,7 @@ fn each_local_number(rt: HostRuntime) {
     for local in 0..16u8 {
         let bytes = [local];
         let message = read_message(&rt, &bytes, &table, 0);
-        assert_eq!(rt; message.global(), u16::from(local));
+        equal(&rt, message.global(), u16::from(local));
     }
 }
 
@@ -232,18 +233,18 @@ fn each_first_byte(rt: HostRuntime) {
                 assert!(rt; 0x40 <= first && first < 0x80);
                 // One that announces developer fields has their number.
                 let wanted = if first & 0x20 == 0 { 6 } else { 7 };
-                assert_eq!(rt; used, wanted);
+                equal(&rt, used, wanted);
                 match item {
-                    Item::Definition(message) => assert_eq!(rt; message.local(), first & 0x0F),
+                    Item::Definition(message) => equal(&rt, message.local(), first & 0x0F),
                     Item::Data(_) => panic!(rt; "there is no definition"),
                 }
             }
             Step::Refused(ItemFault::UndefinedLocal(local)) if first < 0x40 => {
-                assert_eq!(rt; local, first & 0x0F);
+                equal(&rt, local, first & 0x0F);
             }
             Step::Refused(ItemFault::UndefinedLocal(local)) => {
                 assert!(rt; 0x80 <= first);
-                assert_eq!(rt; local, (first >> 5) & 3);
+                equal(&rt, local, (first >> 5) & 3);
             }
             _ => panic!(rt; "the window has a whole item"),
         }

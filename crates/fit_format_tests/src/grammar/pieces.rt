@@ -2,10 +2,11 @@
 
 ghost use Rattle.std.specs.Prelude.{◌<◌};
 
+use crate::equality::equal;
 use crate::grammar::sizes::{content_of, definition_of};
 use crate::known_files::{FILE_ID, empty_file};
 use fit_grammar::{Decoder, EncodeFault, FaultKind, File, FileFault, encode_file};
-use std::alloc::Global;
+use std::alloc::{AllocError, Global};
 use std::process::Abort;
 use std::test::*;
 
@@ -45,9 +46,9 @@ fn fault_of<T: Drop>(answer: Result<T, FileFault>) -> Option<(FaultKind, usize)>
 // Each later call answers this fault.
 fn check_for_good(rt: &impl Abort, mut decoder: Decoder, fault: Option<(FaultKind, usize)>) {
     for piece in [[].as_slice(), &[0x40], &FILE_ID] {
-        assert_eq!(rt; fault_of(decoder.feed(piece)), fault);
+        equal(rt, fault_of(decoder.feed(piece)), fault);
     }
-    assert_eq!(rt; fault_of(decoder.finish()), fault);
+    equal(rt, fault_of(decoder.finish()), fault);
 }
 
 #[test]
@@ -77,7 +78,7 @@ fn every_cut_gives_one_file(rt: HostRuntime) -> Result<(), Fail> {
 fn an_unfinished_file_is_cut_short(rt: HostRuntime) {
     for len in 0..FILE_ID.len() {
         let answer = read_in_pieces(rt.alloc(), &FILE_ID[..len], 1);
-        assert_eq!(rt; fault_of(answer), Some((FaultKind::Truncated, len)));
+        equal(&rt, fault_of(answer), Some((FaultKind::Truncated, len)));
     }
 }
 
@@ -102,7 +103,7 @@ pub(super) fn check_shown_by_last(
 }
 
 #[test]
-fn refused_with_the_byte_that_shows_it(rt: HostRuntime) -> Result<(), Fail> {
+fn refused_with_the_byte_that_shows_it(rt: HostRuntime) -> Result<(), AllocError> {
     let alloc = rt.alloc();
     let mut bytes = FILE_ID.to_vec(alloc)?;
     bytes[27] = 0x05;
@@ -154,7 +155,7 @@ fn tells_for_good_which_item_wants_memory(rt: HostRuntime) {
             }
         }
         if let Some((kind, place)) = fault {
-            assert_eq!(rt; kind, FaultKind::Memory);
+            equal(&rt, kind, FaultKind::Memory);
             assert!(rt; place == 14 || place == 26, "{place}");
             check_for_good(&rt, decoder, fault);
         }
@@ -162,6 +163,6 @@ fn tells_for_good_which_item_wants_memory(rt: HostRuntime) {
             0x0C, 0x10, 0x64, 0x00, 0xFF, 0xFF, 0xFF, 0xFF, 0x2E, 0x46, 0x49, 0x54,
         ];
         let answer = read_in_pieces(rt.alloc(), &promised, 5);
-        assert_eq!(rt; fault_of(answer), Some((FaultKind::Truncated, 12)));
+        equal(&rt, fault_of(answer), Some((FaultKind::Truncated, 12)));
     }
 }

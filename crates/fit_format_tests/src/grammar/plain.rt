@@ -1,5 +1,6 @@
 // Files with each compressed timestamp written out, with bytes from outside.
 
+use crate::equality::equal;
 use crate::slow::Slow;
 use arrayvec::ArrayVec;
 use fit_base::Arch;
@@ -115,8 +116,8 @@ fn a_definition_of_256_fields_is_too_long(rt: HostRuntime) {
         place: 1551,
     };
     let refused = plain_file(rt.alloc(), &widest(rt.alloc(), 255));
-    assert_eq!(rt; refused.err(), Some(fault));
-    assert_eq!(rt; fault.code(), 1);
+    equal(&rt, refused.err(), Some(fault));
+    equal(&rt, fault.code(), 1);
 }
 
 // Run with each allocation refused in turn: the item that wanted it is told.
@@ -124,8 +125,8 @@ fn a_definition_of_256_fields_is_too_long(rt: HostRuntime) {
 fn tells_where_memory_is_refused(rt: HostRuntime) {
     for _ in 0..8 {
         if let Some(Err(fault)) = made(rt.alloc(), &COMPRESSED) {
-            assert_eq!(rt; fault.kind, PlainFaultKind::Memory);
-            assert_eq!(rt; fault.code(), 2);
+            equal(&rt, fault.kind, PlainFaultKind::Memory);
+            equal(&rt, fault.code(), 2);
             let places = [14, 26, 32, 41, 43];
             assert!(rt; places.contains(&fault.place), "{}", fault.place);
         }

@@ -2,6 +2,7 @@
 
 ghost use Rattle.std.specs.Prelude.{◌≡◌};
 
+use crate::equality::equal;
 use crate::known_files::empty_file;
 use crate::slow::Slow;
 use arrayvec::ArrayVec;
@@ -90,11 +91,11 @@ fn long_content(rt: HostRuntime) -> Result<(), Fail> {
         let mut file = empty_file(alloc);
         file.define(&definition)?;
         file.data(3, Some(31), content.as_slice())?;
-        assert_eq!(rt; file.data_size() as usize, spelled + 1 + size);
+        equal(&rt, file.data_size() as usize, spelled + 1 + size);
         let mut bytes = Vec::new(alloc);
         encode_file(&file, &mut bytes)?;
         let at = 14 + spelled;
-        assert_eq!(rt; bytes.len(), at + 1 + size + 2);
+        equal(&rt, bytes.len(), at + 1 + size + 2);
         let item = bytes
             .as_slice()
             .get(at..at + 1 + size)
@@ -125,15 +126,15 @@ fn many_messages(rt: HostRuntime) -> Result<(), Fail> {
     for at in 0..1_000_001u32 {
         file.data(3, None, &[(at % 251) as u8])?;
     }
-    assert_eq!(rt; file.data_size(), 2_000_011);
+    equal(&rt, file.data_size(), 2_000_011);
     let mut out = Slow::new(alloc, 3, usize::MAX);
     encode_file(&file, &mut out)?;
-    assert_eq!(rt; out.written().len(), 14 + 2_000_011 + 2);
+    equal(&rt, out.written().len(), 14 + 2_000_011 + 2);
     let read = decode_file(alloc, out.written())?;
     let content = shown(alloc, &read)?;
-    assert_eq!(rt; content.len(), 1_000_001);
+    equal(&rt, content.len(), 1_000_001);
     for (at, byte) in content.iter().enumerate() {
-        assert_eq!(rt; *byte, (at % 251) as u8);
+        equal(&rt, *byte, (at % 251) as u8);
     }
     Ok(())
 }

@@ -2,6 +2,7 @@
 
 ghost use Rattle.std.specs.Prelude.{◌≡◌, IfOk};
 
+use crate::equality::equal;
 use crate::known_files::empty_file;
 use arrayvec::ArrayVec;
 use fit_base::Arch;
@@ -70,7 +71,7 @@ fn shows_them_behind_the_fields(rt: HostRuntime) -> Result<(), Fail> {
         text.push_str(line)?;
         text.push_str("\n")?;
     }
-    assert_eq!(rt; out.as_slice(), text.as_bytes());
+    equal(&rt, out.as_slice(), text.as_bytes());
     Ok(())
 }
 
@@ -120,6 +121,6 @@ fn shows_those_of_each_local_number(rt: HostRuntime) -> Result<(), Fail> {
     text.push_str("messages 32\n")?;
     let mut out = Vec::new(rt.alloc());
     show(&file, false, &mut out)?;
-    assert_eq!(rt; out.as_slice(), text.as_bytes());
+    equal(&rt, out.as_slice(), text.as_bytes());
     Ok(())
 }

@@ -3,7 +3,7 @@
 use crate::known_files::empty_file;
 use arrayvec::ArrayVec;
 use fit_base::Arch;
-use fit_grammar::{Definition, FieldDefinition, File};
+use fit_grammar::{Definition, FieldDefinition, File, PutFault};
 use fit_text::show;
 use std::alloc::Global;
 use std::test::Fail;
@@ -148,7 +148,7 @@ fn push_fields(
     fields: &[(u8, &'static str)],
     first: u8,
     last: u8,
-) -> Result<(), Fail> {
+) -> Result<(), PutFault> {
     for number in first..=last {
         match field_name(fields, number) {
             Some(name) => text.push_str(&format!(in alloc; " {name}=")?)?,

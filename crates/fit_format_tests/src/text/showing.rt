@@ -2,10 +2,11 @@
 
 ghost use Rattle.std.specs.Prelude.{◌≡◌, IfOk};
 
+use crate::equality::equal;
 use crate::known_files::empty_file;
 use arrayvec::ArrayVec;
 use fit_base::Arch;
-use fit_grammar::{Definition, FieldDefinition, File, Frame};
+use fit_grammar::{Definition, FieldDefinition, File, Frame, PutFault};
 use fit_text::show;
 use std::test::Fail;
 
@@ -40,7 +41,12 @@ fn text_of(
 }
 
 // The text of such a file, whose field has so many bytes and this text behind the name of its message.
-fn text_around(rt: &HostRuntime, message: &str, size: usize, field: &str) -> Result<String, Fail> {
+fn text_around(
+    rt: &HostRuntime,
+    message: &str,
+    size: usize,
+    field: &str,
+) -> Result<String, PutFault> {
     // The definition has nine bytes, and the message one and its field.
     let size = size.saturating_add(10);
     let text = format!(in rt.alloc();
@@ -116,7 +122,7 @@ fn shows_values(rt: HostRuntime) -> Result<(), Fail> {
     }
     let out = text_of(&rt, false, 20, 99, 0x86, Arch::Big, &[0, 0, 1, 2])?;
     let whole = text_around(&rt, "record", 4, " field_99=258")?;
-    assert_eq!(rt; out.as_slice(), whole.as_bytes());
+    equal(&rt, out.as_slice(), whole.as_bytes());
     Ok(())
 }
 
@@ -256,7 +262,7 @@ fn the_example_of_the_crate(rt: HostRuntime) -> Result<(), Fail> {
         text.push_str(line)?;
         text.push_str("\n")?;
     }
-    assert_eq!(rt; out.as_slice(), text.as_bytes());
+    equal(&rt, out.as_slice(), text.as_bytes());
     Ok(())
 }
 

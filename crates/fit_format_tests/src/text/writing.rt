@@ -1,8 +1,10 @@
 // Text on its way to a writer, through the buffer of a pen.
 
+use crate::equality::equal;
 use crate::slow::Slow;
 use fit_grammar::WriteFailed;
 use fit_text::Pen;
+use std::alloc::AllocError;
 use std::io::Write;
 use std::test::Fail;
 
@@ -33,7 +35,7 @@ const BEHIND: &[u8] = b" heart_rate=18446744073709551615-922337203685477580807\n
 
 // The text behind crosses the end of the buffer at each of its places, and the writer refuses each call.
 #[test]
-fn text_crosses_the_end_of_the_buffer(rt: HostRuntime) -> Result<(), Fail> {
+fn text_crosses_the_end_of_the_buffer(rt: HostRuntime) -> Result<(), AllocError> {
     let front = [b'x'; SIZE];
     for missing in 0..70 {
         let text = &front[missing..];
@@ -71,6 +73,6 @@ fn long_text_is_whole(rt: HostRuntime) -> Result<(), Fail> {
     let mut pen = Pen::new(&mut out);
     pen.put(b"x")?;
     put_behind(&mut pen, &long)?;
-    assert_eq!(rt; out.as_slice(), whole.as_slice());
+    equal(&rt, out.as_slice(), whole.as_slice());
     Ok(())
 }

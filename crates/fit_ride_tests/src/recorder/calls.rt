@@ -4,6 +4,7 @@
 ghost use Rattle.std.specs.Prelude.{◌≤◌};
 
 use super::{RUN, SHORT_RIDE, TIME, begun, committed, copy_of, one, play, short_ride};
+use crate::equality::equal;
 use fit_activity::Entry;
 use fit_disk::{Disk, Memory, Which};
 use fit_recorder::{RecFault, Recorder, erase, recover};
@@ -19,19 +20,19 @@ const NO_RECORDS: [u8; 14] = [
 const RECOVERY: u32 = 2 + 1 + 1 + 1 + 4;
 
 #[test]
-fn a_recovery_makes_just_its_calls(rt: HostRuntime) -> Result<(), Fail> {
+fn a_recovery_makes_just_its_calls(rt: HostRuntime) -> Result<(), RecFault> {
     let mut disk = committed(&rt)?;
     disk.cut_at(RECOVERY);
-    assert_eq!(rt; recover(&mut disk), Err(RecFault::Device));
+    equal(&rt, recover(&mut disk), Err(RecFault::Device));
     let mut disk = committed(&rt)?;
     disk.cut_at(RECOVERY + 1);
-    assert_eq!(rt; recover(&mut disk), Ok(SHORT_RIDE));
-    assert_eq!(rt; disk.size(Which::Data).is_ok(), false);
+    equal(&rt, recover(&mut disk), Ok(SHORT_RIDE));
+    equal(&rt, disk.size(Which::Data).is_ok(), false);
     Ok(())
 }
 
 #[test]
-fn a_start_that_finds_a_ride_makes_two_calls(rt: HostRuntime) -> Result<(), Fail> {
+fn a_start_that_finds_a_ride_makes_two_calls(rt: HostRuntime) -> Result<(), RecFault> {
     for (k, expected) in [(2, RecFault::Device), (3, RecFault::NotEmpty)] {
         let mut disk = committed(&rt)?;
         disk.cut_at(k);
@@ -39,21 +40,21 @@ fn a_start_that_finds_a_ride_makes_two_calls(rt: HostRuntime) -> Result<(), Fail
             Ok(_) => None,
             Err((_, fault)) => Some(fault),
         };
-        assert_eq!(rt; fault, Some(expected));
+        equal(&rt, fault, Some(expected));
     }
     Ok(())
 }
 
 // Where the data file is empty the journal is left as it is, its mark too.
 #[test]
-fn an_erasing_of_nothing_makes_three_calls(rt: HostRuntime) -> Result<(), Fail> {
+fn an_erasing_of_nothing_makes_three_calls(rt: HostRuntime) -> Result<(), RecFault> {
     for (k, expected) in [(3, Err(RecFault::Device)), (4, Ok(()))] {
         let mut disk = Memory::new(rt.alloc());
         disk.write(Which::Journal, 0, &[0x46, 0x52])?;
         disk.cut_at(k);
-        assert_eq!(rt; erase(&mut disk), expected);
+        equal(&rt, erase(&mut disk), expected);
         disk.cycle(&[]);
-        assert_eq!(rt; disk.content(Which::Journal), [0x46, 0x52].as_slice());
+        equal(&rt, disk.content(Which::Journal), [0x46, 0x52].as_slice());
     }
     Ok(())
 }
@@ -61,7 +62,7 @@ fn an_erasing_of_nothing_makes_three_calls(rt: HostRuntime) -> Result<(), Fail> 
 // Behind its two syncs a recovery that finds nothing ends with the size of an empty data file, and with the head of a journal
 // that is none; one that finds damage ends there too.
 #[test]
-fn a_recovery_that_finds_no_ride_ends_early(rt: HostRuntime) -> Result<(), Fail> {
+fn a_recovery_that_finds_no_ride_ends_early(rt: HostRuntime) -> Result<(), RecFault> {
     let cases: [(&[u8], &[u8], [(u32, RecFault); 2]); 3] = [
         (
             b"",
@@ -83,7 +84,7 @@ fn a_recovery_that_finds_no_ride_ends_early(rt: HostRuntime) -> Result<(), Fail>
         for (k, expected) in answers {
             let mut disk = copy_of(rt.alloc(), data, journal)?;
             disk.cut_at(k);
-            assert_eq!(rt; recover(&mut disk), Err(expected));
+            equal(&rt, recover(&mut disk), Err(expected));
         }
     }
     Ok(())
@@ -91,7 +92,7 @@ fn a_recovery_that_finds_no_ride_ends_early(rt: HostRuntime) -> Result<(), Fail>
 
 // A start keeps the data file before it asks for its size: where that fails, a power cut leaves what was written.
 #[test]
-fn a_start_keeps_the_data_first(rt: HostRuntime) -> Result<(), Fail> {
+fn a_start_keeps_the_data_first(rt: HostRuntime) -> Result<(), RecFault> {
     let mut disk = Memory::new(rt.alloc());
     disk.write(Which::Data, 0, b"data")?;
     disk.fail_at(2);
@@ -99,19 +100,19 @@ fn a_start_keeps_the_data_first(rt: HostRuntime) -> Result<(), Fail> {
         Ok(recorder) => (recorder.into_disk(), None),
         Err((disk, fault)) => (disk, Some(fault)),
     };
-    assert_eq!(rt; fault, Some(RecFault::Device));
+    equal(&rt, fault, Some(RecFault::Device));
     disk.cycle(&[]);
-    assert_eq!(rt; disk.content(Which::Data), b"data".as_slice());
+    equal(&rt, disk.content(Which::Data), b"data".as_slice());
     Ok(())
 }
 
 // Where the journal has no mark nothing is written there, and it is kept once more.
 #[test]
-fn an_erasing_without_a_mark_makes_seven_calls(rt: HostRuntime) -> Result<(), Fail> {
+fn an_erasing_without_a_mark_makes_seven_calls(rt: HostRuntime) -> Result<(), RecFault> {
     for (k, expected) in [(7, Err(RecFault::Device)), (8, Ok(()))] {
         let mut disk = copy_of(rt.alloc(), b"data", b"")?;
         disk.cut_at(k);
-        assert_eq!(rt; erase(&mut disk), expected);
+        equal(&rt, erase(&mut disk), expected);
     }
     Ok(())
 }
@@ -123,9 +124,9 @@ fn a_recovery_keeps_the_data_first(rt: HostRuntime) -> Result<(), Fail> {
     disk.write(Which::Data, 0, b"data")?;
     let data = Vec::from_slice(rt.alloc(), disk.content(Which::Data))?;
     disk.fail_at(2);
-    assert_eq!(rt; recover(&mut disk), Err(RecFault::Device));
+    equal(&rt, recover(&mut disk), Err(RecFault::Device));
     disk.cycle(&[0xFF; 400]);
-    assert_eq!(rt; disk.content(Which::Data), data.as_slice());
+    equal(&rt, disk.content(Which::Data), data.as_slice());
     Ok(())
 }
 
@@ -140,7 +141,7 @@ fn unfinished(fault: Result<(), RecFault>, disk: &Memory) -> Option<usize> {
 }
 
 // The same where this call of a stop of the short ride fails.
-fn stopped_until(rt: &HostRuntime, k: u32) -> Result<Option<usize>, Fail>
+fn stopped_until(rt: &HostRuntime, k: u32) -> Result<Option<usize>, RecFault>
     requires { 1 ≤ k }
 {
     let mut recorder = begun(rt)?;
@@ -152,14 +153,14 @@ fn stopped_until(rt: &HostRuntime, k: u32) -> Result<Option<usize>, Fail>
 
 // The closing messages stand behind the body before the header counts them: in a stop by its seventh and its eighth call.
 #[test]
-fn a_stop_writes_its_header_last(rt: HostRuntime) -> Result<(), Fail> {
+fn a_stop_writes_its_header_last(rt: HostRuntime) -> Result<(), RecFault> {
     let before = stopped_until(&rt, 7)?;
     assert!(rt; before.is_some() && before < stopped_until(&rt, 8)?);
     Ok(())
 }
 
 // And where one of a recovery of that ride fails.
-fn recovered_until(rt: &HostRuntime, k: u32) -> Result<Option<usize>, Fail>
+fn recovered_until(rt: &HostRuntime, k: u32) -> Result<Option<usize>, RecFault>
     requires { 1 ≤ k }
 {
     let mut disk = committed(rt)?;
@@ -173,11 +174,11 @@ fn recovered_until(rt: &HostRuntime, k: u32) -> Result<Option<usize>, Fail>
 
 // And in a recovery by its last four, of which the third is the header's write.
 #[test]
-fn a_recovery_writes_its_header_last(rt: HostRuntime) -> Result<(), Fail> {
+fn a_recovery_writes_its_header_last(rt: HostRuntime) -> Result<(), RecFault> {
     let before = recovered_until(&rt, RECOVERY - 3)?;
     let closed = recovered_until(&rt, RECOVERY - 2)?;
     assert!(rt; before.is_some() && before < closed);
-    assert_eq!(rt; recovered_until(&rt, RECOVERY - 1)?, closed);
-    assert_eq!(rt; recovered_until(&rt, RECOVERY)?, None);
+    equal(&rt, recovered_until(&rt, RECOVERY - 1)?, closed);
+    equal(&rt, recovered_until(&rt, RECOVERY)?, None);
     Ok(())
 }

@@ -8,6 +8,7 @@ ghost use Rattle.fit_recorder.specs.Calls.Recorder.{GoesOn};
 
 use super::stopping::{size_with_definition, some_fields};
 use super::{ALONE, RUN, TIME, begun, begun_on, entries_told, heart_rate, play};
+use crate::equality::equal;
 use fit_activity::{Entry, Sample, Start, Summary};
 use fit_disk::{Memory, Which};
 use fit_grammar::decode_file;
@@ -29,7 +30,7 @@ fn recorded(rt: &impl Abort, alloc: Global, entries: &[Entry]) -> Result<Vec<u8>
     let written = disk.content(Which::Data);
     assert!(rt; written.get(86..).unwrap_or(&[]).starts_with(&records));
     let file = decode_file(alloc, written)?;
-    assert_eq!(rt; entries_told(&file, entries), Some(entries.len()));
+    equal(rt, entries_told(&file, entries), Some(entries.len()));
     Ok(records)
 }
 
@@ -46,9 +47,10 @@ fn a_time_close_behind_is_compressed(rt: HostRuntime) -> Result<(), Fail> {
         0x00, 0x02, 0xFD, 0x04, 0x86, 0x03, 0x01, 0x02, 0x01, 0x3F, 0xCA, 0x9A, 0x3B, 0x65, 0x9F,
         0x66,
     ];
-    assert_eq!(rt;
+    equal(
+        &rt,
         recorded(&rt, rt.alloc(), &entries)?.as_slice(),
-        records.as_slice()
+        records.as_slice(),
     );
     Ok(())
 }
@@ -91,7 +93,7 @@ fn each_entry_is_a_last_time(rt: HostRuntime) -> Result<(), Fail> {
         0x40, 0x00, 0x00, 0x14, 0x00, 0x01, 0xFD, 0x04, 0x86, 0x00, 0x01, 0xCA, 0x9A, 0x3B, 0x41,
         0x00, 0x00, 0x14, 0x00, 0x01, 0x03, 0x01, 0x02, 0xA2, 0x64,
     ];
-    assert_eq!(rt; records.as_slice(), all.as_slice());
+    equal(&rt, records.as_slice(), all.as_slice());
     Ok(())
 }
 
@@ -112,9 +114,10 @@ fn an_offset_below_the_last_is_32_seconds_on(rt: HostRuntime) -> Result<(), Fail
         0x81, 0x64, 0x80, 0x64, 0x80, 0x64, 0x41, 0x00, 0x00, 0x14, 0x00, 0x02, 0xFD, 0x04, 0x86,
         0x03, 0x01, 0x02, 0x01, 0x60, 0xCA, 0x9A, 0x3B, 0x64,
     ];
-    assert_eq!(rt;
+    equal(
+        &rt,
         recorded(&rt, rt.alloc(), &entries)?.as_slice(),
-        records.as_slice()
+        records.as_slice(),
     );
     Ok(())
 }
@@ -130,7 +133,7 @@ fn begun_at(rt: &HostRuntime, time: u32) -> Result<Recorder<Memory>, RecFault>
 }
 
 #[test]
-fn the_last_times_are_compressed(rt: HostRuntime) -> Result<(), Fail> {
+fn the_last_times_are_compressed(rt: HostRuntime) -> Result<(), RecFault> {
     let start = 0xFFFF_FFD0;
     let mut recorder = begun_at(&rt, start)?;
     recorder.hand(&heart_rate(0xFFFF_FFE0, 100))?;
@@ -140,9 +143,10 @@ fn the_last_times_are_compressed(rt: HostRuntime) -> Result<(), Fail> {
     let records = [
         0x40, 0x00, 0x00, 0x14, 0x00, 0x01, 0x03, 0x01, 0x02, 0x80, 0x64, 0x9E, 0x65,
     ];
-    assert_eq!(rt;
+    equal(
+        &rt,
         disk.content(Which::Data).get(86..),
-        Some(records.as_slice())
+        Some(records.as_slice()),
     );
     let summary = Summary {
         records: 2,
@@ -151,7 +155,7 @@ fn the_last_times_are_compressed(rt: HostRuntime) -> Result<(), Fail> {
         timer_ms: Some(46_000),
         ..ALONE
     };
-    assert_eq!(rt; recover(&mut disk), Ok(summary));
+    equal(&rt, recover(&mut disk), Ok(summary));
     Ok(())
 }
 
@@ -197,6 +201,6 @@ fn both_kinds_of_definitions_take_turns(rt: HostRuntime) -> Result<(), Fail> {
     assert!(rt; disk.content(Which::Data).ends_with(&last));
     recover(&mut disk)?;
     let file = decode_file(rt.alloc(), disk.content(Which::Data))?;
-    assert_eq!(rt; entries_told(&file, &entries), Some(36));
+    equal(&rt, entries_told(&file, &entries), Some(36));
     Ok(())
 }

@@ -3,7 +3,6 @@
 use super::bodies::{body_of, finds};
 use super::recovering::is_damaged;
 use super::{START_RECORDS, TIME, heart_rate, holding};
-use fit_activity::Entry;
 use fit_disk::{Memory, Which};
 use fit_recorder::{RecFault, resume};
 use std::alloc::Global;

@@ -7,6 +7,7 @@ use super::{
     ALONE, SHORT_RIDE, TIME, begun_on, committed, copy_of, entries_told, heart_rate, play, ride,
     short_ride, start_cut_at,
 };
+use crate::equality::equal;
 use fit_activity::{Entry, Summary, check_activity};
 use fit_disk::{Memory, Which};
 use fit_grammar::decode_file;
@@ -27,7 +28,7 @@ fn stopped_ride() -> [Entry; 5] {
 
 // Records a ride of one sample on a disk that was erased. The finished file tells that one alone.
 fn rides_anew(rt: &impl Abort, alloc: Global, disk: Memory) -> Result<(), Fail> {
-    assert_eq!(rt; disk.content(Which::Data).len(), 0);
+    equal(rt, disk.content(Which::Data).len(), 0);
     let mut recorder = begun_on(disk)?;
     let entries = [heart_rate(TIME + 5, 90), Entry::Stop(TIME + 9)];
     play(&mut recorder, &entries)?;
@@ -39,45 +40,45 @@ fn rides_anew(rt: &impl Abort, alloc: Global, disk: Memory) -> Result<(), Fail> 
         timer_ms: Some(9000),
         ..ALONE
     };
-    assert_eq!(rt; check_activity(&file), Ok(summary));
-    assert_eq!(rt; entries_told(&file, &entries), Some(2));
+    equal(rt, check_activity(&file), Ok(summary));
+    equal(rt, entries_told(&file, &entries), Some(2));
     Ok(())
 }
 
 #[test]
 fn an_erased_ride_makes_room_for_another(rt: HostRuntime) -> Result<(), Fail> {
     let mut disk = ride(&rt, &stopped_ride())?;
-    assert_eq!(rt; disk.content(Which::Data).len(), 427);
+    equal(&rt, disk.content(Which::Data).len(), 427);
     disk.cut_at(CALLS + 1);
-    assert_eq!(rt; erase(&mut disk), Ok(()));
-    assert_eq!(rt; disk.content(Which::Data).len(), 0);
+    equal(&rt, erase(&mut disk), Ok(()));
+    equal(&rt, disk.content(Which::Data).len(), 0);
     disk.cycle(&[0xFF; 16]);
-    assert_eq!(rt; recover(&mut disk), Err(RecFault::NothingRecorded));
+    equal(&rt, recover(&mut disk), Err(RecFault::NothingRecorded));
     rides_anew(&rt, rt.alloc(), disk)
 }
 
 #[test]
-fn a_start_that_was_cut_off_is_erased(rt: HostRuntime) -> Result<(), Fail> {
+fn a_start_that_was_cut_off_is_erased(rt: HostRuntime) -> Result<(), RecFault> {
     let (mut disk, fault) = start_cut_at(&rt, 5);
-    assert_eq!(rt; fault, Some(RecFault::Device));
+    equal(&rt, fault, Some(RecFault::Device));
     disk.cycle(&[]);
-    assert_eq!(rt; recover(&mut disk), Err(RecFault::NothingRecorded));
-    assert_eq!(rt; erase(&mut disk), Ok(()));
-    assert_eq!(rt; begun_on(disk)?.data_len(), 72);
+    equal(&rt, recover(&mut disk), Err(RecFault::NothingRecorded));
+    equal(&rt, erase(&mut disk), Ok(()));
+    equal(&rt, begun_on(disk)?.data_len(), 72);
     Ok(())
 }
 
 #[test]
-fn an_erasing_done_again_does_not_bring_the_ride_back(rt: HostRuntime) -> Result<(), Fail> {
+fn an_erasing_done_again_does_not_bring_the_ride_back(rt: HostRuntime) -> Result<(), RecFault> {
     let mut disk = committed(&rt)?;
     disk.fail_at(7);
-    assert_eq!(rt; erase(&mut disk), Err(RecFault::Device));
+    equal(&rt, erase(&mut disk), Err(RecFault::Device));
     // The mark is gone, so the fifth call is the sync of the journal.
     disk.cut_at(5);
-    assert_eq!(rt; erase(&mut disk), Err(RecFault::Device));
+    equal(&rt, erase(&mut disk), Err(RecFault::Device));
     disk.cycle(&[0, 0, 0, 0, 0, 0, 0, 0, 0x46]);
-    assert_eq!(rt; disk.content(Which::Data).len(), 188);
-    assert_eq!(rt; recover(&mut disk), Err(RecFault::NothingRecorded));
+    equal(&rt, disk.content(Which::Data).len(), 188);
+    equal(&rt, recover(&mut disk), Err(RecFault::NothingRecorded));
     Ok(())
 }
 
@@ -102,7 +103,12 @@ fn is_left(attempt: Attempt) -> bool {
 }
 
 // A copy of a ride, behind the erasing.
-fn erased(rt: &impl Abort, alloc: Global, ride: &Memory, attempt: Attempt) -> Result<Memory, Fail>
+fn erased(
+    rt: &impl Abort,
+    alloc: Global,
+    ride: &Memory,
+    attempt: Attempt,
+) -> Result<Memory, RecFault>
     requires { 1 ≤ attempt.k }
 {
     let mut disk = copy_of(
@@ -192,7 +198,7 @@ fn an_erasing_that_ends_early_leaves_a_committed_ride_or_nothing(
     rt: HostRuntime,
 ) -> Result<(), Fail> {
     let disk = committed(&rt)?;
-    assert_eq!(rt; disk.content(Which::Data).len(), 188);
+    equal(&rt, disk.content(Which::Data).len(), 188);
     leaves_it_or_nothing(&rt, rt.alloc(), &disk)
 }
 
@@ -201,6 +207,6 @@ fn an_erasing_that_ends_early_leaves_a_stopped_ride_or_nothing(
     rt: HostRuntime,
 ) -> Result<(), Fail> {
     let disk = ride(&rt, &stopped_ride())?;
-    assert_eq!(rt; disk.content(Which::Data).len(), 427);
+    equal(&rt, disk.content(Which::Data).len(), 427);
     leaves_it_or_nothing(&rt, rt.alloc(), &disk)
 }

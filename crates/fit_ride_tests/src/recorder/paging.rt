@@ -7,6 +7,7 @@ ghost use Rattle.fit_recorder.specs.Calls.Recorder.{GoesOn};
 
 use super::recovering::recovers_the_start;
 use super::{TIME, begun, heart_rate};
+use crate::equality::equal;
 use fit_activity::Entry;
 use fit_disk::{Memory, Which};
 use fit_recorder::{RecFault, Recorder};
@@ -66,11 +67,11 @@ fn written_until(rt: &HostRuntime, samples: u32, k: u32) -> Result<(u32, Vec<u8>
 }
 
 #[test]
-fn each_sample_is_counted(rt: HostRuntime) -> Result<(), Fail> {
+fn each_sample_is_counted(rt: HostRuntime) -> Result<(), RecFault> {
     for samples in 1..=90 {
         let mut recorder = begun(&rt)?;
         hand_until(&mut recorder, samples);
-        assert_eq!(rt; recorder.data_len(), 72 + 12 + 6 * samples);
+        equal(&rt, recorder.data_len(), 72 + 12 + 6 * samples);
     }
     Ok(())
 }
@@ -100,7 +101,7 @@ fn a_page_is_written_where_it_is_full(rt: HostRuntime) -> Result<(), Fail> {
 }
 
 // Whether a commit of so many samples is answered where the power goes at its k-th call.
-fn is_committed(rt: &HostRuntime, has_commit: bool, samples: u32, k: u32) -> Result<bool, Fail>
+fn is_committed(rt: &HostRuntime, has_commit: bool, samples: u32, k: u32) -> Result<bool, RecFault>
     requires { 1 ≤ k }
 {
     let mut recorder = begun_with(rt, has_commit)?;
@@ -111,7 +112,7 @@ fn is_committed(rt: &HostRuntime, has_commit: bool, samples: u32, k: u32) -> Res
 
 // How many calls a commit makes where the page is empty, where it is not, and where a gate is closed too.
 #[test]
-fn a_commit_writes_its_page_first(rt: HostRuntime) -> Result<(), Fail> {
+fn a_commit_writes_its_page_first(rt: HostRuntime) -> Result<(), RecFault> {
     for (has_commit, samples, calls) in [(false, 0, 5), (false, 1, 6), (true, 0, 7), (true, 1, 8)] {
         assert!(rt; !is_committed(&rt, has_commit, samples, calls)?, "{calls}");
         assert!(rt;
@@ -123,7 +124,7 @@ fn a_commit_writes_its_page_first(rt: HostRuntime) -> Result<(), Fail> {
 }
 
 // Whether a stop behind a commit and so many samples is answered where the power goes at its k-th call.
-fn is_stopped(rt: &HostRuntime, samples: u32, k: u32) -> Result<bool, Fail>
+fn is_stopped(rt: &HostRuntime, samples: u32, k: u32) -> Result<bool, RecFault>
     requires { 1 ≤ k }
 {
     let mut recorder = begun_with(rt, true)?;
@@ -134,7 +135,7 @@ fn is_stopped(rt: &HostRuntime, samples: u32, k: u32) -> Result<bool, Fail>
 
 // The stop joins the page; where it does not fit the page is written before it too.
 #[test]
-fn a_stop_joins_the_page(rt: HostRuntime) -> Result<(), Fail> {
+fn a_stop_joins_the_page(rt: HostRuntime) -> Result<(), RecFault> {
     for (samples, calls) in [(0, 11), (82, 11), (83, 12)] {
         assert!(rt; !is_stopped(&rt, samples, calls)?, "{samples}");
         assert!(rt; is_stopped(&rt, samples, calls + 1)?, "{samples}");
@@ -147,9 +148,9 @@ fn a_stop_joins_the_page(rt: HostRuntime) -> Result<(), Fail> {
 fn written_pages_without_a_commit_are_gone(rt: HostRuntime) -> Result<(), Fail> {
     for byte in [0x00, 0x40, 0xFF] {
         let mut recorder = begun(&rt)?;
-        assert_eq!(rt; hand_until(&mut recorder, 200), 200);
+        equal(&rt, hand_until(&mut recorder, 200), 200);
         let mut disk = recorder.into_disk();
-        assert_eq!(rt; disk.content(Which::Data).len(), 86 + 510 + 510);
+        equal(&rt, disk.content(Which::Data).len(), 86 + 510 + 510);
         disk.cycle(&[byte; 1200]);
         recovers_the_start(&rt, rt.alloc(), disk)?;
     }
@@ -160,10 +161,10 @@ fn written_pages_without_a_commit_are_gone(rt: HostRuntime) -> Result<(), Fail> 
 #[test]
 fn a_page_that_is_not_written_is_told(rt: HostRuntime) -> Result<(), Fail> {
     let mut recorder = begun(&rt)?;
-    assert_eq!(rt; hand_until(&mut recorder, 83), 83);
+    equal(&rt, hand_until(&mut recorder, 83), 83);
     recorder.fail_at(1);
-    assert_eq!(rt; recorder.hand(&spaced(84)), Err(RecFault::Device));
-    assert_eq!(rt; recorder.commit(), Err(RecFault::Failed));
-    assert_eq!(rt; recorder.stop(TIME + 3200), Err(RecFault::Failed));
+    equal(&rt, recorder.hand(&spaced(84)), Err(RecFault::Device));
+    equal(&rt, recorder.commit(), Err(RecFault::Failed));
+    equal(&rt, recorder.stop(TIME + 3200), Err(RecFault::Failed));
     recovers_the_start(&rt, rt.alloc(), recorder.into_disk())
 }

@@ -7,6 +7,7 @@ ghost use Rattle.fit_recorder.specs.Calls.Recorder.{GoesOn};
 
 use super::stopping::full_sample;
 use super::{RUN, TIME, copy_of, entries_told, heart_rate, one};
+use crate::equality::equal;
 use fit_activity::{Entry, Sample, Summary, check_activity};
 use fit_disk::{Memory, Which};
 use fit_grammar::decode_file;
@@ -169,7 +170,7 @@ fn entries_in(
     }
     let file = decode_file(alloc, disk.content(Which::Data))?;
     let summary = answer?;
-    assert_eq!(rt; check_activity(&file), Ok(summary));
+    equal(rt, check_activity(&file), Ok(summary));
     let mut entries = Vec::new(alloc);
     for (entry, _) in ride {
         entries.push(*entry)?;
@@ -276,14 +277,14 @@ fn try_each_call(
 fn the_rides_make_so_many_calls(rt: HostRuntime) -> Result<(), Fail> {
     let ride = ride_with_commits();
     let (_, cut) = ride_with(rt.alloc(), &ride, Trouble::Cut, CALLS);
-    assert_eq!(rt; (cut.committed, cut.begun), (Some(8), Some(10)));
+    equal(&rt, (cut.committed, cut.begun), (Some(8), Some(10)));
     let (_, whole) = ride_with(rt.alloc(), &ride, Trouble::Cut, CALLS + 1);
-    assert_eq!(rt; (whole.committed, whole.begun), (Some(10), Some(10)));
+    equal(&rt, (whole.committed, whole.begun), (Some(10), Some(10)));
     let ride = long_ride(rt.alloc())?;
     let (_, cut) = ride_with(rt.alloc(), &ride, Trouble::Cut, LONG_CALLS);
-    assert_eq!(rt; (cut.committed, cut.begun), (Some(200), Some(201)));
+    equal(&rt, (cut.committed, cut.begun), (Some(200), Some(201)));
     let (_, whole) = ride_with(rt.alloc(), &ride, Trouble::Cut, LONG_CALLS + 1);
-    assert_eq!(rt; (whole.committed, whole.begun), (Some(201), Some(201)));
+    equal(&rt, (whole.committed, whole.begun), (Some(201), Some(201)));
     Ok(())
 }
 

@@ -4,9 +4,10 @@ ghost use Rattle.std.specs.Prelude.{◌≡◌, ◌<◌, ◌≤◌, ◌^◌, leng
 
 use super::stopping::full_sample;
 use super::{
-    ALONE, RUN, SHORT_RIDE, START_RECORDS, TIME, begun, begun_on, committed, copy_of, entries_told,
-    heart_rate, holding, play, ride, short_ride, start_cut_at, value_in,
+    ALONE, SHORT_RIDE, START_RECORDS, TIME, begun, begun_on, committed, copy_of, entries_told,
+    heart_rate, holding, ride, short_ride, start_cut_at, value_in,
 };
+use crate::equality::equal;
 use fit_activity::{Entry, Sample, Summary, check_activity};
 use fit_disk::{Disk, Memory, Which};
 use fit_grammar::{File, decode_file};
@@ -41,10 +42,10 @@ pub(super) fn told_at(
 #[test]
 fn what_is_committed_is_recovered(rt: HostRuntime) -> Result<(), Fail> {
     let mut disk = committed(&rt)?;
-    assert_eq!(rt; recover(&mut disk), Ok(SHORT_RIDE));
+    equal(&rt, recover(&mut disk), Ok(SHORT_RIDE));
     let file = decode_file(rt.alloc(), disk.content(Which::Data))?;
-    assert_eq!(rt; check_activity(&file), Ok(SHORT_RIDE));
-    assert_eq!(rt; entries_told(&file, &short_ride()), Some(4));
+    equal(&rt, check_activity(&file), Ok(SHORT_RIDE));
+    equal(&rt, entries_told(&file, &short_ride()), Some(4));
     Ok(())
 }
 
@@ -72,16 +73,21 @@ fn a_recovered_file_tells_what_it_adds_up_to(rt: HostRuntime) -> Result<(), Fail
         (24, Some(0)),
     ];
     let (global, told) = told_at(&rt, &file, 5)?;
-    assert_eq!(rt; (global, told.as_slice()), (Some(19), first_lap.as_slice()));
+    equal(
+        &rt,
+        (global, told.as_slice()),
+        (Some(19), first_lap.as_slice()),
+    );
     let last_record = [(253, end), (3, Some(110))];
     let (global, told) = told_at(&rt, &file, 6)?;
-    assert_eq!(rt;
+    equal(
+        &rt,
         (global, told.as_slice()),
-        (Some(20), last_record.as_slice())
+        (Some(20), last_record.as_slice()),
     );
     let stop = [(253, end), (0, Some(0)), (1, Some(4))];
     let (global, told) = told_at(&rt, &file, 7)?;
-    assert_eq!(rt; (global, told.as_slice()), (Some(21), stop.as_slice()));
+    equal(&rt, (global, told.as_slice()), (Some(21), stop.as_slice()));
     let last_lap = [
         (254, Some(1)),
         (253, end),
@@ -100,7 +106,11 @@ fn a_recovered_file_tells_what_it_adds_up_to(rt: HostRuntime) -> Result<(), Fail
         (24, Some(7)),
     ];
     let (global, told) = told_at(&rt, &file, 8)?;
-    assert_eq!(rt; (global, told.as_slice()), (Some(19), last_lap.as_slice()));
+    equal(
+        &rt,
+        (global, told.as_slice()),
+        (Some(19), last_lap.as_slice()),
+    );
     let session = [
         (254, Some(0)),
         (253, end),
@@ -123,7 +133,11 @@ fn a_recovered_file_tells_what_it_adds_up_to(rt: HostRuntime) -> Result<(), Fail
         (28, Some(0)),
     ];
     let (global, told) = told_at(&rt, &file, 9)?;
-    assert_eq!(rt; (global, told.as_slice()), (Some(18), session.as_slice()));
+    equal(
+        &rt,
+        (global, told.as_slice()),
+        (Some(18), session.as_slice()),
+    );
     let activity = [
         (253, end),
         (0, Some(2000)),
@@ -133,7 +147,11 @@ fn a_recovered_file_tells_what_it_adds_up_to(rt: HostRuntime) -> Result<(), Fail
         (4, Some(1)),
     ];
     let (global, told) = told_at(&rt, &file, 10)?;
-    assert_eq!(rt; (global, told.as_slice()), (Some(34), activity.as_slice()));
+    equal(
+        &rt,
+        (global, told.as_slice()),
+        (Some(34), activity.as_slice()),
+    );
     Ok(())
 }
 
@@ -148,14 +166,14 @@ pub(super) fn recovers_the_start(
     alloc: Global,
     mut disk: Memory,
 ) -> Result<(), Fail> {
-    assert_eq!(rt; recover(&mut disk), Ok(ALONE));
+    equal(rt, recover(&mut disk), Ok(ALONE));
     let written = disk.content(Which::Data);
     assert_eq!(rt; written.len(), 340);
-    assert_eq!(rt; &written[..14], ALONE_HEADER.as_slice());
-    assert_eq!(rt; &written[14..86], START_RECORDS.as_slice());
+    equal(rt, &written[..14], ALONE_HEADER.as_slice());
+    equal(rt, &written[14..86], START_RECORDS.as_slice());
     let file = decode_file(alloc, written)?;
-    assert_eq!(rt; check_activity(&file), Ok(ALONE));
-    assert_eq!(rt; entries_told(&file, &[]), Some(0));
+    equal(rt, check_activity(&file), Ok(ALONE));
+    equal(rt, entries_told(&file, &[]), Some(0));
     Ok(())
 }
 
@@ -180,7 +198,7 @@ fn a_start_counts_from_its_open_gate_on(rt: HostRuntime) -> Result<(), Fail> {
         );
     }
     let (mut disk, _) = start_cut_at(&rt, 10);
-    assert_eq!(rt; disk.cycle(&[0, 0, 0, 0, 0, 0, 0, 0, 0xA5]), 9);
+    equal(&rt, disk.cycle(&[0, 0, 0, 0, 0, 0, 0, 0, 0xA5]), 9);
     recovers_the_start(&rt, rt.alloc(), disk)
 }
 
@@ -205,19 +223,19 @@ fn a_failed_commit_leaves_what_was_committed(rt: HostRuntime) -> Result<(), Fail
 }
 
 #[test]
-fn nothing_is_recorded_before_a_start_is_committed(rt: HostRuntime) -> Result<(), Fail> {
+fn nothing_is_recorded_before_a_start_is_committed(rt: HostRuntime) -> Result<(), RecFault> {
     let mut empty = Memory::new(rt.alloc());
-    assert_eq!(rt; recover(&mut empty), Err(RecFault::NothingRecorded));
+    equal(&rt, recover(&mut empty), Err(RecFault::NothingRecorded));
     let disk = begun(&rt)?.into_disk();
     let data = disk.content(Which::Data);
     let journal = disk.content(Which::Journal);
     let mut whole = copy_of(rt.alloc(), data, journal)?;
-    assert_eq!(rt; recover(&mut whole), Ok(ALONE));
+    equal(&rt, recover(&mut whole), Ok(ALONE));
     let mut short = copy_of(rt.alloc(), data, journal.get(..16).unwrap_or(&[]))?;
-    assert_eq!(rt; recover(&mut short), Err(RecFault::NothingRecorded));
-    assert_eq!(rt; short.content(Which::Data), data);
+    equal(&rt, recover(&mut short), Err(RecFault::NothingRecorded));
+    equal(&rt, short.content(Which::Data), data);
     let mut other = copy_of(rt.alloc(), &[], journal)?;
-    assert_eq!(rt; recover(&mut other), Err(RecFault::NothingRecorded));
+    equal(&rt, recover(&mut other), Err(RecFault::NothingRecorded));
     Ok(())
 }
 
@@ -253,9 +271,9 @@ fn a_stopped_recording_is_finished(rt: HostRuntime) -> Result<(), Fail> {
     let mut disk = ride(&rt, &entries)?;
     let stopped = disk.content(Which::Data).to_vec(rt.alloc())?;
     recover(&mut disk)?;
-    assert_eq!(rt; disk.content(Which::Data), stopped.as_slice());
+    equal(&rt, disk.content(Which::Data), stopped.as_slice());
     let file = decode_file(rt.alloc(), &stopped)?;
-    assert_eq!(rt; entries_told(&file, &entries), Some(5));
+    equal(&rt, entries_told(&file, &entries), Some(5));
     Ok(())
 }
 
@@ -293,11 +311,11 @@ fn another_spelling_is_recovered_as_it_stands(rt: HostRuntime) -> Result<(), Fai
         timer_ms: Some(8000),
         ..ALONE
     };
-    assert_eq!(rt; recover(&mut disk), Ok(summary));
+    equal(&rt, recover(&mut disk), Ok(summary));
     let written = disk.content(Which::Data);
-    assert_eq!(rt; written.get(14..230), Some(OTHER_SPELLING.as_slice()));
+    equal(&rt, written.get(14..230), Some(OTHER_SPELLING.as_slice()));
     let file = decode_file(rt.alloc(), written)?;
-    assert_eq!(rt; check_activity(&file), Ok(summary));
+    equal(&rt, check_activity(&file), Ok(summary));
     let mut sample = Sample::new(TIME + 1);
     sample.heart_rate = Some(100);
     sample.power = Some(200);
@@ -308,7 +326,7 @@ fn another_spelling_is_recovered_as_it_stands(rt: HostRuntime) -> Result<(), Fai
         Entry::Sample(Sample::new(TIME + 9)),
         Entry::Lap(TIME + 10),
     ];
-    assert_eq!(rt; entries_told(&file, &entries), Some(5));
+    equal(&rt, entries_told(&file, &entries), Some(5));
     Ok(())
 }
 
@@ -345,10 +363,10 @@ fn recovers_the_longest(
         distance_cm: Some(5),
         ..ALONE
     };
-    assert_eq!(rt; recover(&mut disk), Ok(summary));
+    equal(rt, recover(&mut disk), Ok(summary));
     let file = decode_file(alloc, disk.content(Which::Data))?;
     let sample = Entry::Sample(longest_sample(TIME + seconds));
-    assert_eq!(rt; entries_told(&file, &[sample]), Some(1));
+    equal(rt, entries_told(&file, &[sample]), Some(1));
     Ok(())
 }
 
@@ -356,12 +374,12 @@ fn recovers_the_longest(
 fn the_longest_entry_is_recovered(rt: HostRuntime) -> Result<(), Fail> {
     let mut recorder = begun(&rt)?;
     recorder.hand(&Entry::Sample(longest_sample(TIME + 40)))?;
-    assert_eq!(rt; recorder.data_len(), 72 + 76);
+    equal(&rt, recorder.data_len(), 72 + 76);
     recorder.commit()?;
     let mut disk = recorder.into_disk();
     disk.cycle(&[]);
     let written = disk.content(Which::Data);
-    assert_eq!(rt; written.get(86..162), Some(LONGEST.as_slice()));
+    equal(&rt, written.get(86..162), Some(LONGEST.as_slice()));
     recovers_the_longest(&rt, rt.alloc(), disk, 40)
 }
 
@@ -428,9 +446,10 @@ fn what_is_no_recording_is_damaged(rt: HostRuntime) -> Result<(), Fail> {
 fn a_lap_with_another_value_is_damaged(rt: HostRuntime) -> Result<(), Fail> {
     let mut records = with_more(&rt, &[])?;
     // The elapsed time of its lap.
-    assert_eq!(rt;
+    equal(
+        &rt,
         records.get(149..153),
-        Some([0xD0, 0x07, 0x00, 0x00].as_slice())
+        Some([0xD0, 0x07, 0x00, 0x00].as_slice()),
     );
     if let Some(byte) = records.get_mut(149) {
         *byte = 0xD1;
@@ -442,7 +461,7 @@ fn a_lap_with_another_value_is_damaged(rt: HostRuntime) -> Result<(), Fail> {
 #[test]
 fn a_body_shorter_than_committed_is_damaged(rt: HostRuntime) -> Result<(), Fail> {
     let records = with_more(&rt, &[])?;
-    assert_eq!(rt; records.len(), 174);
+    equal(&rt, records.len(), 174);
     assert!(rt; is_damaged(&rt, records.get(..173).unwrap_or(&[]), 174)?);
     // The last item is cut in two.
     assert!(rt; is_damaged(&rt, &records, 173)?);
@@ -486,10 +505,10 @@ fn filled(rt: &HostRuntime, len: usize) -> Result<Vec<u8>, Fail> {
 #[test]
 fn a_body_has_room_for_its_end(rt: HostRuntime) -> Result<(), Fail> {
     let records = filled(&rt, 16_776_704)?;
-    assert_eq!(rt; records.len(), 16_776_704);
+    equal(&rt, records.len(), 16_776_704);
     assert!(rt; !is_damaged(&rt, &records, 16_776_704)?);
     let records = filled(&rt, 16_776_705)?;
-    assert_eq!(rt; records.len(), 16_776_705);
+    equal(&rt, records.len(), 16_776_705);
     assert!(rt; is_damaged(&rt, &records, 16_776_705)?);
     Ok(())
 }
@@ -499,11 +518,11 @@ fn a_stopped_body_has_a_most(rt: HostRuntime) -> Result<(), Fail> {
     let stop = [0x06, 0x00, 0xCA, 0x9A, 0x3B, 0x00, 0x04];
     let mut records = filled(&rt, 16_777_216 - 7)?;
     records.extend_from_slice(&stop)?;
-    assert_eq!(rt; records.len(), 16_777_216);
+    equal(&rt, records.len(), 16_777_216);
     assert!(rt; !is_damaged(&rt, &records, 16_777_216)?);
     let mut records = filled(&rt, 16_777_217 - 7)?;
     records.extend_from_slice(&stop)?;
-    assert_eq!(rt; records.len(), 16_777_217);
+    equal(&rt, records.len(), 16_777_217);
     assert!(rt; is_damaged(&rt, &records, 16_777_217)?);
     Ok(())
 }
@@ -515,22 +534,22 @@ const ROW: [u8; 32] = [
 ];
 
 #[test]
-fn a_row_of_slots_is_recovered(rt: HostRuntime) -> Result<(), Fail> {
+fn a_row_of_slots_is_recovered(rt: HostRuntime) -> Result<(), RecFault> {
     let disk = committed(&rt)?;
     let mut older = copy_of(rt.alloc(), disk.content(Which::Data), &ROW)?;
-    assert_eq!(rt; recover(&mut older), Ok(SHORT_RIDE));
-    assert_eq!(rt; older.content(Which::Journal), ROW.as_slice());
+    equal(&rt, recover(&mut older), Ok(SHORT_RIDE));
+    equal(&rt, older.content(Which::Journal), ROW.as_slice());
     // With its first sixteen bytes, no slot of it is open.
     let mut short = copy_of(rt.alloc(), disk.content(Which::Data), &ROW[..16])?;
-    assert_eq!(rt; recover(&mut short), Err(RecFault::NothingRecorded));
+    equal(&rt, recover(&mut short), Err(RecFault::NothingRecorded));
     Ok(())
 }
 
 #[test]
-fn a_journal_of_a_later_form_is_damaged(rt: HostRuntime) -> Result<(), Fail> {
+fn a_journal_of_a_later_form_is_damaged(rt: HostRuntime) -> Result<(), RecFault> {
     let later = [0x46, 0x52, 0x4A, 0x33, 0, 0, 0, 0];
     let mut disk = copy_of(rt.alloc(), &[0x0E], &later)?;
-    assert_eq!(rt; recover(&mut disk), Err(RecFault::Damaged));
+    equal(&rt, recover(&mut disk), Err(RecFault::Damaged));
     Ok(())
 }
 
@@ -543,8 +562,8 @@ fn a_journal_of_no_form_is_damaged(rt: HostRuntime) -> Result<(), Fail> {
         *byte = 0x33;
     }
     let mut other = copy_of(rt.alloc(), data, &journal)?;
-    assert_eq!(rt; recover(&mut other), Err(RecFault::Damaged));
-    assert_eq!(rt; other.content(Which::Data), data);
-    assert_eq!(rt; other.content(Which::Journal), journal.as_slice());
+    equal(&rt, recover(&mut other), Err(RecFault::Damaged));
+    equal(&rt, other.content(Which::Data), data);
+    equal(&rt, other.content(Which::Journal), journal.as_slice());
     Ok(())
 }

@@ -10,6 +10,7 @@ use super::{
     ALONE, SHORT_RIDE, START_RECORDS, TIME, begun, committed, copy_of, entries_told, heart_rate,
     holding, ride, short_ride,
 };
+use crate::equality::equal;
 use fit_activity::{Entry, Refusal, Sample, Summary, check_activity};
 use fit_disk::{Memory, Which};
 use fit_grammar::decode_file;
@@ -64,13 +65,13 @@ fn a_ride_goes_on_behind_what_was_committed(rt: HostRuntime) -> Result<(), Fail>
     let mut disk = recorder.into_disk();
     disk.cycle(&[]);
     let mut recorder = resumed(disk)?;
-    assert_eq!(rt; recorder.data_len(), 83);
+    equal(&rt, recorder.data_len(), 83);
     recorder.hand(&heart_rate(TIME + 2, 110))?;
     recorder.stop(TIME + 2)?;
     let disk = recorder.into_disk();
     let written = disk.content(Which::Data);
-    assert_eq!(rt; written.get(14..86), Some(START_RECORDS.as_slice()));
-    assert_eq!(rt; written.get(97..130), Some(GONE_ON.as_slice()));
+    equal(&rt, written.get(14..86), Some(START_RECORDS.as_slice()));
+    equal(&rt, written.get(97..130), Some(GONE_ON.as_slice()));
     let file = decode_file(rt.alloc(), written)?;
     let summary = Summary {
         records: 2,
@@ -78,32 +79,34 @@ fn a_ride_goes_on_behind_what_was_committed(rt: HostRuntime) -> Result<(), Fail>
         timer_ms: Some(2000),
         ..ALONE
     };
-    assert_eq!(rt; check_activity(&file), Ok(summary));
+    equal(&rt, check_activity(&file), Ok(summary));
     // Average and greatest heart rate of the session.
     let (global, told) = told_at(&rt, &file, 7)?;
-    assert_eq!(rt; global, Some(18));
-    assert_eq!(rt;
+    equal(&rt, global, Some(18));
+    equal(
+        &rt,
         told.get(12..14),
-        Some([(16, Some(105)), (17, Some(110))].as_slice())
+        Some([(16, Some(105)), (17, Some(110))].as_slice()),
     );
     let refusal = refusal_of(rt.alloc(), disk)?;
-    assert_eq!(rt; refusal, Some(RecFault::Refused(Refusal::Stopped)));
+    equal(&rt, refusal, Some(RecFault::Refused(Refusal::Stopped)));
     Ok(())
 }
 
 #[test]
 fn what_is_no_ride_does_not_go_on(rt: HostRuntime) -> Result<(), Fail> {
     let fresh = refusal_of(rt.alloc(), Memory::new(rt.alloc()))?;
-    assert_eq!(rt; fresh, Some(RecFault::NothingRecorded));
+    equal(&rt, fresh, Some(RecFault::NothingRecorded));
     let closed = copy_of(rt.alloc(), &[0x0E], &[])?;
-    assert_eq!(rt;
+    equal(
+        &rt,
         refusal_of(rt.alloc(), closed)?,
-        Some(RecFault::NothingRecorded)
+        Some(RecFault::NothingRecorded),
     );
     let later = copy_of(rt.alloc(), &[0x0E], &[0x46, 0x52, 0x4A, 0x33, 0, 0, 0, 0])?;
-    assert_eq!(rt; refusal_of(rt.alloc(), later)?, Some(RecFault::Damaged));
+    equal(&rt, refusal_of(rt.alloc(), later)?, Some(RecFault::Damaged));
     let cut = holding(rt.alloc(), &START_RECORDS, 71)?;
-    assert_eq!(rt; refusal_of(rt.alloc(), cut)?, Some(RecFault::Damaged));
+    equal(&rt, refusal_of(rt.alloc(), cut)?, Some(RecFault::Damaged));
     Ok(())
 }
 
@@ -112,7 +115,7 @@ fn a_recovered_ride_goes_on(rt: HostRuntime) -> Result<(), Fail> {
     let mut disk = committed(&rt)?;
     recover(&mut disk)?;
     let mut recorder = resumed(disk)?;
-    assert_eq!(rt; recorder.data_len(), 174);
+    equal(&rt, recorder.data_len(), 174);
     recorder.hand(&heart_rate(TIME + 3, 120))?;
     recorder.stop(TIME + 3)?;
     let disk = recorder.into_disk();
@@ -126,17 +129,17 @@ fn a_recovered_ride_goes_on(rt: HostRuntime) -> Result<(), Fail> {
         heart_rate(TIME + 3, 120),
         Entry::Stop(TIME + 3),
     ];
-    assert_eq!(rt; entries_told(&file, &entries), Some(6));
+    equal(&rt, entries_told(&file, &entries), Some(6));
     Ok(())
 }
 
 #[test]
-fn what_closes_a_recovered_file_is_cut_off(rt: HostRuntime) -> Result<(), Fail> {
+fn what_closes_a_recovered_file_is_cut_off(rt: HostRuntime) -> Result<(), RecFault> {
     let mut disk = committed(&rt)?;
     recover(&mut disk)?;
     let mut disk = resumed(disk)?.into_disk();
-    assert_eq!(rt; disk.content(Which::Data).len(), 14 + 174);
-    assert_eq!(rt; recover(&mut disk), Ok(SHORT_RIDE));
+    equal(&rt, disk.content(Which::Data).len(), 14 + 174);
+    equal(&rt, recover(&mut disk), Ok(SHORT_RIDE));
     Ok(())
 }
 
@@ -149,9 +152,9 @@ fn a_stopped_ride_does_not_go_on(rt: HostRuntime) -> Result<(), Fail> {
         disk.content(Which::Journal),
     )?;
     let stopped = Some(RecFault::Refused(Refusal::Stopped));
-    assert_eq!(rt; refusal_of(rt.alloc(), disk)?, stopped);
+    equal(&rt, refusal_of(rt.alloc(), disk)?, stopped);
     recover(&mut again)?;
-    assert_eq!(rt; refusal_of(rt.alloc(), again)?, stopped);
+    equal(&rt, refusal_of(rt.alloc(), again)?, stopped);
     Ok(())
 }
 
@@ -170,7 +173,7 @@ fn a_row_of_slots_goes_on_while_one_is_left(rt: HostRuntime) -> Result<(), Fail>
     let disk = committed(&rt)?;
     let older = copy_of(rt.alloc(), disk.content(Which::Data), &row_of(&rt, 4095)?)?;
     let mut recorder = resumed(older)?;
-    assert_eq!(rt; recorder.commit(), Err(RecFault::JournalFull));
+    equal(&rt, recorder.commit(), Err(RecFault::JournalFull));
     recorder.hand(&heart_rate(TIME + 3, 120))?;
     recorder.stop(TIME + 4)?;
     let written = recorder.into_disk();
@@ -181,27 +184,31 @@ fn a_row_of_slots_goes_on_while_one_is_left(rt: HostRuntime) -> Result<(), Fail>
         timer_ms: Some(4000),
         ..SHORT_RIDE
     };
-    assert_eq!(rt; check_activity(&file), Ok(summary));
+    equal(&rt, check_activity(&file), Ok(summary));
     let full = copy_of(rt.alloc(), disk.content(Which::Data), &row_of(&rt, 4096)?)?;
-    assert_eq!(rt; refusal_of(rt.alloc(), full)?, Some(RecFault::JournalFull));
+    equal(
+        &rt,
+        refusal_of(rt.alloc(), full)?,
+        Some(RecFault::JournalFull),
+    );
     Ok(())
 }
 
 #[test]
 fn another_spelling_goes_on(rt: HostRuntime) -> Result<(), Fail> {
     let mut recorder = resumed(holding(rt.alloc(), &OTHER_SPELLING, 216)?)?;
-    assert_eq!(rt; recorder.data_len(), 216);
+    equal(&rt, recorder.data_len(), 216);
     recorder.hand(&heart_rate(TIME + 12, 120))?;
     recorder.hand(&heart_rate(TIME + 13, 121))?;
     recorder.stop(TIME + 13)?;
     let disk = recorder.into_disk();
     let written = disk.content(Which::Data);
-    assert_eq!(rt; written.get(14..230), Some(OTHER_SPELLING.as_slice()));
+    equal(&rt, written.get(14..230), Some(OTHER_SPELLING.as_slice()));
     // Its definitions are in force no more, the first of them for the same local number.
     let samples = [
         0x40, 0x00, 0x00, 0x14, 0x00, 0x01, 0x03, 0x01, 0x02, 0x8C, 0x78, 0x8D, 0x79,
     ];
-    assert_eq!(rt; written.get(230..243), Some(samples.as_slice()));
+    equal(&rt, written.get(230..243), Some(samples.as_slice()));
     let summary = Summary {
         records: 4,
         laps: 2,
@@ -210,7 +217,7 @@ fn another_spelling_goes_on(rt: HostRuntime) -> Result<(), Fail> {
         ..ALONE
     };
     let file = decode_file(rt.alloc(), written)?;
-    assert_eq!(rt; check_activity(&file), Ok(summary));
+    equal(&rt, check_activity(&file), Ok(summary));
     Ok(())
 }
 
@@ -230,18 +237,21 @@ fn what_was_added_up_goes_on(rt: HostRuntime) -> Result<(), Fail> {
     recorder.hand(&Entry::Pause(TIME + 3))?;
     recorder.commit()?;
     let mut recorder = resumed(recorder.into_disk())?;
-    assert_eq!(rt;
+    equal(
+        &rt,
         recorder.hand(&Entry::Lap(TIME + 2)),
-        Err(RecFault::Refused(Refusal::Time))
+        Err(RecFault::Refused(Refusal::Time)),
     );
-    assert_eq!(rt;
+    equal(
+        &rt,
         recorder.hand(&heart_rate(TIME + 4, 100)),
-        Err(RecFault::Refused(Refusal::TimerStopped))
+        Err(RecFault::Refused(Refusal::TimerStopped)),
     );
     recorder.hand(&Entry::Resume(TIME + 5))?;
-    assert_eq!(rt;
+    equal(
+        &rt,
         recorder.hand(&at_distance(TIME + 6, 499)),
-        Err(RecFault::Refused(Refusal::Distance))
+        Err(RecFault::Refused(Refusal::Distance)),
     );
     recorder.hand(&at_distance(TIME + 6, 600))?;
     recorder.stop(TIME + 7)?;
@@ -255,7 +265,7 @@ fn what_was_added_up_goes_on(rt: HostRuntime) -> Result<(), Fail> {
         distance_cm: Some(600),
         ..ALONE
     };
-    assert_eq!(rt; check_activity(&file), Ok(summary));
+    equal(&rt, check_activity(&file), Ok(summary));
     Ok(())
 }
 
@@ -281,7 +291,7 @@ fn goes_on_until(mut disk: Memory, k: u32) -> (Memory, bool)
 }
 
 #[test]
-fn power_cuts_leave_what_was_committed_before_or_behind(rt: HostRuntime) -> Result<(), Fail> {
+fn power_cuts_leave_what_was_committed_before_or_behind(rt: HostRuntime) -> Result<(), RecFault> {
     let longer = Summary {
         records: 4,
         elapsed_ms: Some(3000),
@@ -349,6 +359,6 @@ fn a_ride_goes_on_ten_times(rt: HostRuntime) -> Result<(), Fail> {
     entries.push(Entry::Stop(TIME + 10))?;
     let disk = recorder.into_disk();
     let file = decode_file(rt.alloc(), disk.content(Which::Data))?;
-    assert_eq!(rt; entries_told(&file, &entries), Some(11));
+    equal(&rt, entries_told(&file, &entries), Some(11));
     Ok(())
 }

@@ -7,6 +7,7 @@ ghost use Rattle.fit_recorder.specs.Calls.Recorder.{GoesOn};
 use super::{
     RUN, SHORT_RIDE, START_RECORDS, TIME, begun, heart_rate, play, ride, short_ride, value_in,
 };
+use crate::equality::equal;
 use fit_activity::{Entry, Refusal, Sample, check_activity, entry_of};
 use fit_disk::{Memory, Which};
 use fit_grammar::{File, Message, decode_file};
@@ -49,29 +50,43 @@ fn lap_values(
 fn a_stop_closes_the_file(rt: HostRuntime) -> Result<(), Fail> {
     let mut recorder = begun(&rt)?;
     play(&mut recorder, &short_ride())?;
-    assert_eq!(rt; recorder.data_len(), 174);
+    equal(&rt, recorder.data_len(), 174);
     recorder.stop(TIME + 2)?;
-    assert_eq!(rt;
+    equal(
+        &rt,
         recorder.stop(TIME + 2),
-        Err(RecFault::Refused(Refusal::Stopped))
+        Err(RecFault::Refused(Refusal::Stopped)),
     );
-    assert_eq!(rt; recorder.commit(), Err(RecFault::Refused(Refusal::Stopped)));
-    assert_eq!(rt;
+    equal(
+        &rt,
+        recorder.commit(),
+        Err(RecFault::Refused(Refusal::Stopped)),
+    );
+    equal(
+        &rt,
         recorder.hand(&heart_rate(TIME + 3, 90)),
-        Err(RecFault::Refused(Refusal::Stopped))
+        Err(RecFault::Refused(Refusal::Stopped)),
     );
     let disk = recorder.into_disk();
     let written = disk.content(Which::Data);
-    assert_eq!(rt; written.len(), 427);
+    equal(&rt, written.len(), 427);
     let header = [
         0x0E, 0x10, 0x64, 0x00, 0x9B, 0x01, 0x00, 0x00, 0x2E, 0x46, 0x49, 0x54,
     ];
-    assert_eq!(rt; written.get(..12), Some(header.as_slice()));
-    assert_eq!(rt; written.get(14..86), Some(START_RECORDS.as_slice()));
+    equal(&rt, written.get(..12), Some(header.as_slice()));
+    equal(&rt, written.get(14..86), Some(START_RECORDS.as_slice()));
     let file = decode_file(rt.alloc(), written)?;
-    assert_eq!(rt; check_activity(&file), Ok(SHORT_RIDE));
-    assert_eq!(rt; lap_values(&file, 0, 15, 16), Some((Some(100), Some(101))));
-    assert_eq!(rt; lap_values(&file, 1, 15, 16), Some((Some(110), Some(110))));
+    equal(&rt, check_activity(&file), Ok(SHORT_RIDE));
+    equal(
+        &rt,
+        lap_values(&file, 0, 15, 16),
+        Some((Some(100), Some(101))),
+    );
+    equal(
+        &rt,
+        lap_values(&file, 1, 15, 16),
+        Some((Some(110), Some(110))),
+    );
     Ok(())
 }
 
@@ -93,12 +108,13 @@ fn pauses_are_not_timed(rt: HostRuntime) -> Result<(), Fail> {
         Entry::Lap(TIME + 5),
         Entry::Stop(TIME + 8),
     ];
-    assert_eq!(rt;
+    equal(
+        &rt,
         two_laps(&rt, &at_once)?,
         [
             Some((Some(5000), Some(5000))),
-            Some((Some(3000), Some(3000)))
-        ]
+            Some((Some(3000), Some(3000))),
+        ],
     );
     let across = [
         Entry::Pause(TIME + 5),
@@ -106,12 +122,13 @@ fn pauses_are_not_timed(rt: HostRuntime) -> Result<(), Fail> {
         Entry::Resume(TIME + 7),
         Entry::Stop(TIME + 8),
     ];
-    assert_eq!(rt;
+    equal(
+        &rt,
         two_laps(&rt, &across)?,
         [
             Some((Some(5000), Some(5000))),
-            Some((Some(3000), Some(1000)))
-        ]
+            Some((Some(3000), Some(1000))),
+        ],
     );
     Ok(())
 }
@@ -132,13 +149,13 @@ fn distance_and_speed(
 fn distances_and_average_speeds(rt: HostRuntime) -> Result<(), Fail> {
     let zero = with_distance(TIME, 0);
     let far = distance_and_speed(&rt, zero, with_distance(TIME + 10, 12345), TIME + 10)?;
-    assert_eq!(rt; far, Some((Some(12345), Some(12345))));
+    equal(&rt, far, Some((Some(12345), Some(12345))));
     let zero = with_distance(TIME, 0);
     let slow = distance_and_speed(&rt, zero, with_distance(TIME + 7, 100), TIME + 7)?;
-    assert_eq!(rt; slow, Some((Some(100), Some(142))));
+    equal(&rt, slow, Some((Some(100), Some(142))));
     let zero = with_distance(TIME, 0);
     let fast = distance_and_speed(&rt, zero, with_distance(TIME + 1, 100_000), TIME + 1)?;
-    assert_eq!(rt; fast, Some((Some(100_000), None)));
+    equal(&rt, fast, Some((Some(100_000), None)));
     Ok(())
 }
 
@@ -166,22 +183,23 @@ fn a_full_recording_takes_no_entry_more(rt: HostRuntime) -> Result<(), Fail> {
         recorder.hand(&Entry::Sample(full_sample(TIME)))?;
     }
     recorder.hand(&Entry::Pause(TIME))?;
-    assert_eq!(rt; recorder.data_len(), 16_776_608);
+    equal(&rt, recorder.data_len(), 16_776_608);
     recorder.hand(&Entry::Resume(TIME))?;
     let len = recorder.data_len();
-    assert_eq!(rt;
+    equal(
+        &rt,
         recorder.hand(&Entry::Sample(full_sample(TIME))),
-        Err(RecFault::Full)
+        Err(RecFault::Full),
     );
-    assert_eq!(rt; recorder.hand(&Entry::Lap(TIME)), Err(RecFault::Full));
-    assert_eq!(rt; recorder.data_len(), len);
+    equal(&rt, recorder.hand(&Entry::Lap(TIME)), Err(RecFault::Full));
+    equal(&rt, recorder.data_len(), len);
     recorder.commit()?;
-    assert_eq!(rt; recorder.hand(&Entry::Pause(TIME)), Err(RecFault::Full));
+    equal(&rt, recorder.hand(&Entry::Pause(TIME)), Err(RecFault::Full));
     recorder.stop(TIME)?;
     let disk = recorder.into_disk();
     let file = decode_file(rt.alloc(), disk.content(Which::Data))?;
     let summary = check_activity(&file).map(|summary| summary.records);
-    assert_eq!(rt; summary, Ok(762_568));
+    equal(&rt, summary, Ok(762_568));
     Ok(())
 }
 
@@ -236,7 +254,7 @@ fn record_definitions_take_turns(rt: HostRuntime) -> Result<(), Fail> {
     let before = recorder.data_len();
     recorder.hand(&Entry::Sample(some_fields(TIME + 32 * 18, 1)))?;
     let size = before.saturating_add(size_with_definition(1));
-    assert_eq!(rt; recorder.data_len(), size);
+    equal(&rt, recorder.data_len(), size);
     recorder.stop(TIME + 32 * 18)?;
     let disk = recorder.into_disk();
     let written = disk.content(Which::Data);
@@ -244,9 +262,10 @@ fn record_definitions_take_turns(rt: HostRuntime) -> Result<(), Fail> {
         0x41, 0, 0, 0x14, 0, 2, 0xFD, 4, 0x86, 3, 1, 2, 0x01, 0x40, 0xCC, 0x9A, 0x3B, 1,
     ];
     let end = 14 + size as usize;
-    assert_eq!(rt;
+    equal(
+        &rt,
         written.get(end.saturating_sub(18)..end),
-        Some(last.as_slice())
+        Some(last.as_slice()),
     );
     let file = decode_file(rt.alloc(), written)?;
     let mut set = 1;
@@ -254,11 +273,11 @@ fn record_definitions_take_turns(rt: HostRuntime) -> Result<(), Fail> {
         if message.global() == 20 && set <= 18 {
             let fields = if set <= 17 { set } else { 1 };
             let sample = some_fields(TIME + 32 * u32::from(set), fields);
-            assert_eq!(rt; entry_of(&message), Some(Entry::Sample(sample)));
+            equal(&rt, entry_of(&message), Some(Entry::Sample(sample)));
             set += 1;
         }
     }
-    assert_eq!(rt; set, 19);
+    equal(&rt, set, 19);
     Ok(())
 }
 
@@ -306,5 +325,5 @@ fn after_a_failed_call_all_fail(rt: HostRuntime) {
             "call {k}"
         );
     }
-    assert_eq!(rt; ride_failing_at(&rt, 18), Some((5, false)));
+    equal(&rt, ride_failing_at(&rt, 18), Some((5, false)));
 }

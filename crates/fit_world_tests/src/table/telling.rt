@@ -3,8 +3,7 @@
 use super::list::{Recorded, end_time, has_stopped, sums_of};
 use fit_activity::{Entry, Sport, Summary, check_activity, entry_of, file_id_of, sport_of};
 use fit_grammar::{Message, decode_file};
-use std::alloc::Global;
-use std::test::Fail;
+use std::alloc::{AllocError, Global};
 
 /// What one message tells. Of those that close a file only the global number is looked at here.
 #[derive(Clone, Copy, Debug, PartialEq, Eq)]
@@ -36,7 +35,7 @@ fn telling_of(message: &Message) -> Telling {
 }
 
 /// What the bytes tell, where they are a valid file and an activity.
-pub fn told_by(alloc: Global, bytes: &[u8]) -> Result<Option<Told>, Fail> {
+pub fn told_by(alloc: Global, bytes: &[u8]) -> Result<Option<Told>, AllocError> {
     let Ok(file) = decode_file(alloc, bytes) else {
         return Ok(None);
     };
@@ -51,7 +50,7 @@ pub fn told_by(alloc: Global, bytes: &[u8]) -> Result<Option<Told>, Fail> {
 }
 
 /// What the finished file of the list tells: its messages, an end where it has no stop, the last lap, the session and the activity.
-pub fn told_of(alloc: Global, list: &[Recorded]) -> Result<Told, Fail> {
+pub fn told_of(alloc: Global, list: &[Recorded]) -> Result<Told, AllocError> {
     let mut messages = Vec::new(alloc);
     for one in list {
         match one {

@@ -1,6 +1,7 @@
 // Developer fields of a definition and of its messages, at every window.
 
 use super::RECORD;
+use crate::equality::equal;
 use crate::grammar::items::{assert_fields, define, read_message};
 use fit_grammar::{Item, Message, Step, Table, least_length, next_item};
 use std::process::Abort;
@@ -12,12 +13,12 @@ fn assert_developer(rt: &impl Abort, message: &Message, rows: &[(u8, u8, &[u8])]
     for field in message.developer_fields() {
         assert!(rt; seen < rows.len());
         let (index, number, bytes) = rows[seen];
-        assert_eq!(rt; field.index, index);
-        assert_eq!(rt; field.number, number);
-        assert_eq!(rt; field.bytes, bytes);
+        equal(rt, field.index, index);
+        equal(rt, field.number, number);
+        equal(rt, field.bytes, bytes);
         seen += 1;
     }
-    assert_eq!(rt; seen, rows.len());
+    equal(rt, seen, rows.len());
 }
 
 #[test]
@@ -37,7 +38,7 @@ fn some_have_no_byte(rt: HostRuntime) {
     define(&rt, &definition, &mut table);
     let message = read_message(&rt, &[0x01, 0xEE], &table, 0);
     assert_fields(&rt, &message, &[]);
-    assert_eq!(rt; message.global(), 20);
+    equal(&rt, message.global(), 20);
     let rows: [(u8, u8, &[u8]); 3] = [(9, 5, &[]), (9, 6, &[0xEE]), (250, 7, &[])];
     assert_developer(&rt, &message, &rows);
 }
@@ -48,8 +49,8 @@ fn none_may_be_announced(rt: HostRuntime) {
     let definition = [0x60, 0, 0, 20, 0, 1, 3, 1, 2, 0];
     match next_item(&definition, &table) {
         Step::Item(item, used) => {
-            assert_eq!(rt; used, 10);
-            assert_eq!(rt; item.size(), 9);
+            equal(&rt, used, 10);
+            equal(&rt, item.size(), 9);
             match item {
                 Item::Definition(message) => assert!(rt; message.read().developer.is_empty()),
                 Item::Data(_) => panic!(rt; "a definition was expected"),
@@ -68,7 +69,7 @@ fn a_compressed_timestamp_stands_before_them(rt: HostRuntime) {
     let mut table = Table::new();
     define(&rt, &RECORD, &mut table);
     let message = read_message(&rt, &[0x85, 0x64, 0xAB, 0xCD], &table, 0);
-    assert_eq!(rt; message.time(), Some(5));
+    equal(&rt, message.time(), Some(5));
     assert_fields(&rt, &message, &[(253, 0x86, 5), (3, 0x02, 100)]);
     assert_developer(&rt, &message, &[(0, 0, &[0xAB, 0xCD])]);
 }
@@ -79,7 +80,7 @@ fn none_of_them_is_a_time(rt: HostRuntime) {
     let definition = [0x60, 0, 0, 20, 0, 0, 1, 253, 4, 0x86];
     define(&rt, &definition, &mut table);
     let message = read_message(&rt, &[0, 0x00, 0xCA, 0x9A, 0x3B], &table, 9);
-    assert_eq!(rt; message.time(), None);
+    equal(&rt, message.time(), None);
     let rows: [(u8, u8, &[u8]); 1] = [(0x86, 253, &[0x00, 0xCA, 0x9A, 0x3B])];
     assert_developer(&rt, &message, &rows);
 }
@@ -112,5 +113,5 @@ fn as_long_as_the_bytes_say(rt: HostRuntime) {
     }
     define(&rt, &definition, &mut table);
     // Its first byte, a field of one byte, and developer fields of two and one.
-    assert_eq!(rt; least_length(&[0x00], &table).ok(), Some(5));
+    equal(&rt, least_length(&[0x00], &table).ok(), Some(5));
 }

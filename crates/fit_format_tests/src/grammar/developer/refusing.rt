@@ -1,9 +1,11 @@
 // Definitions and messages with developer fields that are cut short, or pass the end of the data.
 
 use super::{FILE, RECORD};
+use crate::equality::equal;
 use crate::grammar::decoding::{behind_header, outcome};
 use crate::grammar::pieces::check_shown_by_last;
 use fit_grammar::FaultKind;
+use std::alloc::AllocError;
 use std::test::*;
 
 // How many bytes of a definition of sixteen show that it passes the end of data of this size: its first, those up to the number of
@@ -21,7 +23,7 @@ fn shown_by(size: u8) -> usize {
 }
 
 #[test]
-fn a_definition_is_cut_at_each_byte(rt: HostRuntime) -> Result<(), Fail> {
+fn a_definition_is_cut_at_each_byte(rt: HostRuntime) -> Result<(), AllocError> {
     let definition = [0x60, 0, 0, 20, 0, 1, 3, 1, 2, 2, 0, 2, 0, 1, 1, 0];
     for size in 1..=16u8 {
         let shows = shown_by(size);
@@ -39,7 +41,7 @@ fn a_definition_is_cut_at_each_byte(rt: HostRuntime) -> Result<(), Fail> {
 }
 
 #[test]
-fn refused_with_the_byte_that_shows_it(rt: HostRuntime) -> Result<(), Fail> {
+fn refused_with_the_byte_that_shows_it(rt: HostRuntime) -> Result<(), AllocError> {
     let alloc = rt.alloc();
     for (size, records) in [
         (5, [0x60].as_slice()),
@@ -56,7 +58,7 @@ fn refused_with_the_byte_that_shows_it(rt: HostRuntime) -> Result<(), Fail> {
 
 // A message of four bytes behind its definition: the data has room for three of them.
 #[test]
-fn a_message_passes_the_end(rt: HostRuntime) -> Result<(), Fail> {
+fn a_message_passes_the_end(rt: HostRuntime) -> Result<(), AllocError> {
     let mut records = RECORD.to_vec(rt.alloc())?;
     records.push(0x00)?;
     let bytes = behind_header(rt.alloc(), 16, &records)?;
@@ -68,6 +70,6 @@ fn a_message_passes_the_end(rt: HostRuntime) -> Result<(), Fail> {
 fn a_beginning_of_a_file_is_cut_short(rt: HostRuntime) {
     for len in 0..FILE.len() {
         let fault = outcome(rt.alloc(), &FILE[..len]);
-        assert_eq!(rt; fault, Some((FaultKind::Truncated, len)));
+        equal(&rt, fault, Some((FaultKind::Truncated, len)));
     }
 }

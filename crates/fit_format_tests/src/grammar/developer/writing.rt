@@ -3,6 +3,7 @@
 ghost use Rattle.std.specs.Prelude.{◌≡◌};
 
 use super::{ANEW, FILE, RECORD};
+use crate::equality::equal;
 use crate::grammar::pieces::{read_in_two, written};
 use crate::known_files::empty_file;
 use arrayvec::ArrayVec;
@@ -60,14 +61,14 @@ fn a_definition_is_written(rt: HostRuntime) {
     let definition = record(one());
     assert!(rt; definition.fields.len() == 1 && definition.developer.len() == 1);
     let mut bytes = [0xEE; 16];
-    assert_eq!(rt; write_definition(&definition, &mut bytes), 13);
-    assert_eq!(rt; bytes.strip_prefix(&RECORD), Some([0xEE; 3].as_slice()));
+    equal(&rt, write_definition(&definition, &mut bytes), 13);
+    equal(&rt, bytes.strip_prefix(&RECORD), Some([0xEE; 3].as_slice()));
     let definition = record(ArrayVec::new());
     assert!(rt; definition.fields.len() == 1 && definition.developer.is_empty());
     let mut bytes = [0xEE; 16];
-    assert_eq!(rt; write_definition(&definition, &mut bytes), 9);
+    equal(&rt, write_definition(&definition, &mut bytes), 9);
     let wanted = [0x40, 0, 0, 20, 0, 1, 3, 1, 2];
-    assert_eq!(rt; bytes.strip_prefix(&wanted), Some([0xEE; 7].as_slice()));
+    equal(&rt, bytes.strip_prefix(&wanted), Some([0xEE; 7].as_slice()));
 }
 
 #[test]
@@ -80,11 +81,11 @@ fn a_file_is_built(rt: HostRuntime) -> Result<(), Fail> {
         [0x64, 0xAB].as_slice(),
         [0x64, 0xAB, 0xCD, 0xEF].as_slice(),
     ] {
-        assert_eq!(rt; file.data(0, None, content), Err(PutFault::Length));
+        equal(&rt, file.data(0, None, content), Err(PutFault::Length));
     }
     file.data(0, None, &[0x64, 0xAB, 0xCD])?;
-    assert_eq!(rt; file.data_size(), 17);
-    assert_eq!(rt; written(rt.alloc(), &file)?.as_slice(), FILE.as_slice());
+    equal(&rt, file.data_size(), 17);
+    equal(&rt, written(rt.alloc(), &file)?.as_slice(), FILE.as_slice());
     Ok(())
 }
 
@@ -94,12 +95,12 @@ fn without_one_nothing_is_announced(rt: HostRuntime) -> Result<(), Fail> {
     file.define(&record(ArrayVec::new()))?;
     file.data(0, None, &[0x64])?;
     let bytes = written(rt.alloc(), &file)?;
-    assert_eq!(rt; bytes.as_slice(), UNANNOUNCED.as_slice());
+    equal(&rt, bytes.as_slice(), UNANNOUNCED.as_slice());
     // Nor where it was.
     let read = decode_file(rt.alloc(), &ANNOUNCED)?;
-    assert_eq!(rt; read.data_size(), 11);
+    equal(&rt, read.data_size(), 11);
     let bytes = written(rt.alloc(), &read)?;
-    assert_eq!(rt; bytes.as_slice(), UNANNOUNCED.as_slice());
+    equal(&rt, bytes.as_slice(), UNANNOUNCED.as_slice());
     Ok(())
 }
 
