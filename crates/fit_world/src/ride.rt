@@ -22,10 +22,14 @@ impl<D: Disk> Ride<D> {
     ghost use Rattle.std.specs.Prelude.{List};
     ghost use Rattle.fit_activity.specs.declared.recording.entry.Entry.TheVariants.{Stop};
     ghost use Rattle.fit_activity.specs.Rides.Recording.{Recorded, Started, Added, is_stop};
-    ghost use Rattle.fit_recorder.specs.declared.fault.RecFault.TheVariants.{Device, Failed};
+    ghost use Rattle.fit_disk.specs.State.{seen_in};
+    ghost use Rattle.fit_disk.specs.Story.{seen_of};
+    ghost use Rattle.fit_disk.specs.declared.disk.Which.TheVariants.{Data};
+    ghost use Rattle.fit_recorder.specs.declared.fault.RecFault.TheVariants.{NotEmpty, JournalFull, Device, Failed};
     ghost use Rattle.fit_journal.specs.declared.slots.Slots.TheVariants.{InTurns};
     ghost use Rattle.fit_journal.specs.Turn.{committed_slots};
     ghost use Rattle.fit_recorder.specs.Calls.Answers.{HandAnswers, CommitAnswers, StopAnswers};
+    ghost use Rattle.fit_recorder.specs.Calls.Resume.{HasNoRoom};
     ghost use Rattle.fit_world.specs.declared.reply.Reply.TheVariants.{Done, Stopped, Refused, NoRecorder};
     ghost use Rattle.fit_world.specs.Histories.Table.{History, ended};
     ghost use Rattle.fit_world.specs.Rides.Replies.{Replies, RepliesStart, RepliesRecovery, RepliesReopening, RepliesErasing, is_ok};
@@ -38,6 +42,8 @@ impl<D: Disk> Ride<D> {
         ensures replies { RepliesStart start result.1 }
         ensures handed { result.1 ≡ Done → Handed result.0 (Started start ∷ []) }
         ensures made { result.1 ≡ Done → slots_of result.0 ≡ InTurns (Some (said_len result.0)) None }
+        ensures not_empty { IsTrue D.honest → result.1 ≡ Refused NotEmpty
+            → seen_of Data (D.story (disk_in self)) ≢ [] }
         ensures riding { is_riding result.0 ≡ is_ok result.1 }
         ensures step { IsTrue D.honest → (before : History) → StandsIn D.honest D.story self before
             → GoesBy D.honest D.story before (commands.Start start) result.1 result.0 }
@@ -157,6 +163,8 @@ impl<D: Disk> Ride<D> {
         ensures goes_on { CanGoOn D.honest D.story result.0 }
         ensures replies { RepliesReopening result.1 }
         ensures handed { result.1 ≡ Done → (list : List Recorded) × Handed result.0 list }
+        ensures full { IsTrue D.honest → result.1 ≡ Refused JournalFull
+            → HasNoRoom (seen_in (D.story (disk_in self)).now) }
         ensures riding { is_riding result.0 ≡ is_ok result.1 }
         ensures step { IsTrue D.honest → (before : History) → StandsIn D.honest D.story self before
             → GoesBy D.honest D.story before commands.Reopen result.1 result.0 }
