@@ -1,6 +1,6 @@
 #!/bin/sh
-# What `check`, `add` and `speak` of fit_activity cost for a sample of nine fields, over a list of a million.
-# It proves and builds in a temporary folder, so that the repository stays as it is.
+# The cost of `check`, `add` and `speak` of fit_activity for a sample of nine fields, over a list of a million.
+# Proves and builds in a temporary folder. The repository stays as it is.
 set -eu
 
 root=$(cd "$(dirname "$0")/.." && pwd)

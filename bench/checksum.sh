@@ -1,6 +1,6 @@
 #!/bin/sh
-# Speed of the proved checksum over 64 MiB, beside a plain loop in C that takes half a byte at a time.
-# It proves and builds in a temporary folder, so that the repository stays as it is.
+# The speed of the proved checksum over 64 MiB, and of a plain loop in C that takes half a byte at a time.
+# Proves and builds in a temporary folder. The repository stays as it is.
 set -eu
 
 root=$(cd "$(dirname "$0")/.." && pwd)

@@ -1,8 +1,8 @@
 #!/bin/sh
-# Time and memory of the memory disk over a million writes of 512 bytes with a sync after each tenth: each write
-# behind the last one, so that the file grows to 512 MB, and each over the first 64 KiB; and of a power cut behind two
-# million writes of six bytes.
-# It proves and builds in a temporary folder, so that the repository stays as it is.
+# Time and memory of the memory disk over a million writes of 512 bytes with a sync after each tenth. First each write
+# comes after the last one, so the file grows to 512 MB; then each is within the first 64 KiB. Also of a power cut after
+# two million writes of six bytes.
+# Proves and builds in a temporary folder. The repository stays as it is.
 set -eu
 
 root=$(cd "$(dirname "$0")/.." && pwd)

@@ -1,8 +1,8 @@
 #!/bin/sh
-# What `hand`, `commit` and `recover` of fit_recorder cost over the memory disk and over two files in a fresh folder,
-# and a commit of fit_journal in each form of a journal; each beside the same calls of the device with no recorder, and
-# how many bytes a recorder has.
-# It proves and builds in a temporary folder, so that the repository stays as it is; the two files are there too.
+# The cost of `hand`, `commit` and `recover` of fit_recorder over the memory disk and over two files in a new folder, and
+# of a commit of fit_journal in each form of a journal. Each is shown with the cost of the same calls of the device without
+# a recorder. Also the size of a recorder in bytes.
+# Proves and builds in a temporary folder, where the two files are too. The repository stays as it is.
 set -eu
 
 root=$(cd "$(dirname "$0")/.." && pwd)
@@ -29,8 +29,8 @@ import subprocess, sys, tempfile
 
 program, work = sys.argv[1:]
 
-# A row: its name, the task of the recorder and that of the device alone, the sample, how many of them come before the
-# time is taken, and how many then.
+# A row: its name, the task of the recorder, the task of the device alone, the kind of sample, how many samples come before the
+# time is taken, and how many are timed.
 rows = []
 for sample, name in (("nine", "nine fields"), ("one", "heart rate")):
     for before in (10_000, 100_000, 500_000):
@@ -44,7 +44,7 @@ rows.append(("recover, a body of one sample", "recover", "read", "nine", 0, 1))
 rows.append(("journal, two slots in turn", "turns", "keep_in_turns", "nine", 100, 1000))
 rows.append(("journal, a row of slots", "row", "keep_in_row", "nine", 100, 1000))
 
-# The nanoseconds of a task, by the samples or calls that are timed.
+# The nanoseconds of a task, divided by the samples or calls that are timed.
 def once(task, sample, before, timed, on_files):
     with tempfile.TemporaryDirectory(dir=work) as folder:
         words = [program, task, sample, str(before), str(timed)] + [folder] * on_files
@@ -53,7 +53,7 @@ def once(task, sample, before, timed, on_files):
         sys.exit("not all calls went well: %s" % words[1:])
     return int(out[1]) / timed
 
-# The least of five runs, which are far from one another, since the machine may be slow for a while.
+# The least of five runs. They are spread out, since the machine may be slow for a while.
 least = {}
 for _ in range(5):
     for row in rows:

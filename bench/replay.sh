@@ -1,7 +1,7 @@
 #!/bin/sh
 # How fast `fitrec replay` runs a script of 100 MB: 1,890,000 samples of four fields, one a second, and a commit. How fast it reads
-# one, by the same script with a last line that is none; the peak memory of both; and how fast `fitrec repair` then saves the ride.
-# All lies in a temporary folder.
+# such a script, by one whose last line is wrong. The peak memory of both, and how fast `fitrec repair` then recovers the ride.
+# All files are in a temporary folder.
 set -eu
 
 root=$(cd "$(dirname "$0")/.." && pwd)
@@ -9,7 +9,7 @@ work=$(mktemp -d)
 trap 'rm -rf "$work"' EXIT
 trap 'exit 1' HUP INT TERM
 
-# The launcher answers 2 to no words, once the program is there.
+# Without words the launcher returns 2, once the program is there.
 status=0
 "$root/fitrec" > "$work/log" 2>&1 || status=$?
 [ "$status" -eq 2 ] || { cat "$work/log"; exit 1; }
@@ -29,12 +29,12 @@ with open(script, "w") as file:
 wrong = work / "wrong"
 wrong.write_bytes(script.read_bytes() + b"lap\n")
 
-# What the processor spent on all runs so far, and their peak of memory.
+# The processor time of all runs so far, and their peak memory.
 def used():
     usage = resource.getrusage(resource.RUSAGE_CHILDREN)
     return usage.ru_utime + usage.ru_stime, usage.ru_maxrss * 1024
 
-# The least time of three runs, on the clock and of the processor, the peak of memory so far, and the folder of the last.
+# The least time of three runs, on the clock and of the processor; the peak memory so far; and the folder of the last run.
 def least(path, status, err):
     spent, busy = [], []
     for run in range(3):

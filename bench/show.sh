@@ -1,8 +1,7 @@
 #!/bin/sh
-# Speed and peak memory of `fitrec show` and `fitrec plain` over an activity file of 64 MiB, beside gpsbabel on the same file.
-# The file is written by a small proved program with the workspace's own encoder. That program is proved and
-# built in a temporary folder, so that the repository stays as it is, but for the program fitrec itself, which
-# its launcher builds where it is not there yet.
+# Speed and peak memory of `fitrec show` and `fitrec plain` over an activity file of 64 MiB, compared with gpsbabel on the same file.
+# A small proved program writes the file with the workspace's own encoder. That program is proved and built in a temporary folder. The
+# repository stays as it is, except that the launcher builds the program fitrec if it is not there.
 set -eu
 
 root=$(cd "$(dirname "$0")/.." && pwd)
@@ -10,7 +9,7 @@ work=$(mktemp -d)
 trap 'rm -rf "$work"' EXIT
 trap 'exit 1' HUP INT TERM
 
-# The launcher answers 2 to no words, once the program is there.
+# Without words the launcher returns 2, once the program is there.
 status=0
 "$root/fitrec" > "$work/log" 2>&1 || status=$?
 [ "$status" -eq 2 ] || { cat "$work/log"; exit 1; }
@@ -32,8 +31,8 @@ file=$work/activity.fit
 messages=$("$writer" "$file")
 size=$(stat -c %s "$file")
 
-# Runs a command so many times, which must each end with this status, with its output thrown away: the least
-# time on the clock and of the processor, in seconds, and the greatest peak of memory, in bytes.
+# Runs a command so many times with its output thrown away. Each run has to end with this status. Prints the least time on
+# the clock and of the processor, in seconds, and the greatest peak memory, in bytes.
 measure() {
     python3 - "$@" <<'PY'
 import resource, subprocess, sys, time
@@ -55,7 +54,7 @@ print(min(clock), min(busy), resource.getrusage(resource.RUSAGE_CHILDREN).ru_max
 PY
 }
 
-# A name, the size of the file, and what measure answered.
+# Arguments: a name, the size of the file, and what measure printed.
 report() {
     echo "$2 $3 $4 $5" | awk -v name="$1" '{
         printf "%-24s %7.1f MB/s %7.2f s, %6.2f s busy %7.1f MB, %5.2f of the file\n",
@@ -63,7 +62,7 @@ report() {
     }'
 }
 
-# A name, what measure answered of fitrec and of gpsbabel.
+# Arguments: a name, and what measure printed for fitrec and for gpsbabel.
 compare() {
     echo "$2 $3 $4 $5 $6 $7" | awk -v name="$1" '{
         printf "%-24s %7.2f times as fast, %.2f by time busy, %.2f of the memory\n", name, $4 / $1, $5 / $2, $3 / $6
@@ -83,7 +82,7 @@ echo "$size $text $messages" | awk '{
 shown=$(measure 3 0 "$program" show "$file")
 report 'fitrec show' "$size" $shown
 
-# A file whose closing checksum is wrong is read and judged whole, and then refused: reading without showing.
+# A file whose closing checksum is wrong is read and checked whole, and then refused: reading without showing.
 wrong=$work/wrong.fit
 head -c -1 "$file" > "$wrong"
 last=$(tail -c 1 "$file" | od -An -tu1)
@@ -92,7 +91,7 @@ judged=$(measure 3 1 "$program" show "$wrong" 2> "$work/refusals") || { cat "$wo
 if grep -v '^fitrec: FileCrc at ' "$work/refusals"; then exit 1; fi
 report 'fitrec, reading' "$size" $judged
 
-# The same file with every time written out: what comes into memory is both files.
+# The same file with every time written out. Both files are in memory.
 plain=$work/plain.fit
 written=$(measure 3 0 "$program" plain "$file" "$plain")
 made=$(stat -c %s "$plain")
@@ -108,10 +107,10 @@ if ! command -v gpsbabel > /dev/null; then
     echo "gpsbabel is not there to compare with; on Debian: apt-get update && apt-get install -y gpsbabel"
     exit 0
 fi
-# Without -t it reads the records and writes none of them: unicsv then asks for waypoints alone.
+# Without -t it reads the records and writes none of them: unicsv then wants only waypoints.
 read=$(measure 3 0 gpsbabel -i garmin_fit -f "$file" -o unicsv -F /dev/null)
 report 'gpsbabel, reading' "$size" $read
-# This takes about a minute, so once.
+# This takes about a minute, so it runs once.
 rows=$(measure 1 0 gpsbabel -t -i garmin_fit -f "$file" -o unicsv -F /dev/null)
 report 'gpsbabel, with rows' "$size" $rows
 

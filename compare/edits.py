@@ -1,4 +1,4 @@
-"""Wrong bodies as edits of the sources: in which function one stands, and many in one text."""
+"""Wrong bodies as edits of the sources: the function that an edit changes, and several edits in one text."""
 
 import os
 import pathlib
@@ -6,7 +6,7 @@ import re
 
 
 def functions_of(text):
-    """For each function its name, its first line, the line of its body's `{` and its last line, by the layout of rt fmt."""
+    """For each function its name, its first line, the line of its body's `{` and its last line. Relies on the layout of rt fmt."""
     lines, found, behind = text.split("\n"), [], 0
     for first, line in enumerate(lines):
         head = re.match(r"( {0,4})(?:[\w()]+ )*fn (\w+)", line)
@@ -19,10 +19,10 @@ def functions_of(text):
 
 
 class Edit:
-    """An edit, and the one function in whose body it stands, if there is one."""
+    """An edit, and the one function whose body it changes, if there is one."""
 
     def __init__(self, path, folder, texts):
-        """An edit of a crate's folder that gives these files these texts, if it can be read."""
+        """An edit of a crate's folder that gives these files these texts. The texts are None if it cannot be read."""
         self.path, self.function = path, None
         if len(texts or []) != 1 or not [*texts][0].startswith("src/"):
             return
@@ -38,7 +38,7 @@ class Edit:
 
 
 def batches_of(edits, most):
-    """Batches with one edit of a function each, and no more than so many edits."""
+    """Batches with at most one edit for each function, and at most so many edits."""
     batches = []
     for it in edits:
         fits = [b for b in batches if len(b) < most and it.function not in [other.function for other in b]]

@@ -1,17 +1,23 @@
-/* Is loaded before the program (LD_PRELOAD). It tells of the program's calls on the two files of a recording, on a file that
-   is made beside another one, and on their folder, and lets some of them fail, fall short or be interrupted. Where it is asked
-   to, it tells of requests for memory and of writes to standard output too:
+/* A library that is loaded before the program (LD_PRELOAD). It reports the program's calls on the two files of a recording, on the
+   files IN and OUT of a command (in.fit and out.fit), on a file that is made beside OUT, and on their folder. It lets some of them
+   fail, fall short or be interrupted. On request it also reports looks at a name, requests for memory and writes to standard output:
 
-     FAULTS_LOG      the file that the calls are told in: a line each, its kind, what it is about, and its numbers
-     FAULTS_CALL     the kind of call that goes wrong: open, lock, sync, size, read, write, stream, cut, move, memory or print
+     FAULTS_LOG      the file that gets a line for each call: its kind, what it is about, and its numbers
+     FAULTS_CALL     the kind of call that goes wrong: open, lock, sync, size, read, write, stream, cut, mode, move, remove, close,
+                     look, memory or print; or peak, which reports at the end how many bytes of memory were held at most
      FAULTS_NUMBER   which one of that kind, from 1 on, or 0 for each
-     FAULTS_BEHIND   where it is 1, each behind that one too
-     FAULTS_ERRNO    it fails so, and nothing is done; or
-     FAULTS_MOST     it moves at most so many bytes */
+     FAULTS_BEHIND   if it is 1, each call after that one too
+     FAULTS_ERRNO    the call fails with this error, and nothing is done; or
+     FAULTS_LIES     if it is 1, the call answers well and lies: a read has one bit changed, a size is one more, a write writes the
+                     first half of its bytes, a cut cuts nothing, and a sync takes back what was done since the last one; or
+     FAULTS_MOST     the call moves at most so many bytes; if the kind is memory or peak, each read of IN does
+     FAULTS_KILLS    if it is 1, the program is killed before the call, or in a write after FAULTS_MOST bytes */
 
 #define _GNU_SOURCE
 #include <errno.h>
 #include <fcntl.h>
+#include <malloc.h>
+#include <signal.h>
 #include <stdarg.h>
 #include <stdio.h>
 #include <stdlib.h>
@@ -26,7 +32,7 @@ static const char *names[DESCRIPTORS];
 static struct stat folder;
 static const char *kind = "";
 static unsigned long number, behind, seen;
-static int error, most = -1, told = -1;
+static int error, most = -1, kills, told = -1, lies, is_lie;
 
 static const char *said(const char *word, const char *otherwise) {
     const char *found = getenv(word);
@@ -38,14 +44,16 @@ __attribute__((constructor)) static void begin(void) {
     number = strtoul(said("FAULTS_NUMBER", "0"), NULL, 10);
     behind = strtoul(said("FAULTS_BEHIND", "0"), NULL, 10);
     error = atoi(said("FAULTS_ERRNO", "0"));
+    lies = atoi(said("FAULTS_LIES", "0"));
     most = atoi(said("FAULTS_MOST", "-1"));
+    kills = atoi(said("FAULTS_KILLS", "0"));
     int log = syscall(SYS_openat, AT_FDCWD, said("FAULTS_LOG", "/dev/null"), O_WRONLY | O_CREAT | O_APPEND, 0666);
     /* Low descriptors stay as free as the program finds them without this. */
     told = syscall(SYS_fcntl, log, F_DUPFD_CLOEXEC, ABOVE_ALL_OTHERS);
     syscall(SYS_close, log);
 }
 
-/* Keeps in mind the folder that a file at this path is in. */
+/* Remembers the folder of the file at this path. */
 static void lies_in_folder(const char *path) {
     char above[4096];
     const char *slash = strrchr(path, '/');
@@ -53,19 +61,24 @@ static void lies_in_folder(const char *path) {
     stat(above, &folder);
 }
 
-/* What the path is: one of the two files, one beside another, their folder, another one, or nothing that is told of. */
-static const char *named(const char *path, int file) {
+/* What the path is: one of the known files, one beside OUT, their folder, another folder, or nothing that is
+   reported. */
+static const char *named(const char *path) {
+    static const char *const known[][2] = {
+        {"activity.fit", "data"}, {"activity.frj", "journal"}, {"out.fit", "out"}, {"in.fit", "in"}};
     struct stat found;
-    const char *slash = strrchr(path, '/'), *last = slash ? slash + 1 : path;
-    if (!strcmp(last, "activity.fit") || !strcmp(last, "activity.frj")) {
-        lies_in_folder(path);
-        return strcmp(last, "activity.fit") ? "journal" : "data";
+    const char *slash = strrchr(path, '/'), *last = slash ? slash + 1 : path, *is = NULL;
+    for (size_t at = 0; at < sizeof known / sizeof *known; at++)
+        if (!strcmp(last, known[at][0]))
+            is = known[at][1];
+    if (!strncmp(last, ".fitrec-new-", 12))
+        is = "beside";
+    if (is) {
+        if (strcmp(is, "in"))
+            lies_in_folder(path);
+        return is;
     }
-    if (!strncmp(last, ".fitrec-new-", 12)) {
-        lies_in_folder(path);
-        return "beside";
-    }
-    if (file < 0 || fstat(file, &found) || !S_ISDIR(found.st_mode))
+    if (stat(path, &found) || !S_ISDIR(found.st_mode))
         return NULL;
     return found.st_dev == folder.st_dev && found.st_ino == folder.st_ino ? "folder" : "another";
 }
@@ -79,14 +92,18 @@ static void name(int file, const char *as) {
         names[file] = as;
 }
 
-/* Tells of a call, and whether it is to go wrong. */
+/* Reports a call. Returns whether it has to go wrong. */
 static int goes_wrong(const char *call, const char *about, const char *numbers) {
     char line[128];
+    is_lie = 0;
     if (!about)
         return 0;
     int wrong = !strcmp(call, kind) && (++seen == number || !number || (behind && seen > number));
-    int length = snprintf(line, sizeof line, "%s %s%s%s\n", call, about, numbers, wrong && error ? " failed" : "");
+    is_lie = wrong && lies;
+    int length = snprintf(line, sizeof line, "%s %s%s%s\n", call, about, numbers, wrong && error ? " failed" : is_lie ? " lied" : "");
     syscall(SYS_write, told, line, length);
+    if (wrong && kills && most < 0)
+        syscall(SYS_kill, getpid(), SIGKILL);
     return wrong;
 }
 
@@ -97,15 +114,17 @@ static int fails(const char *call, const char *about, const char *numbers) {
     return wrong;
 }
 
-/* A kind of call that is told of only where it is the one that goes wrong. */
-static int fails_if_asked(const char *call, const char *about) {
-    return !strcmp(call, kind) && fails(call, about, "");
+static int is_kind(const char *call) {
+    return !strcmp(call, kind);
 }
 
-/* How many bytes a read or a write moves; -1 where it fails. */
-static ssize_t moved(const char *call, int file, size_t count, off_t at) {
-    char numbers[64];
-    snprintf(numbers, sizeof numbers, " %lld %zu", (long long)at, count);
+/* For a kind of call that is reported only if it is the kind that goes wrong. */
+static int fails_if_asked(const char *call, const char *about) {
+    return is_kind(call) && fails(call, about, "");
+}
+
+/* How many bytes a read or a write with these numbers moves; -1 if it fails. */
+static ssize_t moved(const char *call, int file, size_t count, const char *numbers) {
     if (!goes_wrong(call, name_of(file), numbers))
         return count;
     if (error) {
@@ -115,15 +134,45 @@ static ssize_t moved(const char *call, int file, size_t count, off_t at) {
     return most >= 0 && (size_t)most < count ? most : (ssize_t)count;
 }
 
+/* What each file held when it was opened or last synced. */
+static struct { char *bytes; off_t length; } kept[DESCRIPTORS];
+
+static void keep(int file) {
+    const char *is = name_of(file);
+    if (!lies || !is_kind("sync") || !is || (strcmp(is, "data") && strcmp(is, "journal")))
+        return;
+    off_t length = syscall(SYS_lseek, file, 0, SEEK_END);
+    char *bytes = malloc(length > 0 ? length : 1);
+    kept[file].length = syscall(SYS_pread64, file, bytes, length, 0) == length ? length : -1;
+    free(kept[file].bytes);
+    kept[file].bytes = bytes;
+    syscall(SYS_lseek, file, 0, SEEK_SET);
+}
+
+static int take_back(int file) {
+    if (kept[file].bytes && kept[file].length >= 0) {
+        syscall(SYS_ftruncate, file, kept[file].length);
+        syscall(SYS_pwrite64, file, kept[file].bytes, kept[file].length, 0);
+    }
+    return 0;
+}
+
+static int synced(int file, int answer) {
+    keep(file);
+    return answer;
+}
+
 int open(const char *path, int flags, ...) {
     va_list more;
     va_start(more, flags);
     int mode = flags & O_CREAT ? va_arg(more, int) : 0;
     va_end(more);
-    if (fails("open", named(path, -1), ""))
+    const char *is = named(path);
+    if (fails("open", is, ""))
         return -1;
     int file = syscall(SYS_openat, AT_FDCWD, path, flags, mode);
-    name(file, file < 0 ? NULL : named(path, file));
+    name(file, is);
+    keep(file);
     return file;
 }
 
@@ -138,7 +187,11 @@ int fcntl(int file, int command, ...) {
     return answer;
 }
 
+/* Only the closing of OUT is reported, which ends its lock. */
 int close(int file) {
+    const char *is = name_of(file);
+    if (is && !strcmp(is, "out"))
+        goes_wrong("close", is, "");
     name(file, NULL);
     return syscall(SYS_close, file);
 }
@@ -148,66 +201,144 @@ int flock(int file, int operation) {
 }
 
 int fsync(int file) {
-    return fails("sync", name_of(file), "") ? -1 : syscall(SYS_fsync, file);
+    return fails("sync", name_of(file), "") ? -1 : is_lie ? take_back(file) : synced(file, syscall(SYS_fsync, file));
 }
 
 int fdatasync(int file) {
-    return fails("sync", name_of(file), "") ? -1 : syscall(SYS_fdatasync, file);
+    return fails("sync", name_of(file), "") ? -1 : is_lie ? take_back(file) : synced(file, syscall(SYS_fdatasync, file));
+}
+
+int fchmod(int file, mode_t mode) {
+    char numbers[32];
+    snprintf(numbers, sizeof numbers, " %o", mode & 07777);
+    return fails("mode", name_of(file), numbers) ? -1 : syscall(SYS_fchmod, file, mode);
+}
+
+int chmod(const char *path, mode_t mode) {
+    char numbers[32];
+    snprintf(numbers, sizeof numbers, " %o", mode & 07777);
+    return fails("mode", named(path), numbers) ? -1 : syscall(SYS_fchmodat, AT_FDCWD, path, mode);
 }
 
 int statx(int file, const char *path, int flags, unsigned mask, struct statx *into) {
-    return fails("size", *path ? NULL : name_of(file), "") ? -1 : syscall(SYS_statx, file, path, flags, mask, into);
+    is_lie = 0;
+    int is_refused = *path ? fails_if_asked("look", named(path)) : fails("size", name_of(file), "");
+    int answer = is_refused ? -1 : syscall(SYS_statx, file, path, flags, mask, into);
+    into->stx_size += is_lie;
+    return answer;
 }
 
 int ftruncate(int file, off_t length) {
     char numbers[32];
     snprintf(numbers, sizeof numbers, " %lld", (long long)length);
-    return fails("cut", name_of(file), numbers) ? -1 : syscall(SYS_ftruncate, file, length);
+    return fails("cut", name_of(file), numbers) ? -1 : is_lie ? 0 : syscall(SYS_ftruncate, file, length);
+}
+
+static ssize_t moved_at(const char *call, int file, size_t count, off_t at) {
+    char numbers[64];
+    snprintf(numbers, sizeof numbers, " %lld %zu", (long long)at, count);
+    return moved(call, file, count, numbers);
+}
+
+/* The number of bytes that were read. If the call lies, one bit of the first is changed. */
+static ssize_t told_as(void *into, ssize_t bytes) {
+    if (is_lie && bytes > 0)
+        *(char *)into ^= 1;
+    return bytes;
 }
 
 ssize_t pread(int file, void *into, size_t count, off_t at) {
-    ssize_t bytes = moved("read", file, count, at);
-    return bytes < 0 ? -1 : syscall(SYS_pread64, file, into, bytes, at);
+    ssize_t bytes = moved_at("read", file, count, at);
+    return bytes < 0 ? -1 : told_as(into, syscall(SYS_pread64, file, into, bytes, at));
 }
 
 ssize_t pwrite(int file, const void *from, size_t count, off_t at) {
-    ssize_t bytes = moved("write", file, count, at);
-    return bytes < 0 ? -1 : syscall(SYS_pwrite64, file, from, bytes, at);
+    ssize_t bytes = moved_at("write", file, count, at);
+    if (is_lie)
+        return syscall(SYS_pwrite64, file, from, bytes / 2, at) < 0 ? -1 : bytes;
+    ssize_t done = bytes < 0 ? -1 : syscall(SYS_pwrite64, file, from, bytes, at);
+    if (kills && bytes >= 0 && (size_t)bytes < count)
+        syscall(SYS_kill, getpid(), SIGKILL);
+    return done;
+}
+
+ssize_t read(int file, void *into, size_t count) {
+    if (is_kind("memory") || is_kind("peak"))
+        return syscall(SYS_read, file, into, most >= 0 && (size_t)most < count ? (size_t)most : count);
+    ssize_t bytes = moved("read", file, count, "");
+    return bytes < 0 ? -1 : told_as(into, syscall(SYS_read, file, into, bytes));
 }
 
 int rename(const char *from, const char *to) {
-    return fails("move", named(from, -1), "") ? -1 : syscall(SYS_renameat2, AT_FDCWD, from, AT_FDCWD, to, 0);
+    return fails("move", named(from), "") ? -1 : syscall(SYS_renameat2, AT_FDCWD, from, AT_FDCWD, to, 0);
 }
 
-/* The program writes the files of a recording at places, and others as a stream. */
+int unlink(const char *path) {
+    return fails("remove", named(path), "") ? -1 : syscall(SYS_unlinkat, AT_FDCWD, path, 0);
+}
+
+/* The program writes the files of a recording at offsets, and other files as a stream. */
 ssize_t write(int file, const void *from, size_t count) {
-    int is_refused = file == STDOUT_FILENO ? fails_if_asked("print", "output") : fails("stream", name_of(file), "");
-    return is_refused ? -1 : syscall(SYS_write, file, from, count);
+    if (file == STDOUT_FILENO)
+        return fails_if_asked("print", "output") ? -1 : syscall(SYS_write, file, from, count);
+    ssize_t bytes = moved("stream", file, count, "");
+    return bytes < 0 ? -1 : syscall(SYS_write, file, from, bytes);
 }
 
-/* Requests for memory, which the C library has under these names too. */
+/* Requests for memory. The C library also has them under these names. */
 void *__libc_malloc(size_t), *__libc_calloc(size_t, size_t), *__libc_realloc(void *, size_t), *__libc_memalign(size_t, size_t);
+void __libc_free(void *);
+
+static size_t held, peak;
+
+static int is_refused(size_t size) {
+    char numbers[32];
+    if (!is_kind("memory"))
+        return 0;
+    snprintf(numbers, sizeof numbers, " %zu", size);
+    return fails("memory", "request", numbers);
+}
+
+static void *taken(void *found) {
+    held += malloc_usable_size(found);
+    peak = held > peak ? held : peak;
+    return found;
+}
 
 void *malloc(size_t size) {
-    return fails_if_asked("memory", "request") ? NULL : __libc_malloc(size);
+    return is_refused(size) ? NULL : taken(__libc_malloc(size));
 }
 
 void *calloc(size_t count, size_t size) {
-    return fails_if_asked("memory", "request") ? NULL : __libc_calloc(count, size);
+    return is_refused(count * size) ? NULL : taken(__libc_calloc(count, size));
 }
 
 void *realloc(void *from, size_t size) {
-    return fails_if_asked("memory", "request") ? NULL : __libc_realloc(from, size);
+    size_t before = malloc_usable_size(from);
+    void *found = is_refused(size) ? NULL : __libc_realloc(from, size);
+    held -= found ? before : 0;
+    return taken(found);
 }
 
 void *aligned_alloc(size_t align, size_t size) {
-    return fails_if_asked("memory", "request") ? NULL : __libc_memalign(align, size);
+    return is_refused(size) ? NULL : taken(__libc_memalign(align, size));
 }
 
 int posix_memalign(void **into, size_t align, size_t size) {
     void *found = aligned_alloc(align, size);
     *into = found ? found : *into;
     return found ? 0 : ENOMEM;
+}
+
+void free(void *from) {
+    held -= malloc_usable_size(from);
+    __libc_free(from);
+}
+
+__attribute__((destructor)) static void end(void) {
+    char line[64];
+    if (is_kind("peak"))
+        syscall(SYS_write, told, line, snprintf(line, sizeof line, "peak %zu\n", peak));
 }
 
 int open64(const char *path, int flags, ...) __attribute__((alias("open")));

@@ -1,25 +1,16 @@
-"""Holds what the built program does with the two real files of a folder, of which no contract speaks: its calls of the
-system, one behind another, and what it says where one of them fails, falls short or is interrupted; and files that may not
-grow, streams that are closed, files that another program has locked, and a folder without a name. What is wanted stands in
-docs/RECORDING.md. The calls are told, and go wrong, by a library that is compiled here from faults.c and loaded before the
-program."""
+"""Checks the system calls of the built program on the two real files of a folder, which no contract describes: their order, and what it
+reports if one of them fails, falls short or is interrupted. The expected calls are those of docs/RECORDING.md."""
 
-import contextlib
 import errno
-import fcntl
+import itertools
 import os
 import pathlib
 import re
-import resource
 import shutil
-import signal
-import subprocess
-import tempfile
 
-import rides
-from rides import committed, differs, script_of
+from rides import committed, differs
+from told import ERRORS, Told, holds, library, room, run
 
-HERE = pathlib.Path(__file__).resolve().parent
 START = "start 1000000000 7 running"
 SAMPLES = ["sample 1000000001 hr=100", "sample 1000000002 hr=101"]
 STOP = "stop 1000000003"
@@ -29,88 +20,47 @@ LINE = "ok records=%d laps=1 sessions=1 start=1000000000 elapsed_ms=%d timer_ms=
 ONE, TWO, ALONE = LINE % (1, 1000, 1000), LINE % (2, 3000, 3000), LINE % (0, 0, 0)
 
 
-def run(*words, **how):
-    """What a run says, which has a minute."""
-    try:
-        return rides.run(*words, timeout=60, **how)
-    except subprocess.TimeoutExpired:
-        return None, "", "it did not end"
-
-
-@contextlib.contextmanager
-def room(*lines):
-    """A script of these lines, and how to make a new empty folder for it."""
-    with tempfile.TemporaryDirectory() as folder:
-        script = pathlib.Path(folder) / "script"
-        script.write_text("".join(line + "\n" for line in lines))
-        yield script, lambda: tempfile.mkdtemp(dir=folder)
-
-
-def holds(folder):
-    """The bytes of both files."""
-    return [(pathlib.Path(folder) / name).read_bytes() for name in ("activity.fit", "activity.frj")]
-
-
 def answers(*words):
-    """What a replay says of a script, by one word a line."""
+    """What a replay prints for a script, from the answer of each line."""
     return "".join("%d %s\n" % (number, word) for number, word in enumerate(words, 1))
 
 
-class Told:
-    """The program, whose calls are told and go wrong."""
+# The calls, in the words of docs/RECORDING.md: those that open a folder, then those of each operation.
 
-    def __init__(self, fitrec, library):
-        self.fitrec, self.library = fitrec, library
-
-    def run(self, *words, **wrong):
-        """What it says, and its calls: those that go wrong are given by `call`, `number`, and `errno` or `most`."""
-        with tempfile.NamedTemporaryFile("r") as log:
-            settings = {"LD_PRELOAD": self.library, "FAULTS_LOG": log.name}
-            settings |= {"FAULTS_" + word.upper(): str(value) for word, value in wrong.items()}
-            return run(self.fitrec, *words, env=os.environ | settings), log.read().splitlines()
-
-
-@contextlib.contextmanager
-def library():
-    """The library that tells of calls; None where nothing compiles it."""
-    with tempfile.TemporaryDirectory() as folder:
-        made, compiler = folder + "/faults.so", shutil.which("cc")
-        if compiler:
-            subprocess.run([compiler, "-O1", "-shared", "-fPIC", "-o", made, HERE / "faults.c"], check=True)
-        yield made if compiler else None
-
-
-# The calls, in the words of docs/RECORDING.md: what opens a folder, and then each operation.
-
-OPENING = ["open data", "lock data", "open journal", "lock journal", "sync folder", "sync data", "sync journal"]
+OPENING = ["open data", "lock data", "open journal", "lock journal", "open folder", "sync folder", "sync data", "sync journal"]
 
 
 def journal_commit(slot, is_open=False):
-    """The gate where it is open and is closed, a length behind a closed gate, then the gate; each synced."""
+    """The calls that commit in this slot: the gate is closed if it is open, the length is written, the gate is opened. Each is synced."""
     gate = ["write journal %d 1" % (8 + 8 * slot), "sync journal"]
     return gate * is_open + ["write journal %d 4" % (9 + 8 * slot), "sync journal"] + gate
 
 
 STARTING = ["sync data", "size data", "cut journal 0", "write journal 0 24", "sync journal", "write data 0 86", "sync data"]
 STARTING += journal_commit(0)
-# A definition of one field and its message, with the commit that writes it.
+# A definition of one field and its message, and the commit that writes them.
 RIDING = ["write data 86 11", "sync data", *journal_commit(1)]
-# A message alone and the stop. The closing messages have at most 252 bytes, of which the stop and its definition take 22, and
-# the checksum has two.
+# A message alone and the stop. The closing messages have at most 252 bytes, 22 of which are the stop and its definition. The
+# checksum has two.
 STOPPING = ["write data 97 9", "sync data", *journal_commit(0, True), "write data 106 232", "write data 0 14", "sync data"]
-RECOVERING = ["sync data", "sync journal", "size data", "read journal", "read data", "write data 97 254", "cut data 351",
-              "write data 0 14", "sync data"]
-ERASING = ["sync data", "sync journal", "size data", "read journal", "write journal 0 1", "sync journal", "cut data 0",
+# The journal has 24 bytes, which are read at once.
+FINDING = ["sync data", "sync journal", "size data", "read journal 0 24", "read data"]
+RECOVERING = [*FINDING, "write data 97 254", "cut data 351", "write data 0 14", "sync data"]
+RESUMING = [*FINDING, "cut data 97", "sync data"]
+# The next sample has its definition again, and so has the stop.
+GOING_ON = ["write data 97 11", "sync data", *journal_commit(0, True)]
+GOING_ON += ["write data 108 22", "sync data", *journal_commit(1, True), "write data 130 232", "write data 0 14", "sync data"]
+ERASING = ["sync data", "sync journal", "size data", "read journal 0 1", "write journal 0 1", "sync journal", "cut data 0",
            "sync data"]
 
 
 def calls_of(log):
-    """The calls without the sizes that opening asks for, and reads of one file behind one another as one."""
+    """The calls without the sizes that opening reads, with each run of reads of the data file as one."""
     calls, is_open = [], False
     for line in log:
-        line = re.sub(r"^(read \w+) .*", r"\1", line)
+        line = re.sub(r"^read data .*", "read data", line)
         is_open = is_open or line == "sync folder"
-        if (is_open or not line.startswith("size")) and not (line.startswith("read") and calls[-1:] == [line]):
+        if (is_open or not line.startswith("size")) and (line, calls[-1:]) != ("read data", [line]):
             calls.append(line)
     return calls
 
@@ -123,15 +73,37 @@ def the_calls(told):
     with room(*CUT_OFF) as (script, new):
         folder = new()
         run(told.fitrec, "replay", script, folder)
+        other = shutil.copytree(folder, new(), dirs_exist_ok=True)
         said, log = told.run("repair", folder)
         yield "a repair", differs((said, calls_of(log)), ((0, ONE, ""), OPENING + RECOVERING))
         script.write_text("erase\n")
         said, log = told.run("replay", script, folder)
         yield "an erasing", differs((said, calls_of(log)), ((0, answers("erase: ok"), ""), OPENING + ERASING))
+        script.write_text("\n".join(["reopen", SAMPLES[1], "commit", STOP]))
+        said, log = told.run("replay", script, other)
+        said_well = 0, answers("reopen: ok", "sample: ok", "commit: ok", "stop: ok"), ""
+        yield "a ride that goes on", differs((said, calls_of(log)), (said_well, OPENING + RESUMING + GOING_ON))
+
+
+def reads_of_a_body(told):
+    """A body is read in windows of 512 bytes: one read for at least 416 bytes of it, or for its end."""
+    lines = [START] + ["sample %d hr=%d" % (1000000000 + 40 * number, 60 + number % 99) for number in range(3000)]
+    with room(*lines, "commit", SAMPLES[1].replace("1000000002", "1001000000")) as (script, new):
+        folder = new()
+        run(told.fitrec, "replay", script, folder)
+        script.write_text("reopen\n")
+        for words in (["repair", folder], ["replay", script, folder]):
+            said, log = told.run(*words)
+            reads = [tuple(map(int, line.split()[2:])) for line in log if line.startswith("read data")]
+            # Each sample is 40 s after the one before, so all have six bytes, under one definition of two fields.
+            body = 72 + 12 + 6 * 3000
+            # A window that reaches the end of the file takes one more read.
+            well = said[0] == 0 and len(reads) <= -(-body // 416) + 1 and all(count <= 512 for _, count in reads)
+            yield "reads of a body", None if well else (said, len(reads), reads[:9])
 
 
 def before_an_opening(told):
-    """What is no file is seen before it is opened, and not opened."""
+    """What is not a regular file is recognized before it is opened, and is not opened."""
     with room(*STOPPED) as (script, new):
         for name, calls in (("activity.fit", []), ("activity.frj", OPENING[:2])):
             folder = new()
@@ -141,195 +113,252 @@ def before_an_opening(told):
             yield "a pipe is not opened", differs((said, calls_of(log)), want)
 
 
-# How many syncs each line of a script makes, behind the three of opening, and what it answers before any of them fails.
-SYNCS = [("start", START, 5, "ok"), ("sample", SAMPLES[0], 0, "ok"), ("commit", "commit", 3, "ok"),
-         ("sample", SAMPLES[1], 0, "ok"), ("stop", STOP, 5, "ok"), ("recover", "recover", 3, TWO.strip()),
-         ("erase", "erase", 4, "ok"), ("recover", "recover", 2, "")]
+# How many syncs each line of a script makes, after the three of opening, and its answer if none has failed before it.
+SYNCS = [("start", START, 5, "ok"), ("sample", SAMPLES[0], 0, "ok"), ("commit", "commit", 3, "ok"), ("reopen", "reopen", 3, "ok"),
+         ("sample", SAMPLES[1], 0, "ok"), ("commit", "commit", 4, "ok"), ("stop", STOP, 5, "ok"),
+         ("recover", "recover", 3, TWO.strip()), ("reopen", "reopen", 2, "Refused(Stopped)"), ("erase", "erase", 4, "ok"),
+         ("reopen", "reopen", 2, "NothingRecorded"), ("recover", "recover", 2, "NothingRecorded")]
+ALL_SYNCS = 3 + sum(syncs for _, _, syncs, _ in SYNCS)
+# Nothing may be recorded until the start has ended, and from the erasing on.
+STARTED, ERASED = 8, ALL_SYNCS - 8
 
 
-def answers_behind(number):
-    """What the lines answer where the sync of this number fails: behind it a recorder that runs has failed, and whatever
-    goes to the files again fails too."""
+def answers_after(number):
+    """The answers of the lines if the sync of this number fails. From then on the recorder that runs has failed, and whatever uses
+    the files again fails too."""
     said, left, has_failed, rides = [], number - 3, False, False
     for word, _, syncs, well in SYNCS:
-        is_anew = word in ("start", "recover", "erase")
+        is_anew = word in ("start", "recover", "reopen", "erase")
         if has_failed:
             answer = "Device" if is_anew else "Failed" if rides else "NoRecorder"
+            rides = rides and not is_anew
         else:
             has_failed = 0 < left <= syncs
-            rides = rides and not is_anew or word == "start" and not has_failed
             answer, left = "Device" if has_failed else well, left - syncs
+            rides = rides and not is_anew or word in ("start", "reopen") and answer == "ok"
         said.append("%s: %s" % (word, answer))
     return said
 
 
 def failed_syncs(told):
-    """A sync that fails is told, and all that comes behind it fails; a folder that is opened anew goes on."""
+    """A sync that fails is reported, and everything after it fails. A folder that is opened anew can be used again."""
     with room(*(line for _, line, _, _ in SYNCS)) as (script, new):
-        for number in range(1, 4 + sum(syncs for _, _, syncs, _ in SYNCS)):
-            folder = new()
-            said, log = told.run("replay", script, folder, call="sync", number=number, errno=errno.EIO)
-            want = (1, "", "fitrec: cannot open %s\n" % folder)
-            if number > 3:
-                wanted = answers_behind(number)
-                want = (1, answers(*wanted), "fitrec: %d refused\n" % sum(": ok" not in line for line in wanted))
-            yield "a sync that failed", differs(said, want)
-            yield "no call behind a sync that failed", differs([line.endswith(" failed") for line in log[-1:]], [True])
-            _, kept, handed = committed(said[1].splitlines())
-            again = run(told.fitrec, "repair", folder)
-            records = re.match(r"ok records=(\d+) ", again[1])
-            # Nothing may be recorded until the start has ended, and from the erasing on.
-            is_none = again == (1, "", "fitrec: NothingRecorded\n") and (number <= 8 or number > 19)
-            well = is_none or records and kept <= int(records[1]) <= handed
-            yield "a folder opened anew behind a sync that failed", None if well else (number, again)
+        for number in range(1, ALL_SYNCS + 1):
+            for error in ERRORS:
+                folder = new()
+                said, log = told.run("replay", script, folder, call="sync", number=number, errno=error)
+                line = "NoMemory" if error == errno.ENOMEM else "cannot open " + folder
+                want = (1, "", "fitrec: %s\n" % line)
+                if number > 3:
+                    wanted = answers_after(number)
+                    refused = sum(not re.search(": ok( |$)", line) for line in wanted)
+                    want = (1, answers(*wanted), "fitrec: %d refused\n" % refused)
+                yield "a sync that failed", differs(said, want)
+                yield "no call after a sync that failed", differs([line.endswith(" failed") for line in log[-1:]], [True])
+                _, kept, handed = committed(said[1].splitlines())
+                again = run(told.fitrec, "repair", folder)
+                records = re.match(r"ok records=(\d+) ", again[1])
+                is_none = again == (1, "", "fitrec: NothingRecorded\n") and (number <= STARTED or number > ERASED)
+                well = is_none or records and kept <= int(records[1]) <= handed
+                yield "a folder opened anew after a sync that failed", None if well else (number, again)
+        said, log = told.run("replay", script, new())
+        wanted = answers_after(ALL_SYNCS + 1)
+        refused = sum(not re.search(": ok( |$)", line) for line in wanted)
+        yield "no sync failed", differs((said, sum(line.startswith("sync") for line in log)),
+                                        ((1, answers(*wanted), "fitrec: %d refused\n" % refused), ALL_SYNCS))
+
+
+def failing_calls_of_a_ride(told):
+    """If a call of a ride or of an erasing fails, its line answers Device, no other call is made, and what was committed is kept."""
+    with room(*STOPPED) as (script, new):
+        _, whole = told.run("replay", script, new())
+        erasing = script.parent / "erasing"
+        erasing.write_text("erase\n")
+        ridden = new()
+        run(told.fitrec, "replay", script, ridden)
+        _, erased = told.run("replay", erasing, shutil.copytree(ridden, new(), dirs_exist_ok=True))
+        for words, log, before in ((script, whole, new()), (erasing, erased, ridden)):
+            begun = log.index("sync folder") + 3
+            for at, line in enumerate(log[begun:], begun):
+                kind = line.split()[0]
+                number = sum(other.startswith(kind) for other in log[:at + 1])
+                for error in (errno.EIO, errno.ENOSPC):
+                    folder = shutil.copytree(before, new(), dirs_exist_ok=True)
+                    (status, out, fault), calls = told.run("replay", words, folder, call=kind, number=number, errno=error)
+                    given = [answer.partition(": ")[2] for answer in out.splitlines()]
+                    rest = given[given.index("Device") + 1:] if "Device" in given else ["none was Device"]
+                    refused = len(rest) + 1
+                    well = set(given[:-refused]) <= {"ok"} and set(rest) <= {"Failed" if given[0] == "ok" else "NoRecorder"}
+                    yield "a %s of a ride that failed" % kind, None if well else (line, out)
+                    yield "no call after it", differs((status, fault, calls[-1]), (1, "fitrec: %d refused\n" % refused, line + " failed"))
+                    _, kept, handed = committed(out.splitlines())
+                    said = run(told.fitrec, "repair", folder)
+                    records = re.match(r"ok records=(\d+) ", said[1])
+                    is_none = said == (1, "", "fitrec: NothingRecorded\n") and given[0] == "Device"
+                    is_kept = records and (words == erasing or kept <= int(records[1]) <= handed)
+                    yield "a repair after it", None if is_none or is_kept else (line, said)
+
+
+class Operation:
+    """What a repair or a reopening prints if all goes well, and if a call of it fails."""
+
+    def __init__(self, words, done, failed):
+        self.words, self.done, self.failed = words, done, failed
 
 
 def calls_that_go_wrong(told):
-    """Reads and writes that are interrupted or fall short go on; a call that fails is told, and another repair goes on."""
+    """Calls that are interrupted or fall short are continued. One that fails is reported, no other is made after it, and a repair succeeds."""
     with room(*CUT_OFF) as (script, new):
         cut_off, repaired = new(), new()
         run(told.fitrec, "replay", script, cut_off)
         shutil.copytree(cut_off, repaired, dirs_exist_ok=True)
-        _, log = told.run("repair", repaired)
-        want = (0, ONE, ""), holds(repaired)
+        want_repaired = run(told.fitrec, "repair", repaired), holds(repaired)
+        yield "a repair", differs(want_repaired[0], (0, ONE, ""))
+        script.write_text("reopen\n")
+        for operation in (Operation(["repair"], (0, ONE, ""), (1, "", "fitrec: Device\n")),
+                          Operation(["replay", script], (0, "1 reopen: ok\n", ""), (1, "1 reopen: Device\n", "fitrec: 1 refused\n"))):
+            def anew(**wrong):
+                folder = shutil.copytree(cut_off, new(), dirs_exist_ok=True)
+                said, log = told.run(*operation.words, folder, **wrong)
+                return folder, said, log
 
-        def repair(**wrong):
-            folder = shutil.copytree(cut_off, new(), dirs_exist_ok=True)
-            return told.run("repair", folder, **wrong)[0], folder
-
-        for call in ("read", "write", "cut", "size", "sync"):
-            for number in range(1, sum(line.startswith(call) for line in log) + 1):
-                if call in ("read", "write"):
-                    said, folder = repair(call=call, number=number, errno=errno.EINTR)
-                    yield "an interrupted " + call, differs((said, holds(folder)), want)
-                said, folder = repair(call=call, number=number, errno=errno.EIO)
-                # The first two sizes belong to the opening of the files, and the first three syncs.
-                is_opening = number <= {"size": 2, "sync": 3}.get(call, 0)
-                line = "cannot open " + folder if is_opening else "Device"
-                yield "a %s that failed" % call, differs(said, (1, "", "fitrec: %s\n" % line))
-                said = run(told.fitrec, "repair", folder)
-                yield "a repair behind a %s that failed" % call, differs((said, holds(folder)), want)
-            if call in ("read", "write"):
+            folder, _, whole = anew()
+            want = operation.done, holds(folder)
+            for at, line in enumerate(whole):
+                kind, is_opening = line.split()[0], at < len(OPENING) + 2
+                number = sum(other.startswith(kind) for other in whole[:at + 1])
+                if kind != "size":
+                    folder, said, _ = anew(call=kind, number=number, errno=errno.EINTR)
+                    yield "%s: an interrupted %s" % (operation.words[0], kind), differs((said, holds(folder)), want)
+                for error in [*ERRORS, *[errno.ENOLCK, errno.EWOULDBLOCK] * (kind == "lock")]:
+                    folder, said, log = anew(call=kind, number=number, errno=error)
+                    no_file = "fitrec: NoMemory\n" if error == errno.ENOMEM else "fitrec: cannot open %s\n" % folder
+                    wanted = ((1, "", no_file) if is_opening else operation.failed), line + " failed"
+                    yield "%s: a %s that failed" % (operation.words[0], kind), differs((said, log[-1]), wanted)
+                    said = run(told.fitrec, "repair", folder)
+                    yield "a repair after a %s that failed" % kind, differs((said, holds(folder)), want_repaired)
+            for kind in ("read", "write"):
                 for most in (1, 3):
-                    said, folder = repair(call=call, most=most)
-                    yield "each %s of at most a few bytes" % call, differs((said, holds(folder)), want)
+                    folder, said, _ = anew(call=kind, number=0, most=most)
+                    yield "each %s of at most a few bytes" % kind, differs((said, holds(folder)), want)
 
 
-# What needs no library.
+class Verified:
+    """A folder with a ride that was cut off, and what `repair --verify` does with a copy of it if a call goes wrong."""
 
-def may_not_grow(size):
-    def limit():
-        # Without this the system ends a program whose file may not grow.
-        signal.signal(signal.SIGXFSZ, signal.SIG_IGN)
-        resource.setrlimit(resource.RLIMIT_FSIZE, (size, size))
-    return limit
+    def __init__(self, told, script, new):
+        self.told, self.new, self.cut_off = told, new, new()
+        run(told.fitrec, "replay", script, self.cut_off)
+        repaired = shutil.copytree(self.cut_off, new(), dirs_exist_ok=True)
+        self.well = run(told.fitrec, "repair", repaired), holds(repaired)
 
+    def run(self, **wrong):
+        folder = shutil.copytree(self.cut_off, self.new(), dirs_exist_ok=True)
+        said, log = self.told.run("repair", "--verify", folder, **wrong)
+        return folder, said, log
 
-def at_each_size(fitrec):
-    """Files that may have so many bytes and no more: a write that was done in part has failed, and what was committed is
-    kept."""
-    with room() as (script, new):
-        script.write_text(script_of(24, 3))
-        for size in range(0, 245, 5):
-            folder = new()
-            status, out, err = run(fitrec, "replay", script, folder, preexec_fn=may_not_grow(size))
-            started, kept, handed = committed(out.splitlines())
-            said = run(fitrec, "repair", folder)
-            records = re.match(r"ok records=(\d+) ", said[1])
-            well = records and kept <= int(records[1]) <= handed
-            if not started:
-                well = well or said == (1, "", "fitrec: NothingRecorded\n")
-            yield "files of at most some bytes", None if well else (size, status, err, kept, handed, said)
+    def calls(self):
+        """For each call after both files are open for writing: its line, its kind, and its number among those of its kind."""
+        _, _, whole = self.run()
+        begun = whole.index("sync folder") + 3
+        for at, line in enumerate(whole[begun:], begun):
+            kind = line.split()[0]
+            yield line, kind, sum(other.startswith(kind + " ") for other in whole[:at + 1])
 
 
-def with_closed_streams(fitrec):
-    """Nothing that is meant for a closed stream lands in a file: the first answer is not written, and none behind it."""
-    with room(*STOPPED) as (script, new):
-        for closed, told in ((">&-", "fitrec: cannot write -\n"), ("<&- >&- 2>&-", ""), ("<&- >&-", "fitrec: cannot write -\n")):
-            folder = new()
-            said = run("sh", "-c", 'exec "$@" ' + closed, "sh", fitrec, "replay", script, folder)
-            yield "closed streams: replayed", differs(said, (1, "", told))
-            said = run("sh", "-c", 'exec "$@" ' + closed, "sh", fitrec, "repair", folder)
-            yield "closed streams: repaired", differs(said, (1, "", told))
-            said = run(fitrec, "check", folder + "/activity.fit")
-            yield "closed streams: kept", differs(said, (0, ALONE, ""))
+DEVICE = 1, "", "fitrec: Device\n"
+# The calls of a verified repair after those of opening, and whether a lie of each has to be found. Each byte is read with one bit
+# changed. Only the last sync of the data file has something to lose. The cut is to the length that the file already has.
+LIES = [("sync data", False), ("sync journal", False), ("size data", True), ("read journal 0 24", True),
+        ("read data 14 83", True), ("write data 97 254", True), ("cut data 351", False), ("write data 0 14", True), ("sync data", True),
+        ("read data 0 4096", True), ("read data 351 3745", False), ("read journal 0 4096", True), ("read journal 24 4072", False)]
 
 
-def with_a_lock(fitrec):
-    """A file that another program has locked is not opened."""
+def calls_that_lie(told):
+    """With --verify both files are read before and after the repair. A call that lies is found, or does no harm."""
     with room(*CUT_OFF) as (script, new):
-        folder = new()
-        run(fitrec, "replay", script, folder)
-        before = holds(folder)
-        for name in ("activity.fit", "activity.frj"):
-            for kind in (fcntl.LOCK_EX, fcntl.LOCK_SH):
-                with open(folder + "/" + name) as file:
-                    fcntl.flock(file, kind)
-                    for words in (["repair", folder], ["replay", script, folder]):
-                        said = run(fitrec, *words), holds(folder)
-                        yield "locked: " + name, differs(said, ((1, "", "fitrec: cannot open %s\n" % folder), before))
-        yield "locked no more", differs(run(fitrec, "repair", folder), (0, ONE, ""))
+        verified = Verified(told, script, new)
+        folder, said, log = verified.run()
+        yield "a verified repair", differs((said, holds(folder)), verified.well)
+        yield "its calls", differs([line for line, _, _ in verified.calls()], [line for line, _ in LIES])
+        for (line, kind, number), (_, is_found) in zip(verified.calls(), LIES):
+            folder, said, _ = verified.run(call=kind, number=number, lies=1)
+            yield "a %s that lies" % kind, differs((line, said), (line, DEVICE if is_found else verified.well[0]))
+            if not is_found:
+                yield "a %s whose lie does no harm" % kind, differs((line, holds(folder)), (line, verified.well[1]))
+            said = run(told.fitrec, "repair", "--verify", folder)
+            yield "a verified repair after a %s that lied" % kind, differs((line, said, holds(folder)), (line, *verified.well))
+        # The first reading takes the whole file. The first byte of the data file is written anew; that of the journal is read again.
+        for number, want in ((1, verified.well[0]), (3, DEVICE)):
+            folder, said, _ = verified.run(call="read", number=number, lies=1)
+            yield "a first reading that lies", differs(said, want)
+            said = run(told.fitrec, "repair", "--verify", folder)
+            yield "a verified repair after a first reading that lied", differs((said, holds(folder)), verified.well)
 
 
-def with_other_things(fitrec):
-    """What stands at the name of a file is looked at before it is opened: a pipe holds nothing up, a link that points nowhere is
-    not made into a file, and one to a file is followed."""
-    with room(*STOPPED) as (script, new):
-        for name in ("activity.fit", "activity.frj"):
-            piped, linked, nowhere, other = (pathlib.Path(new()) for _ in range(4))
-            os.mkfifo(piped / name)
-            os.mkfifo(other / "pipe")
-            (linked / name).symlink_to(other / "pipe")
-            (nowhere / name).symlink_to(other / "missing")
-            for folder in (piped, linked, nowhere):
-                for words in (["replay", script, folder], ["repair", folder]):
-                    said = run(fitrec, *words)
-                    # A repair opens nothing where the other file is missing.
-                    is_none = words[0] == "repair" and not all(os.path.lexists(folder / it) for it in ("activity.fit", "activity.frj"))
-                    line = "NothingRecorded" if is_none else "cannot open %s" % folder
-                    yield "something else at the name of a file", differs(said, (1, "", "fitrec: %s\n" % line))
-            yield "a link that points nowhere", differs((other / "missing").exists(), False)
-            (linked / name).unlink()
-            (linked / name).symlink_to(other / "file")
-            (other / "file").touch()
-            yield "a link to a file", differs(run(fitrec, "replay", script, linked)[0], 0)
-            yield "a link to a file: check", differs(run(fitrec, "check", linked / "activity.fit"), (0, TWO, ""))
+def failing_calls_of_a_verified_repair(told):
+    """A call that fails is Device, no other is made after it, and a repair succeeds. One that is interrupted or falls short is continued."""
+    with room(*CUT_OFF) as (script, new):
+        verified = Verified(told, script, new)
+        for line, kind, number in verified.calls():
+            for error in ERRORS:
+                folder, said, log = verified.run(call=kind, number=number, errno=error)
+                yield "a verified repair: a %s that failed" % kind, differs((said, log[-1]), (DEVICE, line + " failed"))
+                said = run(told.fitrec, "repair", folder)
+                yield "a repair after a %s that failed" % kind, differs((said, holds(folder)), verified.well)
+            if kind in ("read", "write"):
+                folder, said, _ = verified.run(call=kind, number=number, errno=errno.EINTR)
+                yield "a verified repair: an interrupted %s" % kind, differs((said, holds(folder)), verified.well)
+        for kind in ("read", "write"):
+            for most in (1, 3):
+                folder, said, _ = verified.run(call=kind, number=0, most=most)
+                yield "a verified repair: each %s of at most a few bytes" % kind, differs((said, holds(folder)), verified.well)
 
 
-def with_much_behind_a_commit(fitrec):
-    """What stands behind the last commit is cut off, however much that is."""
-    with room() as (script, new):
-        folder = new()
-        script.write_text(script_of(3, 3) + script_of(403, 500).partition("sample 1000000002")[2].partition("\n")[2])
-        run(fitrec, "replay", script, folder)
-        line = (LINE % (3, 2000, 2000)).replace("cm=-", "cm=1400")
-        yield "much behind a commit: repaired", differs(run(fitrec, "repair", folder), (0, line, ""))
-        said = run(fitrec, "check", folder + "/activity.fit")
-        yield "much behind a commit: checked", differs(said, (0, line, ""))
+def first_readings_that_fail(told):
+    """If a file cannot be read at first nothing is written. Each fault is that of a save."""
+    with room(*CUT_OFF) as (script, new):
+        verified = Verified(told, script, new)
+        _, _, whole = verified.run()
+        for number, line in enumerate((line for line in whole if line.startswith("read")), 1):
+            if line not in ("read data", "read journal"):
+                break
+            folder, said, log = verified.run(call="read", number=number, errno=errno.EIO)
+            name = {"data": "activity.fit", "journal": "activity.frj"}[line.split()[1]]
+            yield "a first reading that fails", differs((said, holds(folder)), ((1, "", "fitrec: cannot read %s\n" % name), holds(verified.cut_off)))
+            yield "no write before", differs([line for line in log if line.startswith(("write", "cut", "sync"))], [])
+        yield "first readings", None if number > 2 else number
+        folder = shutil.copytree(verified.cut_off, new(), dirs_exist_ok=True)
+        os.truncate(pathlib.Path(folder) / "activity.frj", 268435457)
+        said, log = told.run("repair", "--verify", folder)
+        yield "a file over the limit", differs(said, (1, "", "fitrec: TooLarge\n"))
+        yield "no write before", differs([line for line in log if line.startswith(("write", "cut", "sync"))], [])
 
 
-def without_a_name(fitrec):
-    """The folder without a name is the one that the program runs in."""
-    with room(*STOPPED) as (script, new):
-        folder = new()
-        said = run(fitrec, "replay", script, "", cwd=folder)
-        want = answers("start: ok", "sample: ok", "commit: ok", "sample: ok", "stop: ok")
-        yield "a folder without a name: replayed", differs(said, (0, want, ""))
-        said = run(fitrec, "check", folder + "/activity.fit")
-        yield "a folder without a name: checked", differs(said, (0, TWO, ""))
+def looks_that_fail(told):
+    """If the program cannot find out whether a file exists, it opens and makes none, and reports nothing as recorded."""
+    with room(*CUT_OFF) as (script, new):
+        cut_off = new()
+        run(told.fitrec, "replay", script, cut_off)
+        for words in (["repair"], ["replay", script]):
+            for error in (errno.EACCES, errno.EIO, errno.ENOMEM):
+                for number in itertools.count(1):
+                    folder = shutil.copytree(cut_off, new(), dirs_exist_ok=True)
+                    said, log = told.run(*words, folder, call="look", number=number, errno=error)
+                    if not any(line.endswith(" failed") for line in log):
+                        break
+                    line = "NoMemory" if error == errno.ENOMEM else "cannot open %s" % folder
+                    want = (1, "", "fitrec: %s\n" % line), holds(cut_off)
+                    yield words[0] + ": a look that failed", differs((said, holds(folder)), want)
+                yield words[0] + ": looks at both files", None if number > 2 else number
 
 
 def check(fitrec):
-    """Yields a name and a difference, or None, for each look."""
-    parts = [at_each_size, with_closed_streams, with_a_lock, with_other_things, with_much_behind_a_commit, without_a_name]
+    """Yields a name, and a difference or None, for each check."""
     with library() as made:
-        if made is None:
-            print("skipped: calls that are told, fail, fall short or are interrupted, since there is no compiler cc here")
-        else:
-            told = Told(fitrec, made)
-            for part in (the_calls, before_an_opening, failed_syncs, calls_that_go_wrong):
-                for name, difference in part(told):
-                    yield "faults: " + name, difference
-    for part in parts:
-        for name, difference in part(fitrec):
-            yield "faults: " + name, difference
+        told = Told(fitrec, made)
+        for part in (the_calls, reads_of_a_body, before_an_opening, failed_syncs, failing_calls_of_a_ride,
+                     calls_that_go_wrong, calls_that_lie, failing_calls_of_a_verified_repair, first_readings_that_fail,
+                     looks_that_fail):
+            for name, difference in part(told):
+                yield "faults: " + name, difference

@@ -1,5 +1,5 @@
-"""Holds `fitrec show` against the second reader, over each change of one byte of two small files and over files that are
-made at random, whole and damaged."""
+"""Compares `fitrec show` with the second reader, over each change of one byte of two small files, and over random files, whole and
+damaged."""
 
 import concurrent.futures
 import os
@@ -18,7 +18,7 @@ def two(value):
 
 
 def developer_fields(pick, many):
-    """What a definition announces of developer fields, and how many bytes of a data message they have; None where it announces none."""
+    """The developer fields of a definition, and how many bytes of a data message they have; None if it announces none."""
     if not many and pick.random() < 0.7:
         return None, 0
     count = 255 if many else pick.choice([0, 0, 1, 1, 2, 3, 5])
@@ -29,11 +29,11 @@ def developer_fields(pick, many):
 
 
 def definition(pick):
-    """The bytes of a definition, and what its data messages need."""
+    """The bytes of a definition, and the size of the content of its data messages."""
     local, big = pick.choice([pick.randrange(4), pick.randrange(16)]), pick.randrange(2)
     message = pick.choice([*MESSAGES, 20, 20, pick.randrange(65536)])
     fields = []
-    # now and then as many as there can be, of one kind or of both
+    # sometimes as many as possible, of one kind or of both
     many = pick.random()
     for _ in range(255 if many < 0.006 else pick.choice([0, 1, 1, 2, 3, 5, 11])):
         base = pick.choice([*BASE_TYPES, 0x91, 0x06, 0xFF])
@@ -44,7 +44,7 @@ def definition(pick):
             base, size = 0x86, 4
         fields.append((field, size, base))
     behind, size = developer_fields(pick, 0.003 < many < 0.01)
-    # reserved bits and bytes may be anything
+    # reserved bits and bytes may have any value
     first = 0x40 | local | pick.choice([0, 0, 0, 0x10]) | (0 if behind is None else 0x20)
     head = bytes([first, pick.choice([0, 7]), big | pick.choice([0, 0, 0xFE])])
     number = message.to_bytes(2, "big" if big else "little")
@@ -64,7 +64,7 @@ def data_message(pick, local, size):
 
 
 def made(pick):
-    """A file, mostly a valid one."""
+    """A random file, mostly a valid one."""
     records, sizes = b"", {}
     for _ in range(pick.randrange(14)):
         if not sizes or pick.random() < 0.35:
@@ -85,7 +85,7 @@ def made(pick):
 
 
 def damaged(pick, data):
-    """The same with a byte changed, cut short, or with a byte more."""
+    """The file with a byte changed, cut short, or with a byte added."""
     kind = pick.randrange(4)
     if kind == 0:
         return data[:pick.randrange(len(data))]
@@ -93,7 +93,7 @@ def damaged(pick, data):
         return data + bytes([pick.randrange(256)])
     at = pick.randrange(len(data))
     data = data[:at] + bytes([pick.randrange(256)]) + data[at + 1:]
-    # with a right checksum the change has to be seen by itself
+    # under a right checksum the change has to be found by itself
     return data if kind == 2 else data[:-2] + two(checksum(data[:-2]))
 
 
@@ -106,7 +106,7 @@ def changes(data):
 
 
 def judge(program, folder, number, data, utc):
-    """What the second reader makes of a file, and where the program says something else, both."""
+    """The outcome of the second reader, and the outputs of both if the program differs."""
     path = pathlib.Path(folder) / ("%d.fit" % number)
     path.write_bytes(data)
     ran = subprocess.run([program, "show", *["--utc"] * utc, path], capture_output=True, text=True)
@@ -117,8 +117,8 @@ def judge(program, folder, number, data, utc):
 
 
 def check(program, small, files, seed):
-    """Yields a name and a difference, or None, for each file. The small file is one that is shown, and one with developer fields
-    is taken too."""
+    """Yields a name, and a difference or None, for each file. The small file is one that is shown; one with developer fields is changed
+    too."""
     pick = random.Random(seed)
     developer = framed(bytes.fromhex("60 00 00 14 00 01 03 01 02 01 00 02 00 00 64 AB CD"))
     inputs = [(data, False) for whole in (small, developer) for data in changes(whole)]

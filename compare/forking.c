@@ -1,6 +1,6 @@
-/* Is loaded before the program (LD_PRELOAD), and stands in its place: for each byte that comes on descriptor 198 it calls the
-   program's `main`, and tells on 199 how that ended. A process calls it so many times, and then a copy of the first goes on; so
-   the program is loaded once for all runs, and what ends a process by a signal is told too. */
+/* A library that is loaded before the program (LD_PRELOAD) and takes over its start: for each byte on descriptor 198 it calls the
+   program's `main`, and reports on 199 how that ended. A process calls it CALLS times; then a new copy of the first process continues.
+   So the program is loaded once for all runs, and a process that a signal ends is reported too. */
 
 #define _GNU_SOURCE
 #include "forking.h"
@@ -28,7 +28,7 @@ static void tell(int status, long memory, double time) {
         _exit(2);
 }
 
-/* Ends with 1 where nothing more is asked. */
+/* Ends with 1 if no further call is requested. */
 static void calls(int count, char **words, char **settings) {
     struct rusage before, behind;
     char order;

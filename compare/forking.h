@@ -1,4 +1,4 @@
-/* Where a process is asked to call the program, and where it tells how that ended. */
+/* The descriptor that requests a call of the program, and the one that reports how the call ended. */
 
 enum { ORDERS = 198, TOLD_END = 199 };
 

@@ -1,10 +1,10 @@
-/* Gives hostile files to the program: mutated ones of the files that are named, and headers and definitions that promise much. Each
-   goes through show, check and salvage, in little memory and time; what was salvaged has to be shown, and salvaged again to itself.
+/* Gives hostile files to the program: mutations of the named files, and headers and definitions that promise much. Each goes
+   through show, check and salvage, in little memory and time. A salvaged file has to be shown, and to be its own salvage.
 
      hostile PROGRAM LIBRARY FOLDER SEED SECONDS COUNT FILE ..
 
-   It ends behind so many seconds or files, and prints how many ended how: a line for each command and end. What must not be, a
-   signal, a time or memory out of bounds, or a salvaged file that is none, is kept in the folder, and the status is 1. */
+   It ends after so many seconds or files, and prints how the runs ended: a line with a count for each command and end. A file that
+   leads to a signal, to too much time or memory, or to a wrong salvage is kept in the folder, and the status is 1. */
 
 #define _GNU_SOURCE
 #include "forking.h"
@@ -72,7 +72,7 @@ static void put_number(size_t at, int count, uint64_t number) {
         bytes[at++] = number;
 }
 
-/* Puts some bytes of a source in the place of others. */
+/* Replaces some bytes by bytes of a source. */
 static void put_bytes(size_t at, size_t gone, const unsigned char *from, size_t count) {
     if (gone > size - at)
         gone = size - at;
@@ -95,7 +95,7 @@ static uint16_t checksum(const unsigned char *from, size_t count) {
     return sum;
 }
 
-/* A header and checksums that fit, and mostly a data size that does, so that what stands behind them is looked at. */
+/* Makes the header and the checksums fit, and mostly the data size, so that the program reads beyond them. */
 static void mend(void) {
     if (size < 16)
         return;
@@ -111,7 +111,7 @@ static void mend(void) {
     put_number(size - 2, 2, checksum(bytes, size - 2));
 }
 
-/* Puts the number of some long fields and three bytes each; answers how many bytes these are. */
+/* Writes a number of long fields, and three bytes for each. Returns how many bytes these are. */
 static size_t put_long_fields(unsigned char *to) {
     size_t count = to[0] = below(3) ? 255 : below(256);
     for (size_t at = 1; at < 1 + 3 * count; at += 3) {
@@ -155,7 +155,7 @@ static void mutate(void) {
             put_number(4, 4, below(3) ? next() >> 32 : below(2) ? size : 0xFFFFFFFF);
             break;
         case 10: {
-            /* A definition of many long fields, and mostly of as many developer fields behind them. */
+            /* A definition of many long fields, mostly with many developer fields after them. */
             unsigned char large[7 + 6 * 255] = {(below(3) ? 0x60 : 0x40) | below(16), 0, below(2), below(40), 0};
             size_t whole = 5 + put_long_fields(large + 5);
             if (large[0] & 0x20)
@@ -179,7 +179,7 @@ static void limit(int what, rlim_t most) {
     setrlimit(what, &both);
 }
 
-/* A process of the program for each row here, whose `main` is called for each run (forking.c). */
+/* Each row has a process of the program. Its `main` is called for each run (forking.c). */
 static struct run { const char *command, *file, *to; int orders, ends, told; } runs[] = {
     {"show", in, NULL}, {"check", in, NULL}, {"salvage", in, out}, {"show", out, NULL}, {"salvage", out, again},
 };
@@ -213,7 +213,7 @@ static void begin(struct run *run) {
     close(end[1]);
 }
 
-/* Runs a command over a file, counts its end, and answers the status; -1 where it must not end so. */
+/* Runs a command over a file and counts its end. Returns the status, or -1 if it must not end like this. */
 static int run(int which) {
     struct run *run = &runs[which];
     char line[256] = "", how[64] = "done";
@@ -248,7 +248,7 @@ static size_t read_file(const char *path, unsigned char *into, size_t most) {
     return count < 0 ? 0 : count;
 }
 
-/* Whether all that is asked of a file comes so. */
+/* Whether each command does what it must with the file. */
 static int is_well(void) {
     static unsigned char first[2 * LARGEST], second[2 * LARGEST];
     int file = open(in, O_WRONLY | O_CREAT | O_TRUNC | O_CLOEXEC, 0666);

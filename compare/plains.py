@@ -1,5 +1,4 @@
-"""Holds `fitrec plain` against the second reader, over files that are made at random and damaged, over a ride, and at its limits; and
-looks whether gpsbabel reads of what it makes the times that `show` prints."""
+"""Compares `fitrec plain` with the second reader, over random files, whole and damaged, over a ride, and at its limits."""
 
 import concurrent.futures
 import os
@@ -7,16 +6,14 @@ import pathlib
 import random
 import re
 import resource
-import shutil
-import subprocess
 import tempfile
 
-from faults import room
 from files import damaged, made
-from program import framed, many_messages
+from program import framed, long_content, many_messages
 from reader import Refused, plained
+from replacing import OLD, Place, bytes_of
 from rides import differs, run, script_of
-from salvages import OLD, Place, bytes_of
+from told import room
 
 
 def said_of(data):
@@ -29,14 +26,14 @@ def said_of(data):
 
 
 def messages_of(fitrec, file):
-    """What is shown of a file, but for the line of its header."""
+    """What is shown of a file, without the line of its header."""
     status, text, fault = run(fitrec, "show", file)
     return status, text.partition("\n")[2], fault
 
 
 def judge(fitrec, folder, number, data):
-    """How a run ends, and where it is not what the second reader says, both. The file is shown as the one that it was made of, and is
-    its own plain form."""
+    """How a run ends, and the outputs of both if it differs from the second reader. The new file is shown as the file that it was made of,
+    and is its own plain form."""
     source, out, again = (pathlib.Path(folder) / ("%d.%s" % (number, name)) for name in ("in", "out", "again"))
     source.write_bytes(data)
     said, file = said_of(data)
@@ -51,7 +48,7 @@ def judge(fitrec, folder, number, data):
 
 
 def made_files(fitrec, count, seed):
-    """Files that are made at random, whole and damaged."""
+    """Random files, whole and damaged."""
     pick = random.Random(seed)
     inputs = [made(pick) for _ in range(count)]
     inputs += [damaged(pick, made(pick)) for _ in range(count // 3)]
@@ -68,16 +65,27 @@ def rides(fitrec):
 
 
 def widest(fields):
-    """A message of this many fields with a compressed timestamp, behind one without, each with 255 developer fields."""
+    """A message of this many fields with a compressed timestamp, after one without, each with 255 developer fields."""
     definition = bytes([0x60, 0, 0, 20, 0, fields]) + fields * bytes([3, 1, 2]) + bytes([255]) + 255 * bytes([7, 1, 0])
     return framed(definition + b"\0" + bytes(fields + 255) + b"\x85" + bytes(fields + 255))
 
 
+def too_long_at_792():
+    """At 14 a definition of 7 bytes that announces developer fields and has none, so it is written in 6 bytes; at 21 one of 255 fields,
+    in 771 bytes; at 792 its message, with a compressed timestamp."""
+    return framed(bytes([0x60, 0, 0, 20, 0, 0, 0]) + bytes([0x41, 0, 0, 20, 0, 255]) + 255 * bytes([3, 1, 2]) + b"\xA5" + bytes(255))
+
+
 def limits(fitrec):
-    """A definition that has room for a field, and one that has none; a million messages; and little memory."""
+    """A definition that has room for one more field, and one that has none; long content; a million messages; and little memory."""
     with tempfile.TemporaryDirectory() as folder:
         for fields in (254, 255):
             yield "the widest definition", judge(fitrec, folder, fields, widest(fields))[1]
+        place = Place(folder, too_long_at_792())
+        said = run(fitrec, "plain", place.source, place.out)
+        yield "the place of an item", differs(said, (1, "", "fitrec: TooLong at 792\n"))
+        for size in (65535, 65536, 130050):
+            yield "long content", judge(fitrec, folder, size, long_content(size))[1]
         place = Place(folder, widest(255))
         said = run(fitrec, "plain", place.source, place.out)
         want = (1, "", "fitrec: TooLong at 2062\n"), (OLD, ["in.fit", "out.fit"])
@@ -92,7 +100,7 @@ def limits(fitrec):
 
 
 def little_memory(fitrec):
-    """With more and more memory: nothing is made and one line says why, until it is."""
+    """With more and more memory: nothing is made and one line reports why, until the file is made."""
     data, told, limit = many_messages(300000), set(), 1 << 20
     while True:
         limit += 1 << 16
@@ -103,7 +111,7 @@ def little_memory(fitrec):
             if status == 0:
                 return differs((text, bytes_of(place.out) == data, told), ("messages 300000\n", True, {"at once", "at an item"}))
             line = re.fullmatch(r"fitrec: (?:NoMemory|Memory at (\d+))\n", fault)
-            # Where there is no memory for the program itself, it does not start, or the system ends it.
+            # Without memory for the program itself, it does not start, or the system ends it.
             if status == 1:
                 told.add("at an item" if line and line[1] not in (None, "0") else "at once")
                 if not line or text or place.left() != (OLD, ["in.fit", "out.fit"]):
@@ -111,7 +119,7 @@ def little_memory(fitrec):
 
 
 def compressed_ride(samples):
-    """A ride whose records have a place, and but for the first of them compressed timestamps, five seconds apart."""
+    """A ride whose records have a position and, except for the first, compressed timestamps, five seconds apart."""
     file_id = bytes([0x40, 0, 0, 0, 0, 2, 0, 1, 0, 4, 4, 0x86, 0, 4]) + (1000000000).to_bytes(4, "little")
     position = bytes([0, 4, 0x85, 1, 4, 0x85])
     records = file_id + bytes([0x41, 0, 0, 20, 0, 3, 253, 4, 0x86]) + position + bytes([0x42, 0, 0, 20, 0, 2]) + position
@@ -121,30 +129,8 @@ def compressed_ride(samples):
     return framed(records)
 
 
-def times_read(file):
-    """The times of the records that gpsbabel reads of a file."""
-    table = subprocess.run(["gpsbabel", "-t", "-i", "garmin_fit,allpoints", "-f", file, "-o", "unicsv,utc=0", "-F", "-"],
-                           capture_output=True, text=True).stdout.splitlines()
-    names = table[0].split(",") if table else []
-    date, time = (names.index(name) if name in names else None for name in ("Date", "Time"))
-    rows = [line.split(",") for line in table[1:]]
-    return [row[date].replace("/", "-") + "T" + row[time].split(".")[0] + "Z" for row in rows] if date is not None else []
-
-
-def read_by_others(fitrec):
-    """gpsbabel, where it is there, reads of what is made the times that are shown, and of the file before it others."""
-    if not shutil.which("gpsbabel"):
-        return
-    with tempfile.TemporaryDirectory() as folder:
-        place = Place(folder, compressed_ride(40))
-        run(fitrec, "plain", place.source, place.out)
-        shown = re.findall(r" record timestamp=(\S+)", run(fitrec, "show", "--utc", place.out)[1])
-        yield "read by gpsbabel", differs((len(shown), times_read(place.out)), (40, shown))
-        yield "misread by gpsbabel", differs(times_read(place.source) != shown, True)
-
-
 def check(fitrec, count, seed):
-    """Yields a name and a difference, or None, for each look."""
-    for part in (made_files(fitrec, count, seed), rides(fitrec), limits(fitrec), read_by_others(fitrec)):
+    """Yields a name, and a difference or None, for each check."""
+    for part in (made_files(fitrec, count, seed), rides(fitrec), limits(fitrec)):
         for name, difference in part:
             yield "made plain: " + name, difference

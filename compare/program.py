@@ -1,4 +1,4 @@
-"""Holds the program itself: what it says on which stream and how it ends, for each kind of answer, at the limits, with
+"""Checks the program itself: what it prints on which stream and how it ends, for each kind of answer, at the limits, with
 output that fails and with little memory."""
 
 import os
@@ -7,7 +7,6 @@ import re
 import resource
 import subprocess
 import tempfile
-import threading
 
 from reader import checksum, wanted
 
@@ -22,7 +21,7 @@ def framed(records):
 
 
 def long_content(size):
-    """A record of this much content, in fields of type byte, and where these are too few in developer fields behind them."""
+    """A record with this much content, in fields of type byte. If these are too few, developer fields come after them."""
     sizes = [255] * (size // 255) + [size % 255] * (size % 255 > 0)
     fields, more = (b"".join(bytes([99, own, 13]) for own in part) for part in (sizes[:255], sizes[255:]))
     definition = bytes([0x60 if more else 0x40, 0, 0, 20, 0, len(fields) // 3]) + fields
@@ -31,12 +30,12 @@ def long_content(size):
 
 
 def many_messages(count):
-    """So many messages without fields."""
+    """A file of so many messages without fields."""
     return framed(bytes([0x40, 0, 0, 0xE8, 3, 0]) + bytes(count))
 
 
 def long_beginning(size):
-    """A beginning of a file of so many bytes, behind which zeros are whole messages up to its last byte, as long as there can be."""
+    """A prefix of a file of so many bytes. Zeros after it are whole messages up to its last byte, the last as long as possible."""
     empty, fields = bytes([0x40, 0, 0, 20, 0, 0]), 255 * bytes([99, 255, 13])
     long = bytes([0x60, 0, 0, 20, 0, 255]) + fields + bytes([255]) + fields
     start = bytes([14, 0x10, 100, 0]) + (size - 14).to_bytes(4, "little") + b".FIT\0\0"
@@ -75,7 +74,7 @@ def answers(fitrec, small):
 
 
 def beginnings(fitrec, small):
-    """Each beginning of a file is cut short at its end."""
+    """Each prefix of a file is refused at its end as cut short."""
     for size in range(len(small)):
         said = fitrec.run("show", fitrec.write("cut.fit", small[:size]))
         yield "a beginning of a file", said, (1, "", "fitrec: Truncated at %d\n" % size)
@@ -91,17 +90,17 @@ def sizes(fitrec):
 
 
 def developer_fields(fitrec):
-    """As many fields and developer fields as there can be, and a definition that is cut at each of its bytes."""
+    """As many fields and developer fields as possible, and a definition that is cut at each of its bytes."""
     for fields, more in ((0, 255), (255, 0), (255, 255)):
         definition = bytes([0x60, 0, 0, 20, 0, fields]) + fields * bytes([99, 1, 2]) + bytes([more]) + more * bytes([7, 1, 2])
         data = framed(definition + b"\0" + fields * b"\5" + more * b"\x2A")
-        # where none is announced, that is not written
+        # an announcement of none is not written
         head = "header 14 protocol 1.0 profile 100 data %d\n" % (len(data) - 16 - (more == 0))
         text = head + "0 record" + fields * " field_99=5" + more * " developer_2_7=0x2A" + "\nmessages 1\n"
         yield "%d fields and %d developer fields" % (fields, more), fitrec.run("show", fitrec.write("many.fit", data)), (0, text, "")
     definition = bytes.fromhex("60 00 00 14 00 01 03 01 02 02 00 02 00 01 01 00")
     for size in range(1, len(definition) + 1):
-        # how many of its bytes show that it does not fit into so many
+        # how many of its bytes show that it does not fit into data of this size
         shows = 1 if size < 6 else 6 if size < 10 else 10 if size < 16 else 17
         for there in range(size + 1):
             data = bytes([12, 0x10, 100, 0]) + size.to_bytes(4, "little") + b".FIT" + definition[:there]
@@ -110,37 +109,13 @@ def developer_fields(fitrec):
             yield "a beginning of a definition", said, (1, "", "fitrec: %s\n" % line)
 
 
-def feed(path, count):
-    """Writes so many zeros to a pipe of this name, or as many as are read."""
-    piece = bytes(1 << 20)
-    try:
-        with open(path, "wb", buffering=0) as pipe:
-            while count:
-                count -= pipe.write(piece[:count])
-    except BrokenPipeError:
-        pass
-
-
-def limits(fitrec):
-    """As many bytes as are read, and one more: by a file whose size is known, and by a pipe."""
-    pipe = fitrec.folder / "pipe"
-    os.mkfifo(pipe)
-    for count, line in ((MOST, "HeaderSize at 0"), (MOST + 1, "TooLarge")):
-        want = 1, "", "fitrec: %s\n" % line
-        with open(fitrec.folder / "large.fit", "wb") as file:
-            file.truncate(count)
-        yield "a file of %d bytes" % count, fitrec.run("show", "large.fit"), want
-        writer = threading.Thread(target=feed, args=(pipe, count))
-        writer.start()
-        yield "a pipe of %d bytes" % count, fitrec.run("show", "pipe"), want
-        writer.join()
-    with open(fitrec.folder / "large.fit", "wb") as file:
-        file.write(long_beginning(MOST))
-        file.truncate(MOST - 1)
-        file.seek(MOST - 1)
-        file.write(b"\x0F")
-    want = 1, "", "fitrec: UndefinedLocal(15) at %d\n" % (MOST - 1)
-    yield "the last place of the largest file", fitrec.run("show", "large.fit"), want
+def choices(fitrec):
+    """More than 512 choice bytes: each power cut takes eight for two files without bytes. The 65th takes those after them."""
+    script = fitrec.write("script", b"power\n" * 64 + b"cut 10\nstart 1000000000 7 running\npower\nrecover\n")
+    for before, line in ((512, "ok records=0 laps=1 sessions=1 start=1000000000 elapsed_ms=0 timer_ms=0 distance_cm=-"), (511, "NothingRecorded"),
+                         (513, "NothingRecorded")):
+        status, out, fault = fitrec.run("simulate", "--choices", "00" * (before + 8) + "A5", script)
+        yield "%d choice bytes" % (before + 9), (status, out.splitlines()[-1:], fault), (0, ["68 recover: " + line], "")
 
 
 def outputs(fitrec, small):
@@ -158,7 +133,7 @@ def outputs(fitrec, small):
 
 
 def memory(fitrec):
-    """With more and more memory: nothing is shown and one line says why, at places that never go back, until it is."""
+    """With more and more memory: nothing is shown and one line reports why, at places that never decrease, until the file is shown."""
     data = many_messages(300000)
     name, want = fitrec.write("many.fit", data), wanted(data)
     place, limit, told = 0, 1 << 20, set()
@@ -166,7 +141,7 @@ def memory(fitrec):
         limit += 1 << 15
         said = fitrec.run("show", name, preexec_fn=lambda: resource.setrlimit(resource.RLIMIT_AS, (limit, limit)))
         if said[0] != 1:
-            # where there is no memory for the program itself, it does not start
+            # without memory for the program itself, it does not start
             if said[0] == 0:
                 break
             continue
@@ -181,10 +156,10 @@ def memory(fitrec):
 
 
 def check(program, small):
-    """Yields a name and a difference, or None, for each run."""
+    """Yields a name, and a difference or None, for each run."""
     with tempfile.TemporaryDirectory() as folder:
         fitrec = Program(program, folder)
-        runs = (answers(fitrec, small), beginnings(fitrec, small), sizes(fitrec), developer_fields(fitrec), limits(fitrec),
+        runs = (answers(fitrec, small), beginnings(fitrec, small), sizes(fitrec), developer_fields(fitrec), choices(fitrec),
                 outputs(fitrec, small), memory(fitrec))
         for rows in runs:
             for name, said, want in rows:

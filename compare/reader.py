@@ -1,6 +1,6 @@
 """A second reader of FIT files: the text that `fitrec show` has to print, or the refusal that it has to give.
 
-It was written from the description of the format (docs/FORMAT.md) and shares nothing with the program."""
+It follows the description of the format (docs/FORMAT.md) and shares nothing with the program."""
 
 import datetime
 
@@ -46,14 +46,14 @@ MESSAGES = {
     34: ("activity", {0: "total_timer_time", 1: "num_sessions", 2: "type", 3: "event", 4: "event_type"}),
 }
 
-# Which fields of a message are dates with --utc, beside timestamps.
+# The fields of each message that are dates with --utc, beside timestamps.
 DATES = {0: {4}, 18: {2}, 19: {2}}
 
 EPOCH = datetime.datetime(1989, 12, 31)
 
 
 class Refused(Exception):
-    """A file that is refused; its text is the kind and the place."""
+    """A file that is refused. The text is the kind and the place."""
 
 
 def checksum(data):
@@ -75,7 +75,7 @@ def hexadecimal(data):
 
 
 def value_text(base, big, data):
-    """What the bytes of a field hold."""
+    """The text of a field's bytes."""
     if not data:
         return ""
     name, size, invalid = BASE_TYPES.get(base, ("raw", 1, None))
@@ -101,7 +101,7 @@ def value_text(base, big, data):
 
 
 def date_text(time):
-    """A time as a date; None where it is none of the calendar."""
+    """A time as a date. None if it is before the first calendar time, or invalid."""
     if not 0x10000000 <= time < 0xFFFFFFFF:
         return None
     return (EPOCH + datetime.timedelta(seconds=time)).strftime("%Y-%m-%dT%H:%M:%SZ")
@@ -126,25 +126,25 @@ def read_header(data):
 
 
 def wait(data, count):
-    """So many bytes have to be there."""
+    """Refuses the data as cut short if it does not have so many bytes."""
     if len(data) < count:
         raise Refused("Truncated at %d" % len(data))
 
 
 def whole(data, at, end, size):
-    """The item at this place has this size: within the records, and then there."""
+    """Checks an item of this size at this place: it has to be within the records first, and then present."""
     if at + size > end:
         raise Refused("SplitMessage at %d" % at)
     wait(data, at + size)
 
 
 def triples(data):
-    """Three bytes each."""
+    """Pieces of three bytes each."""
     return [tuple(data[at:at + 3]) for at in range(0, len(data), 3)]
 
 
 def show(data, utc=False):
-    """The text of a file, with times as dates or as they are."""
+    """The text of a file. Times are shown as dates or as numbers."""
     header, size = read_header(data)
     at, end = header, header + size
     definitions, before, lines, needless = {}, 0, [], 0
@@ -161,7 +161,7 @@ def show(data, utc=False):
             big = bool(data[at + 2] & 1)
             fields, developer = triples(data[at + 6:at + size - is_announced]), triples(data[at + size:at + size + 3 * count])
             definitions[first & 15] = big, number(data[at + 3:at + 5], big), fields, developer
-            # what announces no developer field is not written
+            # an announcement of no developer fields is not written
             needless += is_announced and not count
             at += size + 3 * count
             continue
@@ -174,7 +174,7 @@ def show(data, utc=False):
         at += 1
         shown, stated = [], None
         if compressed:
-            # the least time that is not below the one before and leaves the offset modulo 32
+            # the first time from the last one on with this offset modulo 32
             while before % 32 != first & 31:
                 before += 1
             before %= 1 << 32
@@ -214,8 +214,8 @@ def wanted(data, utc=False):
 
 
 def item_size(data, sizes):
-    """How many bytes the item at the front has, where these local numbers have data of these sizes; None where no item is whole
-    there. A definition tells the size of its local number's data."""
+    """The size of the item at the front, given the size of each local number's data. None if no whole item is there. A definition sets the
+    size of its local number's data."""
     if not data:
         return None
     first = data[0]
@@ -230,17 +230,20 @@ def item_size(data, sizes):
     return size if size <= len(data) else None
 
 
-def salvaged(data):
-    """What `fitrec salvage` has to keep of these bytes: how many, of how many, and the file of them."""
+def salvaged(data, everything=False):
+    """What `fitrec salvage` has to keep of these bytes, with --all or without: how many bytes, of how many, how many were not read, and
+    the new file."""
     start = data[:12] + bytes(len(data[12:14])) + data[14:]
     header, size = read_header(start)
-    records = data[header:header + size] if size else data[header:]
+    is_whole = everything or not size
+    records = data[header:] if is_whole else data[header:header + size]
+    not_read = 0 if is_whole else max(0, len(data) - (header + size + 2))
     front, sizes = 0, {}
     while size := item_size(records[front:], sizes):
         front += size
     kept = bytes([14]) + data[1:4] + front.to_bytes(4, "little") + b".FIT"
     kept += checksum(kept).to_bytes(2, "little") + records[:front]
-    return front, len(records), kept + checksum(kept).to_bytes(2, "little")
+    return front, len(records), not_read, kept + checksum(kept).to_bytes(2, "little")
 
 
 def plained(data):
@@ -251,11 +254,11 @@ def plained(data):
     while at < end:
         own = data[at:at + item_size(data[at:end], sizes)]
         if own[0] & 0xC0 == 0x40:
-            # what is announced and not there is not written
+            # developer fields that are announced and not present are not written
             fields = 6 + 3 * own[5]
             behind = own[fields:] if len(own) > fields + 1 else b""
             first = 0x40 | (0x20 if behind else 0) | own[0] & 15
-            # the number of the definition, its bytes, and whether the last one written has the time in front
+            # the bytes of the definition, and whether the last one written has the time in front
             kept[own[0] & 15] = bytes([first, 0, own[2] & 1]) + own[3:fields] + behind, False
             out += kept[own[0] & 15][0]
         else:

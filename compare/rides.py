@@ -1,6 +1,6 @@
-"""Rides that are replayed, stopped or cut off, repaired and gone on with, held against the second reader and against gpsbabel where it
-is there; and replays whose disk is full, whose files may not grow, whose output is full or closed and whose memory is
-little."""
+"""Rides that are replayed, stopped or cut off, repaired and resumed, compared with the second reader and, if present, with gpsbabel.
+Also replays with a full disk, with files that cannot grow, with output that is full or closed, and with little
+memory."""
 
 import contextlib
 import csv
@@ -38,19 +38,19 @@ def differs(is_, wanted):
 
 
 def rows_of(file):
-    """The records that gpsbabel reads of a file, each by the names of its columns."""
+    """The records that gpsbabel reads from a file, each by the names of its columns."""
     with tempfile.NamedTemporaryFile("r") as table:
         subprocess.run(["gpsbabel", "-t", "-i", "garmin_fit,allpoints", "-f", file, "-o", "unicsv", "-F", table.name])
         return list(csv.DictReader(table))
 
 
 def records_of(file):
-    """How many they are."""
+    """How many records gpsbabel reads from a file."""
     return len(rows_of(file))
 
 
 def script_of(samples, every, before=0):
-    """A ride of so many samples, one a second, with a commit behind every so many; or one that goes on behind so many seconds."""
+    """A ride of so many samples, one a second, with a commit after every so many; or one that is resumed after so many seconds."""
     lines = ["reopen" if before else "start 1000000000 7 cycling"]
     for second in range(before, before + samples):
         lines.append(f"sample {1000000000 + second} hr={100 + second % 80} dist={second * 700}")
@@ -60,7 +60,7 @@ def script_of(samples, every, before=0):
 
 
 def committed(answers):
-    """Whether a start or a reopening was answered ok, how many samples were, and how many of them before the last commit that was."""
+    """Whether the last start or reopening was answered ok, how many samples were, and how many of them before the last such commit."""
     kept = handed = 0
     started = False
     for answer in answers:
@@ -76,7 +76,7 @@ def committed(answers):
 
 @contextlib.contextmanager
 def small_disk(folder):
-    """A disk of 64 KiB in this folder; False where none can be mounted."""
+    """A disk of 64 KiB in this folder. False if none can be mounted."""
     mounted = run("mount", "-t", "tmpfs", "-o", "size=64k", "fitrec", folder)[0] == 0
     try:
         yield mounted
@@ -86,7 +86,7 @@ def small_disk(folder):
 
 
 def on_a_full_disk(fitrec):
-    """A disk that gets full: the recorder fails once, and with room again what was answered as committed is kept."""
+    """A disk that gets full: the recorder fails once. With room again, what was answered as committed is kept."""
     with tempfile.TemporaryDirectory() as folder, tempfile.NamedTemporaryFile("w") as script, small_disk(folder) as mounted:
         if not mounted:
             print("skipped: a full disk, since none can be mounted here")
@@ -131,7 +131,7 @@ def with_files_that_may_not_grow(fitrec):
 
 
 def with_full_output(fitrec):
-    """Output that takes nothing: it is told, and what was done is kept."""
+    """Output that takes nothing: this is reported, and what was done is kept."""
     with tempfile.TemporaryDirectory() as folder, tempfile.NamedTemporaryFile("w") as script:
         script.write(script_of(2, 1))
         script.flush()
@@ -140,7 +140,7 @@ def with_full_output(fitrec):
             with open("/dev/full", "w") as full:
                 done = subprocess.run([fitrec, *words], stdout=full, stderr=subprocess.PIPE, text=True)
             yield "full output: told", differs((done.returncode, done.stderr), (1, "fitrec: cannot write -\n"))
-        # The event whose answer failed was run, and none behind it.
+        # The event whose answer failed was run, and none after it.
         line = "ok records=0 laps=1 sessions=1 start=1000000000 elapsed_ms=0 timer_ms=0 distance_cm=-\n"
         yield "full output: kept", differs(run(fitrec, "repair", folder), (0, line, ""))
 
@@ -163,7 +163,7 @@ def with_closed_output(fitrec):
 
 
 def with_little_memory(fitrec):
-    """With more and more memory: nothing is recorded and one line says why, until all is."""
+    """With more and more memory: nothing is recorded and one line reports why, until everything is."""
     told, last = set(), 0
     with tempfile.TemporaryDirectory() as folder, tempfile.NamedTemporaryFile("w") as script:
         script.write(script_of(5000, 5000))
@@ -174,7 +174,7 @@ def with_little_memory(fitrec):
                                    preexec_fn=lambda: resource.setrlimit(resource.RLIMIT_AS, (limit, limit)))
             if status == 0:
                 break
-            # Where there is no memory for the program itself, it does not start.
+            # Without memory for the program itself, it does not start.
             if status == 1:
                 line = re.fullmatch(r"fitrec: (NoMemory|line (\d+): Memory)\n", err)
                 last = max(last, int(line[2]) if line and line[2] else 0)
@@ -188,7 +188,7 @@ def with_little_memory(fitrec):
 
 
 def with_little_memory_simulated(fitrec):
-    """With more and more memory: no answer is printed and one line says why, until all are."""
+    """With more and more memory: no answer is printed and one line reports why, until all are."""
     told = set()
     with tempfile.NamedTemporaryFile("w") as script:
         script.write(script_of(5000, 1000) + "power\nrecover\n")
@@ -198,7 +198,7 @@ def with_little_memory_simulated(fitrec):
                                    preexec_fn=lambda: resource.setrlimit(resource.RLIMIT_AS, (limit, limit)))
             if status == 0:
                 break
-            # Where there is no memory for the program itself, it does not start.
+            # Without memory for the program itself, it does not start.
             if status == 1:
                 line = re.fullmatch(r"fitrec: (NoMemory|line \d+: Memory)\n", err)
                 told.add(line and (line[1] or "start").split()[0])
@@ -209,16 +209,16 @@ def with_little_memory_simulated(fitrec):
         yield "little memory, simulated: enough", differs((status, out.count(": ok\n"), records, err), (0, 5007, True, ""))
 
 
-# The fields of a sample: the key, its value and its bytes.
+# The fields of a sample: the key, a value and the size in bytes.
 FIELDS = [("lat", 566012345, 4), ("long", 102345678, 4), ("alt", 2655, 2), ("hr", 92, 1), ("cad", 80, 1), ("dist", 310, 4),
           ("speed", 3100, 2), ("power", 210, 2), ("temp", -3, 1), ("espeed", 70000, 4), ("ealt", 2655, 4)]
 
 
 def of_room_and_commits(fitrec):
-    """A ride whose records have no more room, and one of more commits than a row of slots has room for."""
+    """A ride whose records have no more room, and one with more commits than a row of slots has room for."""
     lines, answers, length, kept = ["start 1000000000 7 cycling"], ["start: ok"], 72, 0
     while length + 96 <= 16776704 or len(lines) == kept + 1:
-        # Of five kinds of samples each finds the definitions of the other four in force, and is written with its own.
+        # Five kinds of samples take turns. Each finds the definitions of four others in force, and is written with its own.
         left_out = 2 + len(lines) % 5
         fields = [field for at, field in enumerate(FIELDS) if at != left_out]
         words = " ".join("%s=%d" % field[:2] for field in fields)
@@ -235,11 +235,11 @@ def of_room_and_commits(fitrec):
         want = (1, "".join("%d %s\n" % row for row in enumerate(answers, 1)), "fitrec: 2 refused\n")
         yield "no room: answers", None if (said := run(fitrec, "replay", script.name, folder)) == want else (said[0], said[2])
         file = pathlib.Path(folder) / "activity.fit"
-        # Behind the header the records, the stop under the definition of the start, the closing messages and the checksum.
+        # After the header come the records, the stop under the definition of the start, the closing messages and the checksum.
         yield "no room: size", differs(file.stat().st_size, 14 + length + 7 + 230 + 2)
         said = run(fitrec, "check", file)
         yield "no room: checked", differs((said[0], said[1].split()[:2]), (0, ["ok", "records=%d" % kept]))
-    # Two slots take turns, so that a journal never fills.
+    # Two slots take turns, so a journal never fills.
     commits = ["commit: ok"] * 5000
     with tempfile.TemporaryDirectory() as folder, tempfile.NamedTemporaryFile("w") as script:
         script.write("start 1000000000 7 running\n" + "commit\n" * len(commits) + "stop 1000000001\n")
@@ -252,13 +252,13 @@ def of_room_and_commits(fitrec):
 
 
 def told_speed(speeds):
-    """How a summary tells the greatest of some speeds."""
+    """How a summary shows the greatest of some speeds."""
     return str(max(speeds)) if speeds and max(speeds) <= 65534 else "-"
 
 
 def of_greatest_speeds(fitrec):
-    """Rides whose speeds are taken by chance, in one field, in the other or in both, some of them above what a summary tells:
-    the greatest of each lap and of the ride."""
+    """Random rides whose speeds are in one field, in the other or in both, some of them above what a summary can show: the greatest speed
+    of each lap and of the ride."""
     chance = random.Random(1)
     for _ in range(40):
         lines, laps = ["start 1000000000 7 cycling"], [[]]
@@ -284,12 +284,12 @@ def of_greatest_speeds(fitrec):
 
 
 def told_rates(rates):
-    """How a summary tells the average and the greatest of some heart rates."""
+    """How a summary shows the average and the greatest of some heart rates."""
     return (str(sum(rates) // len(rates)), str(max(rates))) if rates else ("-", "-")
 
 
 def of_rides_that_go_on(fitrec):
-    """Rides taken by chance that go on in later replays, some of them behind a repair: what was committed before each is there, and
+    """Random rides that are resumed in later replays, some of them after a repair: what was committed before each replay is kept, and
     nothing else of what was handed in before it."""
     chance = random.Random(1)
     for _ in range(40):
@@ -334,7 +334,7 @@ def of_rides_that_go_on(fitrec):
 
 
 def of_longer_fields(fitrec):
-    """A sample with the longer fields for speed and altitude alone, as gpsbabel reads it: 6 m/s, and 32 m, which are 2,660 fifths
+    """A sample with only the longer fields for speed and altitude, as gpsbabel reads it: 6 m/s, and 32 m, which are 2,660 fifths
     above -500 m. It keeps a speed in two bytes."""
     if not shutil.which("gpsbabel"):
         print("skipped: the longer fields read by gpsbabel, which is not there")
@@ -348,8 +348,8 @@ def of_longer_fields(fitrec):
 
 
 def of_compressed_times(fitrec):
-    """A ride of one sample a second, whose records have compressed timestamps: the second reader reads all of it, and gpsbabel, where
-    it is there, each record with its values. Times are left aside: gpsbabel takes an offset against the last full time."""
+    """A ride of one sample a second, whose records have compressed timestamps. The second reader reads all of it; gpsbabel, if present,
+    reads each record with its values. Times are not compared: gpsbabel takes an offset against the last full time."""
     samples = [(100 + second % 80, 80 + second % 7, 200 + second) for second in range(100)]
     lines = ["sample %d lat=%d long=%d hr=%d cad=%d power=%d" % (1000000000 + second, 566012345 + 100 * second, 102345678 - 50 * second, *sample)
              for second, sample in enumerate(samples)]
@@ -359,7 +359,7 @@ def of_compressed_times(fitrec):
         said = run(fitrec, "replay", script.name, folder)
         yield "compressed times: answers", differs((said[0], said[1].count(": ok\n"), said[2]), (0, 102, ""))
         file = pathlib.Path(folder) / "activity.fit"
-        # Behind the start one definition of five fields, and records of thirteen bytes.
+        # After the start come one definition of five fields, and records of thirteen bytes.
         yield "compressed times: size", differs(file.stat().st_size, 14 + 72 + 21 + 13 * 100 + 7 + 230 + 2)
         shown = run(fitrec, "show", file)
         yield "compressed times: shown", differs(shown, (0, reader.show(file.read_bytes()), ""))
@@ -400,7 +400,7 @@ def rides(fitrec):
         if shutil.which("gpsbabel"):
             yield "ride: read by gpsbabel", differs(records_of(file), 7)
     with tempfile.TemporaryDirectory() as folder, tempfile.NamedTemporaryFile("w", suffix=".txt") as cut_off:
-        # Behind the second commit two samples are handed in, and the stop never comes.
+        # After the second commit two samples are handed in, and the stop never comes.
         cut_off.write("\n".join(script.splitlines()[:-1]))
         cut_off.flush()
         run(fitrec, "replay", cut_off.name, folder)

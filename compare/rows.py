@@ -1,29 +1,29 @@
-"""Runs the rows of compare/rows over the built program: what lies in a folder, words, and what has to come of them.
+"""Runs the rows of compare/rows over the built program: what a folder holds, a command, and what it has to do.
 
-A row begins with `= NAME` and has a new folder, in which the program runs. Each line of it is a word and what that is
-about; the lines below it that stand in by four blanks belong to it. Lines that begin with `#` are comments. What lies there:
+A row begins with `= NAME` and has a new folder, in which the program runs. Each line of it is a word and its arguments. The lines
+below it that are indented by four blanks belong to it. Lines that begin with `#` are comments. What the folder holds:
 
     bytes FILE      a file of these bytes, in hexadecimal
-    records FILE    a file of these records, in hexadecimal, behind a header of 14 bytes and with right checksums
+    records FILE    a file of these records, in hexadecimal, after a header of 14 bytes and with right checksums
     lines FILE      a file of these lines
-    text FILE TEXT  a file of this text, in which \\n, \\r, \\t and \\xFF are a byte each
+    text FILE TEXT  a file of this text, in which each of \\n, \\r, \\t and \\xFF is one byte
     folder NAME     a folder
-    remove FILE     a file that lay there does not any more
+    remove FILE     a file that was there is removed
 
 What is run:
 
-    run WORDS       the program with these words, which are quoted as in a shell; it prints just these lines, or where the
-                    first is `...` the others as its last ones
-    status N        its exit status, 0 where none is said
-    error LINE      what it says on standard error, nothing where no line is said
-    named TEXT      what it says on standard error has this in it
+    run WORDS       the program with these words, which are quoted as in a shell; it prints exactly these lines, or, if
+                    the first is `...`, the others at the end
+    status N        its exit status, 0 if none is given
+    error LINE      what it prints on standard error, nothing if no line is given
+    named TEXT      what it prints on standard error contains this
 
-What lies there now:
+What the folder holds now:
 
-    left FILE       a file of just these bytes, in hexadecimal
+    left FILE       a file of exactly these bytes, in hexadecimal
     size N FILE     a file of so many bytes
-    there NAME      something of this name
-    absent NAME     nothing of this name"""
+    there NAME      something has this name
+    absent NAME     nothing has this name"""
 
 import pathlib
 import shlex
@@ -36,7 +36,7 @@ ROWS = pathlib.Path(__file__).resolve().parent / "rows"
 
 
 class Step:
-    """A line of a row, the lines that belong to it, and of a run what it is to say."""
+    """A line of a row and the lines that belong to it; for a run, also what it has to print."""
 
     def __init__(self, number, word, about):
         self.number, self.word, self.about, self.lines = number, word, about, []
@@ -64,7 +64,7 @@ def rows_of(text):
     for number, line in enumerate(text.splitlines(), 1):
         word, _, about = line.partition(" ")
         if line.startswith("    "):
-            # Empty lines between two that belong to a step belong to it too.
+            # Empty lines between two lines of a step belong to it too.
             rows[-1][1][-1].lines += [""] * empty + [line[4:]]
         elif word == "=":
             rows.append((about, []))
@@ -79,7 +79,7 @@ def rows_of(text):
 
 
 def run(program, folder, step):
-    """What differs between what the program says and what a step wants."""
+    """What differs between what the program does and what a step expects."""
     words = shlex.split(step.about)
     ran = subprocess.run([program, *words], stdin=subprocess.DEVNULL, capture_output=True, cwd=folder, timeout=100)
     out, err, text = ran.stdout.decode(), ran.stderr.decode(), step.text()
@@ -97,7 +97,7 @@ def bytes_of(path):
 
 
 def lies(folder, step):
-    """Lays what a step says into the folder, or says what differs there."""
+    """Puts into the folder what a step describes, or returns what differs there."""
     def differs(is_, wanted):
         return None if is_ == wanted else (wanted, is_)
 
@@ -127,7 +127,7 @@ def lies(folder, step):
 
 
 def differences(program, steps):
-    """What differs in a row, behind the numbers of its lines; None where nothing does."""
+    """The differences in a row, with the numbers of its lines. None if there are none."""
     found = []
     with tempfile.TemporaryDirectory() as folder:
         folder = pathlib.Path(folder)
@@ -139,7 +139,7 @@ def differences(program, steps):
 
 
 def check(program):
-    """Yields a name and a difference, or None, for each row."""
+    """Yields a name, and a difference or None, for each row."""
     for path in sorted(ROWS.iterdir()):
         for name, steps in rows_of(path.read_text()):
             yield "rows/%s: %s" % (path.name, name), differences(program, steps)

@@ -1,6 +1,6 @@
-"""Refuses each request for memory of the built program in turn, and lets each of its writes to standard output fail in turn: what is
-said then, and what is left. The requests and the writes go wrong in the library that faults.c is. Where room for several things was
-refused and that for one was not, nothing is wanting, and all is as with ample memory."""
+"""Refuses each request for memory of the built program in turn, and lets each of its writes to standard output fail in turn. Checks what
+is reported then, and what is left. The library that is compiled from faults.c makes the requests and writes go wrong. If room for several
+things is refused and then room for one is granted, all is as with ample memory."""
 
 import errno
 import pathlib
@@ -8,18 +8,24 @@ import re
 import tempfile
 
 import rows
-from faults import Told, holds, library, room
+from costs import requests
+from plains import compressed_ride
+from program import framed
 from reader import item_size, read_header, wanted
 from rides import EXAMPLE, committed, differs, run, script_of
+from told import Told, holds, library, room
 
 NO_MEMORY = (1, "", "fitrec: NoMemory\n")
+DEVICE = (1, "", "fitrec: Device\n")
 NO_OUTPUT = "fitrec: cannot write -\n"
 CUT_OFF = script_of(40, 7)
+# A definition that announces developer fields and has none. It is written without that announcement.
+EMPTY_LIST = bytes([0x60, 0, 0, 20, 0, 0, 0])
 
 
 def each(told, call, *words, new=None):
-    """For each call of this kind runs in which it fails, alone and with all behind it: its number, what is said, and what `new` gave,
-    which is the last word. Where all is as with ample memory the number is 0; the last two runs have no such call."""
+    """Runs in which each call of this kind fails, alone and with all after it. Yields the number of the call, the outcome, and what `new`
+    gave, which is the last word. The number is 0 if all is as with ample memory. The last two runs have no such call."""
     number, is_made = 0, True
     whole = run(told.fitrec, *words, *([new()] if new else []))
     while is_made:
@@ -33,7 +39,7 @@ def each(told, call, *words, new=None):
 
 
 def items_of(data):
-    """Where each item of a file begins, and where it ends."""
+    """Where each item of a file begins and ends."""
     at, size = read_header(data)
     end, sizes = at + size, {}
     while at < end:
@@ -42,32 +48,45 @@ def items_of(data):
         at += step
 
 
-def is_asked(told, number, command, data):
-    """Whether this request for memory is made where the file has just these bytes."""
+def is_asked(told, number, words, data):
+    """Whether this request for memory is made for a file of just these bytes. The file is the last of these words, or comes before OUT."""
+    with tempfile.TemporaryDirectory() as folder:
+        file = pathlib.Path(folder) / "file"
+        file.write_bytes(data)
+        out = [file.parent / "out"] if words[0] == "plain" else []
+        _, log = told.run(*words, file, *out, call="memory", number=number, errno=errno.ENOMEM)
+        return any(line.endswith(" failed") for line in log)
+
+
+def is_of_reading(told, number, words, place, data):
+    """Whether the item at this place made this request: it is not made before the item's bytes, and is made with the last of them. If the
+    place is 0, the program itself makes it, before any byte."""
+    if not place:
+        return is_asked(told, number, words, b"")
+    end = dict(items_of(data)).get(place)
+    return end and is_asked(told, number, words, data[:end]) and not is_asked(told, number, words, data[:place])
+
+
+def place_of(said):
+    """Where memory was wanting, 0 if it was not at an item. None if anything else is reported."""
+    found = re.fullmatch(r"fitrec: (?:NoMemory|Memory at (\d+))\n", said[2])
+    return int(found[1] or 0) if found and said[:2] == (1, "") else None
+
+
+def readings(told, words, data, want):
+    """Nothing is shown of a file, and the want is reported at the item that made the request. Requests of the program itself come first."""
+    places = [0]
     with tempfile.NamedTemporaryFile() as file:
         file.write(data)
         file.flush()
-        return told.run(command, file.name, call="memory", number=number, errno=errno.ENOMEM)[1][-1:] == ["memory request failed"]
-
-
-def readings(told, command, data, want):
-    """Nothing is shown of a file, and the want is told at the item that asked: before its bytes have come nothing is asked, and with
-    the last of them it is. What the program itself asks for comes before."""
-    ends, places = dict(items_of(data)), [0]
-    with tempfile.NamedTemporaryFile() as file:
-        file.write(data)
-        file.flush()
-        for number, said, _ in each(told, "memory", command, file.name):
+        for number, said, _ in each(told, "memory", *words, file.name):
             if not number:
                 yield "nothing wanting", differs(said, want)
                 continue
-            found = re.fullmatch(r"fitrec: (?:NoMemory|Memory at (\d+))\n", said[2])
-            places.append(int(found[1] or 0) if found else -1)
-            is_told = found and said[:2] == (1, "") and places[-2] <= places[-1]
-            if is_told and found[1]:
-                at = int(found[1])
-                is_told = at in ends and is_asked(told, number, command, data[:ends[at]]) and not is_asked(told, number, command, data[:at])
-            yield "a refused request", None if is_told else (number, said)
+            place = place_of(said)
+            well = place is not None and places[-1] <= place and is_of_reading(told, number, words, place, data)
+            places.append(place or 0)
+            yield "a refused request", None if well else (number, said)
     yield "refused at an item, and at once", differs((0 in places[1:], places[-1] > 0), (True, True))
 
 
@@ -77,17 +96,17 @@ def lines_of(text):
 
 
 def are_lines(found, text):
-    """Whether wants were told at lines in their order, at each that has words, and at no other but the first."""
+    """Whether wants were reported at lines in their order, at each line that has words, and at no other except the first."""
     return found == sorted(found) and lines_of(text) <= set(found) <= lines_of(text) | {1}
 
 
 def replays(told, text):
-    """Nothing is run where a line is told, and of what is run no more than the answers say and the event in hand."""
+    """If a line is reported nothing is run. Else no more is run than the answers report and one event more."""
     found, later = [], 0
     with room() as (script, new):
         script.write_text(text)
+        whole = run(told.fitrec, "replay", script, new())
         for number, said, folder in each(told, "memory", "replay", script, new=new):
-            whole = run(told.fitrec, "replay", script, new())
             if not number:
                 yield "nothing wanting", differs(said, whole)
                 continue
@@ -106,14 +125,15 @@ def replays(told, text):
 
 
 def simulations(told, text, choices=""):
-    """A line is told where the parser was refused, and else one word alone."""
+    """If the parser was refused its line is reported. Else one word alone is."""
     found, others = [], 0
     with room() as (script, _):
         script.write_text(text)
         words = ["simulate", "--choices", choices, script]
+        whole = run(told.fitrec, *words)
         for number, said, _ in each(told, "memory", *words):
             if not number:
-                yield "nothing wanting", differs(said, run(told.fitrec, *words))
+                yield "nothing wanting", differs(said, whole)
                 continue
             line = re.fullmatch(r"fitrec: line (\d+): Memory\n", said[2])
             found += [int(line[1])] if line else []
@@ -122,9 +142,32 @@ def simulations(told, text, choices=""):
     yield "refused at each line, and behind them", differs((are_lines(found, text), others > 0), (True, True))
 
 
-def others(told, data):
-    """A salvage, a plain file and a repair that are refused memory leave all as it was."""
+def places_of_making(told, records, room_for):
+    """How many requests a plain run makes until the file is read. For each request that making its plain form then adds, the place of the
+    item that needs it: a file of the items up to that one makes it, and a file of the items before it does not. A file whose checksum is
+    wrong is read and not made plain."""
+    source = pathlib.Path(room_for()) / "source"
+
+    def count(size, is_right):
+        data = framed(records[:size])
+        source.write_bytes(data if is_right else data[:-1] + bytes([data[-1] ^ 1]))
+        return len(requests(told, "plain", source, source.parent / "out"))
+
+    ends = [(at, end - 14) for at, end in items_of(framed(records))]
+    made = [count(size, True) - count(size, False) for size in [0, *(size for _, size in ends)]]
+    places = [at for (at, _), before, after in zip(ends, made, made[1:]) for _ in range(after - before)]
+    return count(len(records), False), places
+
+
+def replacements(told, records):
+    """A command that makes OUT and is refused memory leaves all as it was. For a plain file, also of a salvage, the place is that of the
+    item that made the request."""
+    data = framed(records)
     with room() as (source, new):
+        folder = new()
+        source.write_text(CUT_OFF)
+        run(told.fitrec, "replay", source, folder)
+        recorded = holds(folder)
         source.write_bytes(data)
 
         def old():
@@ -132,14 +175,37 @@ def others(told, data):
             out.write_bytes(b"old")
             return out
 
-        for command in ("salvage", "plain"):
-            for number, said, out in each(told, "memory", command, source, new=old):
-                if number:
-                    is_told = said[:2] == (1, "") and re.fullmatch(r"fitrec: (NoMemory|Memory at \d+)\n", said[2])
-                    is_left = out.read_bytes() == b"old" and list(out.parent.iterdir()) == [out]
-                    yield command + ": a refused request", None if is_told and is_left else (number, said)
+        read, places = places_of_making(told, records, new)
+        kinds, items = set(), {}
+        for *words, given in (["salvage", source], ["salvage", "--all", source], ["salvage", "--plain", source], ["plain", source],
+                              ["save", folder]):
+            name = " ".join(words)
+            items[name] = []
+            for number, said, out in each(told, "memory", *words, given, new=old):
+                if not number:
+                    yield name + ": nothing wanting", differs(said[0], 0)
+                    continue
+                place = place_of(said)
+                items[name] += [place] if place else []
+                if name == "salvage --plain":
+                    well = place is not None
+                elif name != "plain":
+                    well = said == NO_MEMORY
+                elif number <= read:
+                    well = place is not None and is_of_reading(told, number, words, place, data)
+                    kinds.add("read" if place else "at once")
                 else:
-                    yield command + ": nothing wanting", differs(said[0], 0)
+                    well = place == (places[number - read - 1] if number - read <= len(places) else 0)
+                    kinds.add("made" if place else "written")
+                is_left = out.read_bytes() == b"old" and list(out.parent.iterdir()) == [out] and holds(folder) == recorded
+                yield name + ": a refused request", None if well and is_left else (number, said, is_left)
+        yield "plain: refused at once, while it is read, made and written", differs(kinds, {"at once", "read", "made", "written"})
+        yield "salvage --plain: refused at the items of a plain run", differs(items["salvage --plain"], items["plain"])
+
+
+def repairs(told):
+    """A repair that is refused memory leaves both files, and succeeds when it is made again. With --verify this holds until both files are
+    held in memory. From then on a refused request is a failed call."""
     with room() as (script, new):
         script.write_text(CUT_OFF)
 
@@ -149,16 +215,41 @@ def others(told, data):
             return folder
 
         before = holds(cut_off())
-        for number, said, folder in each(told, "memory", "repair", new=cut_off):
-            if number:
-                yield "repair: a refused request", differs((said, holds(folder)), (NO_MEMORY, before))
-                yield "repair: made again", differs(run(told.fitrec, "repair", folder)[0], 0)
-            else:
-                yield "repair: nothing wanting", differs(said[0], 0)
+        for words, faults in ((["repair"], {NO_MEMORY}), (["repair", "--verify"], {NO_MEMORY, DEVICE})):
+            found = set()
+            for number, said, folder in each(told, "memory", *words, new=cut_off):
+                if number:
+                    found.add(said)
+                    well = said in faults and (said == DEVICE or holds(folder) == before)
+                    yield "repair: a refused request", None if well else (words, number, said)
+                    yield "repair: made again", differs(run(told.fitrec, "repair", folder)[0], 0)
+                else:
+                    yield "repair: nothing wanting", differs(said[0], 0)
+            yield "repair: what is said", differs(found, faults)
+
+
+def promises(told):
+    """A header that promises much needs no memory except for the items that came."""
+    data = bytes([12, 0x10, 100, 0, 0xFF, 0xFF, 0xFF, 0xFF]) + b".FIT" + bytes([0x40, 0, 0, 20, 0, 0])
+    with tempfile.NamedTemporaryFile() as file:
+        file.write(data)
+        file.flush()
+        for command in ("show", "check"):
+            for number, said, _ in each(told, "memory", command, file.name):
+                well = place_of(said) in (0, 12) if number else said == (1, "", "fitrec: Truncated at 18\n")
+                yield "a header that promises much", None if well else (number, said)
+
+
+def wrong_words(told):
+    """A wrong command line is refused as such, or for want of memory."""
+    for words in ([], ["shown"], ["show"], ["salvage", "one"], ["simulate", "--choices", "0", "none"], ["--help"]):
+        whole = run(told.fitrec, *words)
+        for number, said, _ in each(told, "memory", *words):
+            yield "words: a refused request", None if said in ((NO_MEMORY, whole) if number else (whole,)) else (words, number, said)
 
 
 def failing_writes(told, data, text):
-    """What was printed is a beginning. Of a script no event is run behind the one whose answer failed."""
+    """What was printed is a prefix. No event of a script is run after the one whose answer failed."""
     with tempfile.NamedTemporaryFile() as file:
         file.write(data)
         file.flush()
@@ -184,22 +275,22 @@ def failing_writes(told, data, text):
 
 
 def check(fitrec, small):
-    """Yields a name and a difference, or None, for each look."""
+    """Yields a name, and a difference or None, for each check."""
     with library() as made, room() as (script, new):
-        if made is None:
-            print("skipped: refused memory and writes that fail, since there is no compiler cc here")
-            return
         told, ride = Told(fitrec, made), pathlib.Path(new())
         run(fitrec, "replay", EXAMPLE, ride)
         recorded = (ride / "activity.fit").read_bytes()
         by_name = {name: steps for kind in ("simulated", "replayed") for name, steps in rows.rows_of((rows.ROWS / kind).read_text())}
         refusals = by_name["each event is answered"][0].text()
         power = by_name["what was committed is recovered"][0].text()
-        parts = [("show", readings(told, "show", data, wanted(data))) for data in (small, recorded)]
-        parts += [("check", readings(told, "check", recorded, run(fitrec, "check", ride / "activity.fit")))]
-        parts += [("replay", replays(told, text)) for text in (EXAMPLE.read_text(), CUT_OFF, refusals)]
+        goes_on = by_name["a ride that was recovered goes on"][0].text()
+        parts = [("show", readings(told, ["show"], data, wanted(data))) for data in (small, recorded)]
+        parts += [("show --utc", readings(told, ["show", "--utc"], recorded, wanted(recorded, True)))]
+        parts += [("check", readings(told, ["check"], recorded, run(fitrec, "check", ride / "activity.fit")))]
+        parts += [("replay", replays(told, text)) for text in (EXAMPLE.read_text(), CUT_OFF, refusals, goes_on)]
         parts += [("simulate", simulations(told, text, "A5" * 600)) for text in (power, refusals, CUT_OFF)]
-        parts += [("others", others(told, recorded)), ("print", failing_writes(told, recorded, EXAMPLE.read_text()))]
+        parts += [("replacements", replacements(told, EMPTY_LIST + compressed_ride(60)[14:-2])), ("repair", repairs(told))]
+        parts += [("promises", promises(told)), ("words", wrong_words(told)), ("print", failing_writes(told, recorded, EXAMPLE.read_text()))]
         for name, part in parts:
             for what, difference in part:
                 yield "want: %s: %s" % (name, what), difference

@@ -1,5 +1,5 @@
 #!/bin/sh
-# Replays a script into a folder, kills the replay as soon as a commit is answered, and prints the last answer of one.
+# Replays a script into a folder, kills the replay as soon as a commit is answered, and prints the answer of the last commit.
 #
 #     examples/pull_the_plug.sh SCRIPT FOLDER
 home=$(dirname "$(readlink -f "$0")")

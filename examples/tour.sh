@@ -1,6 +1,6 @@
 #!/bin/sh
-# Prints the script of a brevet: eighty hours on the bicycle with a sample each second, a commit each second minute
-# and a lap each hour.
+# Prints the script of a brevet: eighty hours on the bicycle with a sample every second, a commit every two minutes
+# and a lap every hour.
 time=1000000000
 end=$((time + 288000))
 echo "start $time 7 cycling"

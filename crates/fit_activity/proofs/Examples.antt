@@ -1,10 +1,11 @@
--- The definitions at known rides, whose values come from outside.
+-- The definitions for known rides. The expected values come from outside.
 use Rattle.std.proofs.Common.{◌≡◌, ℕ, pos, List, [], ◌∷◌, ◌++◌, Option, Some, None, refl}
 use Rattle.fit_activity.specs.declared.recording.start.Sport.TheVariants.{Running}
 use Rattle.fit_activity.specs.declared.recording.entry.Sample.{Sample as AnySample}
 use Rattle.fit_activity.specs.declared.recording.entry.Entry.{Entry}
 use Rattle.fit_activity.specs.declared.recording.entry.Entry.TheVariants.{Sample, Lap, Pause, Resume, Stop}
 use Rattle.fit_activity.specs.declared.recording.refusal.Refusal.TheVariants.{Time, Distance, Value, TimerStopped, TimerRunning, TooLong}
+use Rattle.fit_activity.specs.Rides.Table.{of_raw}
 use Rattle.fit_activity.specs.Rides.Recording.{Recorded, Started, Added}
 use Rattle.fit_activity.specs.Rides.Stretch.{lap_at, lap_of, session_of}
 use Rattle.fit_activity.specs.Rides.Refusal.{refusal_of}
@@ -15,21 +16,7 @@ abbrev start : Recorded
 start = Started (record { time = 1000000000; serial = 7; sport = Running })
 
 abbrev empty_at : ℕ → AnySample
-empty_at time =
-    record {
-      time = time;
-      lat = None;
-      long = None;
-      altitude = None;
-      heart_rate = None;
-      cadence = None;
-      distance = None;
-      speed = None;
-      power = None;
-      temperature = None;
-      enhanced_speed = None;
-      enhanced_altitude = None;
-    }
+empty_at time = of_raw time []
 
 abbrev sample_with : ℕ → Option ℕ → Option ℕ → Entry
 sample_with time rate distance = Sample (record (empty_at time) { heart_rate = rate; distance = distance })
@@ -40,7 +27,7 @@ rate_at time rate = Added (sample_with time (Some rate) None)
 abbrev distance_at : ℕ → ℕ → Recorded
 distance_at time distance = Added (sample_with time None (Some distance))
 
--- two laps: 100 and 101 in the first, 110 at the second in which the second begins
+-- two laps: heart rates 100 and 101 in the first; 110 at the second in which the second lap begins
 abbrev first_lap : List Recorded
 first_lap = start ∷ rate_at 1000000000 100 ∷ rate_at 1000000001 101 ∷ []
 
@@ -86,7 +73,7 @@ session-greatest = refl
 session-timer : (session_of two_laps).stretch.timer ≡ 2000
 session-timer = refl
 
--- a pause that ends in its own second counts as none
+-- a pause that ends in its own second has no length
 abbrev turned : List Recorded
 turned = start ∷ Added (Pause 1000000005) ∷ Added (Resume 1000000005) ∷ []
 
@@ -96,7 +83,7 @@ turned-first = refl
 turned-second : (lap_of (turned ++ Added (Lap 1000000005) ∷ Added (Stop 1000000008) ∷ [])).stretch.timer ≡ 3000
 turned-second = refl
 
--- a pause of two seconds, a lap at its first
+-- a pause of two seconds, with a lap at the first of them
 abbrev paused : List Recorded
 paused = start ∷ Added (Pause 1000000005) ∷ []
 
@@ -134,7 +121,7 @@ fast-distance = refl
 fast-speed : (session_of fast).stretch.average_speed ≡ None
 fast-speed = refl
 
--- greatest speeds: of a sample the greater of its two, of a stretch none above 65534
+-- greatest speeds: a sample's is the greater of its two; a stretch has none above 65534
 abbrev speeds : ℕ → Option ℕ → Option ℕ → Entry
 speeds time speed enhanced = Sample (record (empty_at time) { speed = speed; enhanced_speed = enhanced })
 
@@ -159,7 +146,7 @@ most-quick = refl
 invalid-quick : (session_of (start ∷ speeds_at 1000000001 None (Some 65535) ∷ [])).stretch.greatest_speed ≡ None
 invalid-quick = refl
 
--- the longest entry has each field, and so many bytes with its definition
+-- the longest sample has every field; its size, with its definition
 abbrev full : AnySample
 full = record (empty_at 1000000000) {
   lat = Some (pos 1);

@@ -1,4 +1,6 @@
--- What is spelled reads as the message that was told.
+-- An encoded message reads as the original one.
+pub mod Rows
+pub mod Raw
 pub mod Fields
 pub mod Messages
 pub mod Compressed

@@ -1,3 +1,3 @@
--- What a file has to have to be an activity, and what a finished recording says of itself.
+-- When a file is an activity, and the summary of a recording's finished file.
 pub mod Activity
 pub mod Finished

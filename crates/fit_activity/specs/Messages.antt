@@ -1,4 +1,4 @@
--- The messages that tell a recording, in fields and in bytes, and which entry a message tells.
+-- The messages of a recording, as fields and as bytes, and which entry a message belongs to.
 pub mod ProfileField
 pub mod ProfileMessage
 pub mod RideMessages

@@ -1,4 +1,4 @@
--- What private functions and proofs speak of.
+-- Definitions for private functions and proofs only.
 pub mod Step
 pub mod Reader
 pub mod Seen

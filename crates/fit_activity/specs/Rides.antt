@@ -1,4 +1,5 @@
--- The entries of a recording, the rules that they keep, what they add up to, and what running totals are of them.
+-- The entries of a recording, the rules for them, what they add up to, and their running totals.
+pub mod Table
 pub mod Recording
 pub mod Refusal
 pub mod Timer

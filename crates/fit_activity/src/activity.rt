@@ -1,4 +1,4 @@
-// Whether a file is an activity, and what its first session says.
+// Whether a file is an activity, and what its first session states.
 
 ghost use Rattle.std.specs.Prelude.{◌≡◌};
 ghost use Rattle.fit_grammar.specs.Format.Message.{messages_of};
@@ -9,7 +9,7 @@ pub(crate) mod checking;
 pub(crate) mod field_value;
 pub(crate) mod seen;
 
-/// What an activity file says of itself.
+/// The summary of an activity file.
 #[derive(Clone, Copy, Debug, PartialEq, Eq)]
 pub struct Summary {
     /// The number of record messages.
@@ -18,8 +18,8 @@ pub struct Summary {
     pub laps: u32,
     /// The number of session messages.
     pub sessions: u32,
-    /// The start time of the first session, in seconds since 1989-12-31T00:00:00Z. This and the next three are None where
-    /// the session has no such field, or the first one is invalid or not one uint32.
+    /// The start time of the first session, in seconds since 1989-12-31T00:00:00Z. This and the next three
+    /// are `None` if the session has no such field, or if its first one is invalid or is not one uint32.
     pub start: Option<u32>,
     /// Its total elapsed time, in ms.
     pub elapsed_ms: Option<u32>,
@@ -29,12 +29,12 @@ pub struct Summary {
     pub distance_cm: Option<u32>,
 }
 
-/// Why a file is no activity. The first in this order is answered.
+/// Why a file is not an activity. If several apply, the first in this order is returned.
 #[derive(Clone, Copy, Debug, PartialEq, Eq)]
 pub enum ActivityFault {
-    /// The first message is no file_id.
+    /// The first message is not a file_id.
     NoFileId,
-    /// Its first field type is not the enum value 4, activity.
+    /// The first field `type` of the file_id is not the enum value 4, activity.
     NotActivity,
     /// There is no lap.
     NoLap,
@@ -47,7 +47,7 @@ pub enum ActivityFault {
 impl ActivityFault {
     ghost use Rattle.fit_activity.specs.Files.Activity.{activity_fault_code};
 
-    /// The number of the fault.
+    /// The number of the fault, 1 to 5.
     pub fn code(&self) -> u8
         ensures { result ≡ activity_fault_code self.now }
     {

@@ -1,5 +1,4 @@
-//! What an activity is: the entries of a recording, the rules that they keep, what they add up to, and the messages
-//! that tell them.
+//! Activities: the entries of a recording, the rules for them, what they add up to, and their messages.
 #![tactic(auto)]
 
 mod activity;
@@ -16,6 +15,7 @@ pub use hearing::{entry_of, file_id_of, sport_of};
 pub use recording::entry::{Entry, Sample};
 pub use recording::refusal::Refusal;
 pub use recording::start::{Sport, Start};
+pub use recording::table::{FIELDS, FieldRow, SAMPLE_FIELDS};
 pub use replay::{NotNext, Replay};
 pub use speaking::speech::{Speech, SpokenMessage};
 pub use speaking::{speak, speak_closing, speak_compressed, speak_start};

@@ -4,3 +4,4 @@ pub(crate) mod entry;
 pub(crate) mod refusal;
 pub(crate) mod rules;
 pub(crate) mod start;
+pub(crate) mod table;

@@ -17,7 +17,7 @@ use crate::totals::summary::{ActivitySummary, LapSummary, SessionSummary};
 use crate::totals::sums::Sums;
 use std::marker::Model;
 
-/// What a recording adds up to so far, in one fixed state. Contracts say of which list of entries.
+/// What a recording adds up to so far, in a fixed size. Contracts state for which list of entries.
 #[derive(Debug, Drop)]
 pub struct Totals {
     start: Start,
@@ -59,7 +59,7 @@ impl Totals {
     ghost use Rattle.fit_activity.specs.Rides.RunningTotals.{AreTotals, KeepsTime};
     ghost use Rattle.fit_activity.specs.Private.Step.{totals_after, lap_by, SumsHaveRoom, refusal_by, refusal_by_kind, refusal_by_values};
 
-    /// The totals of a start, whose `check` was Ok.
+    /// The totals of a start. Its `check` must have been Ok.
     pub fn start(start: &Start) -> Totals
         requires { start_refusal start.now ≡ None }
         ensures { AreTotals result (Started start.now ∷ []) }
@@ -76,17 +76,17 @@ impl Totals {
         }
     }
 
-    /// Whether the entry may stand behind the recording so far; else why not.
+    /// Whether the entry may follow the recording so far; else why not.
     pub fn check(&self, entry: &Entry) -> Result<(), Refusal>
         ensures first { (list : List Recorded) → AreTotals self.now list
             → result_err result ≡ refusal_of list entry.now }
-        // As its types say.
+        // This follows from its types.
         ensures fits { EntryFits entry.now }
     {
         self.judge(in_range(entry))
     }
 
-    // The first cause that holds, by the numbers kept.
+    // The first cause that applies, by the numbers that are kept.
     fn judge(&self, entry: &Entry) -> Result<(), Refusal>
         ensures { result_err result ≡ refusal_by self.now entry.now }
     {
@@ -103,7 +103,7 @@ impl Totals {
         self.judge_kind(entry)
     }
 
-    // The first cause that holds beside those of the time.
+    // The first cause that applies, apart from those of the time and the end.
     fn judge_kind(&self, entry: &Entry) -> Result<(), Refusal>
         ensures { result_err result ≡ refusal_by_kind self.now entry.now }
     {
@@ -116,7 +116,7 @@ impl Totals {
         }
     }
 
-    // Whether a sample's fields hold values, and its distance is no less than the last one known.
+    // Whether no field of a sample is invalid, and its distance is not less than the last one known.
     fn judge_values(&self, sample: &Sample) -> Result<(), Refusal>
         ensures { result_err result ≡ refusal_by_values self.now sample.now }
     {
@@ -129,7 +129,7 @@ impl Totals {
         }
     }
 
-    /// Adds an entry, whose `check` was Ok. A recording has fewer than 4,294,967,296 entries, its start among them.
+    /// Adds an entry. Its `check` must have been Ok. A recording has fewer than 4,294,967,296 entries, including its start.
     pub fn add(&mut self, entry: &Entry)
         requires { (list : List Recorded) × AreTotals self.old list × (refusal_of list entry.now ≡ None)
             × (length list < 2 ^ 32) }
@@ -139,7 +139,7 @@ impl Totals {
         self.step(in_range(entry));
     }
 
-    // The numbers kept with an entry more.
+    // The numbers that are kept, with one more entry.
     fn step(&mut self, entry: &Entry)
         requires later { self.old.clock.end ≤ entry_time entry.now }
         requires not_late { entry_time entry.now ≤ self.old.clock.start + 4000000 }
@@ -147,7 +147,7 @@ impl Totals {
         requires whole { SumsHaveRoom self.old.whole }
         requires lap { SumsHaveRoom self.old.lap }
         ensures step { self.new ≡ totals_after self.old entry.now }
-        // As all totals do.
+        // This holds for all totals.
         ensures kept { KeepsTime self.old.clock }
     {
         let clock = self.clock.until(entry.time());
@@ -179,7 +179,7 @@ impl Totals {
         self.clock.end
     }
 
-    /// Whether the timer runs behind the last entry.
+    /// Whether the timer runs after the last entry.
     pub fn running(&self) -> bool
         ensures { (list : List Recorded) → AreTotals self.now list → result ≡ runs_now list }
     {
@@ -193,7 +193,7 @@ impl Totals {
         self.stopped
     }
 
-    // The time of the last entry, where that is no stop.
+    // The time of the last entry, unless that is a stop.
     pub(crate) fn open_end(&self) -> Option<u32>
         ensures { result ≡ (if self.now.stopped then None else Some self.now.clock.end) }
     {
@@ -204,14 +204,14 @@ impl Totals {
         }
     }
 
-    /// The open lap, which begins behind the last start or lap, as if it ended with the last entry.
+    /// The open lap, which begins at the last lap or at the start, as if it ended with the last entry.
     pub fn lap(&self) -> LapSummary
         ensures { (list : List Recorded) → AreTotals self.now list → result ≡ lap_of list }
     {
         self.lap_by(self.clock)
     }
 
-    // The open lap, as it ends at a time that a lap may have.
+    // The open lap, if it ends at a time that a lap may have.
     pub(crate) fn lap_at(&self, time: u32) -> LapSummary
         requires later { self.now.clock.end ≤ time }
         requires not_late { time ≤ self.now.clock.start + 4000000 }
@@ -233,7 +233,7 @@ impl Totals {
         }
     }
 
-    /// The whole recording so far. The open lap counts as one of its laps.
+    /// The whole recording so far. The open lap is one of its laps.
     pub fn session(&self) -> SessionSummary
         ensures { (list : List Recorded) → AreTotals self.now list → result ≡ session_of list }
     {
@@ -247,7 +247,7 @@ impl Totals {
         }
     }
 
-    /// The activity, whose only session this recording is.
+    /// The activity. This recording is its only session.
     pub fn activity(&self) -> ActivitySummary
         ensures { (list : List Recorded) → AreTotals self.now list → result ≡ activity_of list }
     {

@@ -1,4 +1,4 @@
-// Rides that are known from outside, and what they are refused for, add up to and say.
+// Rides that are known from outside: what they are refused for, what they add up to, and their messages.
 
 ghost use Rattle.std.specs.Prelude.{◌≡◌, ◌+◌, ◌≤◌, ◌<◌, ◌^◌, List, None, length};
 ghost use Rattle.fit_activity.specs.Rides.Recording.{Recorded};
@@ -37,7 +37,7 @@ fn with_distance(time: u32, distance: u32) -> Entry {
     })
 }
 
-// The totals of a ride, each of whose entries is allowed.
+// The totals of a ride. Each of its entries is allowed.
 fn ride(rt: &impl Abort, entries: &[Entry]) -> Totals
     requires { length entries.now < 2 ^ 31 }
     ensures { (list : List Recorded) × AreTotals result list × (length list < 2 ^ 32) }
@@ -56,14 +56,14 @@ fn ride(rt: &impl Abort, entries: &[Entry]) -> Totals
     totals
 }
 
-// Why an entry behind a ride is refused.
+// Why this entry is refused after a ride.
 fn refusal(rt: &impl Abort, entries: &[Entry], entry: Entry) -> Option<Refusal>
     requires { length entries.now < 2 ^ 31 }
 {
     ride(rt, entries).check(&entry).err()
 }
 
-// What an entry behind a ride says.
+// Makes the messages of this entry after a ride.
 fn say(rt: &impl Abort, entries: &[Entry], entry: Entry, speech: &mut Speech)
     requires { length entries.now < 2 ^ 31 }
 {
@@ -74,7 +74,7 @@ fn say(rt: &impl Abort, entries: &[Entry], entry: Entry, speech: &mut Speech)
     }
 }
 
-// Says it for the header that it has, and answers the time offset in that.
+// The same for a header that may have a compressed timestamp. Returns the time offset in that header.
 fn say_compressed(
     rt: &impl Abort,
     entries: &[Entry],

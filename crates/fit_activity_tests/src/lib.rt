@@ -1,4 +1,4 @@
-//! Tests of activities, by the public calls of `fit_activity`. They stand above it, so that no library is proved once more with
+//! Tests of activities, by the public calls of `fit_activity`. They are in a crate above it, so that no library is proved again with
 //! its tests.
 #![tactic(auto)]
 

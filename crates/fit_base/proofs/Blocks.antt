@@ -14,7 +14,7 @@ pub crc_from-cons : (register byte : ℕ) (bytes : List ℕ) → byte < 256
 crc_from-cons register byte bytes below =
     crc_from-append register (byte ∷ []) bytes ∙ ap (λ (r : ℕ). crc_from r bytes) (crc_from-byte register byte below)
 
--- a part of the register goes its own way to the end
+-- a part of the register moves to the end on its own
 pub crc_from-xor : (a c : ℕ) (bytes : List ℕ) → ((k : ℕ) → get_or bytes k 0 < 256)
     → crc_from (bit_xor a c) bytes ≡ bit_xor (shifts (8 * length bytes) a) (crc_from c bytes)
 unfolding shifts
@@ -29,7 +29,7 @@ crc_from-xor a c (byte ∷ bytes) all =
     (sym (shifts-add 8 (8 * length bytes) a) ∙ ap (λ (n : ℕ). shifts n a) more)
     ∙ ap (bit_xor (shifts (8 * suc (length bytes)) a)) (sym (crc_from-cons c byte bytes (all 0)))
 
--- so does the first of the bytes
+-- and so does the first of the bytes
 crc-first : (byte : ℕ) (bytes : List ℕ) → byte < 256 → ((k : ℕ) → get_or bytes k 0 < 256)
     → crc (byte ∷ bytes) ≡ bit_xor (shifts (8 * suc (length bytes)) byte) (crc bytes)
 crc-first byte bytes below all =
@@ -39,7 +39,7 @@ crc-first byte bytes below all =
     ∙ crc_from-xor (shifts 8 byte) 0 bytes all
     ∙ ap (λ (r : ℕ). bit_xor r (crc bytes)) (sym (shifts-add 8 (8 * length bytes) byte) ∙ ap (λ (n : ℕ). shifts n byte) more)
 
--- zero bytes behind a register only move it on
+-- zero bytes after a register only shift it
 crc_from-zeros : (n register : ℕ) → crc_from register (replicate n 0) ≡ shifts (8 * n) register
 unfolding shifts
 crc_from-zeros zero register = crc_from-nil register
@@ -79,7 +79,7 @@ register_before register =
     ∙ ap (λ (r : ℕ). bit_xor r (shifts 128 (register % 256)))
     (shifts-add 8 120 (register / 256 * 256) ∙ ap (shifts 120) (shifts-high 8 (register / 256)))
 
--- the bytes of a list from a place on, the first by itself
+-- the bytes of a list from a place on, with the first on its own
 crc-from : (bytes : List ℕ) (i : ℕ) → ((k : ℕ) → get_or bytes k 0 < 256) → i < length bytes
     → crc (drop i bytes) ≡ bit_xor (shifts (8 * (length bytes - i)) (get_or bytes i 0)) (crc (drop (suc i) bytes))
 crc-from bytes i all below =
@@ -162,7 +162,7 @@ last_entries block len all =
     ∙ one_more block e2 3 12 len all refl
     ∙ sym (next_entry block 2 13 len all refl)
 
--- a byte of the register before goes in with a byte of the block
+-- a byte of the register before is combined with a byte of the block
 mixed_entry : (k part byte : ℕ) → part < 256 → byte < 256
     → entry_of k (bit_xor part byte) ≡ bit_xor (shifts (8 * suc k) part) (entry_of k byte)
 mixed_entry k part byte part_below below =
@@ -170,7 +170,7 @@ mixed_entry k part byte part_below below =
     ∙ shifts-xor (8 * suc k) part byte
     ∙ ap (bit_xor (shifts (8 * suc k) part)) (sym (crc-zeros byte k below))
 
--- the two that wait for the register come last, and may come first
+-- the two entries that need the register come last; they may also come first
 two_first : (rest p q : ℕ) → bit_xor (bit_xor rest p) q ≡ bit_xor (bit_xor p q) rest
 two_first rest p q = xor_assoc rest p q ∙ xor_comm rest (bit_xor p q)
 

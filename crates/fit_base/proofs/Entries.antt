@@ -6,12 +6,12 @@ use Rattle.std.proofs.lemmas.List.FromFn.{get_or-map-range_with_len}
 use Rattle.fit_base.specs.declared.checksum.tables.TheConstants.{AFTER}
 use Rattle.fit_base.proofs.Register.{tap, shift, shifts, shifts-add}
 
--- each entry of the first table is its place after eight bits
+-- each entry of the first table is its index after eight bits
 first_table : (none : List ℕ) → get_or AFTER 0 none ≡ map (shifts 8) (range_with_len 0 256)
 unfolding shifts shift tap
 first_table none = refl
 
--- and each table is the one before it after eight bits more
+-- and each table is the one before it after eight more bits
 next_table : (none : List ℕ) (k : ℕ) → k < 15 → get_or AFTER (suc k) none ≡ map (shifts 8) (get_or AFTER k none)
 unfolding shifts shift tap
 next_table none zero below = refl

@@ -1,4 +1,4 @@
--- The definitions at values that are known from outside, by computation.
+-- The definitions at values known from outside, by computation.
 use Rattle.std.proofs.Common.{◌≡◌, [], ◌∷◌, pos, negsuc, true, Some, None, refl}
 use Rattle.fit_base.specs.declared.order.Arch.TheVariants.{Little, Big}
 use Rattle.fit_base.specs.declared.base.BaseType.TheVariants.{Uint32, Sint64}
@@ -12,7 +12,7 @@ digits : crc (0x31 ∷ 0x32 ∷ 0x33 ∷ 0x34 ∷ 0x35 ∷ 0x36 ∷ 0x37 ∷ 0x3
 unfolding crc_from
 digits = refl
 
--- the first twelve bytes of a header that holds the checksum of them
+-- the first twelve bytes of a header that holds their checksum
 header : crc (0x0E ∷ 0x10 ∷ 0x64 ∷ 0x00 ∷ 0x12 ∷ 0x00 ∷ 0x00 ∷ 0x00 ∷ 0x2E ∷ 0x46 ∷ 0x49 ∷ 0x54 ∷ []) ≡ 0x3BA1
 unfolding crc_from
 header = refl

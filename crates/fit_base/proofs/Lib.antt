@@ -1,4 +1,4 @@
--- Public are the lemmas that proofs of the crates above cite.
+-- The public lemmas are those that proofs of the crates above cite.
 pub mod Register
 mod Blocks
 mod Entries

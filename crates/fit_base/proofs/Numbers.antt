@@ -1,4 +1,4 @@
--- The sums over bytes, as `byteorder` has them and as the definition of a number has them: for reading and `put`.
+-- The sums over bytes, as `byteorder` defines them and as the definition of a number does: for reading and `put`.
 use Rattle.std.proofs.Common.{◌≡◌, ℕ, suc, ◌+◌, ◌*◌, ◌^◌, ◌<◌, List, [], ◌∷◌, ◌++◌, length, reverse, drop, append-nil, drop_of_length-le, le_refl, refl, sym, ap, ◌∙◌, arith, pow-suc}
 use Rattle.std.proofs.lemmas.List.{reverse-append, length-reverse}
 use Rattle.byteorder.specs.Endian.{big_number, little_number, big_bytes, little_bytes}

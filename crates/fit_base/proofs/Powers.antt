@@ -1,4 +1,4 @@
--- Powers of 256 as powers of 2, and a whole range as two halves: for `Signs` and `put`.
+-- Powers of 256 as powers of 2, and a range as two halves: for `Signs` and `put`.
 use Rattle.std.proofs.Common.{◌≡◌, ℕ, zero, suc, ◌+◌, ◌-◌, ◌*◌, ◌^◌, ◌≤◌, refl, sym, ap, ◌∙◌, arith, pow-suc, pow-add}
 
 pub pow256 : (n : ℕ) → 256 ^ n ≡ 2 ^ (8 * n)
@@ -7,7 +7,7 @@ pow256 (suc n) =
     let e : 8 * suc n ≡ 8 * n + 8 = omega arith in
     pow-suc 256 n ∙ ap (λ (p : ℕ). p * 256) (pow256 n) ∙ sym (ap (λ (k : ℕ). 2 ^ k) e ∙ pow-add 2 (8 * n) 8)
 
--- the numbers of a size have two halves, the lower of which have no sign
+-- the numbers of a size fall into two halves; those of the lower half have no sign
 pub pow-halves : (size : ℕ) → 1 ≤ size → 2 ^ (8 * size) ≡ 2 ^ (8 * size - 1) + 2 ^ (8 * size - 1)
 pow-halves size some =
     let e : 8 * size ≡ suc (8 * size - 1) = omega arith in

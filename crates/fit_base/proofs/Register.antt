@@ -1,4 +1,4 @@
--- The register of the checksum is linear over exclusive or, so that a whole byte can be taken by a table: for `Crc::add`.
+-- The register of the checksum is linear over exclusive or, so a table can take a whole byte at once: for `Crc::add`.
 use Rattle.std.proofs.Common.{◌≡◌, ℕ, zero, suc, ◌+◌, ◌*◌, ◌/◌, ◌%◌, ◌^◌, ◌<◌, List, [], ◌∷◌, ◌++◌, fold, flat_map, bit_xor, refl, sym, ap, ◌∙◌, arith, ◌==◌, if◌then◌else◌, append-nil, get_or, take, drop, take-add, take-append-drop, length, pow-suc, mul_assoc, div-add-mod'}
 use Rattle.std.proofs.Math.Nat.{mod-lt, mod-eq_of_lt, div-div-eq-div-mul}
 use Rattle.std.proofs.lemmas.Nat.{xor_shr, xor_mod, xor_block, xor_comm, pow_pos}
@@ -7,12 +7,12 @@ use Rattle.std.proofs.lemmas.Grind.{flat_map-append, fold-append}
 use Rattle.std.specs.Int.Bits.{xor_assoc, xor_zero_r}
 use Rattle.fit_base.specs.Checksum.{bit_step, bits_of, crc_from}
 
--- what a low bit of 0 or 1 adds to the register that is moved down
+-- what a low bit of 0 or 1 adds to the shifted register
 unfoldable pub tap : ℕ → ℕ
 tap zero = 0
 tap (suc n) = 0xA001
 
--- the register after one bit, where the bit is in it already
+-- the register after one bit that is already in it
 unfoldable pub shift : ℕ → ℕ
 shift x = bit_xor (x / 2) (tap (x % 2))
 
@@ -26,7 +26,7 @@ unfoldable pub low_bits : ℕ → ℕ → List ℕ
 low_bits zero byte = []
 low_bits (suc n) byte = byte % 2 ∷ low_bits n (byte / 2)
 
--- a step is a shift, whatever its half and its low bit
+-- a step is a shift, whatever its half and its low bit are
 step_by : (h r : ℕ) → r < 2 → (if r == 1 then bit_xor h 0xA001 else h) ≡ bit_xor h (tap r)
 unfolding tap
 step_by h zero below = sym (xor_zero_r h)
@@ -81,7 +81,7 @@ shifts-add (suc m) n x =
     let e : suc m + n ≡ suc (m + n) = omega arith in
     ap (λ (k : ℕ). shifts k x) e ∙ shifts-add m n (shift x)
 
--- a register whose low bit is clear only moves down
+-- a register whose low bit is clear is only shifted
 shift-double : (y : ℕ) → shift (y * 2) ≡ y
 unfolding shift tap
 shift-double y =
@@ -108,7 +108,7 @@ split_at n x =
     let block2 : bit_xor (x / 2 ^ n * 2 ^ n) (x % 2 ^ n) ≡ bit_xor (x / 2 ^ n) 0 * 2 ^ n + x % 2 ^ n = rw (left, right) at block in
     block2 ∙ ap (λ (h : ℕ). h * 2 ^ n + x % 2 ^ n) high ∙ div-add-mod' x (2 ^ n)
 
--- the bit goes into the register, and the others of its byte with it
+-- one bit goes into the register, and the other bits of its byte with it
 step_with : (register byte : ℕ) → bit_xor (bit_step register (byte % 2)) (byte / 2) ≡ shift (bit_xor register byte)
 unfolding shift
 step_with register byte =
@@ -124,7 +124,7 @@ step_with register byte =
     ∙ xor_right (register / 2) (tap (bit_xor register byte % 2)) (byte / 2)
     ∙ ap (λ (x : ℕ). bit_xor x (tap (bit_xor register byte % 2))) (sym (xor_shr register byte 1))
 
--- the bits of a byte, one after another, are the bits of the byte put in at once
+-- taking the bits of a byte one after another is the same as putting the byte in at once
 pub fold-low_bits : (n register byte : ℕ) → byte < 2 ^ n → fold bit_step register (low_bits n byte) ≡ shifts n (bit_xor register byte)
 unfolding shifts low_bits
 fold-low_bits zero register byte below =
@@ -139,7 +139,7 @@ pub bits_of-low_bits : (byte : ℕ) → bits_of byte ≡ low_bits 8 byte
 unfolding low_bits
 bits_of-low_bits byte = simp div-div-eq-div-mul
 
--- a byte is eight bits put in at once
+-- a byte is eight bits that are put in at once
 pub crc_from-byte : (register byte : ℕ) → byte < 256 → crc_from register (byte ∷ []) ≡ shifts 8 (bit_xor register byte)
 unfolding crc_from
 crc_from-byte register byte below =
@@ -152,21 +152,21 @@ crc_from-append register xs ys =
     ap (fold bit_step register) (flat_map-append bits_of xs ys)
     ∙ fold-append bit_step register (flat_map bits_of xs) (flat_map bits_of ys)
 
--- the low byte of a register by itself, and the high byte moved down
+-- the low byte of a register on its own, and the high byte shifted down
 pub shifts-byte : (x : ℕ) → shifts 8 x ≡ bit_xor (x / 256) (shifts 8 (x % 256))
 shifts-byte x =
     ap (shifts 8) (sym (split_at 8 x))
     ∙ shifts-xor 8 (x / 256 * 256) (x % 256)
     ∙ ap (λ (h : ℕ). bit_xor h (shifts 8 (x % 256))) (shifts-high 8 (x / 256))
 
--- one byte more
+-- one more byte
 pub crc_from-next : (register : ℕ) (bytes : List ℕ) (i : ℕ) → i < length bytes
     → crc_from (crc_from register (take i bytes)) (get_or bytes i 0 ∷ []) ≡ crc_from register (take (i + 1) bytes)
 crc_from-next register bytes i below =
     sym (crc_from-append register (take i bytes) (get_or bytes i 0 ∷ []))
     ∙ ap (crc_from register) (sym (take_more bytes i 0 below))
 
--- some bytes more
+-- some more bytes
 pub crc_from-take : (register : ℕ) (bytes : List ℕ) (i n : ℕ)
     → crc_from (crc_from register (take i bytes)) (take n (drop i bytes)) ≡ crc_from register (take (i + n) bytes)
 crc_from-take register bytes i n =

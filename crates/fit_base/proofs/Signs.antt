@@ -1,4 +1,4 @@
--- Two's complement, and the number that is read by it: for `with_sign` and `put`.
+-- Two's complement, and the number that is read with it: for `with_sign` and `put`.
 use Rattle.std.proofs.Common.{◌≡◌, ℕ, suc, ◌+◌, ◌-◌, ◌*◌, ◌^◌, ◌<◌, ◌≤◌, ℤ, pos, negsuc, neg_ℤ, ◌-ℤ◌, ◌≤ℤ◌, true, false, nat_lt, if◌then◌else◌, refl, ◌∙◌, arith, w64, to_z, of_z}
 use Rattle.std.proofs.lemmas.Int.{ints}
 use Rattle.std.proofs.lemmas.Bool.Decides.{nat_tests}
@@ -23,7 +23,7 @@ twos_complement-as_unsigned size (negsuc m) some low high =
     let room : suc m ≤ 2 ^ (8 * size - 1) = omega (arith, ints) in
     above_half (2 ^ (8 * size) - suc m) (2 ^ (8 * size - 1)) (2 ^ (8 * size)) (omega arith) ∙ omega (arith, ints)
 
--- what the code computes of a number in the upper half
+-- what the code computes for a number in the upper half
 pub less_twice : (n half : ℕ) → half ≤ 2 ^ 63 → half ≤ n → n < half + half
     → to_z w64 (of_z w64 (to_z w64 (of_z w64 (pos 0 -ℤ to_z w64 (half - 1 - (n - half)))) -ℤ pos 1)) ≡ pos n -ℤ pos (half + half)
 less_twice n half fits above below = omega (arith, ints)

@@ -1,4 +1,4 @@
--- The list of a field's values, by index: `unsigned` reads its elements one by one. For whoever shows a field.
+-- The list of a field's values, by index: `unsigned` reads its elements one by one. For crates that print a field.
 use Rattle.std.proofs.Common.{◌≡◌, ℕ, zero, suc, ◌+◌, ◌*◌, ◌<◌, List, length, get_or, take, drop, refl, sym, ap, ◌∙◌, arith}
 use Rattle.std.proofs.lemmas.List.{drop-drop}
 use Rattle.fit_base.specs.declared.order.Arch.{Arch}
@@ -23,7 +23,7 @@ get_or-numbers arch size (suc count) bytes (suc i) below =
 pub length-numbers_of : (field : Field) → length (numbers field.arch (value_size field) (count_of field) field.bytes) ≡ count_of field
 length-numbers_of field = length-numbers field.arch (value_size field) (count_of field) field.bytes
 
--- and holds the value of each index there
+-- and it holds the value of each index
 pub get_or-numbers_of : (field : Field) (i : ℕ) → i < count_of field
     → get_or (numbers field.arch (value_size field) (count_of field) field.bytes) i 0 ≡ unsigned_at field i
 get_or-numbers_of field i below = get_or-numbers field.arch (value_size field) (count_of field) field.bytes i below

@@ -3,7 +3,7 @@ use Rattle.std.specs.Prelude.{ℕ, ◌*◌, ◌-◌, ◌^◌, ℤ, pos, neg_ℤ,
 use Rattle.fit_base.specs.declared.base.BaseType.{BaseType}
 use Rattle.fit_base.specs.declared.base.BaseType.TheVariants.{Enum, Sint8, Uint8, Sint16, Uint16, Sint32, Uint32, String, Float32, Float64, Uint8z, Uint16z, Uint32z, Byte, Sint64, Uint64, Uint64z}
 
--- a row of the table: the base type byte, the bytes of a value, and the invalid value's number
+-- a row of the table: the base type byte, the number of bytes of a value, and the invalid value as a number
 pub record Row : Type 0 where
   pub code : ℕ
   pub size : ℕ
@@ -36,13 +36,13 @@ abbrev pub base_type_in : List BaseType → ℕ → Option BaseType
 base_type_in [] code = None
 base_type_in (type ∷ types) code = if (row_of type).code == code then Some type else base_type_in types code
 
--- the type with this base type byte, if there is one
+-- the type with this base type byte, if one exists
 abbrev pub base_type : ℕ → Option BaseType
 base_type code =
     base_type_in (Enum ∷ Sint8 ∷ Uint8 ∷ Sint16 ∷ Uint16 ∷ Sint32 ∷ Uint32 ∷ String ∷ Float32 ∷ Float64 ∷ Uint8z
     ∷ Uint16z ∷ Uint32z ∷ Byte ∷ Sint64 ∷ Uint64 ∷ Uint64z ∷ []) code
 
--- whether the values of a type have a sign
+-- whether values of the type have a sign
 abbrev pub has_sign : BaseType → Bool
 has_sign Sint8 = true
 has_sign Sint16 = true
@@ -50,7 +50,7 @@ has_sign Sint32 = true
 has_sign Sint64 = true
 has_sign _ = false
 
--- the least and the greatest value of a type; of a float its bits
+-- the least and the greatest value of a type; for a float, of its bits
 abbrev pub least_of : BaseType → ℤ
 least_of type = if has_sign type then neg_ℤ (pos (2 ^ (8 * (row_of type).size - 1))) else pos 0
 

@@ -17,7 +17,7 @@ pub record Field : Type 0 where
 abbrev pub field_of : BaseType → Arch → List ℕ → Field
 field_of type arch bytes = record { base = (row_of type).code; arch = arch; bytes = bytes }
 
--- the size of a value of the field's base type; 0 where there is no such type
+-- the size of a value of the field's base type; 0 if the type is unknown
 abbrev pub size_by : Option BaseType → ℕ
 size_by None = 0
 size_by (Some type) = (row_of type).size
@@ -25,7 +25,7 @@ size_by (Some type) = (row_of type).size
 abbrev pub value_size : Field → ℕ
 value_size field = size_by (base_type field.base)
 
--- a field is carried raw where its base type byte is unknown or its size is no multiple of the base size
+-- a field is carried raw if its base type byte is unknown or its size is not a multiple of the base size
 abbrev pub raw_by : Option BaseType → ℕ → Bool
 raw_by None len = true
 raw_by (Some type) len = if len % (row_of type).size == 0 then false else true
@@ -52,7 +52,7 @@ signed_by (Some type) = has_sign type
 abbrev pub is_signed : Field → Bool
 is_signed field = signed_by (base_type field.base)
 
--- a value is invalid where it is its type's invalid value; one of type byte, where all bytes of its field are FF
+-- a value is invalid if it is its type's invalid value; a value of type byte is invalid if all bytes of its field are 0xFF
 abbrev pub IsInvalidBy : Option BaseType → Field → ℕ → Type 0
 IsInvalidBy None field i = Unit {0}
 IsInvalidBy (Some Byte) field i = All (λ byte. byte ≡ 255) field.bytes
@@ -74,7 +74,7 @@ text_of field = before_first (λ byte. byte == 0) field.bytes
 abbrev pub IsValueSize : ℕ → Type 0
 IsValueSize size = (size ≡ 1) ⊎ (size ≡ 2) ⊎ (size ≡ 4) ⊎ (size ≡ 8)
 
--- what a field holds, whatever its architecture: the number of each value, or bytes that are carried raw
+-- what a field holds, whatever its architecture: the number of each value, or raw bytes
 pub data Values : Type 0 where
   Numbers : List ℕ → Values
   Raw : List ℕ → Values

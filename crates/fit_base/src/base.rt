@@ -28,8 +28,8 @@ pub enum BaseType {
 impl BaseType {
     ghost use Rattle.fit_base.specs.Base.{row_of, base_type, has_sign};
 
-    /// The type that a definition's base type byte names. None where the protocol has no such
-    /// type: a field of such a byte is carried raw.
+    /// The type that a definition's base type byte names. `None` if the protocol has no such type: a field with such a byte is
+    /// carried raw.
     pub fn of(code: u8) -> Option<BaseType>
         ensures table { result ≡ base_type code }
         ensures some { IfSome result (λ t. (row_of t).code ≡ code) }
@@ -57,7 +57,7 @@ impl BaseType {
         }
     }
 
-    /// The number of bytes of one value.
+    /// The size of one value in bytes: 1, 2, 4 or 8.
     pub fn size(self) -> usize
         ensures { result ≡ (row_of self).size }
     {
@@ -74,7 +74,7 @@ impl BaseType {
         }
     }
 
-    /// The base type byte of a definition.
+    /// The base type byte, as a definition holds it.
     pub fn code(self) -> u8
         ensures { result ≡ (row_of self).code }
     {
@@ -99,7 +99,8 @@ impl BaseType {
         }
     }
 
-    /// The number of the value that stands for no value.
+    /// The invalid value of the type, which means "no value". For a type with a sign it is the number before the sign is read;
+    /// for a float, its bits.
     pub fn invalid(self) -> u64
         ensures { result ≡ (row_of self).invalid }
     {
@@ -120,7 +121,7 @@ impl BaseType {
         }
     }
 
-    /// Whether the values have a sign.
+    /// Whether values of the type have a sign.
     pub fn is_signed(self) -> bool
         ensures { result ≡ has_sign self }
     {

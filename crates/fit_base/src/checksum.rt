@@ -8,7 +8,7 @@ mod tables;
 use std::marker::Model;
 use tables::AFTER;
 
-/// The checksum of a FIT file, over the bytes that were added so far. Contracts see its register.
+/// The checksum of a FIT file (CRC-16, reflected polynomial 0xA001), over the bytes added so far. Contracts see its register.
 #[derive(Clone, Copy, Debug, PartialEq, Eq)]
 pub struct Crc {
     register: u16,
@@ -39,14 +39,14 @@ impl Crc {
         after_bytes(0, bytes)
     }
 
-    /// Adds these bytes behind those that were added before.
+    /// Adds these bytes after those that were added before.
     pub fn add(&mut self, bytes: &[u8])
         ensures { self.new ≡ crc_from self.old bytes.now }
     {
         self.register = after_bytes(self.register, bytes);
     }
 
-    /// The checksum of all bytes so far. A file holds its low byte first.
+    /// The checksum of all bytes so far. A file stores its low byte first.
     pub fn value(&self) -> u16
         ensures { result ≡ self.now }
     {
@@ -80,8 +80,8 @@ fn after_byte(register: u16, byte: u8) -> u16
     (register >> 8) ^ entry(0, low_byte(register) ^ byte)
 }
 
-// The register goes into the first two bytes, and then each byte has its own way to the end. These two come last,
-// since only they wait for the register.
+// The register goes into the first two bytes, and then each byte moves to the end on its own. These two come last, since only
+// they have to wait for the register.
 fn after_block(register: u16, block: &[u8]) -> u16
     requires { length block.now ≡ 16 }
     ensures { result ≡ crc_from register block.now }
@@ -104,7 +104,7 @@ fn after_block(register: u16, block: &[u8]) -> u16
         ^ entry(14, high_byte(register) ^ block[1])
 }
 
-// The register after this byte and this many zero bytes, from a register of zero.
+// The register after this byte and this many zero bytes, starting at zero.
 #[inline]
 fn entry(zeros: usize, byte: u8) -> u16
     requires { zeros < 16 }

@@ -1,4 +1,4 @@
-// The number that a value's bytes have.
+// The number that the bytes of a value encode.
 
 ghost use Rattle.std.specs.Prelude.{◌≡◌, ◌*◌, ◌^◌, ◌<◌, ◌≤◌, length};
 ghost use Rattle.fit_base.specs.Number.{number, twos_complement};
@@ -7,7 +7,7 @@ ghost use Rattle.fit_base.specs.Value.{IsValueSize};
 use crate::order::Arch;
 use byteorder::{BigEndian, ByteOrder, LittleEndian};
 
-/// The number of these bytes, which are as many as a value of some base type has: 1, 2, 4 or 8.
+/// The number that these bytes encode. There are as many as a value of some base type has: 1, 2, 4 or 8.
 pub fn number_of(arch: Arch, bytes: &[u8]) -> u64
     requires { IsValueSize (length bytes.now) }
     ensures number { result ≡ number arch bytes.now }

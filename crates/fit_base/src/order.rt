@@ -1,4 +1,4 @@
-/// The order of a number's bytes, as a definition's architecture byte gives it.
+/// The byte order of numbers, as the architecture byte of a definition gives it.
 #[derive(Clone, Copy, Debug, PartialEq, Eq)]
 pub enum Arch {
     /// Low byte first.

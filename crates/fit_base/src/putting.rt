@@ -9,15 +9,14 @@ use crate::base::BaseType;
 use crate::order::Arch;
 use byteorder::{BigEndian, ByteOrder, LittleEndian};
 
-/// Writes a value of this type over these bytes, which are as many as the type's size. A float is
-/// given by its bits.
+/// Writes a value of this type over these bytes. There are as many as the type's size. A float is given by its bits.
 pub fn put(base: BaseType, arch: Arch, value: i128, out: &mut [u8])
     requires size { length out.old ≡ (row_of base).size }
     requires low { least_of base ≤ℤ value }
     requires high { value ≤ℤ greatest_of base }
 
     ensures number { number arch out.new ≡ as_unsigned (row_of base).size value }
-    // The bytes read back as one value, and that value.
+    // The bytes read back as one value, which is this one.
     ensures one { count_of (field_of base arch out.new) ≡ 1 }
     ensures unsigned { unsigned_at (field_of base arch out.new) 0 ≡ as_unsigned (row_of base).size value }
     ensures signed { IsTrue (has_sign base) → signed_at (field_of base arch out.new) 0 ≡ value }
@@ -25,7 +24,7 @@ pub fn put(base: BaseType, arch: Arch, value: i128, out: &mut [u8])
     put_number(arch, number_for(base.size(), value), out);
 }
 
-// The number of this many bytes that stands for the value.
+// The number of this many bytes that encodes the value.
 fn number_for(size: usize, value: i128) -> u64
     requires some { 1 ≤ size }
     requires few { size ≤ 8 }

@@ -1,4 +1,4 @@
-// A field of a data message, as its bytes are read.
+// A field of a data message, read from its bytes.
 
 ghost use Rattle.std.specs.Prelude.{◌≡◌, ◌^◌, ◌<◌, ◌↔◌, ◌==◌, IsTrue, IsSome, IfSome, IsUtf8, position};
 
@@ -7,8 +7,8 @@ use crate::number::{number_of, with_sign};
 use crate::order::Arch;
 use std::marker::Model;
 
-/// A field's bytes under the base type byte and the architecture of its definition. It borrows the
-/// bytes, and reads values out of them where they are asked for.
+/// A field's bytes, under the base type byte and the architecture of its definition. It borrows the bytes, and reads a value
+/// only when a caller asks for it.
 #[derive(Debug, Drop)]
 pub struct FieldValue<'a> {
     base: u8,
@@ -34,7 +34,7 @@ impl<'a> FieldValue<'a> {
     ghost use Rattle.fit_base.specs.Base.{base_type};
     ghost use Rattle.fit_base.specs.Value.{is_raw, count_of, value_size, unsigned_at, is_signed, signed_at, IsInvalidAt, text_of};
 
-    /// The field with this base type byte, known or not, this architecture and these bytes.
+    /// The field with this base type byte, which may be unknown, this architecture and these bytes.
     pub fn new(base: u8, arch: Arch, bytes: &'a [u8]) -> Self
         ensures { result ≡ record { base = base; arch = arch; bytes = bytes.now } }
     {
@@ -53,29 +53,28 @@ impl<'a> FieldValue<'a> {
         self.base
     }
 
-    /// The type that the base type byte names, if there is one.
+    /// The type that the base type byte names, if one exists.
     pub fn base_type(&self) -> Option<BaseType>
         ensures { result ≡ base_type self.now.base }
     {
         self.known
     }
 
-    /// The order of the bytes of a value.
+    /// The byte order of a value.
     pub fn arch(&self) -> Arch
         ensures { result ≡ self.now.arch }
     {
         self.arch
     }
 
-    /// All bytes of the field, as they stand in the message.
+    /// All bytes of the field, as they are in the message.
     pub fn raw(&self) -> &'a [u8]
         ensures { result.now ≡ self.now.bytes }
     {
         self.bytes
     }
 
-    /// Whether the field is carried raw: its base type byte is unknown, or its size is no multiple of
-    /// the base size.
+    /// Whether the field is carried raw: its base type byte is unknown, or its size is not a multiple of the base size.
     pub fn is_raw(&self) -> bool
         ensures { result ≡ is_raw self.now }
     {
@@ -85,7 +84,7 @@ impl<'a> FieldValue<'a> {
         }
     }
 
-    /// How many values the field has. One that is carried raw has none.
+    /// The number of values of the field. A field that is carried raw has none.
     pub fn count(&self) -> usize
         ensures { result ≡ count_of self.now }
     {
@@ -95,7 +94,7 @@ impl<'a> FieldValue<'a> {
         }
     }
 
-    // The number of bytes of one value; 0 where the base type byte names no type.
+    // The number of bytes of one value; 0 if the base type byte names no type.
     fn value_size(&self) -> usize
         ensures { result ≡ value_size self.now }
     {
@@ -105,8 +104,8 @@ impl<'a> FieldValue<'a> {
         }
     }
 
-    /// The number of the value at this index, below `count`. Of a type with a sign it is the number
-    /// before the sign is read, and of a float its bits.
+    /// The number of the value at this index, below `count`. For a type with a sign it is the number before the sign is read;
+    /// for a float, its bits.
     pub fn unsigned(&self, i: usize) -> u64
         requires { i < count_of self.now }
         ensures number { result ≡ unsigned_at self.now i }
@@ -116,7 +115,7 @@ impl<'a> FieldValue<'a> {
         number_of(self.arch, &self.bytes[i * size..i * size + size])
     }
 
-    /// The value at this index, below `count`, of a type with a sign.
+    /// The value at this index, below `count`. The type has a sign.
     pub fn signed(&self, i: usize) -> i64
         requires index { i < count_of self.now }
         requires sign { IsTrue (is_signed self.now) }
@@ -125,9 +124,8 @@ impl<'a> FieldValue<'a> {
         with_sign(self.value_size(), self.unsigned(i))
     }
 
-    /// Whether the value at this index, below `count`, is its type's invalid value, which stands for
-    /// no value. Of the type `byte` every value is invalid exactly where all bytes of the field are
-    /// FF.
+    /// Whether the value at this index, below `count`, is its type's invalid value, which means "no value". The values of a
+    /// field of type `byte` are invalid if and only if all its bytes are 0xFF.
     pub fn is_invalid(&self, i: usize) -> bool
         requires { i < count_of self.now }
         ensures { IsTrue result ↔ IsInvalidAt self.now i }
@@ -139,8 +137,8 @@ impl<'a> FieldValue<'a> {
         }
     }
 
-    /// The text of the field: its bytes before the first zero byte, or all where there is none. None
-    /// where they are not UTF-8.
+    /// The text of the field: its bytes before the first zero byte, or all of them if none is zero. `None` if they are not
+    /// UTF-8.
     pub fn text(&self) -> Option<&'a str>
         ensures text { IfSome result (λ text. text.now ≡ text_of self.now) }
         ensures utf8 { IsSome result ↔ IsUtf8 (text_of self.now) }
@@ -148,7 +146,7 @@ impl<'a> FieldValue<'a> {
         str::from_utf8(self.text_bytes()).ok()
     }
 
-    /// The bytes of that text, UTF-8 or not.
+    /// The bytes of the text, UTF-8 or not.
     pub fn text_bytes(&self) -> &'a [u8]
         ensures { result.now ≡ text_of self.now }
     {

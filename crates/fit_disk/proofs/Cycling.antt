@@ -1,4 +1,5 @@
--- What a power cut leaves for given choice bytes may be left: the lengths are in range and the kept bytes stay.
+-- What a power cut makes of a file for given choice bytes is one of the contents that it may leave: the
+-- length is in range and the kept bytes stay.
 use Rattle.std.proofs.Common.{◌≡◌, ◌⊎◌, inl, inr, ⊎_elim, ℕ, ◌+◌, ◌<◌, ◌≤◌, Bool, true, false, if◌then◌else◌, List, [], ◌∷◌, length, get_or, refl, ◌∙◌, arith}
 use Rattle.std.proofs.lemmas.Bool.{and_parts, and_from, or_cases, or_left, or_right, ltb-true, leb-true, lt-ltb, le-leb, cases_lt}
 use Rattle.std.proofs.lemmas.List.{get_or_past}
@@ -7,7 +8,7 @@ use Rattle.fit_disk.specs.Content.{IsBytes}
 use Rattle.fit_disk.specs.Stored.{Stored, IsOutside, Left}
 use Rattle.fit_disk.specs.Cycle.{is_outside, is_kept, free_below, length_by, byte_by, left_by}
 
--- the test of a place says what it should
+-- the Boolean test of a place implies the relation
 pub outside_is : (place : ℕ) (ranges : List (ℕ × ℕ)) → is_outside place ranges ≡ true → IsOutside place ranges
 outside_is place [] outside = tt
 outside_is place (range ∷ ranges) outside =
@@ -23,7 +24,7 @@ pub kept_from : (least : ℕ) (written : List (ℕ × ℕ)) (place : ℕ) → pl
     → is_kept least written place ≡ true
 kept_from least written place low outside = and_from _ _ (lt-ltb place least low) (outside_from place written outside)
 
--- what is kept is as it was synced
+-- a kept byte is the one that was synced
 pub kept_same : (file : Stored) (place : ℕ) → Left file file.seen → is_kept file.least file.written place ≡ true
     → get_or file.seen place 0 ≡ get_or file.synced place 0
 kept_same file place left kept =
@@ -60,7 +61,7 @@ module _ (file : Stored) (choices : List ℕ) where
       by_place (inl low) = rw (get_or-left_by place low) (byte_below place left bytes)
       by_place (inr past) = rw (get_or_past (left_by file choices) place 0 (omega (arith, length-left_by))) (omega arith)
 
-  -- what is left for these choices is one of the contents that a crash may leave
+  -- the content for these choice bytes is one that a crash may leave
   pub cycle_leaves : Left file file.seen → IsBytes choices → Left file (left_by file choices)
   cycle_leaves left bytes =
       let order : file.least ≤ file.greatest = omega (arith, left.no_shorter, left.no_longer) in

@@ -1,4 +1,4 @@
--- A half goes on to be its file through a write and a power cut.
+-- A half still stands for its file after a write and after a power cut.
 use Rattle.std.proofs.Common.{◌≡◌, ℕ, zero, suc, ◌+◌, ◌<◌, ◌≤◌, max, Bool, true, false, ◌&&◌, if◌then◌else◌, List, [], ◌∷◌, length, get_or, refl, sym, ◌∙◌, ap}
 use Rattle.std.proofs.lemmas.Bool.{and_parts, ltb-true}
 use Rattle.std.proofs.lemmas.List.FromFn.{fill_by_all}
@@ -36,7 +36,7 @@ module _ (least : ℕ) (xs ys : List (ℕ × ℕ)) (same : (place : ℕ) → is_
       by_test true is = kept is
       by_test false is = refl
 
--- the content behind the loop over the places, from the file that was made as long as was chosen
+-- the content after the loop over the places, which starts from the file at its chosen length
 pub half_cycled : (old new : Half) (file : Stored) (before choices : List ℕ) → IsHalf old file → IsBytes choices
     → ((place : ℕ) → place < old.least → get_or before place 0 ≡ get_or old.seen.items place 0)
     → length new.seen.items ≡ length_by old.least old.greatest choices

@@ -1,4 +1,4 @@
--- What a crash leaves of a file at rest, and of one that a write or a cut has begun on since.
+-- What a crash leaves of a file at rest, and of a file on which a write or a cut has begun since.
 use Rattle.std.proofs.Common.{subst, ◌≡◌, ◌⊎◌, inl, inr, ℕ, ◌+◌, ◌-◌, ◌<◌, ◌≤◌, max, List, ◌++◌, length, take, drop, get_or, refl, ◌∙◌, arith}
 use Rattle.std.proofs.lemmas.Bool.{cases_lt}
 use Rattle.std.proofs.lemmas.List.{ext_get_or, length-append, length-take, length-drop, get_or-take, get_or-drop, get_or_append_left, get_or-append_right, get_or_past}
@@ -14,7 +14,7 @@ rest_left file c d rests left_file =
 pub left_rest : (c : List ℕ) → IsBytes c → Left (at_rest c) c
 left_rest c bytes = record { no_shorter = omega arith; no_longer = omega arith; same = λ i low outside. refl; bytes = bytes }
 
--- a write on a file at rest leaves a torn one, whatever reads give meanwhile
+-- a write on a file at rest leaves a torn content, whatever reads give meanwhile
 pub torn_left : (at count : ℕ) (now : List ℕ) (file : Stored) (c d : List ℕ) → file ≡ at_rest c
     → Left (write_begun at count now file) d → Torn at count c d
 torn_left at count now file c d rests left_file =
@@ -26,7 +26,7 @@ torn_left at count now file c d rests left_file =
       after = λ i low behind. left.same i low (inr behind, tt);
     }
 
--- a cut of a file at rest leaves a part of it
+-- a cut of a file at rest leaves a partly cut content
 pub cut_left : (len : ℕ) (now : List ℕ) (file : Stored) (c d : List ℕ) → file ≡ at_rest c → len ≤ length c
     → Left (cut_begun len now file) d → PartlyCut len c d
 cut_left len now file c d rests within left_file =
@@ -41,7 +41,7 @@ pub length-over : (at : ℕ) (bytes old : List ℕ) → at ≤ length old → le
 length-over at bytes old within =
     omega (arith, length-append (take at old) (bytes ++ drop (at + length bytes) old), length-append bytes (drop (at + length bytes) old), length-take at old, length-drop (at + length bytes) old)
 
--- what a whole write leaves before its range, in it and behind it
+-- what a whole write leaves before its range, in it and after it
 pub over_before : (at : ℕ) (bytes old : List ℕ) (i : ℕ) → at ≤ length old → i < at → get_or (over at bytes old) i 0 ≡ get_or old i 0
 over_before at bytes old i within front =
     let low : i < length (take at old) = omega (arith, length-take at old) in
@@ -64,7 +64,7 @@ over_after at bytes old i within behind =
     ∙ get_or-drop (at + length bytes) old (i - at - length bytes) 0
     ∙ rw place refl
 
--- a whole write is a torn one, so that what holds of every torn write holds of it
+-- a whole write is a torn one: what is true of every torn write is true of it
 pub over_torn : (at : ℕ) (bytes old : List ℕ) → at ≤ length old → Torn at (length bytes) old (over at bytes old)
 over_torn at bytes old within = record {
   no_shorter = omega (arith, length-over at bytes old within);
@@ -73,7 +73,7 @@ over_torn at bytes old within = record {
   after = λ i low behind. over_after at bytes old i within behind;
 }
 
--- a whole cut is a part of it
+-- a whole cut is a partial one
 pub take_cut : (len : ℕ) (old : List ℕ) → len ≤ length old → PartlyCut len old (take len old)
 take_cut len old within = record {
   no_shorter = omega (arith, length-take len old);
@@ -81,7 +81,7 @@ take_cut len old within = record {
   before = λ i low. get_or-take len old i 0 low;
 }
 
--- bytes stay bytes
+-- a write of bytes over bytes gives bytes
 pub over_bytes : (at : ℕ) (bytes old : List ℕ) → at ≤ length old → IsBytes bytes → IsBytes old → IsBytes (over at bytes old)
 over_bytes at bytes old within new_bytes old_bytes i = by_place (cases_lt i at) (cases_lt i (at + length bytes))
   where
@@ -110,7 +110,7 @@ left_more at count now file d left = record {
   bytes = left.bytes;
 }
 
--- and before a cut
+-- the same for a cut
 pub left_less : (len : ℕ) (now : List ℕ) (file : Stored) (d : List ℕ) → Left file d → Left (cut_begun len now file) d
 left_less len now file d left = record {
   no_shorter = omega (arith, left.no_shorter);

@@ -1,4 +1,4 @@
--- How a run of calls goes on: what holds at every moment so far holds at every moment of one call more.
+-- How a run of calls grows: what is true at every moment so far is true at every moment of one call more.
 use Rattle.std.proofs.Common.{◌≡◌, ⊎_elim, ℕ, List, [], ◌∷◌, ◌++◌, length, take, Result, Ok, Err, refl, sym, ◌∙◌, ap, subst, append_assoc}
 use Rattle.std.specs.Prelude.{All}
 use Rattle.std.proofs.lemmas.List.Elements.{All-nil, All-cons, All-head, All-append, All-weaker}
@@ -9,7 +9,7 @@ use Rattle.fit_disk.specs.State.{State, Contents, file_of, with_file, LeavesOnly
 use Rattle.fit_disk.specs.Story.{Story, then_state, seen_of, Throughout}
 use Rattle.fit_disk.specs.Calls.{Wrote, Shortened, Synced}
 
--- what follows from P holds where P does
+-- what follows from P is true wherever P is
 pub weaker : (P Q : Contents → Type 0) → ((c : Contents) → P c → Q c) → (old new : Story) → Throughout P old new → Throughout Q old new
 weaker P Q follows old new run = record {
   since = run.since;
@@ -23,7 +23,7 @@ module _ (P : Contents → Type 0) where
   pub begins : (old : Story) → LeavesOnly P old.now → Throughout P old old
   begins old here = record { since = []; states = refl; each = All-nil (LeavesOnly P); start = here }
 
-  -- one state more
+  -- one more state
   pub goes_on : (old mid : Story) (state : State) → Throughout P old mid → LeavesOnly P state → Throughout P old (then_state state mid)
   goes_on old mid state run here = record {
     since = state ∷ run.since;
@@ -50,11 +50,11 @@ module _ (P : Contents → Type 0) where
   last_has [] old new states each start = let same : new.now ≡ old.now = cc in subst (LeavesOnly P) (sym same) start
   last_has (state ∷ since) old new states each start = let same : new.now ≡ state = cc in subst (LeavesOnly P) (sym same) (All-head (LeavesOnly P) state since each)
 
-  -- in the last state too
+  -- it is true in the last state too
   pub at_end : (old new : Story) → Throughout P old new → LeavesOnly P new.now
   at_end old new run = last_has run.since old new run.states run.each run.start
 
-  -- one state more, which the story has come to
+  -- one more state, which the story has reached
   to : (old mid new : Story) (state : State) → Throughout P old mid → new ≡ then_state state mid → LeavesOnly P state → Throughout P old new
   to old mid new state run is here = stays old (then_state state mid) new (goes_on old mid state run here) is
 

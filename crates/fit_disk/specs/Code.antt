@@ -1,4 +1,4 @@
--- The numbers of faults, and which fault an error of the system is.
+-- The numbers of faults, and which fault an error of the system becomes.
 use Rattle.std.specs.Prelude.{ℕ}
 use Rattle.std.specs.declared.io.Error.{Error}
 use Rattle.std.specs.declared.io.ErrorKind.{ErrorKind}
@@ -15,6 +15,6 @@ abbrev pub fault_of_kind : ErrorKind → OpenFault
 fault_of_kind OutOfMemory = Memory
 fault_of_kind _ = Open
 
--- what an error of the system is told as
+-- the fault that an error of the system is reported as
 abbrev pub fault_of : Error → OpenFault
 fault_of error = fault_of_kind (error_kind error)

@@ -4,7 +4,7 @@ use Rattle.fit_disk.specs.declared.half.Half.{Half}
 use Rattle.fit_disk.specs.Stored.{Stored, Left}
 use Rattle.fit_disk.specs.Cycle.{is_outside}
 
--- The half is this file. What was synced is not stored: where it is kept, what reads give agrees with it.
+-- The half stands for this file. What was synced is not stored: at each kept place it agrees with what reads give.
 pub record IsHalf (half : Half) (file : Stored) : Type 0 where
   pub seen : file.seen ≡ half.seen.items
   pub least : file.least ≡ half.least

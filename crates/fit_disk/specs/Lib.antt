@@ -12,5 +12,7 @@ pub mod Recorded
 pub mod Store
 pub mod CallSchedule
 pub mod Memory
+pub mod Witness
+pub mod Shadow
 pub mod Files
 pub mod Code

@@ -1,5 +1,5 @@
 -- What a memory disk shows.
-use Rattle.std.specs.Prelude.{◌≡◌, ℕ, true, Result, IsErr, is_err, OnErr, Bool, ◌||◌, ◌==◌}
+use Rattle.std.specs.Prelude.{[], ◌≡◌, ℕ, true, Result, IsErr, is_err, OnErr, Bool, ◌||◌, ◌==◌}
 use Rattle.fit_disk.specs.declared.call_schedule.CallSchedule.{CallSchedule}
 use Rattle.fit_disk.specs.declared.disk.Which.{Which}
 use Rattle.fit_disk.specs.declared.memory.Memory.{Memory}
@@ -26,35 +26,34 @@ abbrev pub memory_schedule : Memory → Schedule
 memory_schedule m = schedule_value m.call_schedule
 
 abbrev pub memory_log : Memory → Log
-memory_log m = record { counts = memory_counts m; schedule = memory_schedule m }
+memory_log m = record { counts = memory_counts m; schedule = memory_schedule m; memory = [] }
 
--- a growth was refused in it
+-- memory was refused in one of its calls
 abbrev pub was_refused : Memory → Bool
 was_refused m = m.call_schedule.was_refused
 
--- a growth was refused in its last call
+-- memory was refused in its last call
 abbrev pub is_refused : Memory → Bool
 is_refused m = m.call_schedule.is_refused
 
--- a growth was refused in it, or its counts are at their last value
+-- memory was refused in one of its calls, or its counts are at their last value
 abbrev pub is_spent : Memory → Bool
 is_spent m = was_refused m || (m.call_schedule.counts.calls == last_count)
 
--- A call fails where it must and where memory was refused in it, and nowhere else. A refusal is told from then on.
+-- A call fails if and only if it is scheduled to, the counts are at their last value, or memory was refused in it. A refusal is remembered.
 pub record FailsByCause {T E : Type 0} (result : Result T E) (old new : Memory) : Type 0 where
   pub fails : is_err result ≡ (must_fail (memory_counts old) (memory_schedule old) || is_refused new)
   pub told : was_refused new ≡ (was_refused old || is_refused new)
 
--- A call that may take memory. Where it failed, reads give what they gave; where memory was refused in it,
--- it failed and nothing changed.
+-- A call that may take memory. If it failed, reads give what they gave before. If memory was refused in it, it failed and nothing changed.
 pub record FailsCleanly {T E : Type 0} (result : Result T E) (old new : Memory) : Type 0 where
   pub same_reads : OnErr result (seen_in (memory_story new).now ≡ seen_in (memory_story old).now)
   pub unchanged : is_refused new ≡ true → IsErr result × (memory_story new ≡ memory_story old)
 
--- the story behind a write that failed, but for want of memory: it was begun, and reads give what they gave
+-- the story after a write that failed for a cause other than memory: it was begun, and reads give what they gave before
 abbrev pub write_failed : Which → ℕ → ℕ → Story → Story
 write_failed which at count old = then_file which (write_begun at count (seen_of which old) (file_of which old.now)) old
 
--- and behind a cut that failed so
+-- the same for a cut
 abbrev pub cut_failed : Which → ℕ → Story → Story
 cut_failed which len old = then_file which (cut_begun len (seen_of which old) (file_of which old.now)) old

@@ -2,15 +2,16 @@
 use Rattle.std.specs.Prelude.{◌≡◌, ℕ, ◌+◌, ◌≤◌}
 use Rattle.fit_disk.specs.Counts.{Counts, Log, HasFailed}
 
--- so many calls were made, and none of them failed
+-- so many calls were made, and none failed
 pub record AllWent (made : ℕ) (old new : Counts) : Type 0 where
   pub calls : new.calls ≡ old.calls + made
   pub failed : new.failed ≡ old.failed
 
--- What a run of calls did: no more than so many were made; where one is told to have failed, one did; else none; and
--- what is arranged to fail is as it was.
+-- What a run of calls did. At most so many were made. If it reports a failure, one call failed, the last one;
+-- else none did. The schedule and the caller's memory are unchanged.
 pub record Ran (most : ℕ) (Failed : Type 0) (old new : Log) : Type 0 where
   pub at_most : new.counts.calls ≤ old.counts.calls + most
   pub cause : Failed → HasFailed old.counts new.counts
   pub went : (Failed → ⊥) → new.counts.failed ≡ old.counts.failed
   pub planned : new.schedule ≡ old.schedule
+  pub memory : new.memory ≡ old.memory

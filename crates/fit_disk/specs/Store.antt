@@ -1,15 +1,15 @@
--- What the two files of the memory disk and their record stand for.
+-- What the two files of the memory disk and its record stand for.
 use Rattle.std.specs.Prelude.{ℕ, ◌+◌, ◌≤◌, max, vec_len, vec_capacity}
 use Rattle.fit_disk.specs.declared.store.Store.{Store}
 use Rattle.fit_disk.specs.Story.{Story}
 use Rattle.fit_disk.specs.Events.{story_of}
 use Rattle.fit_disk.specs.Half.{HasRoom}
 
--- the story that the record tells
+-- the story that the record gives
 abbrev pub story_in : Store → Story
 story_in store = story_of store.events.items
 
--- a write of either file up to these ends, its event, and a later power cut need no memory
+-- a write of either file up to its end, with its event, and a later power cut need no memory
 pub record HasStoreRoom (store : Store) (data_end journal_end : ℕ) : Type 0 where
   pub events : vec_len store.events + 2 ≤ vec_capacity store.events
   pub for_data : HasRoom store.data_half data_end

@@ -3,7 +3,7 @@ use Rattle.std.specs.Prelude.{◌≡◌, ◌⊎◌, ℕ, ◌+◌, ◌<◌, ◌�
 use Rattle.fit_disk.specs.Content.{IsBytes}
 
 -- what the last successful sync kept, what reads give, and since that sync the least and the greatest length
--- and the ranges that were written, each a place and a number of bytes
+-- and the written ranges, each a place and a number of bytes
 pub record Stored : Type 0 where
   pub synced : List ℕ
   pub seen : List ℕ
@@ -16,7 +16,7 @@ abbrev pub IsOutside : ℕ → List (ℕ × ℕ) → Type 0
 IsOutside place [] = Unit {0}
 IsOutside place (range ∷ ranges) = ((place < range.0) ⊎ (range.0 + range.1 ≤ place)) × IsOutside place ranges
 
--- a crash may leave this content: it agrees with what was synced wherever no length was below and nothing written
+-- a crash may leave this content: it agrees with what was synced at each place below the least length at which nothing was written
 pub record Left (file : Stored) (content : List ℕ) : Type 0 where
   pub no_shorter : file.least ≤ length content
   pub no_longer : length content ≤ file.greatest
@@ -24,11 +24,11 @@ pub record Left (file : Stored) (content : List ℕ) : Type 0 where
       → slice_index content place ≡ slice_index file.synced place
   pub bytes : IsBytes content
 
--- whatever a crash leaves of the file has P
+-- whatever a crash leaves of the file satisfies P
 abbrev pub Leaves : (List ℕ → Type 0) → Stored → Type 0
 Leaves P file = (content : List ℕ) → Left file content → P content
 
--- all of the file is kept: after a successful sync, and after a crash that left this
+-- all of the file is kept, as after a successful sync or after a crash that left this content
 abbrev pub at_rest : List ℕ → Stored
 at_rest content = record { synced = content; seen = content; least = length content; greatest = length content; written = [] }
 

@@ -9,11 +9,11 @@ pub record Story : Type 0 where
   pub now : State
   pub past : List State
 
--- the story goes on with one more state
+-- the story with one more state
 abbrev pub then_state : State → Story → Story
 then_state state old = record { now = state; past = old.now ∷ old.past }
 
--- the story goes on with another state of one file
+-- the story with one more state, in which one file is replaced
 abbrev pub then_file : Which → Stored → Story → Story
 then_file which file old = then_state (with_file which file old.now) old
 
@@ -21,8 +21,8 @@ then_file which file old = then_state (with_file which file old.now) old
 abbrev pub seen_of : Which → Story → List ℕ
 seen_of which story = (file_of which story.now).seen
 
--- Whatever a crash leaves has P, in the old state and in each one since: that is at every moment from then on,
--- inside the calls too, since what is left inside a call may also be left before it or after it.
+-- Whatever a crash leaves satisfies P, in the old state and in each later one. This covers every moment
+-- since, inside calls too: what may be left inside a call may also be left before it or after it.
 pub record Throughout (P : Contents → Type 0) (old new : Story) : Type 0 where
   pub since : List State
   pub states : new.now ∷ new.past ≡ since ++ (old.now ∷ old.past)

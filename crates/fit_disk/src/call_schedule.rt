@@ -7,7 +7,7 @@ ghost use Rattle.fit_disk.specs.CallSchedule.{counts_of, schedule_by};
 use crate::call_counts::CallCounts;
 use crate::{DeviceError, Which};
 
-// What is to fail, by the numbers of the calls, and the counts when that was said.
+// Which calls are to fail, by their numbers, and the counts when this was scheduled.
 #[derive(Drop)]
 pub(crate) struct CallSchedule {
     counts: CallCounts,
@@ -15,7 +15,7 @@ pub(crate) struct CallSchedule {
     cut: Option<u64>,
     since: CallCounts,
     was_refused: bool,
-    // Memory was refused in the call that was counted last.
+    // Memory was refused in the last call.
     is_refused: bool,
     ghost planned: { was_refused ≡ false → FailedAsPlanned (counts_of counts) (schedule_by fail cut since) },
 }
@@ -47,7 +47,7 @@ impl CallSchedule {
         self.was_refused || self.counts.calls == u64::MAX
     }
 
-    // Counts a call. It fails where that is planned, and where the counts are at their last value.
+    // Counts a call. It fails if it is scheduled to, or if the counts are at their last value.
     pub(crate) fn call(&mut self) -> Result<(), DeviceError>
         ensures counted { CountsCall result (schedule_counts self.old) (schedule_counts self.new) }
         ensures reads { self.new.counts.data_reads ≡ self.old.counts.data_reads }
@@ -83,7 +83,7 @@ impl CallSchedule {
         Ok(())
     }
 
-    // Lets the call that was counted last fail, since memory was refused in it.
+    // Lets the last call fail, because memory was refused in it.
     pub(crate) fn refuse(&mut self, answer: Result<(), DeviceError>) -> Result<(), DeviceError>
         requires { IsOk answer → self.old.counts.failed < self.old.counts.calls }
         ensures err { IsErr result }
@@ -114,7 +114,7 @@ impl CallSchedule {
         self.since = self.counts;
     }
 
-    // Lets the power go at the k-th call from now, unless it is gone.
+    // Lets the power go off at the k-th call from now, unless it is off already.
     pub(crate) fn cut_at(&mut self, k: u32)
         ensures counts { schedule_counts self.new ≡ schedule_counts self.old }
         ensures schedule { schedule_value self.new
@@ -128,7 +128,7 @@ impl CallSchedule {
         self.since = self.counts;
     }
 
-    // Drops what was to fail.
+    // Drops the schedule.
     pub(crate) fn drop_plans(&mut self)
         ensures counts { schedule_counts self.new ≡ schedule_counts self.old }
         ensures schedule { schedule_value self.new ≡ unplanned (schedule_counts self.old) }
@@ -148,7 +148,7 @@ fn is_due(fail: Option<u64>, cut: Option<u64>, number: u64) -> bool
     is_at_number(fail, number) || is_from_number(cut, number)
 }
 
-// Whether the planned number is this one.
+// Whether the scheduled number is this one.
 fn is_at_number(planned: Option<u64>, number: u64) -> bool
     ensures { result ≡ is_at planned number }
 {
@@ -158,7 +158,7 @@ fn is_at_number(planned: Option<u64>, number: u64) -> bool
     }
 }
 
-// Whether the planned number is this one or before it.
+// Whether the scheduled number is this one or below it.
 fn is_from_number(planned: Option<u64>, number: u64) -> bool
     ensures { result ≡ is_from planned number }
 {

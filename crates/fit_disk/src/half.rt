@@ -8,8 +8,7 @@ ghost use Rattle.fit_disk.specs.Cycle.{is_outside, is_kept, free_below, length_b
 use crate::ranges::add_range;
 use std::alloc::{AllocError, Global};
 
-// What reads give, and since the last sync the least and the greatest length and the ranges that were written,
-// each a place and a number of bytes.
+// What reads give, and since the last sync the least and the greatest length and the written ranges, each a place and a number of bytes.
 #[derive(Drop)]
 pub(crate) struct Half {
     seen: Vec<u8>,
@@ -41,7 +40,7 @@ impl Half {
         &self.seen
     }
 
-    // Takes the memory that a write up to this end needs, and a later power cut.
+    // Takes the memory that a write up to this end and a later power cut need.
     pub(crate) fn make_room(&mut self, end: usize) -> Result<(), AllocError>
         ensures same { (file : Stored) → IsHalf self.old file → IsHalf self.new file }
         ensures ok { OnOk result (HasRoom self.new end) }
@@ -53,7 +52,7 @@ impl Half {
         Ok(())
     }
 
-    // Begins a write, and does all of it or nothing.
+    // Begins a write, and does either all of it or nothing.
     pub(crate) fn begin_write(&mut self, at: usize, bytes: &[u8], is_done: bool)
         requires within { at ≤ vec_len self.old.seen }
         requires room { HasRoom self.old (at + length bytes.now) }
@@ -69,7 +68,7 @@ impl Half {
         }
     }
 
-    // Begins a cut, and does all of it or nothing.
+    // Begins a cut, and does either all of it or nothing.
     pub(crate) fn begin_cut(&mut self, len: usize, is_done: bool)
         requires { len ≤ vec_len self.old.seen }
         ensures { (file : Stored) → IsHalf self.old file → IsHalf self.new
@@ -88,7 +87,7 @@ impl Half {
         self.rest();
     }
 
-    // Leaves what a power cut does for these choice bytes, and answers how many of them it took.
+    // Leaves what a power cut does for these choice bytes, and returns how many of them it took.
     pub(crate) fn cycle(&mut self, choices: &[u8]) -> usize
         ensures left { (file : Stored) → IsHalf self.old file
             → IsHalf self.new (at_rest (left_by file choices.now)) }
@@ -104,7 +103,7 @@ impl Half {
         taken.min(choices.len())
     }
 
-    // From now on a power cut leaves what reads give.
+    // From now on a power cut leaves exactly what reads give.
     fn rest(&mut self)
         ensures seen { self.new.seen ≡ self.old.seen }
         ensures least { self.new.least ≡ vec_len self.old.seen }
@@ -117,7 +116,7 @@ impl Half {
     }
 }
 
-// Writes over what is there and past the end, for which there is room.
+// Writes over what is there and past the end. There is room for it.
 fn put(seen: &mut Vec<u8>, at: usize, bytes: &[u8])
     requires within { at ≤ vec_len seen.old }
     requires room { at + length bytes.now ≤ vec_capacity seen.old }
@@ -133,7 +132,7 @@ fn put(seen: &mut Vec<u8>, at: usize, bytes: &[u8])
     }
 }
 
-// Makes the content so long, for which there is room.
+// Sets the length of the content. There is room for it.
 fn set_length(seen: &mut Vec<u8>, len: usize)
     requires { len ≤ vec_capacity seen.old }
     ensures long { vec_len seen.new ≡ len }
@@ -144,14 +143,14 @@ fn set_length(seen: &mut Vec<u8>, len: usize)
     let _ = seen.resize(len, 0);
 }
 
-// A choice byte. Missing ones are 0.
+// The choice byte at a place. Missing ones are 0.
 fn choice(choices: &[u8], place: usize) -> u8
     ensures { result ≡ slice_index choices.now place }
 {
     choices.get(place).copied().unwrap_or(0)
 }
 
-// The length that the first four choice bytes give.
+// The length that the first four choice bytes choose.
 fn chosen_length(least: usize, greatest: usize, choices: &[u8]) -> usize
     requires order { least ≤ greatest }
     requires fits { greatest < 2 ^ 63 }
@@ -187,8 +186,7 @@ fn is_kept_at(least: usize, written: &[(usize, usize)], place: usize) -> bool
     place < least && is_outside_of(place, written)
 }
 
-// Gives each place that is not kept the next choice byte, and answers how many were taken, with the four of
-// the length.
+// Sets each place that is not kept to the next choice byte, and returns how many were taken, including the four for the length.
 fn vary(seen: &mut Vec<u8>, least: usize, written: &[(usize, usize)], choices: &[u8]) -> usize
     ensures long { vec_len seen.new ≡ vec_len seen.old }
     ensures room { vec_capacity seen.new ≡ vec_capacity seen.old }

@@ -3,14 +3,24 @@
 
 mod call_counts;
 mod call_schedule;
+mod content;
 mod disk;
 mod event;
 mod files;
 mod half;
 mod memory;
 mod ranges;
+mod recorded;
+mod reported;
+mod shadow;
 mod store;
+mod witness;
 
+pub use call_counts::CallCounts;
+pub use content::copy_from;
 pub use disk::{DeviceError, Disk, Which};
-pub use files::{Files, OpenFault};
+pub use files::{DATA_NAME, Files, JOURNAL_NAME, OpenFault, is_one_missing, lock};
 pub use memory::Memory;
+pub use recorded::open_to_read;
+pub use shadow::Shadow;
+pub use witness::{Trusting, Witness};

@@ -11,16 +11,16 @@ ghost use Rattle.fit_disk.specs.CallSchedule.{counts_of, schedule_by};
 
 use crate::call_schedule::CallSchedule;
 use crate::store::Store;
-use crate::{DeviceError, Disk, Which};
+use crate::{DeviceError, Disk, Which, copy_from};
 use std::alloc::Global;
 
-/// An honest disk in memory. A call fails just where it is scheduled to, where memory was refused in it, and where the
-/// counts are at their last value; a write or cut that fails changes nothing that reads give.
+/// An honest disk in memory. A call fails if and only if it is scheduled to, memory was refused in it, or the
+/// counts are at their last value. A failed write or cut changes nothing that reads give.
 #[derive(Drop)]
 pub struct Memory {
     store: Store,
     call_schedule: CallSchedule,
-    /// Unless memory was refused, as many calls have failed since the schedule was made as it says.
+    /// Unless memory was refused, as many calls have failed since the schedule was made as it gives.
     pub ghost planned: { call_schedule.was_refused ≡ false
         → FailedAsPlanned (counts_of call_schedule.counts)
         (schedule_by call_schedule.fail call_schedule.cut call_schedule.since) },
@@ -29,7 +29,7 @@ pub struct Memory {
 impl Memory {
     ghost use Rattle.fit_disk.specs.Memory.{memory_story, memory_counts, memory_schedule, was_refused, is_refused, is_spent};
 
-    /// Two empty files. It takes memory only as they grow.
+    /// Two empty files. Memory is taken only as they grow.
     pub fn new(alloc: Global) -> Memory
         ensures story { memory_story result ≡ fresh }
         ensures counts { memory_counts result ≡ no_calls }
@@ -43,14 +43,14 @@ impl Memory {
         }
     }
 
-    /// What reads of a file would give, without a call of the device.
+    /// What reads of a file would give, without a call of the disk.
     pub fn content(&self, which: Which) -> &[u8]
         ensures { result.now ≡ seen_of which (memory_story self.now) }
     {
         self.store.content(which)
     }
 
-    /// Whether memory was refused in it so far, or its counts are at their last value.
+    /// Whether memory was refused in a call so far, or the counts are at their last value.
     pub fn spent(&self) -> bool
         ensures spent { result ≡ is_spent self.now }
         ensures below { result ≡ false → (memory_counts self.now).calls < last_count }
@@ -58,7 +58,7 @@ impl Memory {
         self.call_schedule.is_spent()
     }
 
-    /// Lets the k-th call from now fail, from 1 on, and later ones go on.
+    /// Lets only the k-th call from now fail, counted from 1. It replaces what an earlier `fail_at` scheduled.
     pub fn fail_at(&mut self, k: u32)
         requires { 1 ≤ k }
         ensures story { memory_story self.new ≡ memory_story self.old }
@@ -71,8 +71,8 @@ impl Memory {
         self.call_schedule.fail_at(k);
     }
 
-    /// Lets the power go at the k-th call from now, from 1 on: that call and all later ones fail until `cycle`.
-    /// While the power is gone it stays gone.
+    /// Lets the power go off at the k-th call from now, counted from 1. That call and all later ones fail
+    /// until `cycle`. It changes nothing while the power is off.
     pub fn cut_at(&mut self, k: u32)
         requires { 1 ≤ k }
         ensures story { memory_story self.new ≡ memory_story self.old }
@@ -85,8 +85,8 @@ impl Memory {
         self.call_schedule.cut_at(k);
     }
 
-    /// Leaves of both files what a power cut does for these choice bytes, brings the power back, and drops what
-    /// was scheduled. It answers how many of the choice bytes it took, and takes no memory.
+    /// Leaves of both files what a power cut does for these choice bytes, turns the power on, and drops the
+    /// schedule. It returns how many of the choice bytes it took, and takes no memory.
     pub fn cycle(&mut self, choices: &[u8]) -> usize
         ensures now { (memory_story self.new).now ≡ cycled choices.now (memory_story self.old).now }
         ensures story { (memory_story self.new ≡ memory_story self.old)
@@ -196,18 +196,4 @@ impl Disk for Memory {
         }
         answer
     }
-}
-
-// Copies the content from a place on into the front of the buffer, as far as both go.
-fn copy_from(content: &[u8], at: u64, buffer: &mut [u8]) -> usize
-    ensures within { result ≤ length buffer.old }
-    ensures bytes { ReadsAt content.now at (length buffer.old) buffer.new result }
-{
-    if at >= content.len() as u64 {
-        return 0;
-    }
-    let rest = &content[at as usize..];
-    let count = rest.len().min(buffer.len());
-    buffer[..count].copy_from_slice(&rest[..count]);
-    count
 }

@@ -1,10 +1,10 @@
-// The ranges of a file that were written, each a place and a number of bytes.
+// The written ranges of a file, each a place and a number of bytes.
 
 ghost use Rattle.std.specs.Prelude.{ℕ, ◌≡◌, ◌+◌, ◌^◌, ◌<◌, ◌∷◌, ◌&&◌, IfSome, vec_len, vec_capacity};
 ghost use Rattle.fit_disk.specs.Cycle.{is_beside, is_outside};
 
-// Adds a range, for which there is room. One that begins within the last one or right at its end is joined to it, so
-// that writes behind each other are one range.
+// Adds a range. There is room for it. If it begins within the last range or right at its end, the two are
+// joined: writes one after another are one range.
 #[tactic(auto, using(crate::proofs::Joining::outside_push, crate::proofs::Joining::outside_joined))]
 pub(crate) fn add_range(ranges: &mut Vec<(usize, usize)>, at: usize, count: usize)
     requires room { vec_len ranges.old < vec_capacity ranges.old }
@@ -26,7 +26,7 @@ pub(crate) fn add_range(ranges: &mut Vec<(usize, usize)>, at: usize, count: usiz
     }
 }
 
-// Both ranges as one, where the second begins within the first or right at its end.
+// Both ranges as one, if the second begins within the first or right at its end.
 fn joined(first: (usize, usize), second: (usize, usize)) -> Option<(usize, usize)>
     requires { second.0 + second.1 < 2 ^ 64 }
     ensures { IfSome result (λ both.

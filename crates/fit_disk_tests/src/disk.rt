@@ -1,4 +1,4 @@
-// The disk model against values worked out by hand, and the real files.
+// The disk model, with values worked out by hand, and the real files.
 
 mod begun;
 mod cycles;
@@ -10,18 +10,18 @@ mod ranges;
 use fit_disk::{DeviceError, Disk, Memory, Which};
 use std::process::Abort;
 
-// Tests that a file of the disk holds this.
+// Asserts that a file of the disk holds this content.
 fn expect(rt: &impl Abort, disk: &Memory, which: Which, content: &[u8]) {
     assert!(rt; disk.content(which) == content, "{:?}", disk.content(which));
 }
 
-// Cuts the power of the disk, which takes so many of the choice bytes.
+// Cuts the power of the disk, and asserts that it takes so many of the choice bytes.
 fn cycle(rt: &impl Abort, disk: &mut Memory, choices: &[u8], taken: usize) {
     let took = disk.cycle(choices);
     assert!(rt; took == taken, "took {took}");
 }
 
-// The calls of the memory disk, which say no more here than what they answer.
+// The calls of the memory disk without its contracts: only their answers count here.
 fn size(disk: &mut Memory, which: Which) -> Result<u64, DeviceError> {
     disk.size(which)
 }

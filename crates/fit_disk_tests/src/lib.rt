@@ -1,7 +1,9 @@
-//! Tests of the disk and the journal, by their public calls. They stand above these crates, so that no library is proved once
-//! more with its tests.
+//! Tests of the disk, of the disk over two buffers, and of the journal, by their public calls. They are in a crate above those, so that
+//! no library is proved again with its tests.
 #![tactic(auto)]
 
+#[cfg(test)]
+mod buffers;
 #[cfg(test)]
 mod disk;
 #[cfg(test)]

@@ -1,10 +1,10 @@
-// Values from outside: the checksums are known ones, and the rows are those of the protocol's table.
+// The base types and the checksum. The checksums are known ones, and the rows are those of the protocol's table.
 
 use crate::equality::equal;
 use fit_base::{Arch, BaseType, Crc, FieldValue, put};
 use std::process::Abort;
 
-// Three values of one type, in both orders.
+// Three values of one type, in both byte orders.
 #[derive(Drop)]
 struct Case<'a> {
     code: u8,
@@ -72,7 +72,7 @@ fn types_by_their_bytes(rt: HostRuntime) {
     equal(&rt, known, 17);
 }
 
-// Each type at 0, at its greatest value and at its invalid one, or where 0 is invalid at another.
+// Each type at 0, at its greatest value and at its invalid value; if 0 is the invalid value, the third is another one.
 #[test]
 fn values_of_each_type(rt: HostRuntime) {
     let cases = [

@@ -1,4 +1,4 @@
-// Values from outside, sizes, and failures of memory and of writers.
+// The grammar: values from outside, sizes, and failures of memory and of writers.
 
 mod decoding;
 mod developer;

@@ -1,5 +1,5 @@
-//! Tests of the base types, the grammar and the text of files, by the public calls of their crates. They stand above these, so
-//! that no library is proved once more with its tests.
+//! Tests of the base types, the grammar and the text of files, by the public calls of their crates. They are in a crate above those,
+//! so that no library is proved again with its tests.
 #![tactic(auto)]
 
 #[cfg(test)]

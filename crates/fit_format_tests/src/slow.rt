@@ -3,7 +3,7 @@
 use std::alloc::Global;
 use std::io::{self, Write};
 
-// A writer that takes at most so many bytes a call, and refuses each call behind so many.
+// A writer that takes at most so many bytes a call, and refuses each call after so many calls.
 #[derive(Drop)]
 pub(crate) struct Slow {
     held: Vec<u8>,

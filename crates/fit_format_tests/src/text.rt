@@ -1,4 +1,4 @@
-// What files say, as text, and text on its way to a writer.
+// Files as text, and text on its way to a writer.
 
 mod developer;
 mod names;

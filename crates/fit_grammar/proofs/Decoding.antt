@@ -1,4 +1,4 @@
--- Decoding a file, behind the clauses of `decode_file`: which refusal bytes have, and that they are one file at most.
+-- Decoding a file, for the clauses of `decode_file`: which refusal bytes have, and that they are at most one file.
 pub mod Alignment
 pub mod Headers
 pub mod Quiet

@@ -1,4 +1,4 @@
--- A file in memory, behind `File` and `Items`: its items read again from the row of bytes that it keeps.
+-- A file in memory, for `File` and `Items`: its items are read again from the row of bytes that it keeps.
 pub mod InForce
 pub mod ByLookup
 pub mod Following

@@ -1,5 +1,5 @@
--- A folder for each theorem; the folders in small letters have what single functions need. Public are the lemmas that proofs of
--- the crates above cite.
+-- There is a folder for each theorem; the folders in small letters have what single functions need. The public lemmas are those
+-- that proofs of the crates above cite.
 pub mod OneItem
 pub mod Decoding
 mod Pieces

@@ -1,4 +1,4 @@
--- Reading one item: how items are spelled, that only one answer is right, and how long an item is at least.
+-- Reading one item: how items are spelled, that only one answer is right, and the least length of an item.
 pub mod Spelling
 pub mod DefinitionRead
 pub mod Steps

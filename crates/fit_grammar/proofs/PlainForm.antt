@@ -1,6 +1,7 @@
--- The plain form of a file: it says the same messages, and is made item by item.
+-- The plain form of a file: it encodes the same messages, and is made item by item.
 pub mod Taken
 pub mod Timed
 pub mod Messages
 pub mod Unchanged
 pub mod SoFar
+pub mod Stood

@@ -1,4 +1,4 @@
--- The time in the values of a field of base type 86: for `time_in`.
+-- The time in the values of a field of base type 0x86: for `time_in`.
 use Rattle.std.proofs.Common.{◌≡◌, ◌≢◌, ℕ, zero, suc, ◌/◌, ◌%◌, List, length, None, refl, ap, ◌∙◌, inl, inr, arith}
 use Rattle.std.proofs.lemmas.Bool.Decides.{eqb_tells}
 use Rattle.fit_base.specs.declared.order.Arch.{Arch}

@@ -1,4 +1,4 @@
--- What public calls say beside the format.
+-- What public contracts use beside the format.
 pub mod Table
 pub mod Step
 pub mod LentMessage
@@ -6,9 +6,11 @@ pub mod LentField
 pub mod LentItem
 pub mod LongestFront
 pub mod PlainForm
+pub mod Places
 pub mod Adding
 pub mod Possible
 pub mod Pieces
+pub mod Fed
 pub mod BeginningHeader
 pub mod Framed
 pub mod Output

@@ -1,4 +1,4 @@
--- The FIT format itself: what a reader of the standard has to believe.
+-- The FIT format itself: what a reader of the standard must agree with.
 pub mod Item
 pub mod Records
 pub mod Message

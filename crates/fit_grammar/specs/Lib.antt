@@ -1,4 +1,4 @@
--- The FIT format; what public calls say beside it; what only private functions and proofs need.
+-- The FIT format; what public contracts use beside it; what only private functions and proofs need.
 pub mod Format
 pub mod Calls
 pub mod Private

@@ -1,5 +1,4 @@
--- What only private functions and proofs need. No public clause rests on a word of these, but for `WasFed` and `IsOpen`
--- of `Feeding`, which a caller of the decoder only hands on.
+-- What only private functions and proofs need. No public clause names any of these.
 pub mod FirstByte
 pub mod DefinitionBytes
 pub mod SizedDefinition

@@ -12,8 +12,8 @@ use fit_base::Arch;
 pub use lent::DefinitionMessage;
 pub use table::Table;
 
-/// A field as a definition gives it: its number in the profile, how many bytes it has, and its base type
-/// byte. Three bytes in a definition message.
+/// A field as a definition gives it: its number in the profile, its size in bytes, and its base type byte. It has three bytes
+/// in a definition message.
 #[derive(Clone, Copy, Debug, Default, PartialEq, Eq)]
 pub struct FieldDefinition {
     pub number: u8,
@@ -24,7 +24,7 @@ pub struct FieldDefinition {
 impl FieldDefinition {
     ghost use Rattle.fit_grammar.specs.Calls.Possible.{FieldFits};
 
-    // The same field, whose numbers fit into their bytes, as its type says.
+    // The same field. Its numbers fit into their bytes, as its type guarantees.
     pub(crate) fn in_bytes(self) -> FieldDefinition
         ensures same { result ≡ self }
         ensures fits { FieldFits result }
@@ -33,8 +33,8 @@ impl FieldDefinition {
     }
 }
 
-/// A developer field as a definition gives it: its number, how many bytes it has, and the index of its developer data. Three
-/// bytes in a definition message.
+/// A developer field as a definition gives it: its number, its size in bytes, and its developer data index. It has three bytes
+/// in a definition message.
 #[derive(Clone, Copy, Debug, Default, PartialEq, Eq)]
 pub struct DeveloperFieldDefinition {
     pub number: u8,
@@ -45,7 +45,7 @@ pub struct DeveloperFieldDefinition {
 impl DeveloperFieldDefinition {
     ghost use Rattle.fit_grammar.specs.Calls.Possible.{DeveloperFieldFits};
 
-    // The same field, whose numbers fit into their bytes, as its type says.
+    // The same field. Its numbers fit into their bytes, as its type guarantees.
     pub(crate) fn in_bytes(self) -> DeveloperFieldDefinition
         ensures same { result ≡ self }
         ensures fits { DeveloperFieldFits result }
@@ -54,25 +54,24 @@ impl DeveloperFieldDefinition {
     }
 }
 
-/// A definition message: how the data messages with its local number are laid out, until the next
-/// definition of that local number.
+/// A definition message: the layout of the data messages with its local number, until the next definition of that local number.
 #[derive(Debug, Drop)]
 pub struct Definition {
     /// The local message number, 0 to 15.
     pub local: u8,
-    /// The architecture of the definition's and the data messages' numbers.
+    /// The byte order of the numbers in the definition and in its data messages.
     pub arch: Arch,
-    /// The global message number of the profile.
+    /// The global message number, as the profile numbers messages.
     pub global: u16,
     pub fields: ArrayVec<FieldDefinition, 255>,
-    /// The fields of data that an application on the device defines. Their bytes stand behind those of the others.
+    /// The developer fields, which an application on the device defines. Their bytes are after those of the other fields.
     pub developer: ArrayVec<DeveloperFieldDefinition, 255>,
 }
 
 impl Definition {
     ghost use Rattle.fit_grammar.specs.Format.Item.{Defines, item_size};
 
-    // How many bytes it is written as.
+    // The number of bytes that it is written as.
     pub(crate) fn size(&self) -> usize
         ensures size { result ≡ item_size (Defines self.now) }
         ensures bound { result ≤ 1537 }

@@ -1,6 +1,6 @@
 // A file in memory.
 
-ghost use Rattle.std.specs.Prelude.{◌≡◌, ◌<◌, ◌+◌, ◌++◌, [], None, ◌↔◌, ◌⊎◌, length, map, Ok, Err, OnOk, OnErr, IfErr, IsErrOf, IsTrue, ◌^◌};
+ghost use Rattle.std.specs.Prelude.{◌≡◌, ◌<◌, ◌≤◌, ◌+◌, ◌++◌, [], None, ◌↔◌, ◌⊎◌, length, map, Ok, Err, OnOk, OnErr, IfOk, IfErr, IsErrOf, IsTrue, ◌^◌};
 ghost use Rattle.fit_grammar.specs.Format.Records.{in_force, IsDefined, data_size};
 ghost use Rattle.fit_grammar.specs.Format.Encoding.{HasEncoding, encoded_items};
 ghost use Rattle.fit_grammar.specs.Format.Item.{Defines, Data, content_size};
@@ -19,6 +19,7 @@ mod encode;
 mod fault;
 mod frame;
 mod header;
+mod places;
 mod reading;
 mod taking;
 
@@ -33,11 +34,12 @@ pub use encode::{encode_file, encode_records, header_front};
 pub use fault::{EncodeFault, FaultKind, FileFault, PutFault};
 pub use frame::Frame;
 pub use header::{Header, read_header_front};
+pub use places::Places;
 use std::alloc::{AllocError, Global};
 use std::marker::Model;
 
-/// A file: its frame, and a row of items in which each data message has a definition in force whose sizes
-/// add up to the length of its content.
+/// A file: its frame, and a row of items. Each data message has a definition in force, whose sizes add up to the length of its
+/// content.
 #[derive(Drop)]
 pub struct File {
     frame: Frame,
@@ -59,7 +61,7 @@ impl Model for File {
 }
 
 impl File {
-    /// A file of this frame with no items.
+    /// A file of this frame, with no items.
     pub fn new(alloc: Global, frame: Frame) -> File
         requires { IsFrame frame }
         ensures frame { result.frame ≡ frame }
@@ -72,11 +74,11 @@ impl File {
         }
     }
 
-    /// What the header says beside the length of the records.
+    /// What the header gives beside the length of the records.
     pub fn frame(&self) -> Frame
         ensures frame { result ≡ self.now.frame }
         ensures valid { IsFrame result }
-        // What every file is.
+        // Holds of every file.
         ensures possible { CanBeFile self.now }
     {
         self.frame
@@ -89,7 +91,7 @@ impl File {
         self.records.len() as u32
     }
 
-    // How many bytes more the records can have.
+    // How many more bytes the records can have.
     pub(crate) fn room(&self) -> usize
         ensures { result + data_size self.now.items + 1 ≡ 2 ^ 32 }
     {
@@ -103,30 +105,31 @@ impl File {
         &self.records
     }
 
-    // How many bytes the next item has at least, as far as the window shows.
+    // The least number of bytes that the next item has, as far as the window shows.
     pub(crate) fn least_length(&self, window: &[u8]) -> Result<usize, ItemFault>
-        ensures { result ≡ least_length_of (in_force self.now.items) window.now }
+        ensures answer { result ≡ least_length_of (in_force self.now.items) window.now }
+        ensures bound { IfOk result (λ least. least ≤ 130051) }
     {
         least_length(window, &self.table)
     }
 
-    /// The messages in order. A compressed timestamp counts from the last time before it, and from 0 where
-    /// there is none.
+    /// The messages in order. The time of a compressed timestamp is counted from the last time before it, or from 0 if there is
+    /// none.
     pub fn messages(&self) -> Messages<'_>
         ensures { result ≡ messages_of self.now.items }
     {
         Messages::new(self.items())
     }
 
-    /// The items in order, each with what it takes to read it where it stands: a data message with its definition
-    /// in force and the time of its compressed timestamp, which counts as in `messages`.
+    /// The items in order, each with what is needed to read it where it is: a data message comes with its definition in force
+    /// and the time of its compressed timestamp, counted as in `messages`.
     pub fn items(&self) -> Items<'_>
         ensures items { result ≡ items_lent self.now.items }
         // They are the items of the file.
         ensures same { map item_lent result ≡ self.now.items }
         // Each data message has the last definition of its local number before it.
         ensures under { AllUnder (in_force []) result }
-        // They say the messages of the file.
+        // They encode the messages of the file.
         ensures messages { messages_in result ≡ messages_of self.now.items }
     {
         Items::new(&self.records)
@@ -160,8 +163,8 @@ impl File {
         Ok(())
     }
 
-    /// Adds a data message with this content, under the definition in force of its local number, and with the
-    /// time offset of a compressed timestamp or none. The faults are tested in the order of their numbers.
+    /// Adds a data message with this content under the definition in force of its local number, with the time offset of a
+    /// compressed timestamp or none. The faults are checked in the order of their numbers.
     pub fn data(&mut self, local: u8, offset: Option<u8>, content: &[u8]) -> Result<(), PutFault>
         ensures ok { OnOk result (self.new ≡ with_item self.old (Data local offset content.now)) }
         ensures err { OnErr result (self.new ≡ self.old) }
@@ -204,7 +207,7 @@ impl File {
         Ok(())
     }
 
-    // Adds a data message with no compressed timestamp, whose content stands behind the bytes of its time.
+    // Adds a data message without a compressed timestamp. Its content comes after the bytes of its time.
     pub(crate) fn push_timed(
         &mut self,
         local: u8,
@@ -227,7 +230,7 @@ impl File {
     }
 }
 
-// A time offset is below 32, and only the local numbers below 4 have one.
+// A time offset is below 32, and only local numbers below 4 have one.
 fn can_offset(local: u8, offset: Option<u8>) -> bool
     ensures { IsTrue result ↔ IsOffset local offset }
 {

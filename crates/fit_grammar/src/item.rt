@@ -21,7 +21,7 @@ pub use front::longest_front;
 pub use row::{FileItem, Items};
 pub use writing::{write_data, write_definition, write_native_definition};
 
-/// An item of a file's records. It holds a few words, and no definition.
+/// An item of a file's records. It is small: the definition is borrowed, not copied.
 #[derive(Drop)]
 pub enum Item<'a> {
     Definition(DefinitionMessage<'a>),
@@ -32,7 +32,8 @@ impl<'a> Item<'a> {
     ghost use Rattle.fit_grammar.specs.Format.Item.{item_size};
     ghost use Rattle.fit_grammar.specs.Calls.Step.{item_of};
 
-    /// How many bytes the item is written as. A definition that announces developer fields and has none was read in one more.
+    /// The number of bytes that the item is written as. A definition that announces developer fields and has none was one byte
+    /// longer when it was read.
     pub fn size(&self) -> usize
         ensures { result ≡ item_size (item_of self.now) }
     {
@@ -46,7 +47,7 @@ impl<'a> Item<'a> {
 /// Why no item can be read, whatever bytes follow.
 #[derive(Clone, Copy, Debug, PartialEq, Eq)]
 pub enum ItemFault {
-    /// A data message of a local number that has no definition in force.
+    /// A data message whose local number has no definition in force.
     UndefinedLocal(u8),
 }
 
@@ -66,18 +67,20 @@ impl ItemFault {
 /// What the front of a window shows.
 #[derive(Drop)]
 pub enum Step<'a> {
-    /// An item, and how many bytes it has.
+    /// An item, and the number of bytes it has in the window.
     Item(Item<'a>, usize),
-    /// The window is a beginning of an item.
+    /// The window is a proper prefix of an item.
     NeedMore,
     Refused(ItemFault),
 }
 
-/// How many bytes the item at the front of the window has at least, as far as the window shows. Where that many bytes are
-/// there, it has no more.
+/// The least number of bytes that the item at the front of the window has, as far as the window shows. If the window has that
+/// many, it is the item's exact length.
 pub fn least_length(window: &[u8], table: &Table) -> Result<usize, ItemFault>
     ensures answer { result ≡ least_length_of (definition_in table.now) window.now }
-    // What that says of each item that the window begins.
+    // No item is longer than this.
+    ensures bound { IfOk result (λ n. n ≤ 130051) }
+    // What the number means for each item that the window may begin.
     ensures holds { (i : AnyItem) (rest : List ℕ) → Spells i (window.now ++ rest)
         → IsDefinedBy (definition_in table.now) i
         → IfOk result (λ n. IsLeastLength n (length window.now) (length (window.now ++ rest))) }
@@ -87,7 +90,8 @@ pub fn least_length(window: &[u8], table: &Table) -> Result<usize, ItemFault>
 
 // The same, by the first byte.
 fn length_at(window: &[u8], table: &Table) -> Result<usize, ItemFault>
-    ensures { result ≡ least_length_of (definition_in table.now) window.now }
+    ensures answer { result ≡ least_length_of (definition_in table.now) window.now }
+    ensures bound { IfOk result (λ n. n ≤ 130051) }
 {
     let [first, ..] = window else {
         return Ok(1);
@@ -101,9 +105,10 @@ fn length_at(window: &[u8], table: &Table) -> Result<usize, ItemFault>
     }
 }
 
-// How many bytes a definition has at least: six, then those of its fields, then those of its developer fields.
+// The least number of bytes of a definition: six, then those of its fields, then those of its developer fields.
 fn definition_length(window: &[u8], announced: bool) -> usize
-    ensures { result ≡ definition_length_of announced window.now }
+    ensures length { result ≡ definition_length_of announced window.now }
+    ensures bound { result ≤ 1537 }
 {
     if window.len() < 6 {
         return 6;
@@ -116,10 +121,11 @@ fn definition_length(window: &[u8], announced: bool) -> usize
     }
 }
 
-// The number of developer fields in this place, where it is there.
+// The number of developer fields at this place, or 0 if the window ends before it.
 fn developer_count(window: &[u8], at: usize) -> usize
     requires { at < 1000 }
-    ensures { 1 + at + 3 * result ≡ behind_fields true at window.now }
+    ensures count { 1 + at + 3 * result ≡ behind_fields true at window.now }
+    ensures bound { result ≤ 255 }
 {
     match window.get(at) {
         Some(count) => *count as usize,
@@ -129,9 +135,9 @@ fn developer_count(window: &[u8], at: usize) -> usize
 
 /// Reads the item at the front of the window under these definitions. It takes no memory.
 pub fn next_item<'a>(window: &'a [u8], table: &'a Table) -> Step<'a>
-    // What each answer says of the window.
+    // What each answer states about the window.
     ensures step { IsStep (definition_in table.now) window.now result }
-    // Where each answer comes.
+    // When each answer comes.
     ensures item { (i : AnyItem) (used : ℕ) → ItemAtFront (definition_in table.now) window.now i used
         → IsStepItem result i used }
     ensures more { ItemBegun (definition_in table.now) window.now → result ≡ Step.NeedMore }
@@ -141,7 +147,7 @@ pub fn next_item<'a>(window: &'a [u8], table: &'a Table) -> Step<'a>
     step_at(window, table)
 }
 
-// The same, by the first byte. That an answer comes wherever it is right follows, since no two are right.
+// The same, by the first byte. Since no two answers are right for a window, an answer also comes whenever it is right.
 fn step_at<'a>(window: &'a [u8], table: &'a Table) -> Step<'a>
     ensures { IsStep (definition_in table.now) window.now result }
 {
@@ -151,7 +157,7 @@ fn step_at<'a>(window: &'a [u8], table: &'a Table) -> Step<'a>
     }
 }
 
-// The step of a window that is not empty, where this is the definition of the local number in its first byte.
+// The step of a window that is not empty, if this is the definition of the local number in its first byte.
 pub(crate) fn step_under<'a>(
     window: &'a [u8],
     definition: Option<DefinitionMessage<'a>>,
@@ -170,7 +176,7 @@ pub(crate) fn step_under<'a>(
     }
 }
 
-// The definition at the front of the window, where all of it is there.
+// The definition at the front of the window, if all of it is there.
 fn next_definition<'a>(window: &'a [u8], announced: bool) -> Step<'a>
     requires begun { 1 ≤ length window.now }
     requires head { (l : ℕ) × (head_of (slice_index window.now 0) ≡ DefinitionHead l announced) }
@@ -184,7 +190,7 @@ fn next_definition<'a>(window: &'a [u8], announced: bool) -> Step<'a>
     Step::Item(Item::Definition(message), used)
 }
 
-// The data message at the front of the window under this definition, where all of it is there.
+// The data message at the front of the window under this definition, if all of it is there.
 fn next_data<'a>(
     window: &'a [u8],
     local: u8,

@@ -1,15 +1,13 @@
 //! The grammar of FIT files: items, the definitions in force, messages, and whole files.
 //!
-//! A file is a header (`Frame`), a row of items and a closing checksum. An `Item` is a definition, which says how the
-//! data messages of its local number are laid out from there on, or a `DataMessage` under the definition in force; a
-//! `Table` has these. `next_item` reads the item at the front of some bytes, and `message_of` makes the `Message` of a
-//! data message, with its time and its `Fields`. `write_definition`, `write_native_definition` and `write_data` write
-//! items.
+//! A file is a header (`Frame`), a row of items and a closing checksum. An `Item` is a definition or a `DataMessage`. A
+//! definition gives the layout of the data messages of its local number from there on. A `Table` has the definitions in
+//! force. `next_item` reads the item at the front of some bytes, and `message_of` makes the `Message` of a data message,
+//! with its time and its `Fields`. `write_definition`, `write_native_definition` and `write_data` write items.
 //!
-//! `decode_file` reads a whole file into a `File`, or refuses it for what its shortest bad beginning shows. A `Decoder`
-//! does the same of a file that comes in pieces, wherever they are cut: it is fed one after another. A `File` is
-//! also built item by item. Its messages are lent one after another, or its items where they stand (`FileItem`), and
-//! `encode_file` writes it:
+//! `decode_file` reads a whole file into a `File`, or refuses it for what its shortest faulty prefix shows. A `Decoder`
+//! does the same for a file that is fed to it in pieces, wherever they are cut. A `File` can also be built item by item.
+//! It lends its messages one after another, or its items where they are (`FileItem`), and `encode_file` writes it:
 //!
 //!     let frame = Frame { header_size: 14, protocol: 0x10, profile: 100 };
 //!     let mut file = File::new(alloc, frame);
@@ -20,9 +18,9 @@
 //!     let message = read.messages().next().expect(&rt, "one message");
 //!     assert_eq!(rt; message.global(), 20);
 //!
-//! (The test `the_example_of_the_crate` of `fit_format_tests`.) What the calls promise is said in the words of `specs/`:
-//! `Format` has the FIT format itself, `Calls` what public calls say beside it, and `Private` what only proofs need. `laws` has
-//! what follows from the definitions alone.
+//! (The test `the_example_of_the_crate` of `fit_format_tests`.) The contracts use the definitions in `specs/`: `Format` has the
+//! FIT format itself, `Calls` what public contracts use beside it, and `Private` what only proofs need. `laws` has what
+//! follows from the definitions alone.
 #![tactic(auto)]
 
 mod definition;
@@ -37,7 +35,7 @@ pub use definition::{
     Definition, DefinitionMessage, DeveloperFieldDefinition, FieldDefinition, Table,
 };
 pub use file::{
-    Decoder, EncodeFault, FaultKind, File, FileFault, Frame, Header, PutFault, decode_file,
+    Decoder, EncodeFault, FaultKind, File, FileFault, Frame, Header, Places, PutFault, decode_file,
     encode_file, encode_records, header_front, read_header_front,
 };
 pub use item::{

@@ -1,4 +1,4 @@
-// Messages: data messages read under their definitions and with their times.
+// Messages: data messages, read under their definitions and with their times.
 
 ghost use Rattle.std.specs.Prelude.{◌≡◌};
 ghost use Rattle.fit_grammar.specs.Format.Message.{message_under};
@@ -17,8 +17,8 @@ pub use row::Messages;
 use std::marker::Model;
 use time::{compressed_time, stated_time};
 
-/// A message, lent from its data message. Contracts see what it says, whatever architecture and header it
-/// was written under, and beside it the time of a compressed timestamp.
+/// A message, borrowed from its data message. Contracts see what it encodes, whatever its architecture and header are, and the
+/// time of its compressed timestamp.
 #[derive(Drop)]
 pub struct Message<'a> {
     definition: DefinitionMessage<'a>,
@@ -43,16 +43,18 @@ impl<'a> Model for Message<'a> {
 }
 
 impl<'a> Message<'a> {
+    ghost use Rattle.std.specs.Prelude.{◌<◌, ℕ, Some};
     ghost use Rattle.fit_grammar.specs.Calls.LentMessage.{time_of};
+    ghost use Rattle.fit_grammar.specs.Format.Message.{time_stated};
 
-    /// The global message number of the profile.
+    /// The global message number, as the profile numbers messages.
     pub fn global(&self) -> u16
         ensures { result ≡ self.now.message.global }
     {
         self.definition.global()
     }
 
-    /// The fields in order, the time of a compressed timestamp in front as field 253.
+    /// The fields in order. The time of a compressed timestamp comes first, as field 253.
     pub fn fields(&self) -> Fields<'_>
         ensures { result ≡ self.now.message.fields }
     {
@@ -64,7 +66,7 @@ impl<'a> Message<'a> {
         Fields::new(time, definition.arch(), definition.fields(), self.content)
     }
 
-    /// The developer fields in order, behind the fields.
+    /// The developer fields in order. They come after the fields.
     pub fn developer_fields(&self) -> DeveloperFields<'_>
         ensures { result ≡ self.now.message.developer }
     {
@@ -76,10 +78,14 @@ impl<'a> Message<'a> {
         DeveloperFields::new(fields, content)
     }
 
-    /// The time that the message gives: that of its compressed timestamp, else the value of its first
-    /// field 253 of base type 86 and size 4 that is not invalid.
+    /// The time that the message gives, in seconds since 1989-12-31 00:00 UTC: that of its compressed timestamp, or else the
+    /// value of its first field 253 of base type 0x86 and size 4 that is not invalid.
     pub fn time(&self) -> Option<u32>
-        ensures { result ≡ time_of self.now }
+        ensures time { result ≡ time_of self.now }
+        // Its fields state the time too, since that of a compressed timestamp is the first of them. The exception is
+        // 0xFFFFFFFF, which is invalid in a field.
+        ensures stated { (time : ℕ) → result ≡ Some time → time < 0xFFFFFFFF
+            → time_stated self.now.message.fields ≡ Some time }
     {
         if let Some(bytes) = self.time {
             return Some(u32::from_le_bytes(bytes));
@@ -88,7 +94,7 @@ impl<'a> Message<'a> {
     }
 }
 
-/// The message of an item, where the time before it is this. A definition has none.
+/// The message of an item, if `before` is the last time before it. A definition has none.
 pub fn message_of<'a>(item: &Item<'a>, before: u32) -> Option<Message<'a>>
     ensures { result ≡ message_lent item.now before }
 {
@@ -98,7 +104,7 @@ pub fn message_of<'a>(item: &Item<'a>, before: u32) -> Option<Message<'a>>
     }
 }
 
-// The message of a data message, where this is the time of its compressed timestamp, if it has one.
+// The message of a data message, if this is the time of its compressed timestamp.
 pub(crate) fn message_in<'a>(m: &DataMessage<'a>, time: Option<u32>) -> Message<'a>
     ensures compressed { result.compressed ≡ time }
     ensures message { result.message ≡ message_under m.now.definition time m.now.content.now }

@@ -1,4 +1,4 @@
-// Handing bytes to a writer so that what it has taken is known, also where it fails.
+// Handing bytes to a writer, with an account of what it has taken, even if it fails.
 
 ghost use Rattle.fit_grammar.specs.Calls.Output.{WritesText};
 
@@ -8,8 +8,8 @@ use std::io::Write;
 #[derive(Clone, Copy, Debug, PartialEq, Eq)]
 pub struct WriteFailed;
 
-/// Hands over the bytes until all of them are taken. Any error of the writer ends it, also one that
-/// asks for another try.
+/// Hands over the bytes until the writer has taken them all. Any error of the writer is final, even one that requests another
+/// try.
 pub fn put<W: Write>(out: &mut W, bytes: &[u8]) -> Result<(), WriteFailed>
     ensures { WritesText (W.contents out.old) (W.contents out.new) result bytes.now }
 {

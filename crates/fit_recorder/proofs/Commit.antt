@@ -1,4 +1,4 @@
--- Entries are written and committed: at each moment what was committed stays.
+-- Writing and committing entries: at each moment what was committed stays.
 pub mod Kept
 pub mod Slots
 pub mod Files

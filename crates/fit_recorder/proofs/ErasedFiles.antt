@@ -1,2 +1,2 @@
--- An erasing leaves what could be left, or nothing recorded.
+-- An erasing leaves what could be left before, or nothing recorded.
 pub mod Erased

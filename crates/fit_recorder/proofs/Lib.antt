@@ -1,4 +1,4 @@
--- A folder for each theorem. Public are the lemmas that proofs of the crates above cite.
+-- A folder for each theorem. The public lemmas are those that proofs of other crates cite.
 pub mod Commit
 mod Start
 pub mod FinishedFile

@@ -1,4 +1,4 @@
--- A resume goes on with the one ride that the files stand for.
+-- A resume continues the one ride that the files stand for.
 pub mod Tail
 pub mod Found
 pub mod Resumed

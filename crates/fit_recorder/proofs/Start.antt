@@ -1,3 +1,3 @@
--- A recording begins: nothing is recorded, or its start is.
+-- A recording begins: at each moment nothing is recorded, or its start is.
 pub mod Front
 pub mod Begun

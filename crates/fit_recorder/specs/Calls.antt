@@ -1,4 +1,4 @@
--- What the public calls say: where a recorder stands, what it answers, and what a crash inside a call may leave.
+-- What the contracts of the public calls use: the state of a recorder, its answers, and what a crash inside a call may leave.
 pub mod Recorder
 pub mod Answers
 pub mod Start

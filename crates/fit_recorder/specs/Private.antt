@@ -1,4 +1,4 @@
--- What private functions and proofs speak of.
+-- Definitions for private functions and proofs.
 pub mod OneMessage
 pub mod Spelled
 pub mod Told

@@ -6,25 +6,27 @@ ghost use Rattle.fit_recorder.specs.declared.fault.RecFault.TheVariants as fault
 use fit_activity::Refusal;
 use fit_disk::DeviceError;
 
-/// Why a call of a recorder was refused. The first in the order of the numbers 6, 2, 3 or 4, and then the rest as the
-/// device calls go, is answered.
+/// Why a call was refused. A recorder checks for `Failed` first, then `Refused`, then `Full` or `JournalFull`, before it makes
+/// a device call.
 #[derive(Clone, Copy, Debug, PartialEq, Eq)]
 pub enum RecFault {
-    /// A start on a data file that is not empty. Nothing that the disk holds changed.
+    /// A start on a data file that is not empty. Both files read as before.
     NotEmpty,
     /// The rules refuse the start or the entry. Nothing changed.
     Refused(Refusal),
-    /// There is no room for one more entry. Nothing changed, and a commit and a stop go on.
+    /// There is no room for one more entry: the records might pass 16,776,704 bytes. Nothing changed. A commit and a stop are
+    /// still possible.
     Full,
-    /// The journal has no slot left but the one kept for the stop. Nothing changed.
+    /// The journal is a row with too few free slots: one or none for a commit, since the last is kept for the stop; none for
+    /// a resume. Nothing changed.
     JournalFull,
-    /// The device failed in this call. The recording goes on only by recovery.
+    /// The device failed in this call. The recording can continue only by a recovery or a resume.
     Device,
-    /// The device failed in an earlier call.
+    /// The device failed in an earlier call of this recorder.
     Failed,
     /// No start is committed.
     NothingRecorded,
-    /// The files stand for no recording.
+    /// The files stand neither for a recording nor for nothing recorded.
     Damaged,
 }
 

@@ -15,7 +15,7 @@ ghost use Rattle.fit_recorder.specs.declared.recorder.Recorder.{Recorder};
 
 use fit_disk::Disk;
 
-/// No two files stand for two recordings, nor for one and for none.
+/// Files stand for at most one recording, and not also for nothing recorded.
 pub fn files_stand_for_one_list()
     ensures one { (list other : List Recorded) (contents : Contents) → StandsFor list contents
         → StandsFor other contents → list ≡ other }
@@ -23,15 +23,15 @@ pub fn files_stand_for_one_list()
         → IsNothing contents → ⊥ }
 {}
 
-/// Where the files stand for a recording, a recovery in which no call of the device fails answers `Ok`, with the finished
-/// file of just that recording.
+/// If the files stand for a recording and no device call fails, a recovery answers `Ok` with the finished file of exactly
+/// that recording.
 pub fn what_stands_is_recovered()
     ensures { (list : List Recorded) (contents : Contents) (story : Story) (result : Result Summary RecFault)
         → StandsFor list contents
         → RecoveryAnswers contents story result → (result ≡ Err Device) ⊎ RecoversList list story result }
 {}
 
-/// Whatever a power cut leaves of the disk of a recorder stands for the entries that are committed.
+/// Whatever a power cut leaves of a recorder's disk stands for the committed entries.
 pub fn what_is_committed_stands<D: Disk>()
     ensures { IsTrue D.honest → (recorder : Recorder D) (list committed : List Recorded)
         → StandsAt D.honest D.story recorder list committed

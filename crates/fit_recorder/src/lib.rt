@@ -1,9 +1,9 @@
-//! The recorder: a ride as it is recorded over a disk, and the recovery of what was committed when the power went.
+//! The recorder: it records a ride on a disk, and recovers what was committed after a power cut.
 //!
-//! `Recorder::start` begins a ride on a disk whose data file is empty. `hand` takes an entry, `commit` makes all that was
-//! handed in safe, and `stop` ends the ride and leaves a finished FIT file. Where a call answers `Device` the recorder does
-//! nothing more; the disk, from `into_disk` or opened anew, goes to `recover`, which makes the data file the finished file of
-//! what was committed, at the latest when the power went. `erase` empties it for another ride:
+//! `Recorder::start` begins a ride on a disk whose data file is empty. `hand` takes an entry, `commit` makes all entries so far
+//! safe, and `stop` ends the ride and leaves a finished FIT file. After an answer `Device` the recorder makes no more calls.
+//! Take its disk from `into_disk`, or open it again. `recover` turns the data file into a finished file of what was
+//! committed. `resume` returns a recorder that continues the ride. `erase` empties the data file for another ride:
 //!
 //!     let mut recorder = Recorder::start(disk, Start { time, serial: 7, sport: Sport::Running })?;
 //!     recorder.hand(&Entry::Lap(time + 60))?;
@@ -13,9 +13,9 @@
 //!     let summary = recover(&mut disk)?;
 //!     assert_eq!(rt; summary.laps, 2);
 //!
-//! (The test `the_example_of_the_crate` of `fit_ride_tests`.) What is promised over every disk that keeps what it synced is
-//! said in the words of `specs/`: `Files` has what the two files stand for and what a finished file is, `Calls` what each call
-//! answers and what a crash inside it may leave. `laws` has what follows from the definitions alone.
+//! This is the test `the_example_of_the_crate` of `fit_ride_tests`. The promises hold over every disk that keeps what it
+//! synced. Their definitions are in `specs/`: `Files` defines what the two files stand for and what a finished file is, `Calls`
+//! what each call answers and what a crash inside it may leave. `laws` has what follows from the definitions alone.
 #![tactic(auto)]
 
 mod body;
@@ -34,6 +34,7 @@ mod spelling;
 
 pub use erasing::erase;
 pub use fault::RecFault;
+pub use limits::CLOSING_ROOM;
 pub use recorder::Recorder;
 pub use recovery::recover;
 pub use resuming::resume;

@@ -1,5 +1,5 @@
-// Two values that have to be equal. As a call it takes a third of the time to prove that `assert_eq!` takes in its place, which
-// stands where a later line rests on what it says.
+// Asserts that two values are equal. A call of this is proved in a third of the time of `assert_eq!`, which is used with a
+// message, or if a later line depends on what it asserts.
 
 use std::fmt::Debug;
 use std::process::Abort;

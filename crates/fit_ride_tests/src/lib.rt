@@ -1,4 +1,4 @@
-//! Tests of the recorder, by the public calls of `fit_recorder`. They stand above it, so that no library is proved once more with
+//! Tests of the recorder, by the public calls of `fit_recorder`. They are in a crate above it, so that no library is proved again with
 //! its tests.
 #![tactic(auto)]
 

@@ -8,7 +8,7 @@ use Rattle.jiff.proofs.OnLiterals.{jiff_on_literals}
 use Rattle.jiff.proofs.SpanFacts.{signed_arith}
 use Rattle.fit_text.specs.Date.{Day, next_day, day_after, unix_second, date_text}
 
--- a date of the calendar that is this day, and comes so many days after 1970-01-01
+-- a calendar date that is this day, so many days after 1970-01-01
 record IsCounted (n : ℕ) (d : Day) : Type 0 where
   date : Date
   year : date.year ≡ pos d.year
@@ -142,7 +142,7 @@ same_parts shown second e =
     let bound = time_nanos_bound shown.time in
     (omega (arith, signed_arith, parts, bound, e), omega (arith, signed_arith, parts, bound, e))
 
--- the text that is printed of the instant
+-- the text that is printed for the instant
 pub printed : (options : Bool × ℕ × Option ℕ) (shown : DateTime) (text : List ℕ) (time : ℕ) → options ≡ (false, 84, None) →
     civil_nanos shown ≡ pos (unix_second time * 1_000_000_000) → time < 4294967296 →
     text ≡ datetime_text options.0 options.1 options.2 shown ++ ((if options.0 then 122 else 90) ∷ []) → text ≡ date_text time

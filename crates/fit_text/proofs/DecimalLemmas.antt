@@ -1,4 +1,4 @@
--- Numbers in decimal by three digits at a time, and the table of these: for `writing/decimal`.
+-- Numbers in decimal, three digits at a time, and the table of three digits: for `writing/decimal`.
 use lib.Dec.{leb}
 use mir.Val.{bool_byte}
 use Rattle.std.proofs.Common.{◌≡◌, ℕ, Bool, true, false, zero, suc, ◌+◌, ◌-◌, ◌*◌, ◌/◌, ◌%◌, ◌^◌, ◌<◌, ◌≤◌, List, [], ◌∷◌, ◌++◌, length, get_or, take, drop, refl, ap, ◌∙◌, arith, append_assoc, codes, drop-drop, drop-cons, length-take-le, length-drop, sym}
@@ -34,7 +34,7 @@ decimal_six n lo hi =
 table : DIGITS ≡ flat_map three (range_with_len 0 1000) ++ codes "000"
 table = refl
 
--- the digits of the number at an index, and those behind them
+-- the digits of the number at an index, and those after them
 drop-threes : (ns : List ℕ) (i : ℕ) (behind : List ℕ) → i < length ns →
     (rest : List ℕ) × (drop (3 * i) (flat_map three ns ++ behind) ≡ three (get_or ns i 0) ++ rest)
 drop-threes [] i behind lt = absurd (omega arith)
@@ -88,7 +88,7 @@ four_from from inside =
       drop-cons DIGITS (suc (suc (suc from))) 0 (omega (arith, all)),
     ) refl
 
--- the digits of a number below 1000, without zeros in front
+-- the digits of a number below 1000, without leading zeros
 pub first_from : (n : ℕ) (ten hundred : Bool) (digits from : ℕ) → leb 10 n ≡ ten → leb 100 n ≡ hundred → n < 1000 →
     digits ≡ 1 + bool_byte ten + bool_byte hundred → from ≡ 3 * n + 3 - digits →
     (digits ≤ 3) × (take digits (drop from DIGITS) ≡ decimal n)

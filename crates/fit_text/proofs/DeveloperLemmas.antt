@@ -14,7 +14,7 @@ field_from index number bytes = record { index = index; number = number; bytes =
 regrouped : (a b c d e f : List ℕ) → ((((a ++ b) ++ c) ++ d) ++ e) ++ f ≡ a ++ b ++ c ++ d ++ e ++ f
 regrouped a b c d e f = simp append_assoc
 
--- the parts of one
+-- the parts of one field's text
 pub developer_parts : (index number : ℕ) (bytes : List ℕ) (i n : ℕ) → i ≡ index → n ≡ number →
     ((((codes " developer_" ++ decimal i) ++ codes "_") ++ decimal n) ++ codes "=") ++ hex_text bytes
     ≡ developer_text (field_from index number bytes)

@@ -1,4 +1,4 @@
--- The shown text of a field and a file, by their parts: for `showing/field` and `showing/file`.
+-- The shown text of a field and of a file, by their parts: for `showing/field` and `showing/file`.
 use Rattle.std.proofs.Common.{◌≡◌, ℕ, zero, suc, ◌*◌, ◌/◌, ◌%◌, ◌<◌, ◌==◌, Bool, true, false, List, [], ◌++◌, length, refl, sym, ap, ◌∙◌, append_assoc, eq-eqb, codes, decimal, Option, Some, None, arith, if◌then◌else◌}
 use Rattle.std.proofs.lemmas.Bool.{eqb-true}
 use Rattle.std.proofs.lemmas.List.{nil_from_length}
@@ -18,7 +18,7 @@ size_some : (type : BaseType) → 0 < (row_of type).size
 size_some Enum = omega arith
 size_some _ = omega arith
 
--- the count and the values of a field, by its type, its bytes and whether it is carried raw
+-- the count and the values of a field, by its type, its bytes and whether it is kept raw
 abbrev count_by : Option BaseType → Bool → List ℕ → ℕ
 count_by o raw bytes = if raw then 0 else length bytes / size_by o
 
@@ -60,7 +60,7 @@ more_than_none : (n : ℕ) → (n ≡ 0 → ⊥) → (k : ℕ) × (n ≡ suc k)
 more_than_none zero some = absurd (some refl)
 more_than_none (suc k) some = (k, refl)
 
--- a field with values shows them by its type
+-- a field with values shows them as its type requires
 pub some_values : (field : Field) (type : BaseType) → base_type field.base ≡ Some type → (count_of field ≡ 0 → ⊥) →
     some_text (Some type) (numbers field.arch (value_size field) (count_of field) field.bytes) ≡ values_text
     (base_type field.base) (values_of field)
@@ -95,7 +95,7 @@ pub number_values : (field : Field) (type : BaseType) → base_type field.base �
     (base_type field.base) (values_of field)
 number_values field type known is some = some_numbers type _ is ∙ some_values field type known some
 
--- a type that is none of the two others is one of numbers
+-- a type other than string and byte is one of numbers
 pub is_number : (type : BaseType) → (type ≡ String → ⊥) → (type ≡ Byte → ⊥) → IsNumber type
 is_number String no_string no_byte = no_string refl
 is_number Byte no_string no_byte = no_byte refl

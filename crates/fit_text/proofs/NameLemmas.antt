@@ -1,7 +1,7 @@
 -- The names of messages and fields are short: for `profile`.
 use Rattle.std.proofs.Common.{◌≡◌, ℕ, ◌≤◌, Bool, true, false, ◌&&◌, ◌==◌, nat_le, List, [], ◌∷◌, length, Option, Some, None, IfSome, option_map, refl, if◌then◌else◌, tests}
 use Rattle.std.specs.Borrow.{Bor}
-use Rattle.fit_text.specs.Profile.{FieldNames, MessageNames, name_in, message_in, fields_in, are_short, all_short, common_fields, messages, message_named}
+use Rattle.fit_text.specs.Profile.{FieldNames, MessageNames, name_in, message_in, fields_in, are_short, all_short, common_fields, messages, sample_names, message_named, names_of_fields}
 
 both : (a b : Bool) → (a && b) ≡ true → (a ≡ true) × (b ≡ true)
 both true b e = (refl, e)
@@ -47,23 +47,26 @@ common_short : are_short common_fields ≡ true
 unfolding common_fields
 common_short = refl
 
+sample_short : are_short sample_names ≡ true
+unfolding sample_names
+sample_short = refl
+
 named_short : (o : Option (Bor (List ℕ))) (p : Option (List ℕ)) → option_map (λ name. name.now) o ≡ p → IfSome p (λ name. length name ≤ 30) →
     IfSome o (λ name. length name.now ≤ 30)
 named_short None p e h = tt
 named_short (Some name) p e h = rw (← e) at h
 
--- what the table says
+-- the names in the table are short
 pub short_message : (o : Option (Bor (List ℕ))) (number : ℕ) → option_map (λ name. name.now) o ≡ message_named number →
     IfSome o (λ name. length name.now ≤ 30)
 short_message o number e = named_short o (message_named number) e (message_short messages number messages_short)
-
-pub short_fields : (names : FieldNames) (number : ℕ) → names ≡ fields_in messages number → are_short names ≡ true
-short_fields names number e = rw e (fields_short messages number messages_short)
 
 pub short_common : (o : Option (Bor (List ℕ))) (number : ℕ) → option_map (λ name. name.now) o ≡ name_in common_fields number →
     IfSome o (λ name. length name.now ≤ 30)
 short_common o number e = named_short o (name_in common_fields number) e (name_short common_fields number common_short)
 
-pub short_other : (o : Option (Bor (List ℕ))) (names : FieldNames) (number : ℕ) → option_map (λ name. name.now) o ≡ name_in names number →
-    are_short names ≡ true → IfSome o (λ name. length name.now ≤ 30)
-short_other o names number e short = named_short o (name_in names number) e (name_short names number short)
+pub short_own : (o : Option (Bor (List ℕ))) (global number : ℕ) → option_map (λ name. name.now) o ≡ name_in (names_of_fields global) number →
+    IfSome o (λ name. length name.now ≤ 30)
+short_own o global number e =
+    let short = chosen_rows (global == 20) sample_names (fields_in messages global) sample_short (fields_short messages global messages_short) in
+    named_short o (name_in (names_of_fields global) number) e (name_short (names_of_fields global) number short)

@@ -1,5 +1,5 @@
--- How texts that a pen puts one after another join, what a loop that puts keeps, and what a pen's writer holds in the end: for
--- `writing` and all that shows a file.
+-- How texts that a pen puts one after another join, what a loop that puts text keeps, and what a pen's writer
+-- holds at the end: for `writing` and all that shows a file.
 use Rattle.std.proofs.Common.{◌≡◌, ℕ, ◌+◌, ◌<◌, ◌≤◌, List, [], ◌++◌, length, get_or, take, drop, Option, Result, Ok, Err, OnOk, refl, sym, ap, ◌∙◌, append_assoc, append-nil, length-append, length-take-le, take-take, subst, arith}
 use Rattle.std.proofs.KnownBytes.{Appends-trans, Appends-nil}
 use Rattle.std.proofs.lemmas.List.{at_drop_more, at_drop_all}
@@ -12,7 +12,7 @@ use Rattle.std.specs.Result.{IsErr}
 use Rattle.fit_grammar.specs.Calls.Output.{AppendsBeginning, WritesText}
 use Rattle.fit_text.specs.Pen.{Written, Continues, Puts, Adds, Places}
 
--- ---- one text behind another
+-- ---- one text after another
 
 pub continues_none : (o : Written) → Continues o o []
 continues_none o = record { handed = []; split = append-nil o.waiting; appended = Appends-nil o.held }
@@ -49,7 +49,7 @@ puts_behind : {T E : Type 0} (o m n : Written) (r : Result T E) (a b : List ℕ)
 puts_behind o m n (Ok x) a b e h k = record { same = k.same ∙ e; all = continues_then o m n a b h k.all; beginning = tt }
 puts_behind o m n (Err x) a b e h k = record { same = k.same ∙ e; all = tt; beginning = begins_then o m n a b h k.beginning }
 
--- one text was put, and then another
+-- one text was put, and then another one
 pub puts_then : {S T E F : Type 0} {o m n : Written} {x : S} {r : Result T E} {a b : List ℕ} →
     Puts {T = S} {E = F} o m (Ok x) a → Puts m n r b → Puts o n r (a ++ b)
 puts_then {o = o} {m = m} {n = n} {r = r} {a = a} {b = b} h k = puts_behind o m n r a b h.same h.all k
@@ -59,20 +59,20 @@ puts_beginning : {T E : Type 0} (o n : Written) (r : Result T E) (text : List �
 puts_beginning o n (Ok x) text bad e h = cc
 puts_beginning o n (Err x) text bad e h = record { same = e; all = tt; beginning = h }
 
--- one text was not put, and so none behind it
+-- one text was not put, and so none after it
 pub puts_stop : {S T E F : Type 0} {o n : Written} {e : E} {r : Result T F} {a : List ℕ} →
     IsErr r → Puts {T = S} {E = E} o n (Err e) a → (b : List ℕ) → Puts o n r (a ++ b)
 puts_stop {o = o} {n = n} {r = r} {a = a} bad h b = puts_beginning o n r (a ++ b) bad h.same (begins_more o n a b h.beginning)
 
--- a text is another one
+-- a text that equals another one
 pub puts_same : {T E : Type 0} {o n : Written} {r : Result T E} {a b : List ℕ} → Puts o n r a → a ≡ b → Puts o n r b
 puts_same {o = o} {n = n} {r = r} h e = let P : List ℕ → Type 0 = λ t. Puts o n r t in subst P e h
 
--- nothing was put yet of no text
+-- no text was put yet
 pub puts_none : {T E : Type 0} (o : Written) (x : T) → Puts {E = E} o o (Ok x) []
 puts_none o x = record { same = refl; all = continues_none o; beginning = tt }
 
--- nothing was put of no text, whatever came of it
+-- an empty text was put, whatever the result
 pub puts_nothing : {T E : Type 0} (o : Written) (r : Result T E) → Puts o o r []
 puts_nothing o (Ok x) = puts_none o x
 puts_nothing o (Err e) = record {
@@ -81,17 +81,17 @@ puts_nothing o (Err e) = record {
   beginning = record { part = []; rest = o.waiting; split = append-nil o.waiting; appended = Appends-nil o.held };
 }
 
--- the text waits behind what waited
+-- the text was added to what waits
 pub puts_waiting : {T E : Type 0} {o n : Written} {text : List ℕ} (x : T) → Adds o n text → Puts {E = E} o n (Ok x) text
 puts_waiting {o = o} x h =
     rw h.waits (record { same = refl; all = record { handed = []; split = refl; appended = Appends-nil o.held }; beginning = tt })
 
--- one text was put, and another one waits behind it
+-- one text was put, and another one was added
 pub puts_more : {T E : Type 0} {o m n : Written} {x : T} {a b : List ℕ} → Puts {E = E} o m (Ok x) a → Adds m n b →
     Puts {E = E} o n (Ok x) (a ++ b)
 puts_more {E = E} {x = x} h k = puts_then h (puts_waiting {E = E} x k)
 
--- all that waits was handed over, and some text behind it
+-- all text that waited was handed over, and a new one after it
 pub puts_through : {T E : Type 0} (name : ℕ) (o n : Option (List ℕ)) (waiting text : List ℕ) (r : Result T E) →
     WritesText o n r (waiting ++ text) →
     Puts (record { name = name; held = o; waiting = waiting }) (record { name = name; held = n; waiting = [] }) r text
@@ -102,7 +102,7 @@ puts_through name o n waiting text (Ok x) h = record {
 }
 puts_through name o n waiting text (Err x) h = record { same = refl; all = tt; beginning = h.beginning }
 
--- a pen that began with nothing and ends with nothing handed over all that it put
+-- a pen that began with no text waiting and ends so handed over all text that was put
 pub puts_written : {T E : Type 0} (o n : Written) (r : Result T E) (text : List ℕ) → o.waiting ≡ [] → OnOk r (n.waiting ≡ []) → Puts o n r text →
     WritesText o.held n.held r text
 puts_written o n (Ok x) text e f h =
@@ -114,7 +114,7 @@ puts_written o n (Err x) text e f h =
     let P : List ℕ → Type 0 = λ t. AppendsBeginning o.held n.held t in
     record { all = tt; beginning = subst P (ap (λ t. t ++ text) e) h.beginning }
 
--- nothing waits, and a text is handed over as it is
+-- no text waits, and a text is handed over directly
 pub puts_past : {T E : Type 0} (name : ℕ) (o n : Option (List ℕ)) (waiting text : List ℕ) (r : Result T E) → waiting ≡ [] → WritesText o n r text →
     Puts (record { name = name; held = o; waiting = waiting }) (record { name = name; held = n; waiting = waiting }) r text
 puts_past name o n waiting text (Ok x) e h = record {
@@ -124,24 +124,24 @@ puts_past name o n waiting text (Ok x) e h = record {
 }
 puts_past name o n waiting text (Err x) e h = record { same = refl; all = tt; beginning = rw e h.beginning }
 
--- the same bytes are held
+-- the writer holds the same bytes
 pub writes_held : {T E : Type 0} {o m n : Option (List ℕ)} {r : Result T E} {text : List ℕ} → WritesText o m r text → m ≡ n → WritesText o n r text
 writes_held {o = o} {r = r} {text = text} h e = let P : Option (List ℕ) → Type 0 = λ n. WritesText o n r text in subst P e h
 
--- ---- a loop that puts
+-- ---- a loop that puts text
 
--- what was put so far of a text, and the rest that is left to put
+-- the part of a text that was put so far, and the rest
 pub record Leaves (old now : Written) (text rest : List ℕ) : Type 0 where
   pub done : List ℕ
   pub same : now.name ≡ old.name
   pub split : text ≡ done ++ rest
   pub continued : Continues old now done
 
--- all is left at first
+-- at first all of it is left
 pub leaves_all : (o : Written) (text : List ℕ) → Leaves o o text text
 leaves_all o text = record { done = []; same = refl; split = refl; continued = continues_none o }
 
--- a part of what is left was put
+-- a part of the rest was put
 pub leaves_less : {T E : Type 0} {o m n : Written} {x : T} {text rest part : List ℕ} (more : List ℕ) →
     Leaves o m text rest → Puts {E = E} m n (Ok x) part → rest ≡ part ++ more → Leaves o n text more
 leaves_less {o = o} {m = m} {n = n} {part = part} more h k e = record {
@@ -151,14 +151,14 @@ leaves_less {o = o} {m = m} {n = n} {part = part} more h k e = record {
   continued = continues_then o m n h.done part h.continued k.all;
 }
 
--- nothing is left at last
+-- at last nothing is left
 pub leaves_none : {T E : Type 0} {o n : Written} {text : List ℕ} (x : T) → Leaves o n text [] → Puts {E = E} o n (Ok x) text
 leaves_none {o = o} {n = n} {text = text} x h =
     let e : text ≡ h.done = h.split ∙ append-nil h.done in
     let P : List ℕ → Type 0 = λ t. Continues o n t in
     record { same = h.same; all = subst P (sym e) h.continued; beginning = tt }
 
--- a part of what is left was not put
+-- a part of the rest was not put
 pub leaves_off : {T S E F : Type 0} {o m n : Written} {e : E} {r : Result T F} {text rest part : List ℕ} (more : List ℕ) →
     IsErr r → Leaves o m text rest → Puts {T = S} {E = E} m n (Err e) part → rest ≡ part ++ more → Puts o n r text
 leaves_off {o = o} {m = m} {n = n} {e = d} {r = r} {text = text} {part = part} more bad h k e =
@@ -200,14 +200,14 @@ places_then {old = old} {a = a} {b = b} {at = at} h k = record {
   moved = omega (arith, h.moved, k.moved, length-append a b);
 }
 
--- a text is another one
+-- a text that equals another one
 pub places_same : {old new a b : List ℕ} {at end : ℕ} → Places old new at a end → a ≡ b → Places old new at b end
 places_same {old = old} {new = new} {at = at} {end = end} h e = let P : List ℕ → Type 0 = λ t. Places old new at t end in subst P e h
 
 abbrev waits_by : ℕ → Option (List ℕ) → List ℕ → Written
 waits_by name held waiting = record { name = name; held = held; waiting = waiting }
 
--- a text was placed whole, and a part of it counts
+-- a text was placed whole, and a part of it is used
 pub part_placed : (bytes placed : List ℕ) (at k n : ℕ) → at + length placed ≤ length bytes → n ≤ length placed →
     take (at + n) (put_mid at k bytes placed) ≡ take at bytes ++ take n placed
 part_placed bytes placed at k n room part =
@@ -217,7 +217,7 @@ part_placed bytes placed at k n room part =
     let seam : take (at + n) (take at bytes ++ placed) ≡ take at bytes ++ take n placed = rw front at (take-append-add (take at bytes) placed n) in
     sym (take-take (at + n) (at + length placed) (put_mid at k bytes placed) (omega arith)) ∙ ap (take (at + n)) whole ∙ seam
 
--- as much of a label counts as is its text
+-- of a label, as many bytes are used as its text has
 pub label_added : (name : ℕ) (held : Option (List ℕ)) (bytes placed label : List ℕ) (at k n : ℕ) → placed ≡ label → at + 32 ≤ length bytes →
     length label ≡ 32 → n ≤ 32 →
     Adds (record { name = name; held = held; waiting = take at bytes })

@@ -1,4 +1,4 @@
--- What a plan shows is what the text of a message says: for `showing/plan`, `showing/plans`, `showing/column` and `showing/message`.
+-- What a plan shows is the text of a message: for `showing/plan`, `showing/plans`, `showing/column` and `showing/message`.
 use Rattle.std.proofs.lemmas.List.{get_or-set_same, get_or-set_other, get_or_past, drop-append-le, take-append-le, length-drop, drop-drop}
 use Rattle.std.specs.Array.{AllOfLen}
 use Rattle.arrayvec.specs.ArrayVec.{ArrayVec}
@@ -49,13 +49,13 @@ unfolding number_text
 unsigned_shows type invalid n is e no_32 no_64 =
     rw is (ap (λ t. if n == (row_of type).invalid then codes "-" else t) (without_sign type n e no_32 no_64))
 
--- a type without a sign that is no float
+-- a type without a sign, other than a float
 pub unsigned_kind : (type : BaseType) (invalid : ℕ) → invalid ≡ (row_of type).invalid → IsNumber type → has_sign type ≡ false →
     type ≢ Float32 → type ≢ Float64 → IsWholeOf type (Unsigned invalid)
 unsigned_kind type invalid is numbers e no_32 no_64 =
     record { numbers = numbers; shows = λ n fits. unsigned_shows type invalid n is e no_32 no_64 }
 
--- a number past the half is below zero
+-- a number past half of the range is negative
 below_zero : (m n : ℕ) → n < suc m → 45 ∷ decimal (suc m - n) ≡ signed_decimal (pos n -ℤ pos (suc m))
 below_zero m n h =
     let t : ltb n (suc m) ≡ true = lt-ltb n (suc m) h in
@@ -134,7 +134,7 @@ one_text : (type : BaseType) (n : ℕ) → number_text type n ≡ numbers_text t
 unfolding numbers_text
 one_text type n = sym (append-nil (number_text type n))
 
--- a field with one value, which is no date, shows it
+-- a field with one value that is not a date shows this value
 one_shown : (dates : List ℕ) (n base : ℕ) (arch : Arch) (bytes : List ℕ) (type : BaseType) →
     list_any (λ date. date == n) dates ≡ false → base_type base ≡ Some type → IsNumber type → length bytes ≡ (row_of type).size →
     number_text type (number arch bytes) ≡ shown_at dates n base arch bytes
@@ -146,7 +146,7 @@ one_shown dates n base arch bytes type no_date known is e =
     rw no_date
     (one_text type (number arch bytes) ∙ ap (numbers_text type) (sym one) ∙ number_values field type known is (λ none. omega (arith, some, none)))
 
--- the fields of a type of whole numbers, of the size of one
+-- fields of a type of whole numbers, whose size is that of one number
 pub shows_whole : (dates : List ℕ) (n base size : ℕ) (type : BaseType) (kind : Kind) →
     list_any (λ date. date == n) dates ≡ false → base_type base ≡ Some type → size ≡ (row_of type).size → IsWholeOf type kind →
     ShowsWhole dates n base size kind
@@ -156,7 +156,7 @@ shows_whole dates n base size type kind no_date known e h =
       shows = λ arch bytes one fits. h.shows (number arch bytes) fits ∙ one_shown dates n base arch bytes type no_date known h.numbers one;
     })
 
--- the kind of a field by that of its type
+-- the kind of a field follows from that of its type
 pub kind_shows : (dates : List ℕ) (n base size : ℕ) (type : BaseType) (kind : Kind) →
     list_any (λ date. date == n) dates ≡ false → base_type base ≡ Some type → size ≡ (row_of type).size → IsKindOf type kind →
     IsKind dates n base size kind
@@ -174,7 +174,7 @@ columns_length names dates [] (column ∷ columns) h = absurd h
 columns_length names dates (field ∷ fields) [] h = absurd h
 columns_length names dates (field ∷ fields) (column ∷ columns) h = ap (λ n. suc n) (columns_length names dates fields columns h.1)
 
--- the fields that are left, behind those that have columns
+-- the fields that are left, after those that have columns
 pub left_over : (done fields : List FieldDefinition) (all : List FieldDefinition) → all ≡ done ++ fields → length fields < 1 → all ≡ done
 left_over done [] all e lt = e ∙ append-nil done
 left_over done (field ∷ fields) all e lt = absurd (omega arith)
@@ -187,7 +187,7 @@ next_field done (field ∷ fields) all d e lt =
     let rest : take (length (field ∷ fields) - 1) fields ≡ fields = take_all _ fields (omega arith) in
     rw (rest, append_assoc) e
 
--- the column of a field more
+-- the columns with one more field's
 pub columns_more : (names : FieldNames) (dates : List ℕ) (fields : List FieldDefinition) (columns : List Column) (field : FieldDefinition)
     (column : Column) → AreColumns names dates fields columns → IsColumn names dates field column →
     AreColumns names dates (fields ++ field ∷ []) (columns ++ column ∷ [])
@@ -197,7 +197,7 @@ columns_more names dates (f ∷ fields) [] field column h k = absurd h
 columns_more names dates (f ∷ fields) (c ∷ columns) field column h k =
     (h.0, columns_more names dates fields columns field column h.1 k)
 
--- the text of columns is that of their fields
+-- the text of a column is that of its field
 column_shows : (names : FieldNames) (dates : List ℕ) (arch : Arch) (field : FieldDefinition) (column : Column) (bytes : List ℕ) →
     IsColumn names dates field column →
     column_text dates arch column bytes ≡ field_text names dates (field_at field.number field.base arch bytes)
@@ -269,7 +269,7 @@ first_text dates arch [] column content bytes behind n some is front back size =
 first_text dates arch (c ∷ columns) column content bytes behind n some is front back size =
     let rest : others (c ∷ columns) ≡ columns = take_all _ columns (omega arith) in rw (front, back, size, is, rest) refl
 
--- the content behind the first, and behind all of them
+-- the content after the first column, and after all of them
 pub first_behind : (columns : List Column) (column : Column) (content behind : List ℕ) (n : ℕ) → 1 ≤ length columns → column ≡ get_or columns 0 column →
     behind ≡ drop n content → n ≡ column.size →
     drop (sum_by (λ c. c.size) (others columns)) behind ≡ drop (sum_by (λ c. c.size) columns) content
@@ -323,16 +323,16 @@ pub plan_size : (d : Definition) (plan : Plan) (columns : List Column) (develope
 plan_size d plan columns developer h =
     columns_size (names_of_fields d.global) (dates_of plan.utc d.global) d.fields.items columns h.fields
 
--- ---- columns in the row of all
+-- ---- columns in the shared row
 
--- a part of a row stays where more comes behind the row
+-- a part of a row stays when more is added to the row
 part_in_more : {A : Type 0} (row more : List A) (first end : ℕ) → first ≤ end → end ≤ length row →
     slice_range (row ++ more) first end ≡ slice_range row first end
 part_in_more row more first end order inside =
     ap (λ t. take (end - first) t) (drop-append-le first row more (omega (arith, order, inside)))
     ∙ take-append-le (end - first) (drop first row) more (omega (arith, order, inside, length-drop first row))
 
--- a plan stays where more columns and developer fields come behind its own
+-- a plan stays when more columns and developer fields are added after its own
 plan_in_more : (row more : List Column) (developer others : List DeveloperFieldDefinition) (utc : Bool) (d : Definition) (plan : Plan) →
     IsPlanIn row developer utc d plan → IsPlanIn (row ++ more) (developer ++ others) utc d plan
 plan_in_more row more developer others utc d plan h = record {
@@ -356,7 +356,7 @@ same_or_not a b =
       | inr some ↦ inr (λ e. omega (arith, some, e))
     ]
 
--- none of sixteen
+-- none of sixteen slots has a plan
 pub none_there : (slots : List (Option Plan)) (local : ℕ) → AllOfLen (λ slot. slot ≡ None) slots 16 → get_or slots local None ≡ None
 none_there slots local h =
     elim (cases_lt local 16) [
@@ -368,7 +368,7 @@ pub plans_none : (definition_for : ℕ → Option Definition) (plans : Plans) �
     ArePlansFor definition_for plans
 plans_none definition_for plans none local d plan there has = let gone = none local in cc
 
--- a plan at a place that was set is the one that was put there
+-- a plan at a place that was just set is the one put there
 set_there : (slots : List (Option Plan)) (k : ℕ) (slot : Option Plan) (plan : Plan) → get_or (set slots k slot) k None ≡ Some plan → slot ≡ Some plan
 set_there slots k slot plan there =
     elim (cases_lt k (length slots)) [
@@ -376,7 +376,7 @@ set_there slots k slot plan there =
       | inr ge ↦ let gone = get_or_past (set slots k slot) k None (omega (arith, ge, length-set slots k slot)) in cc
     ]
 
--- behind a definition its local number has no plan
+-- after a definition its local number has no plan
 pub plans_forget : (definition_for : ℕ → Option Definition) (d : Definition) (plans : Plans) (k : ℕ) → k ≡ d.local →
     ArePlansFor definition_for plans → ArePlansFor (behind (Defines d) definition_for) (record plans { slots = set plans.slots k None })
 plans_forget definition_for d plans k place h local definition plan there has =
@@ -391,7 +391,7 @@ plans_forget definition_for d plans k place h local definition plan there has =
           h local definition plan (sym (get_or-set_other plans.slots k local None None other) ∙ there) (rw no at has)
     ]
 
--- a plan that was made, whose columns and developer fields came behind the others
+-- a plan that was made, with its columns and developer fields added after the others
 pub plans_set : (definition_for : ℕ → Option Definition) (own : ℕ) (d : Definition) (plans : Plans) (columns : ArrayVec Column)
     (developer : ArrayVec DeveloperFieldDefinition) (plan : Plan) (k : ℕ) (more : List Column) (fields : List DeveloperFieldDefinition) →
     k ≡ own → definition_for own ≡ Some d → IsPlanIn columns.items developer.items plans.utc d plan →

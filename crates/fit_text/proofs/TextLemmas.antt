@@ -1,4 +1,4 @@
--- The shown text of values, by the cases that the code goes through: for `showing/bytes` and `showing/number`.
+-- The shown text of values, by the cases that the code distinguishes: for `showing/bytes` and `showing/number`.
 use Rattle.std.proofs.Common.{◌≡◌, ◌≢◌, ℕ, zero, suc, ◌+◌, ◌<◌, ◌≤◌, ◌==◌, true, false, List, [], ◌∷◌, ◌++◌, length, get_or, take, drop, append_assoc, add-zero, refl, ap, ◌∙◌, eq-eqb, codes, decimal, Some, arith, rules, if◌then◌else◌}
 use Rattle.std.proofs.lemmas.List.{at_drop_more, at_drop_all}
 use Rattle.std.specs.Fmt.{signed_decimal}
@@ -70,7 +70,7 @@ pub plain_float64 : (type : BaseType) (n : ℕ) (bytes : List ℕ) → type ≡ 
 unfolding plain_text
 plain_float64 type n bytes e h = rw (e, h) refl
 
--- a type with a sign is no float
+-- a type with a sign is not a float
 pub plain_signed : (type : BaseType) (n : ℕ) → has_sign type ≡ true → whole_text type n ≡ plain_text type n
 unfolding plain_text
 plain_signed Float32 n e = cc
@@ -121,9 +121,9 @@ pub rest_all : (type : BaseType) (ns : List ℕ) → numbers_text type ns ≡ re
 unfolding numbers_text
 rest_all type ns = refl
 
--- ---- what a field holds
+-- ---- the values of a field
 
--- a type of numbers, with one or more
+-- a type of numbers, with at least one value
 pub some_numbers : (type : BaseType) (ns : List ℕ) → IsNumber type → numbers_text type ns ≡ some_text (Some type) ns
 some_numbers String ns bad = absurd bad
 some_numbers Byte ns bad = absurd bad

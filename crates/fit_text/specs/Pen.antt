@@ -1,23 +1,23 @@
--- What a pen does with text: some was handed over to its writer, and some waits.
+-- What a pen does with text: part of it was handed to its writer, and the rest waits.
 use Rattle.std.specs.Prelude.{◌≡◌, ℕ, ◌+◌, ◌/◌, ◌%◌, List, [], ◌∷◌, ◌++◌, length, take, Option, Result, OnOk, OnErr}
 use Rattle.std.specs.Io.KnownBytes.{Appends}
 use Rattle.fit_grammar.specs.Calls.Output.{AppendsBeginning}
 
 -- ---- a pen
 
--- the name of the loan of the writer, what it holds where that is known, and the text that waits
+-- the name of the borrow of the writer, what the writer holds if that is known, and the text that waits
 pub record Written : Type 0 where
   pub name : ℕ
   pub held : Option (List ℕ)
   pub waiting : List ℕ
 
--- of what waited and the text behind it some was handed over, and the rest waits
+-- of the text that waited followed by the new one, a prefix was handed over and the rest waits
 pub record Continues (old new : Written) (text : List ℕ) : Type 0 where
   pub handed : List ℕ
   pub split : old.waiting ++ text ≡ handed ++ new.waiting
   pub appended : Appends old.held new.held handed
 
--- the text was put at Ok; at Err a beginning of what waited and the text behind it was handed over
+-- at Ok the text was put; at Err a prefix of the text that waited followed by the new one was handed over
 pub record Puts {T E : Type 0} (old new : Written) (result : Result T E) (text : List ℕ) : Type 0 where
   pub same : new.name ≡ old.name
   pub all : OnOk result (Continues old new text)
@@ -27,7 +27,7 @@ pub record Puts {T E : Type 0} (old new : Written) (result : Result T E) (text :
 abbrev pub Took : Written → List ℕ → Written → Type 0
 Took old text new = (new.name ≡ old.name) × Continues old new text
 
--- the text waits behind what waited
+-- the text was added to what waits
 pub record Adds (old new : Written) (text : List ℕ) : Type 0 where
   pub waits : new ≡ record old { waiting = old.waiting ++ text }
 
@@ -37,9 +37,9 @@ pub record Adds (old new : Written) (text : List ℕ) : Type 0 where
 abbrev pub three : ℕ → List ℕ
 three n = (48 + n / 100) ∷ (48 + n / 10 % 10) ∷ (48 + n % 10) ∷ []
 
--- ---- a place in its buffer
+-- ---- a place in the pen's buffer
 
--- up to the end stands what stood before the place, and then the text; behind it anything
+-- up to the end, the buffer holds what was before the place and then the text; after it, any bytes
 pub record Places (old new : List ℕ) (at : ℕ) (text : List ℕ) (end : ℕ) : Type 0 where
   pub bytes : take end new ≡ take at old ++ text
   pub moved : end ≡ at + length text

@@ -1,4 +1,4 @@
--- How the messages of a definition are shown: what is settled where the definition is met, before any of its messages.
+-- How the messages of a definition are shown: what is settled when its first message is read.
 use Rattle.std.specs.Prelude.{◌≡◌, ℕ, ◌+◌, ◌-◌, ◌*◌, ◌^◌, ◌<◌, ◌≤◌, Bool, List, [], ◌∷◌, ◌++◌, length, take, drop, slice_index_or as get_or, slice_range, Option, Some, None, codes, decimal, ◌==◌, nat_lt, if◌then◌else◌}
 use Rattle.std.specs.Int.{to_le_bytes, w32}
 use Rattle.fit_base.specs.declared.order.Arch.{Arch}
@@ -20,24 +20,24 @@ use Rattle.fit_text.specs.Date.{dates_of, date_in}
 use Rattle.fit_text.specs.Profile.{FieldNames, names_of_fields}
 use Rattle.fit_text.specs.Text.{IsNumber, number_text, message_name, field_name, shown_text}
 
--- the field of a number and a base type that these bytes are
+-- the field of this number and base type with these bytes
 abbrev pub field_at : ℕ → ℕ → Arch → List ℕ → MessageField
 field_at number base arch bytes =
     record { number = number; base = base; values = values_of (record { base = base; arch = arch; bytes = bytes }) }
 
--- what such a field shows, where those of some numbers are shown as dates
+-- the text of such a field, if the fields of these numbers are shown as dates
 abbrev pub shown_at : List ℕ → ℕ → ℕ → Arch → List ℕ → List ℕ
 shown_at dates number base arch bytes =
     let field = field_at number base arch bytes in shown_text (date_in dates field) field
 
--- a whole number of some bytes, or `-`; one with a sign is below zero where it is past the invalid one, the greatest
+-- a whole number of some bytes, or `-` for the invalid value; with a sign, that is the greatest value, and a number past it is negative
 abbrev pub whole_of : Kind → ℕ → List ℕ
 whole_of (Unsigned invalid) n = if n == invalid then codes "-" else decimal n
 whole_of (Signed invalid) n =
     if n == invalid then codes "-" else if nat_lt n (invalid + 1) then decimal n else 45 ∷ decimal (2 * invalid + 2 - n)
 whole_of Other n = []
 
--- such fields have one whole number each, which their kind shows
+-- such fields have one whole number each, and their kind shows it
 pub record ShowsWhole (dates : List ℕ) (number base size : ℕ) (kind : Kind) : Type 0 where
   pub sized : IsValueSize size
   pub shows : (arch : Arch) (bytes : List ℕ) → length bytes ≡ size → number_by arch bytes < 256 ^ size
@@ -59,7 +59,7 @@ columns_text dates arch [] content = []
 columns_text dates arch (column ∷ columns) content =
     column_text dates arch column (take column.size content) ++ columns_text dates arch columns (drop column.size content)
 
--- a column that shows such a field of each message
+-- a column that shows this field of each message
 pub record IsColumn (names : FieldNames) (dates : List ℕ) (field : FieldDefinition) (column : Column) : Type 0 where
   pub label : column.label ≡ codes " " ++ field_name names field.number ++ codes "="
   pub number : column.number ≡ field.number
@@ -67,17 +67,17 @@ pub record IsColumn (names : FieldNames) (dates : List ℕ) (field : FieldDefini
   pub size : column.size ≡ field.size
   pub kind : IsKind dates column.number column.base column.size column.kind
 
--- columns that show such fields, in their order
+-- columns that show these fields, in their order
 abbrev pub AreColumns : FieldNames → List ℕ → List FieldDefinition → List Column → Type 0
 AreColumns names dates [] [] = Unit {0}
 AreColumns names dates (field ∷ fields) (column ∷ columns) = IsColumn names dates field column × AreColumns names dates fields columns
 AreColumns names dates _ _ = ⊥
 
--- the field of a compressed timestamp, as a definition would have it
+-- the definition that the field of a compressed timestamp would have
 abbrev pub time_definition : FieldDefinition
 time_definition = record { number = 253; size = 4; base = 0x86 }
 
--- the text of the time of a compressed timestamp by its column, if there is one
+-- the text that a column gives the time of a compressed timestamp, if there is one
 abbrev pub time_text : List ℕ → Column → Option ℕ → List ℕ
 time_text dates column None = []
 time_text dates column (Some time) = column_text dates Little column (to_le_bytes w32 time)
@@ -87,7 +87,7 @@ abbrev pub HaveKinds : List ℕ → List Column → Type 0
 HaveKinds dates [] = Unit {0}
 HaveKinds dates (column ∷ columns) = IsKind dates column.number column.base column.size column.kind × HaveKinds dates columns
 
--- the plan of a definition, its columns and its developer fields
+-- a plan for a definition, with its columns and its developer fields
 pub record IsPlanOf (d : Definition) (plan : Plan) (columns : List Column) (last : List DeveloperFieldDefinition) : Type 0 where
   pub arch : plan.arch ≡ d.arch
   pub global : plan.global ≡ d.global
@@ -96,7 +96,7 @@ pub record IsPlanOf (d : Definition) (plan : Plan) (columns : List Column) (last
   pub fields : AreColumns (names_of_fields d.global) (dates_of plan.utc d.global) d.fields.items columns
   pub developer : last ≡ d.developer.items
 
--- the same, where each of them stand in a row
+-- the same, with the columns and the developer fields in rows that several plans share
 pub record IsPlanIn (row : List Column) (developer_row : List DeveloperFieldDefinition) (utc : Bool) (d : Definition) (plan : Plan) : Type 0 where
   pub dated : plan.utc ≡ utc
   pub order : plan.first ≤ plan.end
@@ -105,13 +105,13 @@ pub record IsPlanIn (row : List Column) (developer_row : List DeveloperFieldDefi
   pub developer_inside : plan.developer_end ≤ length developer_row
   pub is : IsPlanOf d plan (slice_range row plan.first plan.end) (slice_range developer_row plan.developer_first plan.developer_end)
 
--- the plan of a local number is that of this definition
+-- the plan of a local number is for this definition
 pub record IsPlanAt (plans : Plans) (local : ℕ) (d : Definition) : Type 0 where
   pub plan : Plan
   pub there : get_or plans.slots local None ≡ Some plan
   pub is : IsPlanIn plans.columns.items plans.developer.items plans.utc d plan
 
--- of each local number that has a plan, it is that of its definition in force
+-- each local number's plan, if it has one, is for its definition in force
 abbrev pub ArePlansFor : (ℕ → Option Definition) → Plans → Type 0
 ArePlansFor definition_for plans =
     (local : ℕ) (d : Definition) (plan : Plan) → get_or plans.slots local None ≡ Some plan → definition_for local ≡ Some d

@@ -1,5 +1,5 @@
 -- The text that shows a file: a line for its header, a line for each message, and a line that counts them. It
--- follows from what the messages say and not from how they are spelled.
+-- depends on the messages and not on how they are encoded.
 use Rattle.std.specs.Prelude.{ℕ, Bool, ◌/◌, ◌%◌, List, [], ◌∷◌, ◌++◌, length, codes, decimal, Option, Some, None, true, ◌==◌, ◌&&◌, not, nat_le, if◌then◌else◌}
 use Rattle.std.specs.Fmt.{signed_decimal, digit_glyph}
 use Rattle.std.specs.Int.{to_be_bytes, w32, w64}
@@ -22,12 +22,12 @@ use Rattle.fit_text.specs.Profile.{FieldNames, message_named, names_of_fields, f
 unfoldable pub hex_byte : ℕ → List ℕ
 hex_byte byte = digit_glyph true (byte / 16) ∷ digit_glyph true (byte % 16) ∷ []
 
--- `0x` and two digits a byte; of no byte nothing
+-- `0x` and two digits a byte; nothing for no bytes
 unfoldable pub hex_text : List ℕ → List ℕ
 hex_text [] = []
 hex_text (byte ∷ bytes) = codes "0x" ++ flat_map hex_byte (byte ∷ bytes)
 
--- a byte that can be printed and is no quotation mark or backslash
+-- a printable byte other than a quotation mark or backslash
 abbrev pub is_plain : ℕ → Bool
 is_plain byte = nat_le 32 byte && nat_le byte 126 && not (byte == 34) && not (byte == 92)
 
@@ -39,21 +39,21 @@ escaped byte = if is_plain byte then byte ∷ [] else 92 ∷ 120 ∷ hex_byte by
 unfoldable pub string_text : List ℕ → List ℕ
 string_text bytes = codes "\"" ++ flat_map escaped (before_first (λ byte. byte == 0) bytes) ++ codes "\""
 
--- the bytes of a field of type byte, which is invalid where all of them are FF
+-- the bytes of a field of type byte, which is invalid if all of them are FF
 unfoldable pub byte_text : List ℕ → List ℕ
 byte_text bytes = if list_all (λ byte. byte == 255) bytes then codes "-" else hex_text bytes
 
--- a whole number in decimal, read as two's complement where its type has a sign
+-- a whole number in decimal, read as two's complement if its type has a sign
 unfoldable pub whole_text : BaseType → ℕ → List ℕ
 whole_text type n = if has_sign type then signed_decimal (twos_complement (row_of type).size n) else decimal n
 
--- a number that is not invalid; of a float the digits of its bits
+-- a number that is not invalid; for a float, the hexadecimal digits of its bits
 unfoldable pub plain_text : BaseType → ℕ → List ℕ
 plain_text Float32 n = hex_text (to_be_bytes w32 n)
 plain_text Float64 n = hex_text (to_be_bytes w64 n)
 plain_text type n = whole_text type n
 
--- a number, or `-` where it is its type's invalid value
+-- a number, or `-` if it is its type's invalid value
 unfoldable pub number_text : BaseType → ℕ → List ℕ
 number_text type n = if n == (row_of type).invalid then codes "-" else plain_text type n
 
@@ -67,14 +67,14 @@ IsNumber String = ⊥
 IsNumber Byte = ⊥
 IsNumber type = Unit {0}
 
--- the values of a type that has a byte or more
+-- the values of a type, of which there is at least one
 abbrev pub some_text : Option BaseType → List ℕ → List ℕ
 some_text None numbers = []
 some_text (Some String) bytes = string_text bytes
 some_text (Some Byte) bytes = byte_text bytes
 some_text (Some type) numbers = numbers_text type numbers
 
--- what a field holds; one of size 0 shows nothing
+-- the values of a field; nothing for a field of size 0
 abbrev pub values_text : Option BaseType → Values → List ℕ
 values_text type (Raw bytes) = hex_text bytes
 values_text type (Numbers []) = []
@@ -82,7 +82,7 @@ values_text type (Numbers (n ∷ numbers)) = some_text type (n ∷ numbers)
 
 -- ---- messages
 
--- a name, or a word and the number in its place
+-- a name, or else a word and the number
 abbrev pub named : Option (List ℕ) → List ℕ → ℕ → List ℕ
 named None word number = word ++ decimal number
 named (Some name) word number = name
@@ -93,22 +93,22 @@ message_name number = named (message_named number) (codes "message_") number
 abbrev pub field_name : FieldNames → ℕ → List ℕ
 field_name names number = named (field_named names number) (codes "field_") number
 
--- a date, or what a field holds
+-- a date, or else the values of the field
 abbrev pub shown_text : Option ℕ → MessageField → List ℕ
 shown_text (Some time) field = date_text time
 shown_text None field = values_text (base_type field.base) field.values
 
--- a field, where those of some numbers are shown as dates
+-- a field, if the fields of these numbers are shown as dates
 abbrev pub field_text : FieldNames → List ℕ → MessageField → List ℕ
 field_text names dates field =
     codes " " ++ field_name names field.number ++ codes "=" ++ shown_text (date_in dates field) field
 
--- a developer field, by the index of its developer data and its number: two digits a byte
+-- a developer field, by the index of its developer data and its number; its bytes have two digits each
 abbrev pub developer_text : MessageDeveloperField → List ℕ
 developer_text field =
     codes " developer_" ++ decimal field.index ++ codes "_" ++ decimal field.number ++ codes "=" ++ hex_text field.bytes
 
--- the line of a message, behind its number
+-- the line of a message, which begins with its number
 abbrev pub message_text : Bool → ℕ → Message → List ℕ
 message_text utc number message =
     decimal number ++ codes " " ++ message_name message.global
@@ -117,18 +117,18 @@ message_text utc number message =
 
 -- ---- files
 
--- the first line: what the header says, over this many bytes of records
+-- the first line: what the header states, and the number of bytes of records
 abbrev pub header_text : Frame → ℕ → List ℕ
 header_text frame size =
     codes "header " ++ decimal frame.header_size ++ codes " protocol " ++ decimal (frame.protocol / 16)
     ++ codes "." ++ decimal (frame.protocol % 16) ++ codes " profile " ++ decimal frame.profile
     ++ codes " data " ++ decimal size ++ codes "\n"
 
--- the lines of messages, which are numbered from 0
+-- the lines of the messages, numbered from 0
 abbrev pub messages_text : Bool → List Message → List ℕ
 messages_text utc messages = flat_map (λ row. message_text utc row.0 row.1) (enumerate_from 0 messages)
 
--- with times as dates in UTC, or as they are
+-- with times as dates in UTC, or as numbers
 unfoldable pub text_of : Bool → FileValue → List ℕ
 text_of utc v =
     header_text v.frame (data_size v.items) ++ messages_text utc (messages_of v.items)

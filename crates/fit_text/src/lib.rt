@@ -1,6 +1,6 @@
-//! What a FIT file says, as text: a line for its header, a line for each message, and how many these are.
+//! The messages of a FIT file as text: a line for its header, a line for each message, and a line that counts them.
 //!
-//! `show` writes the text of a `File`, in one pass and with no allocation. Times are numbers, or dates where they are asked for:
+//! `show` writes the text of a `File`, in one pass and without allocation. Times are numbers, or dates on request:
 //!
 //!     let mut file = File::new(alloc, frame);
 //!     file.define(&Definition { local: 0, arch: Arch::Little, global: 0, fields, developer: ArrayVec::new() })?;
@@ -13,10 +13,9 @@
 //!     0 file_id type=4 time_created=2021-09-08T01:46:40Z
 //!     messages 1
 //!
-//! (The test `the_example_of_the_crate` of `fit_format_tests`.) The names of messages and fields stand in `profile`, and what is
-//! written goes through the buffer of a `Pen` (`writing`). What is promised is said in the words of `specs/`: `Text` has the text
-//! of a file, `Profile` the names in it, `Date` the dates, `Pen` what a pen puts. `Plan` has what only private functions and proofs
-//! speak of.
+//! (The test `the_example_of_the_crate` of `fit_format_tests`.) The names of messages and fields are in `profile`. The text goes
+//! through the buffer of a `Pen` (`writing`). Contracts use the definitions in `specs/`: `Text` has the text of a file, `Profile`
+//! the names in it, `Date` the dates, and `Pen` what a pen puts. `Plan` is only for private functions and proofs.
 #![tactic(auto)]
 
 mod profile;

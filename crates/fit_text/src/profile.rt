@@ -1,7 +1,9 @@
-// The names of messages and fields: one table, which the definition of the shown text reads as well.
+// The names of messages and fields. The definition of the shown text reads this table too.
 
-ghost use Rattle.std.specs.Prelude.{◌≡◌, ◌≤◌, length, option_map, true, IfSome};
-ghost use Rattle.fit_text.specs.Profile.{message_named, names_of_fields, field_named, name_in, message_in, fields_in, field_rows, message_rows, are_short};
+ghost use Rattle.std.specs.Prelude.{◌≡◌, ◌≤◌, length, option_map, IfSome};
+ghost use Rattle.fit_text.specs.Profile.{message_named, names_of_fields, field_named, name_in, message_in, fields_in, field_rows, message_rows, sample_name_rows};
+
+use fit_activity::{FieldRow, SAMPLE_FIELDS};
 
 /// A field's number and its name.
 pub type FieldName = (u8, &'static str);
@@ -9,10 +11,12 @@ pub type FieldName = (u8, &'static str);
 /// A message's global number, its name, and the names of its fields.
 pub type MessageName = (u16, &'static str, &'static [FieldName]);
 
-/// The fields that have their name in every message.
+const RECORD: u16 = 20;
+
+/// The fields that have the same name in every message.
 pub const COMMON_FIELDS: &[FieldName] = &[(253, "timestamp"), (254, "message_index")];
 
-/// The messages that have a name. A line more names a field more.
+/// The messages that have a name. Another line names another field.
 pub const MESSAGES: &[MessageName] = &[
     (
         0,
@@ -68,23 +72,8 @@ pub const MESSAGES: &[MessageName] = &[
             (24, "lap_trigger"),
         ],
     ),
-    (
-        20,
-        "record",
-        &[
-            (0, "position_lat"),
-            (1, "position_long"),
-            (2, "altitude"),
-            (3, "heart_rate"),
-            (4, "cadence"),
-            (5, "distance"),
-            (6, "speed"),
-            (7, "power"),
-            (13, "temperature"),
-            (73, "enhanced_speed"),
-            (78, "enhanced_altitude"),
-        ],
-    ),
+    // Its fields are named in the table of a sample's fields.
+    (RECORD, "record", &[]),
     (21, "event", &[(0, "event"), (1, "event_type")]),
     (
         34,
@@ -103,30 +92,33 @@ pub const MESSAGES: &[MessageName] = &[
 #[tactic(auto, unfolding(crate::specs::Profile::messages))]
 pub fn message_name(number: u16) -> Option<&'static str>
     ensures named { option_map (λ name. name.now) result ≡ message_named number }
-    // No line of the table is too long for the shown text.
+    // No name is too long for a label of the shown text.
     ensures short { IfSome result (λ name. length name.now ≤ 30) }
 {
     message_name_in(MESSAGES, number)
 }
 
-/// The names of the fields of the message with this global number, none where it has no name itself.
-#[tactic(auto, unfolding(crate::specs::Profile::messages))]
-pub fn fields_of(number: u16) -> &'static [FieldName]
-    ensures names { field_rows result.now ≡ names_of_fields number }
-    ensures short { are_short (field_rows result.now) ≡ true }
-{
-    fields_in(MESSAGES, number)
-}
-
-/// The name that a field has in every message, or among these.
+/// The name that a field has in every message, or else in those with this global number.
 #[tactic(auto, unfolding(crate::specs::Profile::common_fields))]
-pub fn field_name(fields: &[FieldName], number: u8) -> Option<&'static str>
-    ensures named { option_map (λ name. name.now) result ≡ field_named (field_rows fields.now) number }
-    ensures short { are_short (field_rows fields.now) ≡ true → IfSome result (λ name. length name.now ≤ 30) }
+pub fn field_name(global: u16, number: u8) -> Option<&'static str>
+    ensures named { option_map (λ name. name.now) result ≡ field_named (names_of_fields global) number }
+    ensures short { IfSome result (λ name. length name.now ≤ 30) }
 {
     match field_name_in(COMMON_FIELDS, number) {
         Some(name) => Some(name),
-        None => field_name_in(fields, number),
+        None => own_name(global, number),
+    }
+}
+
+// The name that a field has in the messages with this global number.
+#[tactic(auto, unfolding(crate::specs::Profile::messages, crate::specs::Profile::sample_names))]
+fn own_name(global: u16, number: u8) -> Option<&'static str>
+    ensures { option_map (λ name. name.now) result ≡ name_in (names_of_fields global) number }
+{
+    if global == RECORD {
+        sample_name_in(&SAMPLE_FIELDS, number)
+    } else {
+        field_name_in(fields_in(MESSAGES, global), number)
     }
 }
 
@@ -160,6 +152,18 @@ fn field_name_in(mut rows: &[FieldName], number: u8) -> Option<&'static str>
     while let [row, others @ ..] = rows {
         if row.0 == number {
             return Some(row.1);
+        }
+        rows = others;
+    }
+    None
+}
+
+fn sample_name_in(mut rows: &[FieldRow], number: u8) -> Option<&'static str>
+    ensures { option_map (λ name. name.now) result ≡ name_in (sample_name_rows rows.entry.now) number }
+{
+    while let [row, others @ ..] = rows {
+        if row.0 == number {
+            return Some(row.2);
         }
         rows = others;
     }

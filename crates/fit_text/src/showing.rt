@@ -1,4 +1,4 @@
-// What a file says, as text.
+// The messages of a file as text.
 
 mod bytes;
 mod column;

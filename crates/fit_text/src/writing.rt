@@ -15,18 +15,18 @@ use std::fmt;
 use std::io::Write;
 use std::marker::Model;
 
-// How many bytes wait at most.
+// The size of the buffer, in bytes.
 const SIZE: usize = 32_768;
 
-// Room for a name and a number.
+// The room for a name and a number, in bytes.
 const ROOM: usize = 64;
 
-/// Writes text: it hands over to its writer what came together in its buffer. After an `Err` the writer has taken a
-/// beginning of the text.
+/// Writes text through a buffer of 32768 bytes. It hands the text to its writer when there is no room for
+/// more. After an `Err` the writer has taken a prefix of the text.
 #[derive(Drop)]
 pub struct Pen<'a, W: Write> {
     bytes: [u8; SIZE],
-    // How many of them wait to be handed over.
+    // How many bytes wait to be handed over.
     len: usize,
     out: &'a mut W,
 }
@@ -55,7 +55,7 @@ impl<'a, W: Write> Pen<'a, W> {
         }
     }
 
-    /// The writer. What waits is not handed over.
+    /// The writer. Text that waits is dropped.
     pub fn into_writer(self) -> &'a mut W
         ensures name { result.ghost_name ≡ self.entry.name }
         ensures held { W.contents result.now ≡ self.entry.held }
@@ -64,7 +64,7 @@ impl<'a, W: Write> Pen<'a, W> {
         out
     }
 
-    /// Hands over all that waits.
+    /// Hands over all text that waits. After an `Err` none waits.
     pub fn hand_over(&mut self) -> Result<(), WriteFailed>
         ensures puts { Puts self.old self.new result [] }
         ensures none { IfOk result (λ _. self.new.waiting ≡ []) }
@@ -74,7 +74,7 @@ impl<'a, W: Write> Pen<'a, W> {
         put(self.out, text)
     }
 
-    /// Hands over all that waits, and flushes the writer.
+    /// Hands over all text that waits, and flushes the writer.
     pub fn flush(&mut self) -> Result<(), WriteFailed>
         ensures puts { Puts self.old self.new result [] }
         ensures none { IfOk result (λ _. self.new.waiting ≡ []) }
@@ -83,7 +83,7 @@ impl<'a, W: Write> Pen<'a, W> {
         self.out.flush().map_err(|_| WriteFailed)
     }
 
-    /// Makes room for 64 bytes.
+    /// Makes room for 64 bytes. It hands over all text that waits if there is none.
     #[inline]
     pub fn room(&mut self) -> Result<(), WriteFailed>
         ensures puts { Puts self.old self.new result [] }
@@ -95,7 +95,7 @@ impl<'a, W: Write> Pen<'a, W> {
         Ok(())
     }
 
-    /// A text for which there is room.
+    /// Adds a text, for which there is room.
     #[inline]
     pub fn add(&mut self, text: &[u8])
         requires { length self.old.waiting + length text.now ≤ SIZE }
@@ -106,20 +106,20 @@ impl<'a, W: Write> Pen<'a, W> {
         self.len = end;
     }
 
-    /// A label, where there is room for the longest.
+    /// Adds a label. There is room for the longest one, 32 bytes.
     #[inline]
     pub fn add_label(&mut self, label: &Label)
         requires { length self.old.waiting + 32 ≤ SIZE }
         ensures label { Adds self.old self.new label.now }
         ensures short { length label.now ≤ 32 }
     {
-        // A copy of a known length is one or two moves. What stands behind the label is written over later.
+        // A copy of a known length is one or two moves. The bytes after the label are overwritten later.
         let whole = label.bytes;
         self.bytes[self.len..self.len + LABEL].copy_from_slice(&whole);
         self.len += label.len;
     }
 
-    /// A number in decimal, for which there is room.
+    /// Adds a number in decimal. There is room for 21 bytes.
     #[inline]
     pub fn add_number(&mut self, number: u64)
         requires { length self.old.waiting + 21 ≤ SIZE }
@@ -128,7 +128,7 @@ impl<'a, W: Write> Pen<'a, W> {
         self.len = place_number(&mut self.bytes, self.len, number);
     }
 
-    /// A text of any length.
+    /// Puts a text of any length.
     #[inline]
     pub fn put(&mut self, text: &[u8]) -> Result<(), WriteFailed>
         ensures { Puts self.old self.new result text.now }
@@ -140,7 +140,7 @@ impl<'a, W: Write> Pen<'a, W> {
         Ok(())
     }
 
-    // A text for which there is no room. One that is longer than the buffer is handed over as it is.
+    // Puts a text for which there is no room. If it is longer than the buffer, it is handed over directly.
     #[inline(never)]
     fn put_beyond(&mut self, text: &[u8]) -> Result<(), WriteFailed>
         ensures { Puts self.old self.new result text.now }
@@ -153,7 +153,7 @@ impl<'a, W: Write> Pen<'a, W> {
         Ok(())
     }
 
-    /// A number in decimal.
+    /// Puts a number in decimal.
     #[inline]
     pub fn put_number(&mut self, number: u64) -> Result<(), WriteFailed>
         ensures { Puts self.old self.new result (decimal number) }
@@ -163,7 +163,7 @@ impl<'a, W: Write> Pen<'a, W> {
         Ok(())
     }
 
-    /// A number in decimal, behind `-` where it is below zero.
+    /// Puts a number in decimal, after `-` if it is negative.
     #[inline]
     pub fn put_signed(&mut self, number: i64) -> Result<(), WriteFailed>
         ensures { Puts self.old self.new result (signed_decimal number) }

@@ -1,4 +1,4 @@
--- The memory disk fails where that was arranged, and a power cut leaves what its choices say.
+-- The memory disk fails only if that was arranged, and a power cut leaves what the choice bytes decide.
 pub mod Memory
 pub mod Counts
 pub mod CanRun

@@ -1,8 +1,11 @@
 -- What is read, replied and printed.
+pub mod Numbers
+pub mod Settings
 pub mod Scripts
 pub mod Replies
 pub mod Replayed
 pub mod Printed
 pub mod Reading
 pub mod Inputs
-pub mod PlainFile
+pub mod Saved
+pub mod Salvaged

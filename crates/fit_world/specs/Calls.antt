@@ -1,3 +1,3 @@
--- What other public calls say: an input read whole, and the numbers of faults.
+-- What the contracts of other public calls state: an input read whole, and the numbers of faults.
 pub mod Reading
 pub mod FaultCode

@@ -1,4 +1,4 @@
--- Histories of a recording: what may be answered to what is asked of it, whatever fails and whenever the power goes.
+-- Histories of a recording: the answers that may come to its commands, whatever fails and whenever the power is cut.
 pub mod Claims
 pub mod Table
 pub mod Arranged

@@ -1,4 +1,4 @@
--- What is printed: lines, names of faults, and what becomes of the output of each call.
+-- What is printed: lines, names of faults, and the output of each call.
 pub mod Summary
 pub mod Names
 pub mod ReplyLines
@@ -8,3 +8,4 @@ pub mod Checked
 pub mod Repaired
 pub mod Salvaged
 pub mod PlainFile
+pub mod Saved

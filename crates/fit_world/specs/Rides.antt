@@ -1,4 +1,4 @@
--- A ride over any disk: what is known of it, what it replies, where it stands in a history, and what events leave of it.
+-- A ride over any disk: what is known of it, what it replies, its state in a history, and what events leave of its disk.
 pub mod Ride
 pub mod Replies
 pub mod Standing

@@ -1,4 +1,4 @@
--- Scripts: what their lines are, and which are replayed.
+-- Scripts: their lines, and which of them can be replayed.
 pub mod Words
 pub mod Sample
 pub mod Script

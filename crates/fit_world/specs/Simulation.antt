@@ -1,4 +1,4 @@
--- The simulated disk: what is arranged of its calls, and which choices a power cut takes.
+-- The simulated disk: what is arranged of its calls, and which choice bytes a power cut takes.
 pub mod Arranging
 pub mod Choices
 pub mod Hexadecimal

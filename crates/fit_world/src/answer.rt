@@ -1,4 +1,4 @@
-// What the simulated disk's ride answers to an event.
+// The answer of a ride over the memory disk to an event.
 
 ghost use Rattle.std.specs.Prelude.{◌≡◌};
 
@@ -6,27 +6,28 @@ use crate::reply::Reply;
 use fit_activity::Summary;
 use fit_recorder::RecFault;
 
-/// The answer to an event, with the file where one was finished.
+/// The answer to an event, with the file if one was finished.
 #[derive(Debug, Drop, PartialEq, Eq)]
 pub enum Answer {
-    /// It was done.
+    /// The command was done.
     Done,
-    /// The recording has ended with its stop, and this is its finished file.
+    /// The recording ended with its stop. `file` is the finished file.
     Stopped { file: Vec<u8> },
-    /// The recording was recovered: its file says this of itself, and these are the bytes of it.
+    /// The recording was recovered. `file` is the finished file, and `summary` is its summary.
     Recovered { summary: Summary, file: Vec<u8> },
-    /// It was refused, or the device failed.
+    /// The command was refused, or the device failed.
     Refused(RecFault),
-    /// It needs a recorder, and none runs.
+    /// The command needs a recorder, and none runs.
     NoRecorder,
 }
 
 impl Answer {
-    ghost use Rattle.fit_world.specs.Printed.Simulation.{reply_in};
+    ghost use Rattle.fit_world.specs.Histories.Runs.{told_in};
+    ghost use Rattle.fit_world.specs.Printed.Simulation.{reply_told};
 
     /// The answer without its file.
     pub fn reply(&self) -> Reply
-        ensures { result ≡ reply_in self.now }
+        ensures { result ≡ reply_told (told_in self.now) }
     {
         match self {
             Answer::Done => Reply::Done,

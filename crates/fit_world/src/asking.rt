@@ -1,4 +1,4 @@
-// One command after another, whichever it is.
+// Runs one command of any kind.
 
 ghost use Rattle.std.specs.Prelude.{◌≡◌, List, IsTrue, false};
 
@@ -17,7 +17,7 @@ impl<D: Disk> Ride<D> {
     ghost use Rattle.fit_world.specs.Rides.Ride.{HasBegun, CanGoOn, Handed, MayReplyBehind, RidesOnWith, disk_in, is_riding};
     ghost use Rattle.fit_world.specs.Rides.Standing.{GoesBy, IsCounted, StandsIn};
 
-    /// Does what a command asks for that arranges no failure of the disk.
+    /// Runs a command, and returns the ride after it and the reply. The command may not be `Fail`, `Cut` or `Power`.
     pub fn ask(mut self, command: &Command) -> (Ride<D>, Reply)
         requires goes_on { CanGoOn D.honest D.story self }
         requires replayed { is_simulated command.now ≡ false }

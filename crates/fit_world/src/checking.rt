@@ -1,4 +1,4 @@
-// Whether a file is an activity, and what it says of itself.
+// Checks whether a file is an activity, and prints its summary.
 
 ghost use Rattle.std.specs.Prelude.{◌≡◌, List, ℕ, Err};
 ghost use Rattle.fit_grammar.specs.Format.File.{FileOf};
@@ -15,8 +15,8 @@ use fit_grammar::{File, decode_file};
 use std::alloc::Global;
 use std::io::{Read, Write};
 
-/// Checks the file that an input is, which has this many bytes at most, and prints what its first session says. Nothing is
-/// written unless it is an activity.
+/// Reads a file of at most `most` bytes from an input, checks that it is an activity, and prints its summary. Otherwise nothing is
+/// written. The input is read to its end unless a read fails or it has more than `most` bytes.
 pub fn check_input<T: Read, O: Write>(
     alloc: Global,
     from: &mut T,
@@ -33,7 +33,7 @@ pub fn check_input<T: Read, O: Write>(
     }
 }
 
-/// Checks the file that these bytes are, and prints what its first session says. Nothing is written unless it is an activity.
+/// Checks that these bytes are an activity file, and prints its summary. Otherwise nothing is written.
 pub fn check_bytes<O: Write>(alloc: Global, bytes: &[u8], out: &mut O) -> Result<(), TellFault>
     ensures { ChecksBytes (O.contents out.old) (O.contents out.new) bytes.now result }
 {

@@ -1,4 +1,4 @@
-// Choice bytes that are written as a word.
+// Choice bytes, written as a word.
 
 ghost use Rattle.std.specs.Prelude.{◌≡◌, IfOk, option_map};
 ghost use Rattle.fit_world.specs.Simulation.Hexadecimal.{bytes_of};
@@ -6,8 +6,8 @@ ghost use Rattle.fit_world.specs.Simulation.Hexadecimal.{bytes_of};
 use hex::FromHexError;
 use std::alloc::{AllocError, Global};
 
-/// The bytes that a word spells in hexadecimal digits of either case, two a byte. None where it has another character, or an
-/// odd number of them.
+/// The bytes that a word spells in hexadecimal digits of either case, two for each byte. `None` if it has another character, or an
+/// odd number of digits. An empty word spells no bytes.
 pub fn read_choices(alloc: Global, word: &str) -> Result<Option<Vec<u8>>, AllocError>
     ensures { IfOk result (λ choices. option_map (λ bytes. bytes.items) choices ≡ bytes_of word.now) }
 {

@@ -1,37 +1,37 @@
-// What is asked of a recording.
+// The commands to a recording.
 
 ghost use Rattle.std.specs.Prelude.{◌≡◌};
 ghost use Rattle.fit_world.specs.Scripts.Replayed.{is_simulated, word_of};
 
 use fit_activity::{Entry, Start};
 
-/// What is asked of a recording: what one line of a script says.
+/// A command to a recording. One line of a script states one command.
 #[derive(Clone, Copy, Debug, PartialEq, Eq)]
 pub enum Command {
-    /// A recording begins.
+    /// Begins a recording.
     Start(Start),
-    /// An entry is handed in, or the recording stops.
+    /// Hands in an entry, or stops the recording.
     Entry(Entry),
-    /// What was handed in is made safe.
+    /// Commits what was handed in.
     Commit,
-    /// The recorder ends without a stop.
+    /// Ends the recorder without a stop.
     Restart,
-    /// The recording is made whole again.
+    /// Recovers the recording.
     Recover,
-    /// The ride goes on, behind what is recorded of it.
+    /// Continues the ride after what is recorded of it.
     Reopen,
-    /// The recording is erased.
+    /// Erases the recording.
     Erase,
-    /// The device call with this number from here on fails, counted from 1.
+    /// Makes the device call with this number fail, counted from this command on, from 1.
     Fail(u32),
-    /// The power is cut at the device call with this number from here on, counted from 1.
+    /// Cuts the power at the device call with this number, counted from this command on, from 1.
     Cut(u32),
-    /// The power comes back.
+    /// Ends the recorder, cuts the power, and brings it back.
     Power,
 }
 
 impl Command {
-    /// Whether it speaks of a disk whose failures are arranged.
+    /// Whether it needs a disk whose failures are arranged: `Fail`, `Cut` and `Power`.
     pub(crate) fn is_simulated(&self) -> bool
         ensures { result ≡ is_simulated self.now }
     {

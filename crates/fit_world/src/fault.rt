@@ -1,4 +1,4 @@
-// Why something was not told to its end.
+// Faults of reading, checking, printing and making files plain.
 
 ghost use Rattle.std.specs.Prelude.{◌≡◌};
 
@@ -6,18 +6,18 @@ use crate::reading::ReadFault;
 use fit_activity::ActivityFault;
 use fit_grammar::{FileFault, PlainFault};
 
-/// Why something is not told, or not to its end.
+/// Why a file was not read, checked, printed or made plain.
 #[derive(Clone, Copy, Debug, PartialEq, Eq)]
 pub enum TellFault {
-    /// The bytes are no FIT file that is read here.
+    /// The bytes are not a FIT file that this library reads, or memory was refused.
     File(FileFault),
-    /// The file is no activity.
+    /// The file is not an activity.
     Activity(ActivityFault),
-    /// The output failed.
+    /// The output failed. A prefix of the text may be written.
     Output,
     /// The input was not read to its end.
     Input(ReadFault),
-    /// The file is not made plain.
+    /// The plain form would be too long, or memory was refused.
     Plain(PlainFault),
 }
 

@@ -2,8 +2,8 @@
 
 ghost use Rattle.fit_world.specs.Histories.Plain.{RidesGoWell};
 
-/// Over two empty files, a ride in which no failure is arranged and room is left goes well: each entry and each commit is
-/// done, and the stop leaves a valid file of the whole ride.
+/// Over two empty files, a ride goes well if no failure is arranged and there is room: each entry and each commit is done, and
+/// the stop leaves a valid file of the whole ride.
 pub fn rides_without_failures_go_well()
     ensures { RidesGoWell }
 {}

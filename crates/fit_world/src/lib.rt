@@ -1,10 +1,10 @@
-//! What becomes of bytes and of scripts once a file is open: it is shown or checked, and what a script tells is recorded over a
-//! disk.
+//! What the program does with an open file: it shows, checks, salvages or saves its content, and records what a script states.
 //!
-//! `show_input` and `check_input` tell what the file holds that an input is, and `show_bytes` and `check_bytes` what these bytes are.
-//! `read_all` reads an input whole, and `salvage_bytes` saves of a file without a journal what is readable. `read_script` reads the events of a
-//! script, and `play` runs them over any `Disk`, by a `Ride`, which answers each `Command`. `simulate` runs a script over the memory
-//! disk, whose failures and power cuts it arranges. So
+//! `show_input` and `check_input` print the text or the summary of a file read from an input; `show_bytes` and `check_bytes` take its
+//! bytes. `plain_input` makes the plain form of a file. `read_all` reads a whole input. `salvage_bytes` finds the readable part of a
+//! file that has no journal. `save_ride` makes a file from the two files of a recording, and `repair` finishes the recording itself.
+//! `read_script` reads the events of a script. `play` runs them over any `Disk`, by a `Ride`, which replies to each `Command`.
+//! `simulate` runs a script over the memory disk, whose failures and power cuts the script arranges. For example,
 //!
 //!     let events = read_script(alloc, b"start 1000000000 7 running\nstop 1000000001\n")?;
 //!     let (disk, played) = play(Memory::new(alloc), events.as_slice(), &mut out);
@@ -17,13 +17,13 @@
 //!     2 stop: ok
 //!     ok records=0 laps=1 sessions=1 start=1000000000 elapsed_ms=1000 timer_ms=1000 distance_cm=-
 //!
-//! (The test `the_example_of_the_crate` of `fit_world_tests`.) `world::run` plays events over a disk in memory whose calls fail and
-//! whose power goes where they say so. Its contract is that over all histories: whatever fails, what was confirmed is recovered.
+//! (The test `the_example_of_the_crate` of `fit_world_tests`.) `world::run` runs events over a disk in memory. The events arrange which
+//! calls fail and when the power is cut. Its contract covers all histories: whatever fails, what was confirmed is recovered.
 //!
-//! What is promised is said in the words of `specs/`. `Histories` is the page to believe: `Table` has where a recording stands and
-//! what may be answered then, `Runs` whole histories. `Rides` has what is known of a ride over any disk, and where it stands in
-//! a history; `Scripts` which lines a script has and what each asks for; `Printed` what is printed of files, scripts and their
-//! answers; `Simulation` what is arranged of the memory disk; and `Calls` what is taken from an input.
+//! Contracts use the definitions of `specs/`. `Histories` is the page to believe: `Table` has the states of a recording and the
+//! answers that each allows, and `Runs` has whole histories. `Rides` has what is known of a ride over any disk, and its state in a
+//! history. `Scripts` has the lines of a script and the command of each. `Printed` has what is printed of files, scripts and their
+//! answers. `Simulation` has what is arranged of the memory disk. `Calls` has what is taken from an input.
 #![tactic(auto)]
 
 mod answer;
@@ -44,7 +44,9 @@ mod repairing;
 mod reply;
 mod reply_line;
 mod ride;
+mod salvage;
 mod salvaging;
+mod saving;
 mod script;
 mod showing;
 mod simulating;
@@ -57,14 +59,16 @@ pub use choices::read_choices;
 pub use command::Command;
 pub use event::Event;
 pub use fault::TellFault;
-pub use plain::{plain_input, print_messages};
+pub use plain::{count_messages, plain_input, print_messages};
 pub use playing::play;
-pub use printing::{print, print_summary};
+pub use printing::print_summary;
 pub use reading::{ReadFault, read_all};
-pub use repairing::{RepairFault, repair};
+pub use repairing::{RepairFault, repair, repair_and_read};
 pub use reply::Reply;
 pub use ride::Ride;
-pub use salvaging::{SalvageFault, Salvaged, print_salvaged, salvage_bytes};
+pub use salvage::Salvage;
+pub use salvaging::salvage_bytes;
+pub use saving::{SaveFault, SavedRide, save_ride};
 pub use script::{ReplayFault, ScriptFault, ScriptFaultKind, parse_script, read_script};
 pub use showing::{show_bytes, show_input};
 pub use simulating::{SimulateFault, simulate};

@@ -1,14 +1,14 @@
-// The names of faults, as they are printed.
+// The names of faults in the output.
 
 use fit_activity::Refusal;
 use fit_recorder::RecFault;
 use std::fmt::{self, Formatter, Write};
 
-/// A fault of a recorder, under its name.
+/// A fault of a recorder, printed as its name.
 #[derive(Drop)]
 pub struct FaultName(pub RecFault);
 
-// A refusal by the rules, under its name.
+// A refusal by the rules, printed as its name.
 #[derive(Drop)]
 struct RefusalName(Refusal);
 

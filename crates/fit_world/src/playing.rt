@@ -1,4 +1,4 @@
-// The events of a script, over a disk.
+// Runs the events of a script over a disk.
 
 ghost use Rattle.std.specs.Prelude.{◌≡◌, ◌≤◌, [], All, length, IfOk, IfErr};
 ghost use Rattle.fit_world.specs.Printed.ReplyLines.{AreTold};
@@ -15,8 +15,8 @@ use fit_disk::Disk;
 use fit_text::Pen;
 use std::io::Write;
 
-/// Runs the events over a disk, and prints the reply to each before the next. It answers how many were not ok, and hands
-/// the disk back. Where the output fails, the event whose line it refused was run, and no other behind it.
+/// Runs the events over a disk, and prints the reply to each before it runs the next. Returns the disk and the number of replies
+/// that were not ok. If the output fails, the event whose line it refused was run, and none after it.
 pub fn play<D: Disk, O: Write>(
     disk: D,
     events: &[Event],
@@ -28,7 +28,8 @@ pub fn play<D: Disk, O: Write>(
         AreTold events.now (LeavesBehind D.honest (D.story disk) (D.story result.0) events.now) refused
         (O.contents out.old) (O.contents out.new)) }
     ensures broken_off { IfErr result.1 (λ _.
-        BreaksOff D.honest (D.story disk) (D.story result.0) events.now) }
+        BreaksOff D.honest (D.story disk) (D.story result.0) events.now (O.contents out.old)
+        (O.contents out.new)) }
     ensures fault { IfErr result.1 IsOutputFault }
 {
     let mut pen = Pen::new(out);
@@ -46,12 +47,12 @@ fn play_by<D: Disk, O: Write>(
     requires replayed { All IsReplayed events.now }
     requires waits { pen.old.waiting ≡ [] }
     ensures most { IfOk result.1 (λ refused. refused ≤ length events.now) }
-    ensures same { IfOk result.1 (λ _. pen.new.name ≡ pen.old.name) }
+    ensures same { pen.new.name ≡ pen.old.name }
     ensures told { IfOk result.1 (λ refused.
         AreTold events.now (LeavesBehind D.honest (D.story disk) (D.story result.0) events.now) refused
         pen.old.held pen.new.held) }
     ensures broken_off { IfErr result.1 (λ _.
-        BreaksOff D.honest (D.story disk) (D.story result.0) events.now) }
+        BreaksOff D.honest (D.story disk) (D.story result.0) events.now pen.old.held pen.new.held) }
     ensures fault { IfErr result.1 IsOutputFault }
 {
     let mut ride = Ride::Idle(disk);

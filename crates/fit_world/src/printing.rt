@@ -1,35 +1,43 @@
-// A line of what is told.
+// Prints lines.
 
-ghost use Rattle.std.specs.Io.KnownBytes.{Appends};
 ghost use Rattle.std.specs.Prelude.{◌≡◌, ◌++◌, [], codes, IfErr, IfSome, OnOk};
-ghost use Rattle.fit_text.specs.Pen.{Took};
+ghost use Rattle.fit_grammar.specs.Calls.Output.{WritesText};
+ghost use Rattle.fit_text.specs.Pen.{Puts};
 ghost use Rattle.fit_world.specs.Printed.Shown.{IsOutputFault};
 ghost use Rattle.fit_world.specs.Printed.Summary.{summary_text};
 
 use crate::fault::TellFault;
 use crate::summary::SummaryLine;
+use arrayvec::ArrayString;
 use fit_activity::Summary;
 use fit_text::Pen;
 use std::fmt::{Display, Write};
 use std::io;
 
-/// Puts a line, with its end.
+// Room for a line with its end. Every line here is shorter.
+const ROOM: usize = 512;
+
+/// Puts a line and its end into the pen.
 pub fn put_line<L: Display, O: io::Write>(line: &L, pen: &mut Pen<'_, O>) -> Result<(), TellFault>
     ensures fault { IfErr result IsOutputFault }
-    ensures line { OnOk result
-        (IfSome (L.output line.now) (λ text. Took pen.old (text ++ codes "\n") pen.new)) }
+    ensures same { pen.new.name ≡ pen.old.name }
+    ensures line { IfSome (L.output line.now) (λ text. Puts pen.old pen.new result (text ++ codes "\n")) }
 {
-    let Ok(()) = writeln!(pen, "{line}") else {
+    let mut text = ArrayString::<ROOM>::new();
+    let Ok(()) = writeln!(text, "{line}") else {
         return Err(TellFault::Output);
     };
-    Ok(())
+    match pen.put(text.as_str().as_bytes()) {
+        Ok(()) => Ok(()),
+        Err(_) => Err(TellFault::Output),
+    }
 }
 
-/// Hands over all that was put, and flushes the writer.
+/// Hands all that was put to the writer, and flushes the writer.
 pub fn flush<O: io::Write>(pen: &mut Pen<'_, O>) -> Result<(), TellFault>
     ensures fault { IfErr result IsOutputFault }
     ensures none { OnOk result (pen.new.waiting ≡ []) }
-    ensures all { OnOk result (Took pen.old [] pen.new) }
+    ensures all { Puts pen.old pen.new result [] }
 {
     match pen.flush() {
         Ok(()) => Ok(()),
@@ -37,27 +45,35 @@ pub fn flush<O: io::Write>(pen: &mut Pen<'_, O>) -> Result<(), TellFault>
     }
 }
 
-/// Prints a line, to the last byte.
+/// Puts a line, hands all that was put to the writer, and flushes the writer.
 pub fn print<L: Display, O: io::Write>(line: &L, pen: &mut Pen<'_, O>) -> Result<(), TellFault>
     ensures fault { IfErr result IsOutputFault }
+    ensures same { pen.new.name ≡ pen.old.name }
     ensures none { OnOk result (pen.new.waiting ≡ []) }
-    ensures line { OnOk result
-        (IfSome (L.output line.now) (λ text. Took pen.old (text ++ codes "\n") pen.new)) }
+    ensures line { IfSome (L.output line.now) (λ text. Puts pen.old pen.new result (text ++ codes "\n")) }
 {
     put_line(line, pen)?;
     flush(pen)
 }
 
-/// Prints the line of a summary.
-// Out of line, so that its pen is no part of the stack of others.
+/// Prints one line, to the last byte. If the output fails, a prefix of it is written.
+// Not inlined: its pen would take stack in every caller.
 #[inline(never)]
-pub fn print_summary<O: io::Write>(summary: Summary, out: &mut O) -> Result<(), TellFault>
+pub fn print_line<L: Display, O: io::Write>(line: &L, out: &mut O) -> Result<(), TellFault>
     ensures fault { IfErr result IsOutputFault }
-    ensures line { OnOk result
-        (Appends (O.contents out.old) (O.contents out.new) (summary_text summary ++ codes "\n")) }
+    ensures line { IfSome (L.output line.now)
+        (λ text. WritesText (O.contents out.old) (O.contents out.new) result (text ++ codes "\n")) }
 {
     let mut pen = Pen::new(out);
-    let done = print(&SummaryLine(summary), &mut pen);
+    let done = print(line, &mut pen);
     let _ = pen.into_writer();
     done
+}
+
+/// Prints the line of a summary. If the output fails, a prefix of it is written.
+pub fn print_summary<O: io::Write>(summary: Summary, out: &mut O) -> Result<(), TellFault>
+    ensures fault { IfErr result IsOutputFault }
+    ensures line { WritesText (O.contents out.old) (O.contents out.new) result (summary_text summary ++ codes "\n") }
+{
+    print_line(&SummaryLine(summary), out)
 }

@@ -1,12 +1,15 @@
-// Reading a whole input into memory.
+// Reads a whole input into memory.
 
-ghost use Rattle.std.specs.Prelude.{◌≡◌, ◌<◌, ◌≤◌, length, vec_len, Err, IfOk, IfErr, IfSome};
+ghost use Rattle.std.specs.Io.{ReadsAtMost};
+ghost use Rattle.std.specs.Io.KnownBytes.{ReadConsumes};
+ghost use Rattle.std.specs.Prelude.{◌≡◌, ◌≢◌, ◌<◌, ◌≤◌, length, vec_len, Err, IfOk, IfErr, IfSome};
+ghost use Rattle.std.specs.IoError.{error_kind};
 ghost use Rattle.fit_world.specs.Calls.Reading.{ReadsAll, Refuses};
 
 use std::alloc::Global;
-use std::io::Read;
+use std::io::{self, ErrorKind, Read};
 
-// How many bytes are asked for at once.
+// The greatest number of bytes of one read.
 pub(crate) const CHUNK: usize = 65_536;
 
 /// Why an input was not read.
@@ -14,7 +17,7 @@ pub(crate) const CHUNK: usize = 65_536;
 pub enum ReadFault {
     /// The reader failed.
     Failed,
-    /// There are more bytes than are to be read.
+    /// The input has more bytes than the caller allows.
     TooLarge,
     /// Memory was refused.
     NoMemory,
@@ -35,13 +38,29 @@ impl ReadFault {
     }
 }
 
-/// All bytes of an input, which are this many at most.
+/// Reads a piece of an input, and returns its length, 0 at the end of the input. A read that was interrupted is tried again.
+pub(crate) fn read_piece<T: Read>(from: &mut T, piece: &mut [u8]) -> io::Result<usize>
+    ensures bound { ReadsAtMost result piece.new }
+    ensures bytes { ReadConsumes (T.remaining from.old) (T.remaining from.new) result piece.new }
+    ensures retried { IfErr result (λ error. error_kind error ≢ ErrorKind.Interrupted) }
+{
+    for _ in 0..u64::MAX {
+        match from.read(piece) {
+            Ok(taken) => return Ok(taken),
+            Err(error) if error.kind() == ErrorKind::Interrupted => {}
+            Err(error) => return Err(error),
+        }
+    }
+    Err(ErrorKind::Other.into())
+}
+
+/// Reads all bytes of an input. Reports `TooLarge` if there are more than `most`.
 pub fn read_all<T: Read>(alloc: Global, from: &mut T, most: usize) -> Result<Vec<u8>, ReadFault>
     ensures all { IfOk result (λ bytes. IfSome (T.remaining from.old) (λ known. bytes.items ≡ known)) }
     ensures most { IfOk result (λ bytes. vec_len bytes ≤ most) }
     ensures too_large { result ≡ Err ReadFault.TooLarge
         → IfSome (T.remaining from.old) (λ known. most < length known) }
-    // What was taken from the input.
+    // The bytes taken from the input.
     ensures taken { IfOk result
         (λ bytes. ReadsAll most (T.remaining from.old) (T.remaining from.new) bytes.items) }
     ensures refused { IfErr result (Refuses most (T.remaining from.old) (T.remaining from.new)) }
@@ -49,7 +68,7 @@ pub fn read_all<T: Read>(alloc: Global, from: &mut T, most: usize) -> Result<Vec
     let mut bytes = Vec::new(alloc);
     let mut chunk = [0u8; CHUNK];
     loop {
-        let Ok(taken) = from.read(&mut chunk) else {
+        let Ok(taken) = read_piece(from, &mut chunk) else {
             return Err(ReadFault::Failed);
         };
         if taken == 0 {

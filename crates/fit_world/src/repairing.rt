@@ -1,24 +1,33 @@
-// A recording is made whole again, and told in one line.
+// Repairs a recording, and prints its summary.
 
 ghost use Rattle.std.specs.Io.KnownBytes.{Appends};
-ghost use Rattle.std.specs.Prelude.{◌≡◌, ◌++◌, codes, IsTrue, IfErr, OnOk, IsErrOf};
+ghost use Rattle.std.specs.Prelude.{◌≡◌, ◌+◌, ◌++◌, codes, Err, IsTrue, IfErr, OnOk, OnErr, IsErrOf};
+ghost use Rattle.fit_activity.specs.declared.activity.Summary.{Summary as AnySummary};
+ghost use Rattle.fit_disk.specs.Counts.{HasFailed};
 ghost use Rattle.fit_disk.specs.Runs.{Ran};
 ghost use Rattle.fit_disk.specs.State.{seen_in};
+ghost use Rattle.fit_recorder.specs.Calls.Recovery.{IsRecoveryFault, RecoveryAnswers, recovery_calls, most_body_reads};
 ghost use Rattle.fit_recorder.specs.declared.fault.RecFault.TheVariants as recording;
-ghost use Rattle.fit_world.specs.Printed.Repaired.{Repairs, IsRepairFault};
+ghost use Rattle.fit_recorder.specs.declared.fault.RecFault.{RecFault as AnyRecFault};
+ghost use Rattle.fit_world.specs.Printed.Repaired.{Repairs, TellsRecovered, IsRepairFault};
+ghost use Rattle.fit_world.specs.Printed.Summary.{summary_text};
 ghost use Rattle.fit_world.specs.declared.repairing.RepairFault.TheVariants as faults;
 
 use crate::printing::print_summary;
-use fit_disk::Disk;
+use fit_activity::Summary;
+use fit_disk::{DeviceError, Disk, Which};
 use fit_recorder::{RecFault, recover};
 use std::io::Write;
 
-/// Why a recording is not made whole again, or its line not told.
+// The number of bytes of one read.
+const WINDOW: usize = 4096;
+
+/// Why a recording was not repaired, or its summary not printed.
 #[derive(Clone, Copy, Debug, PartialEq, Eq)]
 pub enum RepairFault {
     /// The recording was not recovered.
     Recorder(RecFault),
-    /// It was recovered, and the output failed.
+    /// The recording was recovered, and then the output failed.
     Output,
 }
 
@@ -36,16 +45,78 @@ impl RepairFault {
     }
 }
 
-/// Recovers the recording of a disk, and prints what its first session says. Nothing is printed where it was not recovered.
+/// Recovers the recording of a disk, and prints its summary. If it was not recovered, nothing is printed.
 pub fn repair<D: Disk, O: Write>(disk: &mut D, out: &mut O) -> Result<(), RepairFault>
     ensures repaired { IsTrue D.honest
         → Repairs (seen_in (D.story disk.old).now) (D.story disk.new) (O.contents out.old)
         (O.contents out.new) result }
     ensures fault { IfErr result IsRepairFault }
-    ensures ran { Ran 16781321 (IsErrOf result (faults.Recorder recording.Device)) (D.log disk.old)
-        (D.log disk.new) }
+    // Over any disk.
+    ensures told { OnOk result ((summary : AnySummary)
+        × Appends (O.contents out.old) (O.contents out.new) (summary_text summary ++ codes "\n")) }
+    ensures quiet { (why : AnyRecFault) → result ≡ Err (faults.Recorder why)
+        → O.contents out.new ≡ O.contents out.old }
+    ensures ran { Ran (recovery_calls + most_body_reads)
+        (IsErrOf result (faults.Recorder recording.Device)) (D.log disk.old) (D.log disk.new) }
 {
-    match recover(disk) {
+    tell(recover(disk), out)
+}
+
+/// The same, but both files are read again from start to end before anything is printed. A read that fails is `Device`. So what is
+/// reported as repaired was read after its last sync.
+pub fn repair_and_read<D: Disk, O: Write>(disk: &mut D, out: &mut O) -> Result<(), RepairFault>
+    ensures repaired { IsTrue D.honest
+        → Repairs (seen_in (D.story disk.old).now) (D.story disk.new) (O.contents out.old)
+        (O.contents out.new) result }
+    ensures fault { IfErr result IsRepairFault }
+    // Over any disk.
+    ensures told { OnOk result ((summary : AnySummary)
+        × Appends (O.contents out.old) (O.contents out.new) (summary_text summary ++ codes "\n")) }
+    ensures quiet { (why : AnyRecFault) → result ≡ Err (faults.Recorder why)
+        → O.contents out.new ≡ O.contents out.old }
+    ensures cause { IsErrOf result (faults.Recorder recording.Device)
+        → HasFailed (D.log disk.old).counts (D.log disk.new).counts }
+{
+    tell(recover_and_read(disk), out)
+}
+
+// Recovers the recording of a disk, and reads both files again.
+fn recover_and_read<D: Disk>(disk: &mut D) -> Result<Summary, RecFault>
+    ensures decides { IsTrue D.honest
+        → RecoveryAnswers (seen_in (D.story disk.old).now) (D.story disk.new) result }
+    ensures fault { IfErr result IsRecoveryFault }
+    ensures cause { IsErrOf result recording.Device
+        → HasFailed (D.log disk.old).counts (D.log disk.new).counts }
+{
+    let summary = recover(disk)?;
+    read_through(disk, Which::Data)?;
+    read_through(disk, Which::Journal)?;
+    Ok(summary)
+}
+
+// Reads a file from start to end.
+fn read_through<D: Disk>(disk: &mut D, which: Which) -> Result<(), DeviceError>
+    ensures same { IsTrue D.honest → D.story disk.new ≡ D.story disk.old }
+    ensures ok { OnOk result ((D.log disk.new).counts.failed ≡ (D.log disk.old).counts.failed) }
+    ensures err { OnErr result (HasFailed (D.log disk.old).counts (D.log disk.new).counts) }
+{
+    let mut buffer = [0; WINDOW];
+    let mut at = 0;
+    for _ in 0..u64::MAX {
+        let count = disk.read(which, at, &mut buffer)?;
+        if count < WINDOW {
+            return Ok(());
+        }
+        at = at.saturating_add(WINDOW as u64);
+    }
+    Ok(())
+}
+
+// Prints the summary of a recovery, if that went well.
+fn tell<O: Write>(recovered: Result<Summary, RecFault>, out: &mut O) -> Result<(), RepairFault>
+    ensures { TellsRecovered recovered (O.contents out.old) (O.contents out.new) result }
+{
+    match recovered {
         Ok(summary) => match print_summary(summary, out) {
             Ok(()) => Ok(()),
             Err(_) => Err(RepairFault::Output),

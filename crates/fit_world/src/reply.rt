@@ -1,4 +1,4 @@
-// What a ride replies to a command.
+// The reply of a ride to a command.
 
 ghost use Rattle.std.specs.Prelude.{◌≡◌};
 
@@ -11,22 +11,22 @@ use std::fmt::{self, Formatter, Write};
 /// The reply to a command.
 #[derive(Clone, Copy, Debug, PartialEq, Eq)]
 pub enum Reply {
-    /// It was done.
+    /// The command was done.
     Done,
-    /// The recording has ended with its stop, and its file is finished.
+    /// The recording ended with its stop, and its file is finished.
     Stopped,
-    /// The recording was recovered, and its file says this of itself.
+    /// The recording was recovered, and this is the summary of its file.
     Recovered(Summary),
-    /// It was refused, or the device failed.
+    /// The command was refused, or the device failed.
     Refused(RecFault),
-    /// It needs a recorder, and none runs.
+    /// The command needs a recorder, and none runs.
     NoRecorder,
 }
 
 impl Reply {
     ghost use Rattle.fit_world.specs.Rides.Replies.{is_ok};
 
-    /// Whether what the command asks for was done.
+    /// Whether the command was done.
     pub fn is_ok(&self) -> bool
         ensures { result ≡ is_ok self.now }
     {

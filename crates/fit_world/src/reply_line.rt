@@ -4,7 +4,7 @@ use crate::event::Event;
 use crate::reply::Reply;
 use std::fmt::{self, Formatter, Write};
 
-/// What is replied to an event, behind the number of its line and its word.
+/// An event and its reply, printed as the number of the event's line, its word, and the reply.
 #[derive(Drop)]
 pub struct ReplyLine<'a> {
     pub event: &'a Event,

@@ -1,4 +1,4 @@
-// A recording that is played: a recorder runs over its disk, or none does.
+// A recording over its disk, with a recorder that runs or without one.
 
 ghost use Rattle.std.specs.Prelude.{◌≡◌, ◌≢◌, ◌↔◌, ◌++◌, ◌∷◌, [], true, false, Some, None, IsTrue};
 ghost use Rattle.fit_world.specs.declared.command.Command.TheVariants as commands;
@@ -8,8 +8,8 @@ use fit_activity::{Entry, Start};
 use fit_disk::Disk;
 use fit_recorder::{Recorder, erase, recover, resume};
 
-/// The recording of a disk. Over an honest disk each call is a step of a history, whatever it replies (`step`); over any disk a
-/// reply that the device failed comes only where it did (`counted`), and from then on only `Failed` until the recorder ends.
+/// The recording of a disk. Over an honest disk each call is a step of a history, whatever it replies (`step`). Over any disk it
+/// replies `Device` only if the device failed (`counted`). From then on a recorder replies only `Failed` until it ends.
 #[derive(Drop)]
 pub enum Ride<D: Disk> {
     /// No recorder runs.
@@ -36,7 +36,7 @@ impl<D: Disk> Ride<D> {
     ghost use Rattle.fit_world.specs.Rides.Ride.{CanGoOn, Handed, disk_in, is_broken, is_riding, said_len, slots_of};
     ghost use Rattle.fit_world.specs.Rides.Standing.{StandsIn, GoesBy, IsCounted, Rests};
 
-    /// Begins a recording, behind the end of the recorder that runs. None runs where it is refused.
+    /// Ends the recorder that runs, if one does, and begins a recording. If the reply is not `Done`, no recorder runs.
     pub fn start(self, start: Start) -> (Ride<D>, Reply)
         ensures goes_on { CanGoOn D.honest D.story result.0 }
         ensures replies { RepliesStart start result.1 }
@@ -56,7 +56,7 @@ impl<D: Disk> Ride<D> {
         }
     }
 
-    /// Hands in an entry that is no stop.
+    /// Hands in an entry. It may not be a stop: `stop` ends the recording.
     pub fn hand(&mut self, entry: &Entry) -> Reply
         requires goes_on { CanGoOn D.honest D.story self.old }
         requires no_stop { is_stop (Added entry.now) ≡ false }
@@ -81,7 +81,7 @@ impl<D: Disk> Ride<D> {
         }
     }
 
-    /// Makes safe what was handed in.
+    /// Commits what was handed in.
     pub fn commit(&mut self) -> Reply
         requires { CanGoOn D.honest D.story self.old }
         ensures goes_on { CanGoOn D.honest D.story self.new }
@@ -107,7 +107,8 @@ impl<D: Disk> Ride<D> {
         }
     }
 
-    /// Ends the recording with a stop at this time. From a `Stopped` on no recorder runs, and else the one that ran.
+    /// Ends the recording with a stop at this time, in seconds since 1989-12-31T00:00:00Z. After `Stopped` no recorder runs. After any
+    /// other reply the one that ran still runs.
     pub fn stop(self, time: u32) -> (Ride<D>, Reply)
         requires { CanGoOn D.honest D.story self }
         ensures goes_on { CanGoOn D.honest D.story result.0 }
@@ -144,7 +145,7 @@ impl<D: Disk> Ride<D> {
         (Ride::Idle(self.into_disk()), Reply::Done)
     }
 
-    /// Recovers the recording, behind the end of the recorder that runs.
+    /// Ends the recorder that runs, if one does, and recovers the recording.
     pub fn recover(self) -> (Ride<D>, Reply)
         ensures replies { RepliesRecovery result.1 }
         ensures ended { is_riding result.0 ≡ false }
@@ -158,7 +159,7 @@ impl<D: Disk> Ride<D> {
         (Ride::Idle(disk), reply)
     }
 
-    /// Goes on with the ride that is recorded, behind the end of the recorder that runs. None runs where it is refused.
+    /// Ends the recorder that runs, if one does, and continues the recorded ride. If the reply is not `Done`, no recorder runs.
     pub fn reopen(self) -> (Ride<D>, Reply)
         ensures goes_on { CanGoOn D.honest D.story result.0 }
         ensures replies { RepliesReopening result.1 }
@@ -177,7 +178,7 @@ impl<D: Disk> Ride<D> {
         }
     }
 
-    /// Erases the recording, behind the end of the recorder that runs.
+    /// Ends the recorder that runs, if one does, and erases the recording.
     pub fn erase(self) -> (Ride<D>, Reply)
         ensures replies { RepliesErasing result.1 }
         ensures ended { is_riding result.0 ≡ false }
@@ -191,7 +192,7 @@ impl<D: Disk> Ride<D> {
         (Ride::Idle(disk), reply)
     }
 
-    /// The disk, behind the end of the recorder that runs. What was not committed is not promised.
+    /// Ends the recorder that runs, if one does, and returns the disk. Entries that were not committed may be lost.
     pub fn into_disk(self) -> D
         ensures disk { result ≡ disk_in self }
         ensures rests { IsTrue D.honest → (before : History) → StandsIn D.honest D.story self before

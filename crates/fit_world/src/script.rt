@@ -1,4 +1,4 @@
-// Scripts: what happens to a recording, a command a line.
+// Scripts: the commands to a recording, one on each line.
 
 mod command;
 mod fault;

@@ -1,4 +1,4 @@
-// The text of a file.
+// Prints the text of a file.
 
 ghost use Rattle.std.specs.Prelude.{◌≡◌, Err, IfErr};
 ghost use Rattle.fit_grammar.specs.Calls.Output.{WritesText};
@@ -15,7 +15,7 @@ use fit_text::show;
 use std::alloc::Global;
 use std::io::{Read, Write};
 
-/// Shows the file that an input is, which has this many bytes at most, under `utc` with times as dates. It is read to its
+/// Reads a file of at most `most` bytes from an input, and writes its text. With `utc`, times are dates. The input is read to its
 /// end before anything is written.
 pub fn show_input<T: Read, O: Write>(
     alloc: Global,
@@ -34,7 +34,7 @@ pub fn show_input<T: Read, O: Write>(
     }
 }
 
-/// Shows the file that these bytes are, under `utc` with times as dates. They are read whole before anything is written.
+/// Writes the text of the file that these bytes are. With `utc`, times are dates. All bytes are read before anything is written.
 pub fn show_bytes<O: Write>(
     alloc: Global,
     bytes: &[u8],
@@ -49,7 +49,7 @@ pub fn show_bytes<O: Write>(
     }
 }
 
-// Shows a file, to the last byte.
+// Writes the text of a file, and flushes the output.
 fn show_flushed<O: Write>(file: &File, utc: bool, out: &mut O) -> Result<(), TellFault>
     ensures text { WritesText (O.contents out.old) (O.contents out.new) result (text_of utc file.now) }
     ensures fault { IfErr result IsOutputFault }

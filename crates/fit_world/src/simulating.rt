@@ -1,32 +1,31 @@
-// The events of a script, over a disk in memory whose calls fail and whose power goes where the script says so.
+// Runs the events of a script over a disk in memory. The script arranges which calls fail and when the power is cut.
 
-ghost use Rattle.std.specs.Io.KnownBytes.{Appends};
-ghost use Rattle.std.specs.Prelude.{◌≡◌, [], map, IfErr, OnOk};
-ghost use Rattle.fit_text.specs.Pen.{Took};
+ghost use Rattle.std.specs.Prelude.{◌≡◌, [], OnOk};
+ghost use Rattle.fit_grammar.specs.Calls.Output.{WritesText};
+ghost use Rattle.fit_text.specs.Pen.{Puts};
 ghost use Rattle.fit_world.specs.Printed.ReplyLines.{lines_text};
-ghost use Rattle.fit_world.specs.Printed.Shown.{IsOutputFault};
-ghost use Rattle.fit_world.specs.Printed.Simulation.{Simulates, reply_in};
+ghost use Rattle.fit_world.specs.Printed.Simulation.{Simulates};
 
-use crate::answer::Answer;
 use crate::event::Event;
 use crate::fault::TellFault;
 use crate::printing::{flush, put_line};
+use crate::reply::Reply;
 use crate::reply_line::ReplyLine;
 use crate::script::{ScriptFault, parse_script};
-use crate::world::run;
+use crate::world::run_for_replies;
 use fit_text::Pen;
 use std::alloc::Global;
 use std::io::Write;
 use std::str;
 
-/// Why a script is not simulated, or not to the end of its lines.
+/// Why a script was not simulated, or not all its lines were printed.
 #[derive(Clone, Copy, Debug, PartialEq, Eq)]
 pub enum SimulateFault {
     /// The bytes are not UTF-8.
     NoText,
-    /// A line is none of a script.
+    /// A line is not one of a script, or memory was refused while the script was read.
     Script(ScriptFault),
-    /// Memory was refused.
+    /// Memory was refused while the events ran, or the disk's counts of calls are at their greatest value.
     NoMemory,
     /// The output failed.
     Output,
@@ -35,7 +34,7 @@ pub enum SimulateFault {
 impl SimulateFault {
     ghost use Rattle.fit_world.specs.Calls.FaultCode.{simulate_code};
 
-    /// The number of the fault, 1 to 4: the first that holds is answered.
+    /// The number of the fault, 1 to 4. The first one that holds is reported.
     pub fn code(&self) -> u8
         ensures { result ≡ simulate_code self.now }
     {
@@ -48,8 +47,8 @@ impl SimulateFault {
     }
 }
 
-/// Runs the events of the script that these bytes are over two empty files, and then prints the answer to each. A power cut
-/// takes the choice bytes that it leaves a file by behind those of the power cuts before it; missing ones are 0.
+/// Runs the events of a script over two empty files, and then prints the reply to each. The choice bytes decide what a power cut
+/// leaves of the files. Each power cut takes the bytes after those of the one before it. Missing bytes are 0.
 pub fn simulate<O: Write>(
     alloc: Global,
     bytes: &[u8],
@@ -65,49 +64,45 @@ pub fn simulate<O: Write>(
         Ok(events) => events,
         Err(fault) => return Err(SimulateFault::Script(fault)),
     };
-    let Ok(answers) = run(alloc, events.as_slice(), choices) else {
+    let Ok(replies) = run_for_replies(alloc, events.as_slice(), choices) else {
         return Err(SimulateFault::NoMemory);
     };
-    match print_answers(events.as_slice(), answers.as_slice(), out) {
+    match print_replies(events.as_slice(), replies.as_slice(), out) {
         Ok(()) => Ok(()),
         Err(_) => Err(SimulateFault::Output),
     }
 }
 
 // Prints a line for each event.
-// Out of line, so that its pen is no part of the stack of others.
+// Not inlined: its pen would take stack in every caller.
 #[inline(never)]
-fn print_answers<O: Write>(
+fn print_replies<O: Write>(
     events: &[Event],
-    answers: &[Answer],
+    replies: &[Reply],
     out: &mut O,
 ) -> Result<(), TellFault>
-    ensures fault { IfErr result IsOutputFault }
-    ensures lines { OnOk result
-        (Appends (O.contents out.old) (O.contents out.new)
-        (lines_text events.now (map reply_in answers.now))) }
+    ensures lines { WritesText (O.contents out.old) (O.contents out.new) result (lines_text events.now replies.now) }
 {
     let mut pen = Pen::new(out);
-    let done = put_answers(events, answers, &mut pen);
+    let done = put_replies(events, replies, &mut pen);
     let _ = pen.into_writer();
     done
 }
 
-// Puts a line for each event, and hands over all of them.
-fn put_answers<O: Write>(
+// Puts a line for each event, and hands all of them to the writer.
+fn put_replies<O: Write>(
     events: &[Event],
-    answers: &[Answer],
+    replies: &[Reply],
     pen: &mut Pen<'_, O>,
 ) -> Result<(), TellFault>
-    ensures fault { IfErr result IsOutputFault }
     ensures none { OnOk result (pen.new.waiting ≡ []) }
-    ensures lines { OnOk result (Took pen.old (lines_text events.now (map reply_in answers.now)) pen.new) }
+    ensures lines { Puts pen.old pen.new result (lines_text events.now replies.now) }
 {
     for (index, event) in events.iter().enumerate() {
-        let Some(answer) = answers.get(index) else {
+        let Some(reply) = replies.get(index) else {
             break;
         };
-        let reply = answer.reply();
+        let reply = *reply;
         put_line(&ReplyLine { event, reply }, pen)?;
     }
     flush(pen)

@@ -1,9 +1,10 @@
-// The line that says what an activity holds.
+// The line of the summary of an activity.
 
 use fit_activity::Summary;
 use std::fmt::{self, Formatter, Write};
 
-/// A summary as it is printed: `-` stands for what the session does not say.
+/// A summary, printed as one line: `ok`, the numbers of records, laps and sessions, and of the first session the start (seconds since
+/// 1989-12-31T00:00:00Z), the elapsed and timer time (ms) and the distance (cm). `-` stands for a value that the session does not have.
 #[derive(Drop)]
 pub struct SummaryLine(pub Summary);
 

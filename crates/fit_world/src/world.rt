@@ -1,32 +1,68 @@
-//! A recording over a disk in memory: its calls fail and its power goes where a command says so.
+//! A recording over a disk in memory. Commands arrange which calls fail and when the power is cut.
 
-ghost use Rattle.std.specs.Prelude.{◌≡◌, ◌++◌, ◌∷◌, [], All, IfOk, OnOk};
-ghost use Rattle.fit_world.specs.Histories.Runs.{CanRun, IsHistory};
+ghost use Rattle.std.specs.Prelude.{◌≡◌, [], List, All, map, IfOk, OnOk};
+ghost use Rattle.fit_world.specs.Histories.Runs.{CanRun, IsHistory, told_in};
+ghost use Rattle.fit_world.specs.Histories.Table.{Told};
+ghost use Rattle.fit_world.specs.Printed.Simulation.{reply_told};
 
 mod answering;
+mod keeping;
 mod simulated;
 mod stepping;
 
 use crate::answer::Answer;
 use crate::event::Event;
+use crate::reply::Reply;
 use crate::ride::Ride;
-use answering::answer_of;
 use fit_disk::Memory;
+use keeping::{Answers, Keeper, Replies};
 use std::alloc::Global;
 use stepping::step;
 
-/// Memory was refused, or the disk's counts of calls are at their last value.
+/// Memory was refused, or the disk's counts of calls are at their greatest value.
 #[derive(Clone, Copy, Debug, PartialEq, Eq)]
 pub struct NoMemory;
 
-/// Runs the events over two empty files, and gives the answer to each. A power cut takes the choice bytes that it leaves a file
-/// by behind those of the power cuts before it; missing ones are 0.
-pub fn run(alloc: Global, events: &[Event], mut choices: &[u8]) -> Result<Vec<Answer>, NoMemory>
+/// Runs the events over two empty files, and returns the answer to each. The choice bytes decide what a power cut leaves of the
+/// files. Each power cut takes the bytes after those of the one before it. Missing bytes are 0.
+pub fn run(alloc: Global, events: &[Event], choices: &[u8]) -> Result<Vec<Answer>, NoMemory>
     requires { All (λ event. CanRun event.command) events.now }
-    ensures { IfOk result (λ answers. IsHistory events.now answers.items) }
+    ensures { IfOk result (λ answers. IsHistory events.now (map told_in answers.items)) }
+{
+    let kept = Vec::new(alloc);
+    let mut answers = Answers { alloc, kept };
+    run_for(alloc, events, choices, &mut answers)?;
+    Ok(answers.kept)
+}
+
+/// The same, but returns replies. No copy of a finished file is made.
+pub fn run_for_replies(
+    alloc: Global,
+    events: &[Event],
+    choices: &[u8],
+) -> Result<Vec<Reply>, NoMemory>
+    requires { All (λ event. CanRun event.command) events.now }
+    ensures { IfOk result (λ replies. (tolds : List Told) × IsHistory events.now tolds
+        × (replies.items ≡ map reply_told tolds)) }
+{
+    let kept = Vec::new(alloc);
+    let mut replies = Replies { kept };
+    run_for(alloc, events, choices, &mut replies)?;
+    Ok(replies.kept)
+}
+
+// The same, for any keeper of answers.
+fn run_for<K: Keeper>(
+    alloc: Global,
+    events: &[Event],
+    mut choices: &[u8],
+    keeper: &mut K,
+) -> Result<(), NoMemory>
+    requires can { All (λ event. CanRun event.command) events.now }
+    requires first { K.WasTold keeper.old [] }
+    ensures { OnOk result ((tolds : List Told) × IsHistory events.now tolds × K.WasTold keeper.new tolds) }
 {
     let mut ride = Ride::Idle(Memory::new(alloc));
-    let mut answers = Vec::new(alloc);
     for event in events {
         let (next, reply, taken) = step(ride, &event.command, choices);
         ride = next;
@@ -34,18 +70,7 @@ pub fn run(alloc: Global, events: &[Event], mut choices: &[u8]) -> Result<Vec<An
         if ride.spent() {
             return Err(NoMemory);
         }
-        let answer = answer_of(alloc, reply, ride.file())?;
-        add(&mut answers, answer)?;
+        keeper.keep(reply, ride.file())?;
     }
-    Ok(answers)
-}
-
-// Adds an answer behind the others.
-fn add(answers: &mut Vec<Answer>, answer: Answer) -> Result<(), NoMemory>
-    ensures { OnOk result (answers.new.items ≡ answers.old.items ++ answer ∷ []) }
-{
-    match answers.push(answer) {
-        Ok(()) => Ok(()),
-        Err(_) => Err(NoMemory),
-    }
+    Ok(())
 }

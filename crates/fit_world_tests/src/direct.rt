@@ -1,4 +1,4 @@
-// Events by direct calls: a memory disk, and a recorder over it where one runs.
+// Events by direct calls of a memory disk, and of a recorder over it while one runs.
 
 ghost use Rattle.std.specs.Prelude.{◌≤◌, true, IfOk};
 ghost use Rattle.fit_disk.specs.Memory.{memory_story};
@@ -14,7 +14,7 @@ use std::test::Fail;
 // The recorder that runs, or the disk alone.
 type Played = Result<Recorder<Memory>, Memory>;
 
-// The disk, behind the end of the recorder that runs.
+// The disk, after the recorder that runs has ended.
 fn disk_of(played: Played) -> Memory {
     match played {
         Ok(recorder) => recorder.into_disk(),
@@ -85,7 +85,7 @@ fn repair(alloc: Global, disk: &mut Memory) -> Result<Answer, AllocError> {
     }
 }
 
-// An entry, a stop or a commit, where a recorder runs.
+// An entry, a stop or a commit while a recorder runs.
 fn ride_on(
     alloc: Global,
     mut recorder: Recorder<Memory>,
@@ -107,7 +107,7 @@ fn ride_on(
     }
 }
 
-// Lets the k-th call fail, or the power go at it.
+// Schedules a failure or a power cut at the k-th call.
 fn arrange(played: Played, k: u32, is_cut: bool) -> Played
     requires k { 1 ≤ k }
     requires goes_on { IfOk played (GoesOn true memory_story) }
@@ -133,7 +133,7 @@ fn arrange(played: Played, k: u32, is_cut: bool) -> Played
     }
 }
 
-// What ends the recorder that runs. Answers also how many of the choice bytes a power cut took.
+// A command that ends the recorder that runs. Also returns how many of the choice bytes a power cut took.
 fn rest(
     alloc: Global,
     mut disk: Memory,
@@ -187,7 +187,7 @@ fn step(
     }
 }
 
-/// What the data file holds behind the events over two empty files, and the answers to them.
+/// The content of the data file after these events over two empty files, and the answers to them.
 pub fn play(
     alloc: Global,
     events: &[Event],

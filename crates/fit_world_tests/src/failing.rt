@@ -3,7 +3,7 @@
 use std::alloc::Global;
 use std::io::{self, Write};
 
-// A writer that takes some bytes of a call, and refuses one call or all from it on.
+// A writer that takes at most so many bytes a call, and refuses one call, or all calls from it on.
 #[derive(Drop)]
 pub struct Failing {
     pub held: Vec<u8>,

@@ -11,11 +11,11 @@ use std::test::Fail;
 const TEN_SAMPLES: &str =
     "start 1000000000 7 running\nsample 1000000000\nsample 1000000001\nsample 1000000002\nsample 1000000003\nsample 1000000004\nsample 1000000005\nsample 1000000006\nsample 1000000007\nsample 1000000008\nsample 1000000009\npower\nrecover\n";
 
-// Two laps, of which the second has one sample, made safe.
+// Two laps, the second with one sample, and a commit.
 const TWO_LAPS: &str =
     "start 1000000000 7 running\nsample 1000000000 hr=100\nsample 1000000001 hr=101\nlap 1000000002\nsample 1000000002 hr=110\ncommit\n";
 
-// The messages behind the records of the two laps, as they are recovered.
+// The messages from the first lap on, as they are recovered.
 const TWO_LAPS_TEXT: &str =
     "5 lap message_index=0 timestamp=1000000002 event=9 event_type=1 start_time=1000000000 total_elapsed_time=2000 total_timer_time=2000 total_distance=- avg_speed=- max_speed=- avg_heart_rate=100 max_heart_rate=101 avg_power=- max_power=- lap_trigger=0
 6 record timestamp=1000000002 heart_rate=110
@@ -26,7 +26,7 @@ const TWO_LAPS_TEXT: &str =
 messages 11
 ";
 
-// What is recovered of a start alone.
+// The summary of a recovered start alone.
 const START_ALONE: &str =
     "ok records=0 laps=1 sessions=1 start=1000000000 elapsed_ms=0 timer_ms=0 distance_cm=-\n";
 
@@ -40,10 +40,10 @@ const START_FRONT: [u8; 86] = [
     0x00, 0xCA, 0x9A, 0x3B, 0x00, 0x00,
 ];
 
-// The choice bytes that leave the gate of a start, where the power went at its write.
+// The choice bytes that leave the gate of a start, if the power goes at its write.
 const GATE: [u8; 9] = [0, 0, 0, 0, 0, 0, 0, 0, 0xA5];
 
-// The answers to a script, if it is one and there is memory.
+// The answers to a script. None if it is not a script, or if there is no memory.
 pub fn answers_to(rt: &HostRuntime, script: &str, choices: &[u8]) -> Option<Vec<Answer>> {
     let Ok(events) = parse_script(rt.alloc(), script) else {
         return None;
@@ -84,7 +84,7 @@ fn a_start_that_lost_its_power_leaves_nothing(rt: HostRuntime) -> Result<(), All
     Ok(())
 }
 
-// Whether a start that lost its power at the write of its gate is recovered, is for the choice bytes.
+// The power goes at the write of a start's gate. The choice bytes decide whether the start is recovered.
 #[test]
 fn the_choices_say_what_a_power_cut_leaves(rt: HostRuntime) -> Result<(), AllocError> {
     let script = "cut 10\nstart 1000000000 7 running\npower\nrecover\n";
@@ -103,7 +103,7 @@ fn the_choices_say_what_a_power_cut_leaves(rt: HostRuntime) -> Result<(), AllocE
     Ok(())
 }
 
-// Each power cut takes its choice bytes behind those of the one before.
+// Each power cut takes the choice bytes after those of the one before.
 #[test]
 fn the_choices_go_on(rt: HostRuntime) -> Result<(), AllocError> {
     let script =
@@ -176,8 +176,8 @@ fn an_entry_needs_a_recorder(rt: HostRuntime) -> Result<(), AllocError> {
     Ok(())
 }
 
-// A ride of three hundred samples and a stop, of which each minute is made safe: with ample memory each event is done, and none is
-// left out; and its file is read in pieces and whole, written again, and shown.
+// A ride of three hundred samples and a stop, with a commit each minute. With ample memory each event is done, and none is left
+// out. Its file is checked, decoded, written again, and shown.
 #[test]
 fn ample_memory_succeeds(rt: HostRuntime) -> Result<(), Fail> {
     let mut script = format!(in rt.alloc(); "start 1000000000 7 running\n")?;

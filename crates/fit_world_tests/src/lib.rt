@@ -1,5 +1,5 @@
-//! Tests of what becomes of bytes and of scripts, by the public calls of `fit_world` and of the libraries below it. They stand
-//! above it, so that no library is proved once more with its tests.
+//! Tests of what becomes of bytes and of scripts, by the public calls of `fit_world` and of the libraries below it. They are in a
+//! crate above it, so that no library is proved again with its tests.
 #![tactic(auto)]
 
 #[cfg(test)]
@@ -27,6 +27,8 @@ mod replays;
 #[cfg(test)]
 mod salvages;
 #[cfg(test)]
+mod saves;
+#[cfg(test)]
 mod scripts;
 #[cfg(test)]
 mod simulations;
@@ -34,3 +36,5 @@ mod simulations;
 mod sweep;
 #[cfg(test)]
 mod table;
+#[cfg(test)]
+mod verified;

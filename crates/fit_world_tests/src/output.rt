@@ -1,4 +1,4 @@
-// Output that fails, and memory that is refused, where a file is shown or checked.
+// Output that fails, and memory that is refused, while a file is shown or checked.
 
 use crate::equality::equal;
 use crate::failing::Failing;
@@ -47,7 +47,7 @@ fn long_file(rt: &HostRuntime) -> Result<(Vec<u8>, Vec<u8>), AllocError> {
     Ok((bytes, text))
 }
 
-// Whether it was told of this output what became of it: all of the text is there, or a beginning of it and a fault.
+// Whether the answer reports the output truly: Ok if all of the text was written, else a fault and a prefix of the text.
 fn is_told(done: Result<(), TellFault>, text: &[u8], out: &Failing) -> bool {
     match done {
         Ok(()) => out.held.as_slice() == text,
@@ -55,7 +55,7 @@ fn is_told(done: Result<(), TellFault>, text: &[u8], out: &Failing) -> bool {
     }
 }
 
-// Where each call of the output in turn fails, for a text of one buffer and of several.
+// Each call of the output fails in turn, for a text of one buffer and of several.
 #[test]
 fn says_where_output_fails(rt: HostRuntime) -> Result<(), AllocError> {
     let (bytes, text) = long_file(&rt)?;
@@ -77,7 +77,7 @@ fn says_where_output_fails(rt: HostRuntime) -> Result<(), AllocError> {
     Ok(())
 }
 
-// The output takes nothing, or all and does not hand it on, or little at a time.
+// The output takes nothing; or it takes all and its flush fails; or it takes little at a time.
 #[test]
 fn says_what_output_does(rt: HostRuntime) -> Result<(), AllocError> {
     let (bytes, text) = long_file(&rt)?;
@@ -99,7 +99,7 @@ fn says_what_output_does(rt: HostRuntime) -> Result<(), AllocError> {
     Ok(())
 }
 
-// Where each call of the output in turn fails, the line of a ride is told as far as it came.
+// Each call of the output fails in turn. What was written is a prefix of the summary line.
 #[test]
 fn a_check_says_where_its_output_fails(rt: HostRuntime) -> Result<(), Fail> {
     let text =
@@ -120,7 +120,7 @@ fn a_check_says_where_its_output_fails(rt: HostRuntime) -> Result<(), Fail> {
     Ok(())
 }
 
-// Run with each allocation refused in turn: nothing is shown, and want of memory is told at an item.
+// Run with each allocation refused in turn: nothing is shown, and want of memory is reported at an item.
 #[test]
 fn says_that_memory_is_refused(rt: HostRuntime) -> Result<(), AllocError> {
     let mut out = Vec::with_capacity(rt.alloc(), 128)?;

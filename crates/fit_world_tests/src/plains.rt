@@ -1,13 +1,13 @@
-// Files that are made plain, with bytes from outside.
+// The plain form of files, with bytes from outside.
 
 use crate::equality::equal;
 use crate::failing::Failing;
 use crate::output::ONE_MESSAGE;
-use fit_grammar::{FaultKind, FileFault, PlainFault, PlainFaultKind};
-use fit_world::{TellFault, plain_input, print_messages};
+use fit_grammar::{EncodeFault, FaultKind, FileFault, PlainFault, PlainFaultKind, encode_file};
+use fit_world::{TellFault, count_messages, plain_input, print_messages};
 use std::test::Fail;
 
-// A full time, and two messages of another local number with offsets 30 and 1.
+// A message with a full time, and two messages of another local number with offsets 30 and 1.
 const COMPRESSED: [u8; 47] = [
     0x0E, 0x10, 0x64, 0x00, 0x1F, 0x00, 0x00, 0x00, 0x2E, 0x46, 0x49, 0x54, 0x60, 0xA2, 0x40, 0x00,
     0x00, 0x14, 0x00, 0x02, 0xFD, 0x04, 0x86, 0x03, 0x01, 0x02, 0x00, 0x00, 0xCA, 0x9A, 0x3B, 0x64,
@@ -32,8 +32,9 @@ fn a_file_is_made_plain(rt: HostRuntime) -> Result<(), Fail> {
     ] {
         let mut out = Vec::new(rt.alloc());
         let mut from = bytes;
-        let done = plain_input(rt.alloc(), &mut from, 128, &mut out);
-        equal(&rt, done, Ok(messages));
+        let plain = plain_input(rt.alloc(), &mut from, 128).expect(&rt, "a file");
+        equal(&rt, count_messages(&plain), messages);
+        assert!(rt; encode_file(&plain, &mut out).is_ok());
         equal(&rt, out.as_slice(), made);
     }
     Ok(())
@@ -41,15 +42,13 @@ fn a_file_is_made_plain(rt: HostRuntime) -> Result<(), Fail> {
 
 #[test]
 fn what_is_no_file_is_not_made_plain(rt: HostRuntime) -> Result<(), Fail> {
-    let mut out = Vec::new(rt.alloc());
     let mut from = &COMPRESSED[..40];
     let fault = FileFault {
         kind: FaultKind::Truncated,
         place: 40,
     };
-    let done = plain_input(rt.alloc(), &mut from, 128, &mut out);
-    equal(&rt, done, Err(TellFault::File(fault)));
-    assert!(rt; out.is_empty());
+    let done = plain_input(rt.alloc(), &mut from, 128).err();
+    equal(&rt, done, Some(TellFault::File(fault)));
     let fault = PlainFault {
         kind: PlainFaultKind::Memory,
         place: 14,
@@ -58,14 +57,15 @@ fn what_is_no_file_is_not_made_plain(rt: HostRuntime) -> Result<(), Fail> {
     Ok(())
 }
 
-// Where each call of the output in turn fails, a beginning was written.
+// Each call of the output fails in turn. What was written is a prefix of the file.
 #[test]
 fn an_output_of_a_plain_file_that_fails_is_told(rt: HostRuntime) -> Result<(), Fail> {
+    let mut from = COMPRESSED.as_slice();
+    let plain = plain_input(rt.alloc(), &mut from, 128).expect(&rt, "a file");
     for calls in 0..12 {
         let mut out = Failing::new(rt.alloc(), 3, calls);
-        let mut from = COMPRESSED.as_slice();
-        let done = plain_input(rt.alloc(), &mut from, 128, &mut out);
-        assert_eq!(rt; done, Err(TellFault::Output), "{calls}");
+        let done = encode_file(&plain, &mut out);
+        assert_eq!(rt; done, Err(EncodeFault::Write), "{calls}");
         assert!(rt; PLAIN.starts_with(&out.held), "{calls}");
     }
     Ok(())

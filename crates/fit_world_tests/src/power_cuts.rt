@@ -1,4 +1,4 @@
-// Power cuts at each call of the device, in a commit and in a recovery, with all that they may leave as one byte or another.
+// Power cuts at each call of the device, in a commit and in a recovery. Each byte that a cut may change gets one value or another.
 
 use crate::equality::equal;
 use crate::histories::{answers_to, file_in};
@@ -6,24 +6,24 @@ use fit_world::Answer;
 use std::alloc::AllocError;
 use std::test::Fail;
 
-// How many calls of the device a commit makes: the first writes what waits in the page.
+// How many calls of the device a commit makes. The first writes the page.
 const COMMIT_CALLS: u32 = 6;
 
 // More calls than the recovery of the ride makes.
 const RECOVERY_CALLS: u32 = 60;
 
-// The bytes that a power cut leaves where any may be left.
+// The value of each byte that a power cut may change.
 const NOISE: [u8; 2] = [0xA5, 0xFF];
 
-// A ride whose one commit has two samples.
+// A ride of two samples, before its only commit.
 const ONE_COMMIT: &str =
     "start 1000000000 7 running\nsample 1000000000 hr=100\nsample 1000000001 hr=101\n";
 
-// A ride of two laps that was committed, and lost its power.
+// A ride of two laps that was committed and then lost its power.
 const TWO_LAPS: &str =
     "start 1000000000 7 running\nsample 1000000000 hr=100\nsample 1000000001 hr=101\nlap 1000000002\nsample 1000000002 hr=110\ncommit\npower\n";
 
-// How many records were recovered by the last event.
+// How many records the last event recovered.
 fn records_in(answers: &[Answer]) -> Option<u32> {
     match answers.last() {
         Some(Answer::Recovered { summary, .. }) => Some(summary.records),
@@ -31,7 +31,7 @@ fn records_in(answers: &[Answer]) -> Option<u32> {
     }
 }
 
-// A recovery keeps what was committed, or what the commit had begun to commit, whatever was left.
+// A recovery keeps what was committed, or what the commit had begun to commit, whatever the cut left.
 #[test]
 fn a_power_cut_in_a_commit_leaves_a_length_that_was_begun(
     rt: HostRuntime,
@@ -59,7 +59,7 @@ fn a_power_cut_in_a_commit_leaves_a_length_that_was_begun(
     Ok(())
 }
 
-// A recovery that was cut off anywhere and is made again leaves the bytes of one that was not.
+// A recovery that was cut off anywhere and is made again leaves the same bytes as one that was not cut off.
 #[test]
 fn a_power_cut_in_a_recovery_changes_nothing(rt: HostRuntime) -> Result<(), AllocError> {
     let whole = format!(in rt.alloc(); "{TWO_LAPS}recover\n")?;

@@ -1,9 +1,10 @@
-// Scripts of up to forty events that look like chance, with choices that do. Each is run, and each answer is held against the table.
+// Scripts of up to forty pseudorandom events, with pseudorandom choice bytes. Each is run, and its answers are checked with the table.
 
 ghost use Rattle.std.specs.Prelude.{◌≤◌};
 
 use crate::direct;
 use crate::table::is_history;
+use fit_activity::{FIELDS, SAMPLE_FIELDS};
 use fit_disk::{Memory, Which};
 use fit_recorder::RecFault;
 use fit_world::world::run;
@@ -18,17 +19,17 @@ const HISTORIES: u32 = 10_000;
 // How many scripts are replayed.
 const REPLAYS: u32 = 2_000;
 
-// How many choice bytes there are at the most.
+// The most choice bytes.
 const MOST: usize = 256;
 
-// A row of numbers that look like chance, the same each time.
+// A pseudorandom sequence, the same in each run.
 #[derive(Drop)]
 struct Noise {
     last: u32,
     // The time of the last start, and of the last entry that was meant to fit.
     start: u32,
     now: u32,
-    // Whether a recorder runs, where all goes well.
+    // Whether a recorder runs, if no call fails.
     rides: bool,
 }
 
@@ -40,7 +41,7 @@ impl Noise {
         self.last
     }
 
-    // One of the numbers below this one, and 0 where there are none.
+    // A number below this one, or 0 if there is none.
     fn below(&mut self, end: u32) -> u32 {
         let drawn = self.next() >> 7;
         if end == 0 { 0 } else { drawn % end }
@@ -66,7 +67,7 @@ impl Noise {
         }
     }
 
-    // One setting of a sample, or none.
+    // One or two settings of a sample, or none.
     fn setting(&mut self, alloc: Global) -> Result<String, AllocError> {
         let text = match self.below(16) {
             0 => format!(in alloc; " lat={} long=-{}", self.below(9), self.below(9))?,
@@ -77,11 +78,23 @@ impl Noise {
             7..11 => format!(in alloc; " dist={}", self.next() >> 12)?,
             11 => format!(in alloc; " speed={} power={}", self.below(9000), self.below(900))?,
             12 if self.one_in(3) => format!(in alloc; " temp=127")?,
-            13 => format!(in alloc; " espeed={} ealt={}", self.below(90_000), self.below(9000))?,
-            14 if self.one_in(3) => format!(in alloc; " espeed=4294967295 ealt=4294967295")?,
+            13 | 14 => self.any_setting(alloc)?,
             _ => String::new(alloc),
         };
         Ok(text)
+    }
+
+    // A setting of any field of a sample, sometimes with its invalid value.
+    fn any_setting(&mut self, alloc: Global) -> Result<String, AllocError> {
+        let place = self.below(FIELDS as u32) as usize;
+        let (_, base, _, key) = SAMPLE_FIELDS[place.min(FIELDS - 1)];
+        let invalid = base.invalid();
+        let number = if self.one_in(6) {
+            invalid
+        } else {
+            u64::from(self.next()) % (invalid / 2).max(1)
+        };
+        format!(in alloc; " {key}={number}")
     }
 
     // The line of a start.
@@ -97,7 +110,7 @@ impl Noise {
         Ok(format!(in alloc; "start {time} {} {sport}\n", self.below(1000))?)
     }
 
-    // The number of a call that is to fail.
+    // The number of a call that will fail.
     fn call(&mut self) -> u32 {
         let most = if self.one_in(2) { 12 } else { 40 };
         self.below(most).saturating_add(1)
@@ -122,7 +135,7 @@ impl Noise {
         Ok(line)
     }
 
-    // The line of one that is likely while none runs; each ends the one that does.
+    // The line of an event that is likely while none runs. Each ends a recorder that runs.
     fn line_between(&mut self, alloc: Global) -> Result<String, AllocError> {
         self.rides = false;
         let line = match self.below(24) {
@@ -166,7 +179,7 @@ impl Noise {
         Ok(script)
     }
 
-    // Fills some of the choices: with an open gate each, or FF, or noise, or noise with many an open gate in it. Answers how many.
+    // Fills some of the choices: all open gates, all FF, noise, or noise with many open gates and zeros in it. Returns how many.
     fn choose(&mut self, choices: &mut [u8; MOST]) -> usize
         ensures { result ≤ 256 }
     {
@@ -187,7 +200,7 @@ impl Noise {
     }
 }
 
-// How often each answer was seen, so that none is left out, and how many calls of the device there were at the least.
+// How often each answer was seen, so that none is left out, and the least number of calls of the device that they take.
 #[derive(Clone, Copy, Debug)]
 struct Seen {
     done: u32,
@@ -212,15 +225,15 @@ const NOTHING: Seen = Seen {
     calls: 0,
 };
 
-// One more of this number.
+// Counts one more of this number.
 fn count_one(counts: &mut [u32; 9], number: u8) {
     if let Some(count) = counts.get_mut(usize::from(number)) {
         *count = count.saturating_add(1);
     }
 }
 
-// How many calls of the device there are at the least where this is answered: those of the description, of a recovery that is done
-// without its slots and items, and one where it failed.
+// The least number of calls of the device for this answer. The numbers are those of the description; of a recovery those without the
+// slots and the items; of a call that failed one.
 fn least_calls(command: &Command, answer: &Answer) -> u64 {
     match (command, answer) {
         (Command::Start(_), Answer::Done) => 11,
@@ -257,7 +270,7 @@ impl Seen {
         self.calls = self.calls.saturating_add(least_calls(command, answer));
     }
 
-    // Whether each answer was seen that may come to so few events, and no other: there is room, and nothing is damaged.
+    // Whether each answer was seen that is possible with so few events, and no other: there is room, and nothing is damaged.
     fn has_all(&self) -> bool {
         let [
             _,
@@ -304,7 +317,7 @@ impl Seen {
     }
 }
 
-// Runs a script, by `world::run` and by direct calls, and holds each answer against the table.
+// Runs a script by `world::run` and by direct calls, and checks the answers with the table.
 fn try_script(
     rt: &impl Abort,
     alloc: Global,
@@ -355,7 +368,7 @@ fn random_histories_go_by_the_table(rt: HostRuntime) -> Result<(), Fail> {
     Ok(())
 }
 
-// The lines of a script but those that speak of a disk whose failures are arranged.
+// The lines of a script without those that only a simulated disk can run.
 fn replayed_lines(alloc: Global, script: &str) -> Result<String, AllocError> {
     let mut text = String::new(alloc);
     for line in script.lines() {

@@ -1,4 +1,4 @@
-// Inputs that are read to their end, or not.
+// Inputs that are read to their end, and inputs that fail before it.
 
 use crate::equality::equal;
 use crate::output::{ONE_MESSAGE, ONE_MESSAGE_TEXT};
@@ -7,7 +7,7 @@ use fit_world::{ReadFault, TellFault, read_all, show_input};
 use std::alloc::Global;
 use std::io::{self, Read};
 
-// A reader that gives some bytes a call, and refuses each call behind some.
+// A reader that gives at most so many bytes a call, and refuses each call after so many calls.
 #[derive(Drop)]
 struct Pieces<'a> {
     rest: &'a [u8],
@@ -31,7 +31,7 @@ impl Read for Pieces<'_> {
 
 const TEXT: &[u8] = b"abcdefghijkl";
 
-// What is read of so many bytes of the text, ten at most.
+// The outcome of reading so many bytes of the text with a limit of ten bytes.
 fn outcome(alloc: Global, len: usize, step: usize, calls: usize) -> Result<Vec<u8>, ReadFault> {
     let rest = TEXT.get(..len).unwrap_or(TEXT);
     read_all(alloc, &mut Pieces { rest, step, calls }, 10)
@@ -44,7 +44,7 @@ fn is_all(read: &Result<Vec<u8>, ReadFault>, len: usize) -> bool {
     }
 }
 
-// Ten bytes are read, and eleven are too many, however they come.
+// Ten bytes are read, and eleven are too many, in whatever pieces they come.
 #[test]
 fn reads_to_the_most(rt: HostRuntime) {
     for step in [1, 3, 10, 11, 65_536] {
@@ -59,7 +59,7 @@ fn reads_to_the_most(rt: HostRuntime) {
     }
 }
 
-// Nine bytes by three are four calls, the last of which gives none; with twelve the fourth is too much.
+// Nine bytes, three at a time, are four calls; the last gives no byte. With twelve bytes the fourth call is too much.
 #[test]
 fn tells_a_failed_read_from_too_much(rt: HostRuntime) {
     for calls in 0..6 {
@@ -75,7 +75,7 @@ fn tells_a_failed_read_from_too_much(rt: HostRuntime) {
     }
 }
 
-// Run with each allocation refused in turn: all is read, or want of memory is told as such.
+// Run with each allocation refused in turn: all is read, or want of memory is reported as such.
 #[test]
 fn tells_want_of_memory(rt: HostRuntime) {
     let read = outcome(rt.alloc(), 10, 3, usize::MAX);
@@ -84,7 +84,7 @@ fn tells_want_of_memory(rt: HostRuntime) {
     }
 }
 
-// What is shown of a file that comes so, of 34 bytes at most, and the text.
+// The outcome of showing a file that is read like this, with a limit of 34 bytes, and the text.
 fn shown(
     alloc: Global,
     rest: &[u8],
@@ -102,7 +102,7 @@ fn shown(
     (done, text)
 }
 
-// However it comes, a file is shown with the same text.
+// In whatever pieces it comes, a file is shown with the same text.
 #[test]
 fn shows_a_file_in_pieces(rt: HostRuntime) {
     for step in 1..=35 {
@@ -112,7 +112,7 @@ fn shows_a_file_in_pieces(rt: HostRuntime) {
     }
 }
 
-// Bytes that are no file are read to their end: a failed read and a byte too much are told, and else why they are none.
+// Bytes that are not a file are read to their end. A failed read or a byte too many is reported first, then the fault of the file.
 #[test]
 fn reads_what_is_no_file_to_its_end(rt: HostRuntime) {
     let mut bytes = [0; 35];

@@ -1,5 +1,5 @@
-// Rides that go on: what is answered to them and what their files hold is from outside, and the rows of the table are tried, each
-// with an answer that may come and with one that may not.
+// Rides that are reopened. The answers and the contents of the files are from outside. The rows of the table are tried, each
+// with a possible answer and with an impossible one.
 
 use crate::equality::equal;
 use crate::histories::{answers_to, file_in, text_of};
@@ -10,11 +10,11 @@ use fit_world::{Answer, check_bytes, parse_script, show_bytes};
 use std::alloc::{AllocError, Global};
 use std::test::Fail;
 
-// A ride that lost its power behind its one commit, and goes on to its stop.
+// A ride that lost its power after its only commit, and is continued up to its stop.
 const GONE_ON: &str =
     "start 1000000000 7 running\nsample 1000000000 hr=100\ncommit\nsample 1000000001 hr=101\npower\nreopen\nsample 1000000002 hr=110\nstop 1000000002\n";
 
-// What is recorded behind the bytes of the commit: a record under a definition of its own, and the stop under another.
+// What is recorded after the bytes of the commit: a record under its own definition, and the stop under another one.
 const BEHIND: [u8; 33] = [
     0x40, 0x00, 0x00, 0x14, 0x00, 0x01, 0x03, 0x01, 0x02, 0x82, 0x6E, 0x46, 0x00, 0x00, 0x15, 0x00,
     0x03, 0xFD, 0x04, 0x86, 0x00, 0x01, 0x00, 0x01, 0x01, 0x00, 0x06, 0x02, 0xCA, 0x9A, 0x3B, 0x00,
@@ -81,7 +81,7 @@ fn a_stopped_ride_and_one_that_is_not_there_do_not_go_on(
     Ok(())
 }
 
-// A recorder that runs ends where its ride is reopened, and what was not committed is gone.
+// A recorder that runs ends when its ride is reopened, and what was not committed is gone.
 #[test]
 fn a_recorder_that_runs_is_reopened(rt: HostRuntime) -> Result<(), Fail> {
     let script =
@@ -94,7 +94,7 @@ fn a_recorder_that_runs_is_reopened(rt: HostRuntime) -> Result<(), Fail> {
     Ok(())
 }
 
-// The closing messages of the recovery are gone, and those of the stop stand there once.
+// The closing messages of the recovery are gone, and those of the stop are present once.
 #[test]
 fn a_recovered_ride_goes_on(rt: HostRuntime) -> Result<(), Fail> {
     let script =
@@ -113,7 +113,7 @@ fn a_recovered_ride_goes_on(rt: HostRuntime) -> Result<(), Fail> {
     Ok(())
 }
 
-// Whether the answers that came to a script may come, with another one in place of the last, where one is given.
+// Whether the table allows the answers to a script. If `last` is given, it takes the place of the last answer.
 fn may_come(rt: &HostRuntime, script: &str, last: Option<Answer>) -> Result<bool, Fail> {
     let events = parse_script(rt.alloc(), script)?;
     let Some(mut answers) = answers_to(rt, script, &[]) else {
@@ -126,7 +126,7 @@ fn may_come(rt: &HostRuntime, script: &str, last: Option<Answer>) -> Result<bool
     Ok(is_history(rt.alloc(), &events, &answers)?)
 }
 
-// A ride that has no stop, one that has, one whose reopening fails, and none.
+// A ride without a stop, a ride with one, a ride whose reopening fails, and no ride.
 const RIDING: &str = "start 1000000000 7 running\nreopen\n";
 
 const STOPPED: &str = "start 1000000000 7 running\nstop 1000000001\nreopen\n";
@@ -182,13 +182,13 @@ fn the_table_allows_a_ride_to_go_on_where_it_may(rt: HostRuntime) -> Result<(), 
             "{script}"
         );
     }
-    // It goes on behind what was promised.
+    // The ride continues after what was promised.
     let promised =
         "start 1000000000 7 running\nsample 1000000005\ncommit\nreopen\nsample 1000000004\n";
     let time = Answer::Refused(RecFault::Refused(Refusal::Time));
     assert!(rt; may_come(&rt, promised, Some(time))?);
     assert!(rt; !may_come(&rt, promised, Some(Answer::Done))?);
-    // And with what was not promised or without it.
+    // What was not promised may be recorded or not.
     let handed = "start 1000000000 7 running\nsample 1000000005\nreopen\nsample 1000000004\n";
     let time = Answer::Refused(RecFault::Refused(Refusal::Time));
     assert!(rt; may_come(&rt, handed, Some(time))?);

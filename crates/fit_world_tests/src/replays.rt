@@ -8,7 +8,7 @@ use fit_world::{ReplayFault, ScriptFaultKind, TellFault, check_bytes, play, read
 use std::alloc::AllocError;
 use std::test::Fail;
 
-// Five events, of which each second commits one record more.
+// Five events. The third and the fifth each commit one more record.
 const TWO_COMMITS: &str =
     "start 1000000000 7 running\nsample 1000000001\ncommit\nsample 1000000002\ncommit\n";
 
@@ -51,7 +51,7 @@ fn a_stopped_ride_is_erased_and_another_begins(rt: HostRuntime) -> Result<(), Fa
     Ok(())
 }
 
-// Whether a play to this output tells what became of it, and a recovery finds so many records behind it.
+// Whether a play to this output reports what became of the output, and a recovery after it finds so many records.
 fn keeps(rt: &HostRuntime, out: &mut Failing, records: u32) -> bool {
     let Ok(events) = read_script(rt.alloc(), TWO_COMMITS.as_bytes()) else {
         return false;
@@ -69,10 +69,10 @@ fn keeps(rt: &HostRuntime, out: &mut Failing, records: u32) -> bool {
     }
 }
 
-// Where each call of the output in turn fails, no further event is run, and what was answered is kept.
+// Each call of the output fails in turn. No further event is run, and what was answered is kept.
 #[test]
 fn a_replay_ends_where_its_output_fails(rt: HostRuntime) {
-    // An event whose line fails was run.
+    // The event whose line fails was run.
     for (answered, kept) in [(0, 0), (1, 0), (2, 1), (3, 1), (4, 2), (5, 2)] {
         let mut out = Failing::new(rt.alloc(), usize::MAX, answered);
         assert!(rt; keeps(&rt, &mut out, kept), "{answered}");
@@ -81,7 +81,7 @@ fn a_replay_ends_where_its_output_fails(rt: HostRuntime) {
     out.flushes = 0;
     assert!(rt; keeps(&rt, &mut out, 0));
     equal(&rt, out.held.as_slice(), b"1 start: ok\n".as_slice());
-    // The flush of the third line alone fails: later ones would go well.
+    // Only the flush of the third line fails; later ones would succeed.
     let mut out = Failing::new(rt.alloc(), usize::MAX, usize::MAX);
     out.flushes = 2;
     assert!(rt; keeps(&rt, &mut out, 1));
@@ -92,7 +92,7 @@ fn a_replay_ends_where_its_output_fails(rt: HostRuntime) {
     );
 }
 
-// The bytes are no text, a line is none of a script, or an event is only simulated: the first of these is told.
+// The bytes are not text, a line is not one of a script, or an event can only be simulated. The first of these faults is reported.
 #[test]
 fn a_script_that_is_not_replayed(rt: HostRuntime) {
     let cases: [(&[u8], u8, usize); 6] = [
@@ -118,7 +118,7 @@ fn a_script_that_is_not_replayed(rt: HostRuntime) {
     }
 }
 
-// Run with each allocation refused in turn: want of memory is told at a line, or the device of the disk failed.
+// Run with each allocation refused in turn: want of memory is reported at a line, or the device of the disk failed.
 #[test]
 fn a_replay_says_that_memory_is_refused(rt: HostRuntime) -> Result<(), AllocError> {
     let mut out = Vec::with_capacity(rt.alloc(), 256)?;

@@ -8,7 +8,7 @@ use fit_world::ScriptFaultKind::{
 use fit_world::{Command, Event, ScriptFault, ScriptFaultKind, parse_script};
 use std::test::Fail;
 
-// What is wrong with a text that is no script, and in which line.
+// The fault of a text that is not a script, and its line.
 fn fault_of(rt: &HostRuntime, text: &str) -> Option<(ScriptFaultKind, usize)> {
     match parse_script(rt.alloc(), text) {
         Ok(_) => None,
@@ -24,7 +24,7 @@ fn has_events(rt: &HostRuntime, text: &str, events: &[Event]) -> bool {
     }
 }
 
-// Whether a text of one line asks for this.
+// Whether a text of one line is this command.
 fn asks_for(rt: &HostRuntime, text: &str, command: Command) -> bool {
     has_events(rt, text, &[Event { line: 1, command }])
 }
@@ -53,7 +53,7 @@ fn refuses_lines(rt: HostRuntime) {
         ("start 1 2 running 3", ExtraWord),
         ("sample", MissingWord),
         ("sample hr=1", BadNumber),
-        // The words are judged from the left, and a missing one last.
+        // The words are judged from the left, and a missing word last.
         ("start x", BadNumber),
         ("start 1 x", BadNumber),
         ("lap x y", BadNumber),
@@ -61,7 +61,7 @@ fn refuses_lines(rt: HostRuntime) {
         ("start 1 2 walking more", UnknownWord),
         ("fail 0 1", BadNumber),
         ("sample x hr", BadNumber),
-        // The key of a setting is left of its number.
+        // The key of a setting is judged before its number.
         ("sample 1 hr=1 hr=x", RepeatedKey),
         ("sample 1 hr=1 hr", UnknownKey),
         ("sample 1 hr=1 cad=2 hr=1", RepeatedKey),
@@ -76,11 +76,11 @@ fn refuses_lines(rt: HostRuntime) {
         ("sample 1 lat=-", BadNumber),
         ("sample 1 lat=--1", BadNumber),
         ("sample 1 hr=1.5", BadNumber),
-        // Only a carriage return right before the end of a line is dropped, and one of them.
+        // Only one carriage return is dropped, right before the end of a line.
         ("lap 1\r", BadNumber),
         ("lap 1\r\r\n", BadNumber),
         ("commit\rcommit", UnknownWord),
-        // Only spaces and tabs part words, and digits are those of ASCII.
+        // Only spaces and tabs separate words, and digits are those of ASCII.
         ("lap\u{b}1", UnknownWord),
         ("lap\u{a0}1", UnknownWord),
         ("\u{feff}commit", UnknownWord),
@@ -93,7 +93,7 @@ fn refuses_lines(rt: HostRuntime) {
     }
 }
 
-// The greatest and the least number of each place, and the next one, which is too much.
+// The greatest and the least number in each place, and the number after it, which does not fit.
 #[test]
 fn refuses_numbers_that_do_not_fit(rt: HostRuntime) {
     let taken = [
@@ -199,7 +199,6 @@ fn reads_samples(rt: HostRuntime) {
         )
     );
     let whole = Sample {
-        time: 10,
         lat: Some(-1),
         long: Some(2),
         altitude: Some(3),
@@ -211,6 +210,7 @@ fn reads_samples(rt: HostRuntime) {
         temperature: Some(-9),
         enhanced_speed: Some(10),
         enhanced_altitude: Some(11),
+        ..Sample::new(10)
     };
     let texts = [
         "sample 10 lat=-1 long=2 alt=3 hr=4 cad=5 dist=6 speed=7 power=8 temp=-9 espeed=10 ealt=11",
@@ -230,7 +230,7 @@ fn reads_samples(rt: HostRuntime) {
     assert!(rt; asks_for(&rt, "sample 1 lat=-0", Command::Entry(Entry::Sample(zero))));
 }
 
-// Each event has the number of its line, and some lines are none.
+// Each event has the number of its line. Empty lines and comments are not events.
 #[test]
 fn counts_lines(rt: HostRuntime) {
     for text in ["", "\n", "\r\n", " \t\n\n", "# a ride", "  #lap x\n"] {
@@ -274,7 +274,7 @@ fn numbers_of_faults(rt: HostRuntime) {
     }
 }
 
-// Run with each allocation refused in turn: the events are there, or want of memory is told at a line.
+// Run with each allocation refused in turn: all events are returned, or want of memory is reported at a line.
 #[test]
 fn a_script_tells_want_of_memory(rt: HostRuntime) {
     let commit = |line| Event {

@@ -1,4 +1,4 @@
-// Scripts that are simulated: output that fails, and memory that is refused. The lines are from outside.
+// Scripts that are simulated, with output that fails and memory that is refused. The lines are from outside.
 
 use super::failing::Failing;
 use crate::equality::equal;
@@ -23,7 +23,7 @@ fn a_simulation_is_told(rt: HostRuntime) -> Result<(), Fail> {
     Ok(())
 }
 
-// Where each call of the output in turn fails, the answers are told as far as it came.
+// Each call of the output fails in turn. What was written is a prefix of the answers.
 #[test]
 fn a_simulation_says_where_its_output_fails(rt: HostRuntime) {
     let text = CUT_OFF_ANSWERS.as_bytes();
@@ -44,7 +44,7 @@ fn a_simulation_says_where_its_output_fails(rt: HostRuntime) {
     equal(&rt, kept.held.as_slice(), text);
 }
 
-// The bytes are no text, or a line is none of a script: the first of these is told.
+// The bytes are not text, or a line is not one of a script. The first of these faults is reported.
 #[test]
 fn a_script_that_is_not_simulated(rt: HostRuntime) {
     let cases: [(&[u8], u8); 3] = [
@@ -61,7 +61,7 @@ fn a_script_that_is_not_simulated(rt: HostRuntime) {
     }
 }
 
-// Run with each allocation refused in turn: nothing is told but the want of memory.
+// Run with each allocation refused in turn: nothing is reported but the want of memory.
 #[test]
 fn a_simulation_says_that_memory_is_refused(rt: HostRuntime) -> Result<(), AllocError> {
     let mut out = Vec::with_capacity(rt.alloc(), 256)?;

@@ -1,5 +1,5 @@
-// A ride in which each call of the device fails in turn, or the power goes at it, and a recovery in which it goes, and a ride that
-// goes on; by `world::run`, and again by direct calls. How many calls there are is that of the description.
+// A ride in which each call of the device fails in turn, or the power goes at it; a recovery and a resumed ride in which the power
+// goes; by `world::run`, and again by direct calls. The numbers of calls are those of the description.
 
 use crate::direct;
 use crate::equality::equal;
@@ -17,21 +17,21 @@ const RIDE: &str =
 
 const STOP: &str = "stop 1000000003\n";
 
-// Of the start, two commits, of which the second closes a gate, and the stop. The entries wait in the page.
+// The start, two commits, and the stop. The second commit closes a gate. The entries wait in the page.
 const RIDE_CALLS: u32 = 11 + (6 + 8) + 11;
 
-// Of the ride without its stop: two syncs, the size, the journal with its two slots, one read of the body, and the four calls
+// A recovery of the ride without its stop: two syncs, the size, the journal with its two slots, one read of the body, and the four calls
 // that close the file.
 const RECOVERY_CALLS: u32 = 2 + 1 + 1 + 1 + 4;
 
-// The ride goes on: two syncs, the size, the journal with its two slots, which are read once more, one read of the body, and the
-// cut with its sync; and the commit, which writes what waits in the page, syncs it, and closes a gate first.
-const GOING_ON_CALLS: u32 = 2 + 1 + 1 + 1 + 1 + 2 + 8;
+// A reopening: two syncs, the size, the journal with its two slots, one read of the body, and the cut with its sync. Then a
+// commit of eight calls, which writes the page, syncs it, and closes a gate first.
+const GOING_ON_CALLS: u32 = 2 + 1 + 1 + 1 + 2 + 8;
 
-// The bytes that a power cut leaves where any may be left: none are given, or so many.
+// The choice bytes of a power cut: none, all open gates, and all FF.
 const CHOICES: [&[u8]; 3] = [&[], &[0xA5; 600], &[0xFF; 600]];
 
-// What the ride without its stop says of itself.
+// The summary of the ride without its stop.
 const UNSTOPPED: Summary = Summary {
     records: 2,
     laps: 2,
@@ -42,13 +42,14 @@ const UNSTOPPED: Summary = Summary {
     distance_cm: None,
 };
 
-// And with one entry more.
+// The same with one more entry.
 const GONE_ON: Summary = Summary {
     records: 3,
     ..UNSTOPPED
 };
 
-// The answers to the script, which are those of direct calls, and a history. A recovery leaves the file that it tells.
+// The answers to the script. Asserts that direct calls give the same answers, and that these are a history. If the last answer has a
+// file, direct calls leave it on the disk.
 fn answers_to(
     rt: &impl Abort,
     alloc: Global,
@@ -69,12 +70,12 @@ fn is_ok(answer: &Answer) -> bool {
     !matches!(answer, Answer::Refused(_) | Answer::NoRecorder)
 }
 
-// Whether each answer of the ride and its stop, behind a first event, is ok.
+// Whether each answer of the ride and its stop, after a first event, is ok.
 fn went_well(answers: &[Answer]) -> bool {
     answers.iter().take(8).all(|answer| is_ok(answer))
 }
 
-// Each call of the ride fails once, and then it is recovered.
+// Each call of the ride fails once, and then the ride is recovered.
 fn fail_each_call(rt: &impl Abort, alloc: Global) -> Result<(), Fail> {
     for k in 1..=RIDE_CALLS + 1 {
         let script = format!(in alloc; "fail {k}\n{RIDE}{STOP}recover\n")?;
@@ -84,7 +85,7 @@ fn fail_each_call(rt: &impl Abort, alloc: Global) -> Result<(), Fail> {
     Ok(())
 }
 
-// The power goes at each call of the ride, and then it is recovered.
+// The power goes at each call of the ride, and then the ride is recovered.
 fn cut_each_call(rt: &impl Abort, alloc: Global) -> Result<(), Fail> {
     for choices in CHOICES {
         for k in 1..=RIDE_CALLS + 1 {
@@ -96,7 +97,7 @@ fn cut_each_call(rt: &impl Abort, alloc: Global) -> Result<(), Fail> {
     Ok(())
 }
 
-// The power goes at each call of the recovery, and the next one leaves the same file as one that was not cut off.
+// The power goes at each call of the recovery. The next recovery leaves the same file as one that was not cut off.
 fn cut_each_call_of_a_recovery(rt: &impl Abort, alloc: Global) -> Result<(), Fail> {
     let script = format!(in alloc; "{RIDE}recover\n")?;
     let whole = answers_to(rt, alloc, script.as_str(), &[])?;
@@ -120,7 +121,7 @@ fn cut_each_call_of_a_recovery(rt: &impl Abort, alloc: Global) -> Result<(), Fai
     Ok(())
 }
 
-// The ride goes on, and the power goes at each call of that; the next recovery keeps what was promised.
+// The ride is reopened, and the power goes at each call from there on. The next recovery keeps what was promised.
 fn cut_each_call_of_a_ride_that_goes_on(rt: &impl Abort, alloc: Global) -> Result<(), Fail> {
     for choices in CHOICES {
         for k in 1..=GOING_ON_CALLS + 1 {

@@ -1,5 +1,5 @@
-// The table of histories, said once more and slowly: where a recording stands is a set of claims, each a plain list of what may be
-// recorded and how many of its entries are promised. Nothing here is taken from the code that is tested.
+// The table of histories, stated once more and slowly: the state of a recording is a set of claims. Each claim is a plain list of
+// what may be recorded, and how many of its entries are promised. Nothing here is taken from the code that is tested.
 
 pub mod list;
 pub mod telling;
@@ -12,7 +12,7 @@ use std::alloc::{AllocError, Global};
 use std::test::Fail;
 use telling::{told_by, told_of};
 
-// A beginning of the list may be recorded, no shorter than the promise.
+// A prefix of the list may be recorded, no shorter than the promise.
 #[derive(Debug, Drop)]
 struct Claim {
     list: Vec<Recorded>,
@@ -27,8 +27,8 @@ fn whole(alloc: Global, list: &[Recorded]) -> Result<Claim, AllocError> {
     })
 }
 
-/// Where a recording stands. While a recorder runs each claim is a list that it may have been handed: one, unless it was
-/// reopened, since a reopening does not tell what it found.
+/// The state of a recording. While a recorder runs, each claim is a list that it may have been handed. There is one such list, unless
+/// the ride was reopened: a reopening does not report what it found.
 #[derive(Drop)]
 pub struct Table {
     alloc: Global,
@@ -38,7 +38,7 @@ pub struct Table {
     broken: bool,
     // A start was begun since the last erasing.
     begun: bool,
-    // A power cut was arranged since the power last came back, and a failure behind which no call was broken off.
+    // A power cut was scheduled since the power last came back; a failure was scheduled and no call was broken off since.
     cut: bool,
     fail: bool,
 }
@@ -49,7 +49,7 @@ fn is_device(answer: &Answer) -> bool {
 }
 
 impl Table {
-    /// Two empty files: the one claim is that nothing is recorded.
+    /// Two empty files. The only claim is that nothing is recorded.
     pub fn new(alloc: Global) -> Result<Table, AllocError> {
         let mut claims = Vec::new(alloc);
         claims.push(whole(alloc, &[])?)?;
@@ -64,7 +64,7 @@ impl Table {
         })
     }
 
-    /// Whether the answer may come to the command. The recording stands behind it then.
+    /// Whether the answer to the command is possible. Afterwards the table has the state after that answer.
     pub fn allows(&mut self, command: &Command, answer: &Answer) -> Result<bool, AllocError> {
         if is_device(answer) && !self.cut && !self.fail {
             return Ok(false);
@@ -86,7 +86,7 @@ impl Table {
         Ok(allowed)
     }
 
-    // Whether nothing at all may be recorded.
+    // Whether it is possible that nothing is recorded.
     fn has_none(&self) -> bool {
         self.claims.iter().any(|claim| claim.list.is_empty())
     }
@@ -148,7 +148,7 @@ impl Table {
         }
     }
 
-    // An entry that is no stop. No history here has so many that there is no room.
+    // An entry that is no stop. No history here is so long that there is no room.
     fn hand(&mut self, entry: &Entry, answer: &Answer) -> Result<bool, AllocError> {
         if !self.riding || self.broken {
             return Ok(self.is_idle(answer));
@@ -168,13 +168,13 @@ impl Table {
         Ok(!self.claims.is_empty())
     }
 
-    // Of the lists that the recorder may have been handed, those behind which the entry is refused so.
+    // Keeps the lists after which the entry is refused for this reason, or is not refused.
     fn keep_refusing(&mut self, entry: &Entry, refusal: Option<Refusal>) {
         self.claims
             .retain(|claim| refusal_of(&claim.list, entry) == refusal);
     }
 
-    // The entry is handed in.
+    // Adds the entry to each list.
     fn add(&mut self, entry: &Entry) -> Result<(), AllocError> {
         for claim in &mut self.claims {
             claim.list.push(Recorded::Added(*entry))?;
@@ -182,14 +182,14 @@ impl Table {
         Ok(())
     }
 
-    // All that was handed in is promised.
+    // Promises all that was handed in.
     fn promise_all(&mut self) {
         for claim in &mut self.claims {
             claim.promise = claim.list.len();
         }
     }
 
-    // Nor so many commits that the journal is full.
+    // No history here has so many commits that the journal is full.
     fn commit(&mut self, answer: &Answer) -> bool {
         if !self.riding || self.broken {
             return self.is_idle(answer);
@@ -231,7 +231,7 @@ impl Table {
         Ok(!self.claims.is_empty())
     }
 
-    // Of the lists that the recorder was handed, those whose file this is.
+    // Keeps the lists whose finished file this is.
     fn keep_told(&mut self, file: &[u8]) -> Result<(), AllocError> {
         let mut kept = Vec::new(self.alloc);
         if let Some(told) = told_by(self.alloc, file)? {
@@ -245,7 +245,7 @@ impl Table {
         Ok(())
     }
 
-    // The one answer where no recorder runs, or where the device failed in it.
+    // The only possible answer if no recorder runs, or if the device failed in it.
     fn is_idle(&self, answer: &Answer) -> bool {
         match self.riding {
             false => *answer == Answer::NoRecorder,
@@ -267,8 +267,8 @@ impl Table {
         }
     }
 
-    // The file is that of a beginning of some claim, no shorter than it promises and not empty. Two beginnings may have one file:
-    // where the last ends with a stop at the time of the entry before it.
+    // The file is that of a prefix of some claim, no shorter than it promises and not empty. Two prefixes may have the same file:
+    // the longer one may end with a stop at the time of the entry before it.
     fn recovered(&mut self, summary: &Summary, file: &[u8]) -> Result<bool, AllocError> {
         let Some(told) = told_by(self.alloc, file)? else {
             return Ok(false);
@@ -287,7 +287,7 @@ impl Table {
         Ok(!self.claims.is_empty())
     }
 
-    // A ride that has no stop goes on.
+    // A ride that has no stop is continued.
     fn reopen(&mut self, answer: &Answer) -> Result<bool, AllocError> {
         self.end();
         match answer {
@@ -309,7 +309,7 @@ impl Table {
         }
     }
 
-    // What may be recorded and has no stop: the beginnings of each claim, no shorter than it promises and not empty.
+    // What may be recorded and has no stop: the prefixes of each claim, no shorter than it promises and not empty.
     fn keep_beginnings(&mut self) -> Result<(), AllocError> {
         let mut kept: Vec<Claim> = Vec::new(self.alloc);
         for claim in &self.claims {
@@ -344,7 +344,7 @@ impl Table {
     }
 }
 
-/// Whether these answers may come to these events over two empty files.
+/// Whether these are possible answers to these events over two empty files.
 pub fn is_history(alloc: Global, events: &[Event], answers: &[Answer]) -> Result<bool, AllocError> {
     if events.len() != answers.len() {
         return Ok(false);

@@ -1,4 +1,4 @@
--- What is said of an input that was not read.
+-- The program's faults for an input that was not read.
 use Rattle.std.specs.Prelude.{◌≡◌, ℕ, List, Option}
 use Rattle.std.specs.Borrow.{Bor}
 use Rattle.fit_world.specs.declared.reading.ReadFault.{ReadFault}
@@ -7,17 +7,17 @@ use Rattle.fit_world.specs.Calls.Reading.{Refuses}
 use Rattle.fitrec.specs.declared.fault.Fault.{Fault}
 use Rattle.fitrec.specs.declared.fault.Fault.TheVariants as faults
 
--- what the program says of an input of this name
+-- the program's fault for an input of this name
 abbrev pub fault_of_read : Bor (List ℕ) → ReadFault → Fault
 fault_of_read name Failed = faults.Read name
 fault_of_read name TooLarge = faults.TooLarge
 fault_of_read name NoMemory = faults.NoMemory
 
--- the program says this of an input of this name that is refused
+-- the input was refused, and this is the program's fault for it
 abbrev pub IsReadFault : ℕ → Option (List ℕ) → Option (List ℕ) → Bor (List ℕ) → Fault → Type 0
 IsReadFault most old new name fault = (why : ReadFault) × Refuses most old new why × (fault ≡ fault_of_read name why)
 
--- what the program says of a file of this name that is not opened or not read
+-- the faults of a file of this name that was not opened or not read
 abbrev pub IsFileFault : Bor (List ℕ) → Fault → Type 0
 IsFileFault name (faults.Open other) = other ≡ name
 IsFileFault name (faults.Read other) = other ≡ name

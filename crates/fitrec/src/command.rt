@@ -1,39 +1,41 @@
 // The program as one call: words in, text out, and the exit status.
 //
-// Each subcommand has a file of its own, which opens what it needs and leaves the rest to `fit_world`. They share `words`,
-// which reads the command line, `input`, which opens and reads a file, `folder`, which opens the files of a recording, `beside`,
-// which makes a file whole or not at all, and `status`, which prints a fault.
+// `fit_words` reads the words. Each subcommand has its own file, which opens what it needs and leaves the rest to `fit_world`.
+// They share `input`, which opens and reads a file, `folder`, which opens the files of a recording, `beside`, which writes a file
+// whole or not at all, and `status`, which prints a fault.
 
 ghost use Rattle.std.specs.Prelude.{◌≤◌};
 
 mod beside;
 mod check;
+mod content;
 mod folder;
 mod input;
 mod plain;
 mod repair;
 mod replay;
 mod salvage;
+mod save;
 mod show;
 mod simulate;
-mod words;
 
 use crate::fault::Fault;
 use check::check_file;
 use clap::error::ErrorKind;
+use fit_words::{Request, no_choices, read_words};
+use fit_world::read_choices;
 use plain::make_plain;
-use repair::repair_folder;
+use repair::{repair_folder, verify_folder};
 use replay::replay_script;
 use salvage::salvage_file;
+use save::save_folder;
 use show::show_file;
 use simulate::simulate_script;
 use std::convert::AsStr;
 use std::io::Write;
-use words::{Request, read_words};
 
-/// Does what the words behind the program's name ask for. What it shows goes to `out`, and one line on
-/// why it did not go well to `err`. It answers the exit status: 0, or 1 after a fault, or 2 where the
-/// words are no command.
+/// Runs the command of the words after the program's name. Its text goes to `out`. A fault is one line on `err`, and a text on wrong
+/// words, or help, goes there too. Returns the exit status: 0, 1 after a fault, or 2 if the words are no command or request help.
 pub fn command<S: AsStr, O: Write, E: Write>(
     rt: &HostRuntime,
     words: &[S],
@@ -48,24 +50,70 @@ pub fn command<S: AsStr, O: Write, E: Write>(
         Ok(Request::Replay { script, folder }) => {
             status(replay_script(rt, script, folder, out), err)
         }
-        Ok(Request::Repair { folder }) => status(repair_folder(rt, folder, out), err),
-        Ok(Request::Salvage { file, to }) => status(salvage_file(rt, file, to, out), err),
-        Ok(Request::Plain { file, to }) => status(make_plain(rt, file, to, out), err),
-        Ok(Request::Simulate { script, choices }) => {
-            let done = simulate_script(rt, script, choices.as_slice(), out);
+        Ok(Request::Save { folder, to }) => status(save_folder(rt, folder, to, out), err),
+        Ok(
+            Request::Repair {
+                folder,
+                verify: false,
+            },
+        ) => status(repair_folder(rt, folder, out), err),
+        Ok(
+            Request::Repair {
+                folder,
+                verify: true,
+            },
+        ) => status(verify_folder(rt, folder, out), err),
+        Ok(
+            Request::Salvage {
+                file,
+                to,
+                all,
+                plain,
+            },
+        ) => {
+            let done = salvage_file(rt, file, to, all, plain, out, err);
             status(done, err)
         }
-        Err(refusal) => match refusal.kind() {
-            ErrorKind::OutOfMemory => status(Err(Fault::NoMemory), err),
-            _ => {
-                let _ = write!(err, "{refusal}");
-                2
-            }
-        },
+        Ok(Request::Plain { file, to }) => status(make_plain(rt, file, to, out), err),
+        Ok(Request::Simulate { script, choices }) => simulate_chosen(rt, script, choices, out, err),
+        Err(refusal) => refused(refusal, err),
     }
 }
 
-// The exit status, behind a line on the fault.
+// Simulates a script. It is read only if the word for its choices spells bytes.
+fn simulate_chosen<O: Write, E: Write>(
+    rt: &HostRuntime,
+    script: &str,
+    choices: &str,
+    out: &mut O,
+    err: &mut E,
+) -> u8
+    ensures { result ≤ 2 }
+{
+    match read_choices(rt.alloc(), choices) {
+        Ok(Some(bytes)) => status(simulate_script(rt, script, bytes.as_slice(), out), err),
+        Ok(None) => match no_choices(rt.alloc(), choices) {
+            Ok(refusal) => refused(refusal, err),
+            Err(refusal) => refused(refusal, err),
+        },
+        Err(_) => status(Err(Fault::NoMemory), err),
+    }
+}
+
+// Prints the text on words that are no command, or help, and returns the exit status.
+fn refused<E: Write>(refusal: clap::Error, err: &mut E) -> u8
+    ensures { result ≤ 2 }
+{
+    match refusal.kind() {
+        ErrorKind::OutOfMemory => status(Err(Fault::NoMemory), err),
+        _ => {
+            let _ = write!(err, "{refusal}");
+            2
+        }
+    }
+}
+
+// Prints a line on the fault, if there is one, and returns the exit status.
 fn status<E: Write>(done: Result<(), Fault<'_>>, err: &mut E) -> u8
     ensures { result ≤ 1 }
 {

@@ -1,4 +1,4 @@
-// Why the program ends without having done what it was asked for.
+// The faults of the program.
 
 use fit_activity::ActivityFault;
 use fit_grammar::{FileFault, PlainFault};
@@ -6,43 +6,43 @@ use fit_recorder::RecFault;
 use fit_world::ScriptFault;
 use thiserror::Error;
 
-/// A fault of the program. Its text is what stands behind `fitrec: ` on standard error.
+/// A fault of the program. Its text follows `fitrec: ` on standard error.
 #[derive(Debug, Drop, Error)]
 pub enum Fault<'a> {
-    /// A file of this name can't be opened.
+    /// A file or folder of this name was not opened.
     #[error("cannot open {0}")]
     Open(&'a str),
-    /// A file of this name can't be read.
+    /// A file of this name was not read, or is a script that is not UTF-8.
     #[error("cannot read {0}")]
     Read(&'a str),
-    /// A file of this name can't be written, or standard output, which is `-`.
+    /// A file of this name was not written. The name of standard output is `-`.
     #[error("cannot write {0}")]
     Write(&'a str),
-    /// A file has more bytes than are read.
+    /// A file has more than 256 MiB, or the plain form of a ride would be too long.
     #[error("TooLarge")]
     TooLarge,
     /// Memory was refused.
     #[error("NoMemory")]
     NoMemory,
-    /// The bytes are no FIT file that is read here.
+    /// The bytes are not a FIT file that the program reads, or memory was refused.
     #[error("{:?} at {}", .0.kind, .0.place)]
     File(FileFault),
-    /// The plain form of a file does not follow its items.
+    /// The plain form of a file would be too long, or memory was refused.
     #[error("{:?} at {}", .0.kind, .0.place)]
     Plain(PlainFault),
-    /// The file is no activity.
+    /// The file is not an activity.
     #[error("{0:?}")]
     Activity(ActivityFault),
-    /// A line of the script is none.
+    /// A line of the script is wrong, or memory was refused.
     #[error("line {}: {:?}", .0.line, .0.kind)]
     Script(ScriptFault),
-    /// The event of this line is only simulated.
+    /// Only `simulate` runs the event of this line.
     #[error("line {0}: OnlySimulate")]
     OnlySimulate(usize),
-    /// The recording was not recovered.
+    /// The recording was not recovered or saved.
     #[error("{0:?}")]
     Recorder(RecFault),
-    /// So many events of a script were not ok.
+    /// The number of replies to a script that were not ok.
     #[error("{0} refused")]
     Refused(usize),
 }

@@ -1,8 +1,7 @@
-//! The program `fitrec`: it records rides, repairs them, and reads FIT files and shows what they say.
+//! The program `fitrec`: it records rides, repairs them, and reads FIT files and shows their content.
 //!
-//! `command` is the program as one call: words in, text out, and the exit status. A subcommand has its file in `command/`,
-//! which opens a file or a folder; what becomes of its bytes, and what a script does to a recording, is `fit_world`'s. `fault`
-//! has the one line that is said where something goes wrong.
+//! `command` is the program as one call: words in, text out, and the exit status. Each subcommand has a file in `command/`, which opens
+//! a file or a folder. `fit_world` processes its bytes, and runs scripts over a recording. `fault` has the line that reports an error.
 //!
 //!     fitrec show row3.fit
 //!
@@ -12,8 +11,9 @@
 //!     0 file_id type=4 time_created=1000000000
 //!     messages 1
 //!
-//! (The stored run of this crate: `args`, `data` and `stdout`.) What is promised is said in the words of `specs/`: `Reading`
-//! has what is said of a file that is not read, and `Faults` of the faults of the libraries.
+//! (The stored run of this crate: `args`, `data` and `stdout`.) Contracts use the definitions of `specs/`: `Reading` has the faults of
+//! a file that is not read, `Faults` has those of each library call and subcommand, `Told` has what a subcommand prints, and `Places`
+//! has the names of a recording's files.
 #![tactic(auto)]
 
 mod command;
@@ -40,7 +40,7 @@ fn main(rt: HostRuntime) -> io::Result<ExitCode> {
     Ok(ExitCode::from(status))
 }
 
-// The words behind the program's name.
+// The words after the program's name.
 fn words_of(rt: &HostRuntime) -> io::Result<Vec<String>> {
     let words = env::args(rt)?.skip(1).collect(rt.alloc())?;
     Ok(words)

@@ -1,4 +1,4 @@
--- The finished file of an allowed list is an activity, and says of itself the summary of the list.
+-- The finished file of an allowed list is an activity, and its summary is that of the list.
 use Rattle.std.proofs.Common.{◌≡◌, ℕ, ◌+◌, ◌-◌, ◌<◌, Bool, true, false, cond, nat_eq, List, [], ◌∷◌, ◌++◌, length, map, Option, Some, None, refl, sym, ap, ◌∙◌, arith}
 use Rattle.std.specs.Prelude.{Ok, Err, unwrap_or, option_map, count_by, find, IfSome}
 use Rattle.std.specs.Option.{option_or}
@@ -27,7 +27,7 @@ use Rattle.fit_activity.proofs.FinishedActivity.Passed.{values_by, seen_from}
 use Rattle.fit_activity.proofs.OneList.Retold.{messages_after}
 use Rattle.fit_activity.proofs.RunningTotals.Bounded.{IsValid, in-bounds, valid-start, timer-le}
 
--- what each says: a sample a record, a lap a lap, and none a session or an activity
+-- the messages of an element: a sample has a record, a lap has a lap, and none has a session or an activity
 record Counts (messages : List Message) (r : Recorded) : Type 0 where
   records : count_of 20 messages ≡ cond (is_sample r) 1 0
   laps : count_of 19 messages ≡ cond (is_lap r) 1 0
@@ -42,7 +42,7 @@ each-counts before (Added (Pause time)) = record { records = refl; laps = refl; 
 each-counts before (Added (Resume time)) = record { records = refl; laps = refl; sessions = refl; activities = refl }
 each-counts before (Added (Stop time)) = record { records = refl; laps = refl; sessions = refl; activities = refl }
 
--- so many of the messages of a list as of those of each
+-- if each element that passes the test has one such message and others none, a list has as many as elements that pass
 counts : (global : ℕ) (test : Recorded → Bool) → ((before : List Recorded) (r : Recorded) → count_of global (messages_spoken before r) ≡ cond (test r) 1 0)
     → (before list : List Recorded) → count_of global (messages_after before list) ≡ count_by test list
 counts global test each before [] = refl
@@ -61,13 +61,13 @@ none-passes (r ∷ list) = omega (arith, sum_by-cons (λ (x : Recorded). 0) r li
 pub records-spoken : (list : List Recorded) → count_of 20 (spoken list) ≡ count_by is_sample list
 records-spoken list = counts 20 is_sample (λ before r. (each-counts before r).records) [] list
 
--- some of its messages are no records
+-- at least one of its messages is not a record
 pub records-few : (list : List Recorded) → Allowed list → count_of 20 (spoken list) < length (spoken list)
 records-few [] allowed = absurd allowed
 records-few (Added e ∷ list) allowed = absurd allowed
 records-few (Started s ∷ list) allowed = omega (arith, count_by-le-length (has_global 20) (messages_after (Started s ∷ []) list))
 
--- of what is not counted nothing is found
+-- if no message passes a test, none is found by it
 not-found : (test : Message → Bool) (messages : List Message) → count_by test messages ≡ 0 → find test messages ≡ None
 not-found test [] none = refl
 not-found test (m ∷ messages) none =
@@ -77,7 +77,7 @@ not-found test (m ∷ messages) none =
     [ true ↦ λ e. absurd (omega (arith, e)) | false ↦ λ e. not-found test messages (omega (arith, e)) ] in
     own (test m) whole
 
--- what closes a recording: a lap, a session and an activity
+-- the messages that close a recording: one lap, one session and one activity
 record Closes (messages : List Message) (session : SessionSummary) : Type 0 where
   records : count_of 20 messages ≡ 0
   laps : count_of 19 messages ≡ 1
@@ -119,7 +119,7 @@ session-read session start elapsed timer distance =
     ∙ ap (λ o. values_from (Some s.start) (Some s.elapsed) o (read (unwrap_or s.distance 0xFFFFFFFF))) (valid-read s.timer timer)
     ∙ ap (λ o. values_from (Some s.start) (Some s.elapsed) (Some s.timer) o) (option-read s.distance distance)
 
--- what is kept of the messages of an activity
+-- the summary of an activity, from what is kept of its messages
 abbrev summary_from : ℕ → ℕ → SessionValues → Summary
 summary_from records laps session =
     record {

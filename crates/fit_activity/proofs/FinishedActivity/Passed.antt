@@ -1,4 +1,4 @@
--- What is kept of messages, with one more.
+-- What is kept of messages, with one more message.
 use Rattle.std.proofs.Common.{◌≡◌, ℕ, ◌+◌, ◌<◌, ◌^◌, Bool, true, false, cond, nat_eq, List, [], ◌∷◌, ◌++◌, length, Option, Some, refl, sym, ap, ◌∙◌, arith, length-append}
 use Rattle.std.specs.Prelude.{find, count_by, option_and_then, ◌==◌, ◌&&◌}
 use Rattle.std.proofs.lemmas.List.Sums.{sum_by_push, sum_by-cons, count_by-le-length}
@@ -10,7 +10,7 @@ use Rattle.fit_activity.specs.declared.activity.seen.SessionValues.{SessionValue
 use Rattle.fit_activity.specs.Files.Activity.{has_global, value_of, begins_with_file_id, is_activity_file, is_four, count_of}
 use Rattle.fit_activity.specs.Private.Seen.{session_values, is_some_message, seen_of, seen_with}
 
--- the first that passes a test
+-- the first message that passes a test
 find-by : (b : Bool) (k : ℕ) (p : Message → Bool) (x m : Message) (rest : Option Message)
     → cond b (Some x) (cond (nat_eq k 0 && p m) (Some m) rest) ≡ cond (nat_eq (cond b 1 0 + k) 0 && p m) (Some m) (cond b (Some x) rest)
 find-by true k p x m rest =
@@ -91,7 +91,7 @@ seen-push messages m =
     ∙ ap (λ (n : ℕ). seen_from (is_some_message all) (begins_with_file_id all) (is_activity_file all) (count_of 20 all) (count_of 19 all) (count_of 18 all) n v) (count-push 34 messages m)
     ∙ ap (λ w. seen_from (is_some_message all) (begins_with_file_id all) (is_activity_file all) (count_of 20 all) (count_of 19 all) (count_of 18 all) (count_of 34 all) w) session
 
--- where there is a message more among fewer than 2^32
+-- a count has room for one more message, among fewer than 2^32
 pub count-room : (global : ℕ) (done : List Message) (m : Message) (rest all : List Message) → all ≡ done ++ m ∷ rest → length all < 2 ^ 32
     → count_of global done + 1 < 2 ^ 32
 count-room global done m rest all joined few =

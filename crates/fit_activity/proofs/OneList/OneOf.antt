@@ -20,7 +20,7 @@ other-by false arch size zero bytes other = refl
 other-by false arch size (suc zero) bytes other = absurd (other refl)
 other-by false arch size (suc (suc whole)) bytes other = refl
 
--- of one value, it is the first; of another count, there is none
+-- if there is one value, it is the first; with another count there is none
 pub one-of-one : (field : Field) → count_of field ≡ 1 → one_of (values_of field) ≡ Some (unsigned_at field 0)
 one-of-one field one =
     let none : 0 * value_size field ≡ 0 = omega arith in
@@ -30,7 +30,7 @@ one-of-one field one =
 pub one-of-other : (field : Field) → count_of field ≢ 1 → one_of (values_of field) ≡ None
 one-of-other field other = other-by (is_raw field) field.arch (value_size field) (length field.bytes / value_size field) field.bytes other
 
--- the byte of a base type names it
+-- the byte of a base type gives the type
 pub base_type-code : (base : BaseType) → base_type (row_of base).code ≡ Some base
 base_type-code Enum = refl
 base_type-code Sint8 = refl

@@ -1,4 +1,4 @@
--- Running totals with an entry more are those of the list with the entry at its end.
+-- Running totals with one more entry are those of the list with the entry at its end.
 use Rattle.std.proofs.Common.{◌≡◌, ℕ, suc, ◌+◌, ◌-◌, ◌≤◌, ◌<◌, Bool, true, false, cond, List, [], ◌∷◌, ◌++◌, length, Option, Some, None, refl, sym, ap, ◌∙◌, subst, arith, le_refl, append-nil, not, ◌*◌, ◌^◌}
 use Rattle.std.specs.Prelude.{unwrap_or, option_to_list, IfSome, count_by}
 use Rattle.std.specs.Option.{option_or}
@@ -13,7 +13,8 @@ use Rattle.fit_activity.specs.declared.totals.clock.Clock.{Clock}
 use Rattle.fit_activity.specs.declared.recording.start.Start.{Start}
 use Rattle.fit_activity.specs.declared.totals.tally.Tally.{Tally}
 use Rattle.fit_activity.specs.declared.totals.sums.Sums.{Sums}
-use Rattle.fit_activity.specs.Rides.Recording.{Recorded, Started, Added, EntryFits, SampleFits, StartFits, entry_time, time_of, is_lap, is_stop, start_of, last_given}
+use Rattle.fit_activity.specs.Rides.Recording.{Recorded, Started, Added, EntryFits, StartFits, entry_time, time_of, is_lap, is_stop, start_of, last_given}
+use Rattle.fit_activity.specs.Rides.Table.{SampleFits}
 use Rattle.fit_activity.specs.Rides.Timer.{switch_of, runs_now, timer}
 use Rattle.fit_activity.specs.Rides.Stretch.{greater_of, distance_of, heart_rate_of, speed_of, power_of, known_distance, end_time, begins_stretch, begin_of, open_stretch, before_open, greatest}
 use Rattle.fit_activity.specs.Rides.Refusal.{start_refusal, has_stopped, Allowed}
@@ -23,7 +24,7 @@ use Rattle.fit_activity.proofs.RunningTotals.Pushed.{last_given-push, All-push, 
 use Rattle.fit_activity.proofs.RunningTotals.Timing.{AreBy-later, timer-push, timer-empty}
 use Rattle.fit_activity.proofs.RunningTotals.Judged.{allowed-push, refusal-kept, passes}
 
--- the totals of a start
+-- the totals of a start are those of its list
 no-values : (bound : ℕ) → IsTally no_tally bound []
 no-values bound = record { total = refl; count = refl; most = refl; bounded = tt }
 
@@ -67,7 +68,7 @@ at_most : (n : ℕ) (o : Option ℕ) → IfSome o (λ value. value < suc n) → 
 at_most n None below = tt
 at_most n (Some value) below = omega (arith, below)
 
--- the sums of a stretch with a sample more, and with something that says nothing of them
+-- the sums of a stretch with one more sample, and with an element that has no values for them
 sums-sample : (sums : Sums) (before inside : List Recorded) (s : AnySample) → SampleFits s → AreSums sums before inside
     → AreSums (sums_with sums s) before (inside ++ Added (Sample s) ∷ [])
 sums-sample sums before inside s fits are =
@@ -76,9 +77,9 @@ sums-sample sums before inside s fits are =
       speed = ap (λ o. greater_of o (greater_of s.speed s.enhanced_speed)) are.speed
           ∙ sym (greatest-with (filter_map speed_of inside) (greater_of s.speed s.enhanced_speed)) ∙ ap greatest (sym (filter_map-push speed_of inside r));
       heart_rate = subst (IsTally (tally_with sums.heart_rate s.heart_rate) 255) (sym (filter_map-push heart_rate_of inside r))
-          (tally-push sums.heart_rate 255 (filter_map heart_rate_of inside) s.heart_rate are.heart_rate (at_most 255 s.heart_rate fits.heart_rate));
+          (tally-push sums.heart_rate 255 (filter_map heart_rate_of inside) s.heart_rate are.heart_rate (at_most 255 s.heart_rate fits.values.1.1.1.0));
       power = subst (IsTally (tally_with sums.power s.power) 65535) (sym (filter_map-push power_of inside r))
-          (tally-push sums.power 65535 (filter_map power_of inside) s.power are.power (at_most 65535 s.power fits.power));
+          (tally-push sums.power 65535 (filter_map power_of inside) s.power are.power (at_most 65535 s.power fits.values.1.1.1.1.1.1.1.0));
     }
 
 sums-other : (sums : Sums) (before inside : List Recorded) (r : Recorded) → speed_of r ≡ None → heart_rate_of r ≡ None → power_of r ≡ None
@@ -90,7 +91,7 @@ sums-other sums before inside r no_speed no_rate no_power are = record {
   power = subst (IsTally sums.power 65535) (sym (filter_map-none power_of inside r no_power)) are.power;
 }
 
--- the sums of the open stretch stay those of the open stretch, where no other begins
+-- if an element begins no stretch, the sums of the open stretch still are those of the open stretch
 open-push : (sums : Sums) (list : List Recorded) (r : Recorded) → begins_stretch r ≡ false → AreSums sums (before_open list) (open_stretch list ++ r ∷ [])
     → AreSums sums (before_open (list ++ r ∷ [])) (open_stretch (list ++ r ∷ []))
 open-push sums list r stays are =
@@ -99,7 +100,7 @@ open-push sums list r stays are =
     subst (λ xs. AreSums sums xs (open_stretch (list ++ r ∷ []))) (sym before)
     (subst (λ xs. AreSums sums (before_open list) xs) (sym inside) are)
 
--- where a stretch begins, the open one is empty
+-- if an element begins a stretch, the open stretch is empty
 open-begun : (distance : Option ℕ) (list : List Recorded) (r : Recorded) → begins_stretch r ≡ true → distance ≡ known_distance list
     → AreSums (sums_at distance) (before_open (list ++ r ∷ [])) (open_stretch (list ++ r ∷ []))
 open-begun distance list r begins is =
@@ -128,7 +129,7 @@ sums-room sums before inside few are =
 pub open-few : (list : List Recorded) → length list < 2 ^ 32 → length (open_stretch list) < 2 ^ 32
 open-few list few = omega (arith, few, length-drop (length list - suffix_len (λ r. not (begins_stretch r)) list) list)
 
--- the clock of a list at the time of one more
+-- the clock of a list at the time of one more element
 record Reaches (clock : Clock) (list : List Recorded) (r : Recorded) : Type 0 where
   last : time_of r ≡ end_time (list ++ r ∷ [])
   in_order : AreBy (time_of r) (list ++ r ∷ [])
@@ -149,7 +150,7 @@ reaches clock list r keeps later is =
       lap_counted = counted clock.lap clock.lap_timer (omega (arith, keeps.lap_timed)) is.lap_counted;
     }
 
--- where it leaves the timer and begins no stretch; where it switches the timer; where it begins a lap
+-- the clock after an element that leaves the timer and begins no stretch; that switches the timer; that begins a lap
 clock-plain : (clock : Clock) (list : List Recorded) (r : Recorded) → switch_of r ≡ None → begin_of r ≡ None → Reaches clock list r → IsClock clock list
     → IsClock (clock_until clock (time_of r)) (list ++ r ∷ [])
 clock-plain clock list r no_switch no_begin to is = record {
@@ -189,7 +190,7 @@ start_of-push [] r start is = absurd (none-some start is)
 start_of-push (Started s ∷ list) r start is = is
 start_of-push (Added e ∷ list) r start is = absurd (none-some start is)
 
--- what an entry leaves: the number of laps, the last distance known, whether it has ended
+-- the number of laps, the last distance known, and whether the list has ended, after one more element
 laps-push : (list : List Recorded) (r : Recorded) (laps : ℕ) → laps ≡ count_by is_lap list → laps + cond (is_lap r) 1 0 ≡ count_by is_lap (list ++ r ∷ [])
 laps-push list r laps is = ap (λ (n : ℕ). n + cond (is_lap r) 1 0) is ∙ sym (sum_by_push (λ x. cond (is_lap x) 1 0) list r)
 
@@ -204,7 +205,7 @@ distance-push list r known is = ap (option_or (distance_of r)) is ∙ sym (last_
 stop-push : (list : List Recorded) (r : Recorded) → is_stop r ≡ has_stopped (list ++ r ∷ [])
 stop-push list r = ap (λ o. unwrap_or o false) (sym (last_given-push (λ x. Some (is_stop x)) list r))
 
--- the entries by their kinds
+-- each kind of entry: first a sample
 after-sample : (totals : TotalsState) (list : List Recorded) (s : AnySample) → SampleFits s → KeepsTime totals.clock → totals.clock.end ≤ s.time
     → Allowed (list ++ Added (Sample s) ∷ []) → totals.stopped ≡ false → AreTotals totals list → AreTotals (totals_after totals (Sample s)) (list ++ Added (Sample s) ∷ [])
 after-sample totals list s fits keeps later allowed runs are =
@@ -267,7 +268,7 @@ after-entry totals list (Resume time) fits keeps later allowed runs are =
 after-entry totals list (Stop time) fits keeps later allowed runs are =
     after-switch totals list (Stop time) false true refl refl refl refl refl refl refl refl keeps later allowed are
 
--- totals of a list with an entry that is not refused
+-- the totals of a list with one more entry that is not refused
 pub AreTotals-push : (totals : TotalsState) (list : List Recorded) (e : Entry) → EntryFits e → KeepsTime totals.clock → refusal_by totals e ≡ None
     → AreTotals totals list → AreTotals (totals_after totals e) (list ++ Added e ∷ [])
 AreTotals-push totals list e fits keeps none are =

@@ -1,4 +1,4 @@
--- In an allowed list no time is far behind the start, and no distance is the invalid value.
+-- In an allowed list no time is more than 4,000,000 s after the start, and no distance is the invalid value.
 use Rattle.std.proofs.Common.{◌≡◌, ℕ, zero, suc, ◌+◌, ◌-◌, ◌≤◌, ◌<◌, ◌^◌, Bool, true, false, cond, List, [], ◌∷◌, ◌++◌, Option, Some, None, sym, ap, ◌∙◌, subst, arith, append_assoc, append-nil}
 use Rattle.std.specs.Prelude.{unwrap_or, option_map, find, IfSome}
 use Rattle.std.specs.Option.{option_or}
@@ -12,21 +12,22 @@ use Rattle.fit_activity.specs.declared.recording.entry.Entry.TheVariants.{Sample
 use Rattle.fit_activity.specs.declared.speaking.profile_field.ProfileField.{ProfileField}
 use Rattle.fit_activity.specs.Messages.ProfileField.{profile_field, is_invalid, present}
 use Rattle.fit_activity.specs.Messages.ProfileMessage.{sample_options, sample_fields}
-use Rattle.fit_activity.specs.Rides.Recording.{Recorded, Started, Added, StartFits, SampleFits, EntryFits, time_of, start_time}
+use Rattle.fit_activity.specs.Rides.Recording.{Recorded, Started, Added, StartFits, EntryFits, time_of, start_time}
+use Rattle.fit_activity.specs.Rides.Table.{SampleFits}
 use Rattle.fit_activity.specs.Rides.Timer.{is_running, seconds, timer}
 use Rattle.fit_activity.specs.Rides.Stretch.{distance_of, known_distance, end_time}
 use Rattle.fit_activity.specs.Rides.Refusal.{start_refusal, invalid_field_of, invalid_field, AllowedAfter}
 use Rattle.fit_activity.proofs.RunningTotals.Pushed.{last_given-push, option_or-none}
 use Rattle.fit_activity.proofs.RunningTotals.Judged.{cond-none, map-none, passes}
 
--- no number is the invalid value of four bytes
+-- a number below the invalid value of four bytes
 abbrev pub IsValid : ℕ → Type 0
 IsValid value = value < 0xFFFFFFFF
 
 valid-of : (value : ℕ) → value < 2 ^ 32 → (value ≡ 0xFFFFFFFF → ⊥) → IsValid value
 valid-of value fits other = omega (arith, fits, other)
 
--- a sample's distance, where no field of it is invalid
+-- a sample's distance is valid if no field of the sample is invalid
 each-valid : (os : List (Option ProfileField)) → find is_invalid (present os) ≡ None → AllByRecursion (λ o. IfSome o (λ field. is_invalid field ≡ false)) os
 each-valid [] none = tt
 each-valid (None ∷ os) none = (tt, each-valid os none)
@@ -39,7 +40,7 @@ valid-profile_field (Some d) fits valid = valid-of d fits (eqb-false d 0xFFFFFFF
 valid-distance : (s : AnySample) → SampleFits s → invalid_field_of s ≡ None → IfSome s.distance IsValid
 valid-distance s fits none =
     let found = map-none (λ (field : ProfileField). field.number) (find is_invalid (sample_fields s)) None (option_or-none (invalid_field_of s) ∙ none) in
-    valid-profile_field s.distance fits.distance (each-valid (sample_options s) found).1.1.1.1.1.0
+    valid-profile_field s.distance fits.values.1.1.1.1.1.0 (each-valid (sample_options s) found).1.1.1.1.1.0
 
 distance-valid : (e : Entry) → EntryFits e → invalid_field e ≡ None → IfSome (distance_of (Added e)) IsValid
 distance-valid (Sample s) fits none = valid-distance s fits none
@@ -52,7 +53,7 @@ valid-or : (a b : Option ℕ) → IfSome a IsValid → IfSome b IsValid → IfSo
 valid-or None b valid other = other
 valid-or (Some d) b valid other = valid
 
--- the last time, and the last distance known
+-- the last time and the last known distance are in bounds
 pub record InBounds (list : List Recorded) : Type 0 where
   pub long : end_time list ≤ start_time list + 4000000
   pub distance : IfSome (known_distance list) IsValid
@@ -75,11 +76,11 @@ bounds-after s before (Added e ∷ list) bounds allowed =
 pub in-bounds : (s : Start) (list : List Recorded) → AllowedAfter (Started s ∷ []) list → InBounds (Started s ∷ list)
 in-bounds s list allowed = bounds-after s [] list (record { long = omega arith; distance = tt }) allowed
 
--- a start's time
+-- a start's time is valid
 pub valid-start : (s : Start) → StartFits s → start_refusal s ≡ None → IsValid s.time
 valid-start s fits allowed = valid-of s.time fits.time (eqb-false s.time 0xFFFFFFFF (or_parts _ _ (cond-none _ _ _ allowed).0).1)
 
--- no timer runs longer than the time
+-- the timer runs no longer than the time
 seconds-le : (test : ℕ → Bool) (from n : ℕ) → seconds test from n ≤ n
 seconds-le test from zero = omega arith
 seconds-le test from (suc n) =

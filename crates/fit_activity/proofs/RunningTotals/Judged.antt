@@ -1,4 +1,4 @@
--- The refusal of an entry by the numbers kept is its refusal by the list.
+-- The refusal of an entry by the numbers that are kept is its refusal by the list.
 use Rattle.std.proofs.Common.{◌≡◌, ℕ, ◌+◌, ◌≤◌, Bool, true, false, not, nat_lt, nat_le, List, [], ◌∷◌, ◌++◌, Option, Some, None, refl, sym, ap, ◌∙◌, append-nil, append_assoc}
 use Rattle.std.specs.Prelude.{Result, Ok, Err, unwrap_or, option_map, ◌↔◌, ◌==◌, ◌&&◌, ◌||◌, count_by, if◌then◌else◌}
 use Rattle.std.specs.Result.{is_err, result_err}
@@ -15,7 +15,7 @@ use Rattle.fit_activity.specs.Rides.Refusal.{has_stopped, wants_timer, is_resume
 use Rattle.fit_activity.specs.Rides.RunningTotals.{TotalsState, AreTotals}
 use Rattle.fit_activity.specs.Private.Step.{refusal_by}
 
--- the refusal by the facts that it hangs on
+-- the refusal, from the facts on which it depends
 abbrev refusal_from : Bool → ℕ → ℕ → Bool → ℕ → Option ℕ → Entry → Option Refusal
 refusal_from stopped last start running laps known e =
     if stopped then Some Stopped
@@ -38,12 +38,12 @@ refusal-kept totals list e are =
     ∙ ap (λ (n : ℕ). refusal_from (has_stopped list) (end_time list) (start_time list) (runs_now list) n totals.distance e) are.laps
     ∙ ap (λ o. refusal_from (has_stopped list) (end_time list) (start_time list) (runs_now list) (count_by is_lap list) o e) are.distance
 
--- a check is an error where it has a refusal
+-- a check is an error if and only if it has a refusal
 pub is_err-none : {X E : Type 0} (r : Result X E) → (is_err r ≡ false) ↔ (result_err r ≡ None)
 is_err-none (Ok x) = (λ is. refl, λ is. refl)
 is_err-none (Err e) = (λ is. absurd (true≢false is), λ is. absurd (none-some e (sym is)))
 
--- what an entry that is not refused keeps
+-- the facts about an entry that is not refused
 pub record Passes (list : List Recorded) (e : Entry) : Type 0 where
   pub runs : has_stopped list ≡ false
   pub later : end_time list ≤ entry_time e
@@ -74,7 +74,7 @@ passes list e none =
       valid = map-none Value (invalid_field e) _ few.1;
     }
 
--- an allowed list with an entry more that is not refused
+-- an allowed list with one more entry that is not refused
 allowed_after-push : (before list : List Recorded) (e : Entry) → AllowedAfter before list → EntryFits e → refusal_of (before ++ list) e ≡ None
     → AllowedAfter before (list ++ Added e ∷ [])
 allowed_after-push before [] e allowed fits none = (fits, ap (λ b. refusal_of b e) (sym (append-nil before)) ∙ none, tt)

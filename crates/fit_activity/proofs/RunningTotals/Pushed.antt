@@ -1,4 +1,4 @@
--- What a list with one more at its end gives: the last one that says something, the part behind a mark, sums and greatest values.
+-- A list with one more element at its end: the last value that is given, the part after a mark, sums, and greatest values.
 use Rattle.std.proofs.Common.{◌≡◌, ℕ, suc, ◌+◌, ◌-◌, ◌*◌, ◌≤◌, Bool, true, false, not, cond, List, [], ◌∷◌, ◌++◌, length, take, drop, Option, Some, None, refl, sym, ap, ◌∙◌, arith, append-nil, max, mul-suc}
 use Rattle.std.specs.Prelude.{sum, option_to_list, IfSome}
 use Rattle.std.specs.Option.{option_or}
@@ -32,7 +32,7 @@ pub All-weaken : {X : Type 0} (P Q : X → Type 0) (xs : List X) → ((x : X) �
 All-weaken P Q [] weaken all = tt
 All-weaken P Q (x ∷ xs) weaken all = (weaken x all.0, All-weaken P Q xs weaken all.1)
 
--- how many at the end are no mark, with one more
+-- how many elements at the end are not marks, with one more element
 suffix-push : {X : Type 0} (p : X → Bool) (xs : List X) (x : X) → suffix_len p (xs ++ x ∷ []) ≡ cond (p x) (1 + suffix_len p xs) 0
 suffix-push p xs x = ap (prefix_len p) (reverse-append xs (x ∷ []))
 
@@ -68,7 +68,7 @@ before_last-push {X} p xs x =
     ap (λ n. take (length (xs ++ x ∷ []) - n - 1) (xs ++ x ∷ [])) (suffix-push q xs x)
     ∙ before-by xs x (p x) (suffix_len q xs) (suffix_len-le-length q xs)
 
--- the values that a list with one more gives
+-- the values of a list with one more element
 filter_map-one : {X Y : Type 0} (h : X → Option Y) (x : X) → filter_map h (x ∷ []) ≡ option_to_list (h x)
 filter_map-one {X} {Y} h x =
     let one : (o : Option Y) → cons_option o [] ≡ option_to_list o = λ o. elim o as (λ v. cons_option v [] ≡ option_to_list v) [ None ↦ refl | Some y ↦ refl ] in
@@ -102,7 +102,7 @@ fold-bounded : (bound first : ℕ) (values : List ℕ) → first ≤ bound → A
 fold-bounded bound first [] own all = own
 fold-bounded bound first (value ∷ values) own all = fold-bounded bound (max first value) values (omega (arith, own, all.0)) all.1
 
--- values that are at most so great add up to at most so much
+-- values of which none is above a bound have a bounded sum
 pub sum-bounded : (bound : ℕ) (values : List ℕ) → AllByRecursion (λ value. value ≤ bound) values → sum values ≤ bound * length values
 sum-bounded bound [] all = omega arith
 sum-bounded bound (value ∷ values) all =
@@ -111,7 +111,7 @@ sum-bounded bound (value ∷ values) all =
     let first : sum (value ∷ values) ≡ value + sum values = sum_by-cons (λ n. n) value values in
     rw (more, first) (omega (arith, ih, all.0))
 
--- and none of them is greater
+-- and a bounded greatest value
 pub greatest-bounded : (bound : ℕ) (values : List ℕ) → AllByRecursion (λ value. value ≤ bound) values → IfSome (greatest values) (λ most. most ≤ bound)
 greatest-bounded bound [] all = tt
 greatest-bounded bound (first ∷ values) all = fold-bounded bound first values all.0 all.1

@@ -1,4 +1,4 @@
--- The summaries by the numbers kept are those of the list.
+-- The summaries by the numbers that are kept are those of the list.
 use Rattle.std.proofs.Common.{◌≡◌, ℕ, ◌+◌, ◌-◌, ◌*◌, ◌/◌, ◌≤◌, Bool, true, false, cond, nat_eq, List, [], length, Option, Some, None, refl, sym, ap, ◌∙◌, arith}
 use Rattle.std.specs.Prelude.{sum, unwrap_or, option_map, IfSome, count_by}
 use Rattle.std.specs.List.{filter_map, AllByRecursion}
@@ -22,7 +22,7 @@ use Rattle.fit_activity.proofs.RunningTotals.Pushed.{sum-bounded, greatest-bound
 use Rattle.fit_activity.proofs.RunningTotals.Timing.{timer-later}
 use Rattle.fit_activity.proofs.RunningTotals.Judged.{start_time-kept}
 
--- the averages and the greatest values fit into their bytes, and so are the list's
+-- the averages and the greatest values fit into their bytes, and are those of the list
 in_two-small : (n : ℕ) → n ≤ 65535 → in_two_bytes n ≡ Some n
 in_two-small n small = ap (λ b. cond b (Some n) None) (lt-ltb n 65536 (omega (arith, small)))
 
@@ -72,7 +72,7 @@ activity_from time secs = record { time = time; timer = 1000 * secs }
 abbrev lap_from : ℕ → Sums → ℕ → ℕ → ℕ → Option ℕ → LapSummary
 lap_from laps sums from to secs known = record { index = laps; stretch = stretch_by sums from to secs known }
 
--- the open lap by a clock at its end
+-- the open lap, by a clock at its end
 pub lap-kept : (totals : TotalsState) (clock : Clock) (list : List Recorded) (time : ℕ) → AreTotals totals list
     → clock.lap ≡ open_from list → clock.end ≡ time → clock.lap_timer ≡ timer list clock.lap clock.end
     → lap_by totals clock ≡ lap_at list time
@@ -88,7 +88,7 @@ lap-kept totals clock list time are begun ended counted =
 pub lap-now : (totals : TotalsState) (list : List Recorded) → AreTotals totals list → lap_by totals totals.clock ≡ lap_of list
 lap-now totals list are = lap-kept totals totals.clock list (end_time list) are are.clock.begun are.clock.last are.clock.lap_counted
 
--- and at a later time
+-- the same at a later time
 pub lap-later : (totals : TotalsState) (list : List Recorded) (time : ℕ) → KeepsTime totals.clock → totals.clock.end ≤ time → AreTotals totals list
     → lap_by totals (clock_until totals.clock time) ≡ lap_at list time
 lap-later totals list time keeps later are =
@@ -98,7 +98,7 @@ lap-later totals list time keeps later are =
     ∙ ap (λ b. timer list clock.lap clock.end + cond b (time - clock.end) 0) are.clock.switch
     ∙ sym (timer-later list clock.lap clock.end time are.clock.in_order (omega (arith, keeps.lap_timed)) later))
 
--- the whole list
+-- the session of the whole list
 abbrev pub session_from : Sport → ℕ → Stretch → SessionSummary
 session_from sport laps stretch = record { sport = sport; laps = laps; stretch = stretch }
 

@@ -1,4 +1,4 @@
--- The timer over a list with one more at its end.
+-- The timer over a list with one more element at its end.
 use Rattle.std.proofs.Common.{◌≡◌, ℕ, zero, suc, ◌+◌, ◌-◌, ◌≤◌, ◌<◌, Bool, true, false, cond, List, [], ◌∷◌, ◌++◌, None, refl, ap, ◌∙◌, arith}
 use Rattle.std.specs.Prelude.{unwrap_or}
 use Rattle.std.specs.Option.{option_or}
@@ -8,7 +8,7 @@ use Rattle.fit_activity.specs.Rides.Timer.{switch_of, switch_by, is_running, run
 use Rattle.fit_activity.specs.Rides.RunningTotals.{AreBy}
 use Rattle.fit_activity.proofs.RunningTotals.Pushed.{last_given-push, All-weaken}
 
--- before its time, one more changes nothing
+-- before its time, one more element changes nothing
 running-before : (list : List Recorded) (r : Recorded) (second : ℕ) → second < time_of r → is_running (list ++ r ∷ []) second ≡ is_running list second
 running-before list r second before =
     let off : switch_by second r ≡ None = ap (λ b. cond b (switch_of r) None) (lt-leb (time_of r) second before) in
@@ -20,7 +20,7 @@ switches-by (r ∷ list) second by =
     let on : switch_by second r ≡ switch_of r = ap (λ b. cond b (switch_of r) None) (le-leb (time_of r) second by.0) in
     ap (λ o. option_or o (switch_by second r)) (switches-by list second by.1) ∙ ap (λ o. option_or (last_given switch_of list) o) on
 
--- not before any time of the list, the timer runs as behind it
+-- from the last time on, the timer runs if it runs after the whole list
 running-now : (list : List Recorded) (second : ℕ) → AreBy second list → is_running list second ≡ runs_now list
 running-now list second by = ap (λ o. unwrap_or o false) (switches-by list second by)
 
@@ -30,7 +30,7 @@ seconds-same p q from (suc n) same =
     let ih = seconds-same p q from n (λ k below. same k (omega arith)) in
     ap (λ (m : ℕ). m + cond (p (from + n)) 1 0) ih ∙ ap (λ b. seconds q from n + cond b 1 0) (same n (omega arith))
 
--- where the test always answers alike behind the first n seconds
+-- the seconds after the first n, if the test has the same value at all of them
 seconds-then : (p : ℕ → Bool) (from n k : ℕ) (b : Bool) → ((j : ℕ) → j < k → p (from + (n + j)) ≡ b)
     → seconds p from (n + k) ≡ seconds p from n + cond b k 0
 seconds-then p from n zero b alike =
@@ -48,7 +48,7 @@ seconds-then p from n (suc k) b alike =
 pub AreBy-later : (first second : ℕ) (list : List Recorded) → first ≤ second → AreBy first list → AreBy second list
 AreBy-later first second list le by = All-weaken (λ r. time_of r ≤ first) (λ r. time_of r ≤ second) list (λ r own. omega (arith, own, le)) by
 
--- the timer up to a later second: what it was up to one that ends the list, and the seconds since, if it runs
+-- the timer up to a later second: as long as up to the end of the list, plus the seconds since if it runs
 pub timer-later : (list : List Recorded) (from last to : ℕ) → AreBy last list → from ≤ last → last ≤ to
     → timer list from to ≡ timer list from last + cond (runs_now list) (to - last) 0
 timer-later list from last to by begun later =
@@ -57,7 +57,7 @@ timer-later list from last to by begun later =
     ∙ seconds-then (is_running list) from (last - from) (to - last) (runs_now list)
     (λ j below. running-now list (from + (last - from + j)) (AreBy-later last (from + (last - from + j)) list (omega arith) by))
 
--- and up to the time of one more
+-- the same up to the time of one more element
 pub timer-push : (list : List Recorded) (r : Recorded) (from last : ℕ) → AreBy last list → from ≤ last → last ≤ time_of r
     → timer (list ++ r ∷ []) from (time_of r) ≡ timer list from last + cond (runs_now list) (time_of r - last) 0
 timer-push list r from last by begun later =

@@ -1,4 +1,4 @@
--- What makes a file an activity, and what its first session says (FIT profile: activity files).
+-- When a file is an activity, and what its first session states (FIT profile: activity files).
 use Rattle.std.specs.Prelude.{ℕ, Bool, false, List, [], ◌∷◌, Option, Some, None, Result, Ok, Err, ◌==◌, not, count_by, find, option_and_then, if◌then◌else◌}
 use Rattle.fit_base.specs.declared.base.BaseType.{BaseType}
 use Rattle.fit_base.specs.declared.base.BaseType.TheVariants.{Enum, Uint32}
@@ -12,14 +12,14 @@ use Rattle.fit_activity.specs.declared.activity.ActivityFault.TheVariants.{NoFil
 abbrev pub has_global : ℕ → Message → Bool
 has_global global m = m.global == global
 
--- the value of a field of this base type and one value, that is not invalid
+-- the value of a field, if it has this base type and one value that is not invalid
 abbrev pub value_in : BaseType → MessageField → Option ℕ
 value_in base field =
     if field.base == (row_of base).code
     then option_and_then (λ value. if value == (row_of base).invalid then None else Some value) (one_of field.values)
     else None
 
--- the same of the first field of this number
+-- the same for the first field of this number
 abbrev pub value_of : BaseType → ℕ → Message → Option ℕ
 value_of base number m = option_and_then (value_in base) (find (λ field. field.number == number) m.fields)
 
@@ -28,7 +28,7 @@ abbrev pub begins_with_file_id : List Message → Bool
 begins_with_file_id [] = false
 begins_with_file_id (m ∷ messages) = has_global 0 m
 
--- its field type is that of an activity, 4
+-- the value is 4, the file type of an activity
 abbrev pub is_four : Option ℕ → Bool
 is_four (Some value) = value == 4
 is_four None = false
@@ -57,7 +57,7 @@ summary_of messages =
       distance_cm = session_value 9 messages;
     }
 
--- the first fault that the messages have, else the summary
+-- the first fault of the messages, else the summary
 abbrev pub activity_in : List Message → Result Summary ActivityFault
 activity_in messages =
     if not (begins_with_file_id messages) then Err NoFileId

@@ -1,10 +1,10 @@
--- What the finished file of a recording says of itself, by the list of its entries.
+-- The summary of a recording's finished file, by the list of its entries.
 use Rattle.std.specs.Prelude.{◌+◌, List, Some, count_by}
 use Rattle.fit_activity.specs.declared.activity.Summary.{Summary}
 use Rattle.fit_activity.specs.Rides.Recording.{Recorded, is_sample, is_lap, start_time}
 use Rattle.fit_activity.specs.Rides.Stretch.{session_of}
 
--- as many records as it has samples, a lap more than it has laps, and the session of the whole list
+-- a record for each sample, a lap for each lap and one more, and the session of the whole list
 abbrev pub summary_of_list : List Recorded → Summary
 summary_of_list list =
     let whole = (session_of list).stretch in

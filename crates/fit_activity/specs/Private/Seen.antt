@@ -1,4 +1,4 @@
--- What a pass over messages keeps of those that it has seen.
+-- What a pass over messages keeps of the messages that it has seen.
 use Rattle.std.specs.Prelude.{ℕ, ◌+◌, Bool, true, false, List, [], ◌∷◌, Result, Ok, Err, not, ◌==◌, ◌&&◌, if◌then◌else◌}
 use Rattle.fit_base.specs.declared.base.BaseType.TheVariants.{Enum, Uint32}
 use Rattle.fit_grammar.specs.Format.Message.{Message}
@@ -9,7 +9,7 @@ use Rattle.fit_activity.specs.declared.activity.seen.Seen.{Seen}
 use Rattle.fit_activity.specs.declared.activity.seen.SessionValues.{SessionValues}
 use Rattle.fit_activity.specs.Files.Activity.{has_global, is_four, value_of, begins_with_file_id, is_activity_file, count_of, session_value}
 
--- the values of a session that a summary has
+-- the values of a session that go into a summary
 abbrev pub session_values : Message → SessionValues
 session_values m =
     record {
@@ -23,7 +23,7 @@ abbrev pub is_some_message : List Message → Bool
 is_some_message [] = false
 is_some_message (m ∷ messages) = true
 
--- the values of the first session of messages
+-- the values of the first session among the messages
 abbrev pub first_session_values : List Message → SessionValues
 first_session_values messages =
     record {
@@ -47,7 +47,7 @@ seen_of messages =
       session = first_session_values messages;
     }
 
--- with a message more: what the first one says, what the first session says, and the counts
+-- the same with one more message: what the first message states, what the first session states, and the counts
 abbrev pub first_seen : Seen → Message → Seen
 first_seen seen m =
     record seen {
@@ -72,7 +72,7 @@ counted seen global =
 abbrev pub seen_with : Seen → Message → Seen
 seen_with seen m = counted (session_seen (first_seen seen m) m) m.global
 
--- the first fault, else the summary, by what is kept
+-- the first fault, else the summary, from what is kept
 abbrev pub judged : Seen → Result Summary ActivityFault
 judged seen =
     if not seen.file_id then Err NoFileId

@@ -1,4 +1,4 @@
--- Running totals with an entry more, on the numbers that they keep.
+-- Running totals with one more entry, by the numbers that they keep.
 use Rattle.std.specs.Prelude.{ℕ, ◌+◌, ◌-◌, ◌*◌, ◌/◌, ◌^◌, ◌<◌, Bool, true, false, Option, Some, None, unwrap_or, option_map, option_and_then, nat_lt, nat_le, not, ◌==◌, ◌&&◌, ◌||◌, if◌then◌else◌}
 use Rattle.std.specs.Option.{option_or}
 use Rattle.fit_activity.specs.declared.recording.start.Start.{Start}
@@ -19,7 +19,7 @@ use Rattle.fit_activity.specs.Rides.Recording.{Added, entry_time, is_lap}
 use Rattle.fit_activity.specs.Rides.Stretch.{greater_of, distance_of, told_speed, speed_over}
 use Rattle.fit_activity.specs.Rides.Refusal.{wants_timer, is_resume, is_less, invalid_field_of, invalid_field}
 
--- the clock of a start, at a later time, with the timer running or standing, and where a lap begins
+-- the clock of a start; at a later time; with the timer running or stopped; and at the beginning of a lap
 abbrev pub clock_at : ℕ → Clock
 clock_at time = record { start = time; end = time; lap = time; running = true; timer = 0; lap_timer = 0 }
 
@@ -40,7 +40,7 @@ clock_switched clock running = record clock { running = running }
 abbrev pub clock_lapped : Clock → Clock
 clock_lapped clock = record clock { lap = clock.end; lap_timer = 0 }
 
--- of no values, and with a value more, if there is one
+-- the tally of no values; with one more value, if there is one
 abbrev pub no_tally : Tally
 no_tally = record { total = 0; count = 0; greatest = None }
 
@@ -49,7 +49,7 @@ tally_with tally None = tally
 tally_with tally (Some value) =
     record { total = tally.total + value; count = tally.count + 1; greatest = greater_of tally.greatest (Some value) }
 
--- the value, where it is below 65536; where it is below 256
+-- the value, if it is below 65536; if it is below 256
 abbrev pub in_two_bytes : ℕ → Option ℕ
 in_two_bytes n = if nat_lt n 65536 then Some n else None
 
@@ -59,7 +59,7 @@ in_one_byte value = option_and_then (λ n. if nat_lt n 256 then Some n else None
 abbrev pub average_of : Tally → Option ℕ
 average_of tally = if tally.count == 0 then None else in_two_bytes (tally.total / tally.count)
 
--- the sums of no samples, and with a sample more
+-- the sums of no samples, and with one more sample
 abbrev pub sums_at : Option ℕ → Sums
 sums_at distance = record { known = unwrap_or distance 0; speed = None; heart_rate = no_tally; power = no_tally }
 
@@ -71,7 +71,7 @@ sums_with sums s =
       power = tally_with sums.power s.power;
     }
 
--- the sums can take a value more
+-- the sums can take one more value
 pub record HasRoom (tally : Tally) : Type 0 where
   pub total : tally.total < 2 ^ 60
   pub count : tally.count < 2 ^ 60
@@ -80,7 +80,7 @@ pub record SumsHaveRoom (sums : Sums) : Type 0 where
   pub heart_rate : HasRoom sums.heart_rate
   pub power : HasRoom sums.power
 
--- a stretch by its sums, its times, and the distance known at its end
+-- the stretch with these sums and times, and the distance known at its end
 abbrev pub stretch_by : Sums → ℕ → ℕ → ℕ → Option ℕ → Stretch
 stretch_by sums from to secs known =
     let distance = option_map (λ d. d - sums.known) known in
@@ -106,7 +106,7 @@ totals_from start clock whole lap =
 abbrev pub totals_at : Start → TotalsState
 totals_at start = totals_from start (clock_at start.time) (sums_at None) (sums_at None)
 
--- the open lap by the clock at its end, the session and the activity
+-- the open lap by the clock at its end, the session, and the activity
 abbrev pub lap_by : TotalsState → Clock → LapSummary
 lap_by totals clock = record { index = totals.laps; stretch = stretch_by totals.lap clock.lap clock.end clock.lap_timer totals.distance }
 
@@ -121,7 +121,7 @@ session_by totals =
 abbrev pub activity_by : TotalsState → ActivitySummary
 activity_by totals = record { time = totals.clock.end; timer = 1000 * totals.clock.timer }
 
--- the totals with an entry more: the clock goes to its time, and then
+-- the totals with one more entry: first the clock reaches its time
 abbrev pub totals_until : TotalsState → ℕ → TotalsState
 totals_until totals time = record totals { clock = clock_until totals.clock time }
 
@@ -142,7 +142,7 @@ totals_after totals (Pause time) = record totals { clock = clock_switched (clock
 totals_after totals (Resume time) = record totals { clock = clock_switched (clock_until totals.clock time) true }
 totals_after totals (Stop time) = record totals { clock = clock_switched (clock_until totals.clock time) false; stopped = true }
 
--- the refusal of an entry, by the numbers kept
+-- the refusal of an entry, by the numbers that are kept
 abbrev pub refusal_by_values : TotalsState → AnySample → Option Refusal
 refusal_by_values totals s =
     option_or (option_map Value (invalid_field_of s)) (if is_less s.distance totals.distance then Some Distance else None)

@@ -1,4 +1,5 @@
--- Why a start or an entry is refused: eight causes, each by the list before and the entry, and the first of them that holds.
+-- Why a start or an entry is refused. An entry has eight causes, each by the list before it and the entry;
+-- the first that applies is the refusal.
 use Rattle.std.specs.Prelude.{◌≡◌, ℕ, ◌+◌, Bool, true, false, List, [], ◌∷◌, ◌++◌, Option, Some, None, unwrap_or, option_map, nat_lt, nat_le, ◌==◌, ◌&&◌, ◌||◌, not, count_by, find, if◌then◌else◌}
 use Rattle.std.specs.Option.{option_or}
 use Rattle.fit_activity.specs.declared.recording.start.Start.{Start}
@@ -14,7 +15,7 @@ use Rattle.fit_activity.specs.declared.speaking.profile_field.ProfileField.{Prof
 use Rattle.fit_activity.specs.Messages.ProfileField.{present, is_invalid}
 use Rattle.fit_activity.specs.Messages.ProfileMessage.{sample_options}
 
--- a start's time is a calendar time, and not the invalid one
+-- a start's time must be a calendar time, and not the invalid one
 abbrev pub start_refusal : Start → Option Refusal
 start_refusal s = if nat_lt s.time 0x10000000 || (s.time == 0xFFFFFFFF) then Some Time else None
 
@@ -22,7 +23,7 @@ start_refusal s = if nat_lt s.time 0x10000000 || (s.time == 0xFFFFFFFF) then Som
 abbrev pub has_stopped : List Recorded → Bool
 has_stopped list = unwrap_or (last_given (λ r. Some (is_stop r)) list) false
 
--- the time is below the last one, or the invalid one
+-- the time is below the last one, or is the invalid one
 abbrev pub has_wrong_time : List Recorded → Entry → Bool
 has_wrong_time list e = nat_lt (entry_time e) (end_time list) || (entry_time e == 0xFFFFFFFF)
 
@@ -30,7 +31,7 @@ has_wrong_time list e = nat_lt (entry_time e) (end_time list) || (entry_time e =
 abbrev pub is_too_late : List Recorded → Entry → Bool
 is_too_late list e = nat_lt (start_time list + 4000000) (entry_time e)
 
--- a sample or a pause asks for a timer that runs, a resume for one that does not
+-- a sample or a pause requires a running timer, a resume a stopped one
 abbrev pub wants_timer : Entry → Bool
 wants_timer (Sample s) = true
 wants_timer (Pause time) = true
@@ -40,15 +41,15 @@ abbrev pub is_resume : Entry → Bool
 is_resume (Resume time) = true
 is_resume _ = false
 
--- a lap behind 999 laps
+-- a lap after 999 laps
 abbrev pub is_lap_too_many : List Recorded → Entry → Bool
 is_lap_too_many list e = is_lap (Added e) && nat_le 999 (count_by is_lap list)
 
--- the number of the first field that holds its type's invalid value, of those that are there
+-- the number of the first present field that holds its type's invalid value
 abbrev pub first_invalid_in : List (Option ProfileField) → Option ℕ
 first_invalid_in fields = option_map (λ field. field.number) (find is_invalid (present fields))
 
--- the least such number: the fields of a sample stand in the order of their numbers
+-- the least such number, because the fields of a sample are in the order of their numbers
 abbrev pub invalid_field_of : AnySample → Option ℕ
 invalid_field_of s = first_invalid_in (sample_options s)
 
@@ -64,7 +65,7 @@ is_less _ _ = false
 abbrev pub loses_distance : List Recorded → Entry → Bool
 loses_distance list e = is_less (distance_of (Added e)) (known_distance list)
 
--- the first cause that holds
+-- the first cause that applies
 abbrev pub refusal_of : List Recorded → Entry → Option Refusal
 refusal_of list e =
     if has_stopped list then Some Stopped
@@ -75,13 +76,13 @@ refusal_of list e =
     else if is_lap_too_many list e then Some TooManyLaps
     else option_or (option_map Value (invalid_field e)) (if loses_distance list e then Some Distance else None)
 
--- behind the list before, each entry has its numbers in range and no cause against what stands before it
+-- each entry has its numbers in range, and is not refused after the list and the entries before it
 abbrev pub AllowedAfter : List Recorded → List Recorded → Type 0
 AllowedAfter before [] = Unit {0}
 AllowedAfter before (Started s ∷ list) = ⊥
 AllowedAfter before (Added e ∷ list) = EntryFits e × (refusal_of before e ≡ None) × AllowedAfter (before ++ Added e ∷ []) list
 
--- a start that is not refused, and entries that are not refused behind it
+-- a start that is not refused, and then entries that are not refused
 abbrev pub Allowed : List Recorded → Type 0
 Allowed [] = ⊥
 Allowed (Added e ∷ list) = ⊥

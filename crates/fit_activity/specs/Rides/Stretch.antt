@@ -9,13 +9,13 @@ use Rattle.fit_activity.specs.declared.totals.summary.ActivitySummary.{ActivityS
 use Rattle.fit_activity.specs.Rides.Recording.{Recorded, Started, Added, time_of, is_lap, last_given, start_time, sport_of}
 use Rattle.fit_activity.specs.Rides.Timer.{timer}
 
--- the greater of two values, or the one that is there
+-- the greater of two values, or the only one
 abbrev pub greater_of : Option ℕ → Option ℕ → Option ℕ
 greater_of one None = one
 greater_of None (Some other) = Some other
 greater_of (Some one) (Some other) = Some (max one other)
 
--- a sample's distance, heart rate, speed and power, where it has them; its speed is the greater of the two that it may have
+-- a sample's distance, heart rate, speed and power, if it has them; its speed is the greater of the two that it may have
 abbrev pub distance_of : Recorded → Option ℕ
 distance_of (Added (Sample s)) = s.distance
 distance_of _ = None
@@ -36,11 +36,11 @@ power_of _ = None
 abbrev pub known_distance : List Recorded → Option ℕ
 known_distance list = last_given distance_of list
 
--- the time of the last one; 0 where there is none
+-- the time of the last element; 0 if there is none
 abbrev pub end_time : List Recorded → ℕ
 end_time list = unwrap_or (last_given (λ r. Some (time_of r)) list) 0
 
--- what begins a stretch, and its time
+-- the elements that begin a stretch, and their times
 abbrev pub begins_stretch : Recorded → Bool
 begins_stretch (Started s) = true
 begins_stretch (Added (Lap time)) = true
@@ -49,7 +49,7 @@ begins_stretch _ = false
 abbrev pub begin_of : Recorded → Option ℕ
 begin_of r = if begins_stretch r then Some (time_of r) else None
 
--- the open stretch: what stands behind the last start or lap, its time, and what stands before it
+-- the open stretch: the elements after the last start or lap, its time, and the elements before them
 abbrev pub open_stretch : List Recorded → List Recorded
 open_stretch list = after_last begins_stretch list
 
@@ -59,29 +59,29 @@ open_from list = unwrap_or (last_given begin_of list) 0
 abbrev pub before_open : List Recorded → List Recorded
 before_open list = before_last begins_stretch list
 
--- the floor of the sum over the count, where there are values
+-- the floor of the sum over the count, if there are values
 abbrev pub average : List ℕ → Option ℕ
 average values = if length values == 0 then None else Some (sum values / length values)
 
--- the greatest, where there are values
+-- the greatest value, if there are values
 abbrev pub greatest : List ℕ → Option ℕ
 greatest values = reduce max values
 
--- the last distance known at the end, less the last one known at the beginning; 0 where none was known there
+-- the last distance known at the end, less the last one known at the beginning, or less 0 if none was known there
 abbrev pub distance_between : Option ℕ → Option ℕ → Option ℕ
 distance_between at_begin at_end = option_map (λ d. d - unwrap_or at_begin 0) at_end
 
--- a speed as a summary tells it, in mm/s: none above 65534
+-- a speed in a summary, in mm/s: none above 65534
 abbrev pub told_speed : Option ℕ → Option ℕ
 told_speed None = None
 told_speed (Some speed) = if nat_lt 65534 speed then None else Some speed
 
--- mm/s from cm and seconds: none where there is no distance or no second
+-- mm/s from cm and seconds: none if there is no distance or the seconds are 0
 abbrev pub speed_over : Option ℕ → ℕ → Option ℕ
 speed_over None secs = None
 speed_over (Some distance) secs = if secs == 0 then None else told_speed (Some (10 * distance / secs))
 
--- the summary of the stretch of a list that goes from one second to another, by what stands before it and in it
+-- the summary of the stretch of a list from one second to another, by the elements before it and in it
 abbrev pub summary : List Recorded → List Recorded → List Recorded → ℕ → ℕ → Stretch
 summary list before inside from to =
     let distance = distance_between (known_distance before) (known_distance list) in
@@ -99,7 +99,7 @@ summary list before inside from to =
       greatest_power = greatest (filter_map power_of inside);
     }
 
--- the lap that ends the open stretch at this time; laps are numbered from 0
+-- the lap, if the open stretch ends at this time; laps are numbered from 0
 abbrev pub lap_at : List Recorded → ℕ → LapSummary
 lap_at list time =
     record {

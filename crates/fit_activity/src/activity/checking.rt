@@ -8,8 +8,7 @@ use crate::activity::seen::Seen;
 use crate::activity::{ActivityFault, Summary};
 use fit_grammar::File;
 
-/// What an activity file says of itself; else the first of the five faults that it has. One pass over its messages,
-/// which takes no memory.
+/// The summary of an activity file, or the first of the five faults that it has. It makes one pass over the messages, and takes no memory.
 pub fn check_activity(file: &File) -> Result<Summary, ActivityFault>
     ensures { result ≡ activity_in (messages_of file.now.items) }
 {

@@ -10,7 +10,7 @@ use crate::hearing::one_value::one_value;
 use fit_base::BaseType;
 use fit_grammar::{Field, Message};
 
-// The value of the first field of this number, where it is one valid uint32.
+// The value of the first field of this number, if it is one valid uint32.
 pub(crate) fn uint32_of(message: &Message, number: u8) -> Option<u32>
     ensures { result ≡ value_said types.Uint32 number message.now.message }
 {
@@ -20,7 +20,7 @@ pub(crate) fn uint32_of(message: &Message, number: u8) -> Option<u32>
     }
 }
 
-// The value of the first field of this number, where it has this type and is one valid value.
+// The value of the first field of this number, if it has this type and is one valid value.
 pub(crate) fn value_of(message: &Message, number: u8, base: BaseType) -> Option<u64>
     ensures value { result ≡ value_said base number message.now.message }
     ensures fits { IfSome result (λ n. n < 256 ^ (row_of base).size) }
@@ -33,7 +33,7 @@ pub(crate) fn value_of(message: &Message, number: u8, base: BaseType) -> Option<
     None
 }
 
-// The value of a field, where it has this type and is one valid value.
+// The value of a field, if it has this type and is one valid value.
 fn value_in(field: &Field, base: BaseType) -> Option<u64>
     ensures value { result ≡ value_of_field base (field_view field.now) }
     ensures fits { IfSome result (λ n. n < 256 ^ (row_of base).size) }

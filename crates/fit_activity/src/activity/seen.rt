@@ -1,4 +1,4 @@
-// What a pass over messages keeps of those that it has seen.
+// What a pass over messages keeps of the messages that it has seen.
 
 ghost use Rattle.std.specs.Prelude.{◌≡◌, ◌+◌, ◌<◌, ◌^◌, []};
 ghost use Rattle.fit_activity.specs.Private.Seen.{session_values as values_of_session};
@@ -8,10 +8,10 @@ use crate::activity::{ActivityFault, Summary};
 use fit_base::BaseType;
 use fit_grammar::Message;
 
-// What the messages so far say.
+// What the messages so far state.
 #[derive(Drop)]
 pub(crate) struct Seen {
-    // Whether there was a message, whether the first is a file_id, and whether one of an activity.
+    // Whether there was a message, whether the first one is a file_id, and whether it is that of an activity.
     begun: bool,
     file_id: bool,
     activity_file: bool,
@@ -23,7 +23,7 @@ pub(crate) struct Seen {
     session: SessionValues,
 }
 
-// The values of a session that a summary has.
+// The values of a session that go into a summary.
 #[derive(Clone, Copy)]
 pub(crate) struct SessionValues {
     start: Option<u32>,
@@ -56,7 +56,7 @@ impl Seen {
         }
     }
 
-    // A message more.
+    // Takes one more message.
     pub(crate) fn take(&mut self, message: &Message)
         requires records { self.old.records + 1 < 2 ^ 32 }
         requires laps { self.old.laps + 1 < 2 ^ 32 }
@@ -69,7 +69,7 @@ impl Seen {
         self.count(message.global());
     }
 
-    // What the first message says.
+    // Keeps what the first message states.
     fn see_first(&mut self, message: &Message)
         ensures { self.new ≡ first_seen self.old message.now.message }
     {
@@ -80,7 +80,7 @@ impl Seen {
         }
     }
 
-    // What the first session says.
+    // Keeps what the first session states.
     fn see_session(&mut self, message: &Message)
         ensures { self.new ≡ session_seen self.old message.now.message }
     {
@@ -89,7 +89,7 @@ impl Seen {
         }
     }
 
-    // A message more of this global number.
+    // Counts one more message of this global number.
     fn count(&mut self, global: u16)
         requires records { self.old.records + 1 < 2 ^ 32 }
         requires laps { self.old.laps + 1 < 2 ^ 32 }
@@ -106,7 +106,7 @@ impl Seen {
         }
     }
 
-    // The first fault of the messages, else what they say.
+    // The first fault of the messages, else their summary.
     pub(crate) fn verdict(&self) -> Result<Summary, ActivityFault>
         ensures { result ≡ judged self.now }
     {

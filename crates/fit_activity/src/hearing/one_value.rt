@@ -6,7 +6,7 @@ ghost use Rattle.fit_activity.specs.Messages.ProfileField.{one_of};
 
 use fit_base::FieldValue;
 
-// The number of the one value of a field, where it has one.
+// The value of a field as an unsigned number, if it has exactly one.
 pub(crate) fn one_value(value: &FieldValue) -> Option<u64>
     ensures value { result ≡ one_of (values_of value.now) }
     ensures fits { IfSome result (λ n. n < 256 ^ value_size value.now) }

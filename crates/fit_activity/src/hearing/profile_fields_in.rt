@@ -1,4 +1,4 @@
-// The fields of a message that has no others, where each has one value.
+// The fields of a message, if each has one value.
 
 ghost use Rattle.std.specs.Prelude.{◌≡◌, ◌≤◌, List, [], Some, IfSome, IsSomeAnd, length, map};
 ghost use Rattle.std.specs.List.{AllByRecursion};
@@ -11,8 +11,7 @@ use crate::speaking::profile_field::ProfileField;
 use arrayvec::ArrayVec;
 use fit_grammar::{Field, Fields, Message};
 
-// The fields, where each has one value of at most four bytes, they are as few as any entry's message has, and there are no
-// developer fields.
+// The fields, if there are at most 15 and no developer fields, and each has one value of at most four bytes. No entry's message has more.
 pub(crate) fn profile_fields_in(message: &Message) -> Option<ArrayVec<ProfileField, 15>>
     ensures some { IfSome result
         (λ profile_fields. map message_field profile_fields.items ≡ message.now.message.fields) }
@@ -28,7 +27,7 @@ pub(crate) fn profile_fields_in(message: &Message) -> Option<ArrayVec<ProfileFie
     all_of(message.fields())
 }
 
-// The fields, where each has one value of at most four bytes, and they are as few as any entry's message has.
+// The fields, if there are at most 15 and each has one value of at most four bytes.
 fn all_of(fields: Fields) -> Option<ArrayVec<ProfileField, 15>>
     ensures some { IfSome result (λ profile_fields. map message_field profile_fields.items ≡ fields.entry) }
     ensures fit { IfSome result (λ profile_fields. AllByRecursion ProfileFieldFits profile_fields.items) }
@@ -46,7 +45,7 @@ fn all_of(fields: Fields) -> Option<ArrayVec<ProfileField, 15>>
     Some(profile_fields)
 }
 
-// The one value of a field, where it has at most four bytes.
+// The field with its value, if it has exactly one, of at most four bytes.
 fn profile_field_of(field: &Field) -> Option<ProfileField>
     ensures some { IfSome result (λ profile_fields. message_field profile_fields ≡ field_view field.now) }
     ensures fits { IfSome result ProfileFieldFits }

@@ -1,11 +1,9 @@
-// Reading fields of one value in the order of a message's table, of which some may not be there.
+// Reads fields of one value each in the order of a message's table. Some may be missing.
 
-ghost use Rattle.std.specs.Prelude.{◌≡◌, ◌↔◌, [], IsTrue, IfSome, FitsSigned};
-ghost use Rattle.std.specs.Int.{w8, w32};
+ghost use Rattle.std.specs.Prelude.{◌≡◌, ◌↔◌, [], IsTrue, IfSome};
 ghost use Rattle.std.specs.List.{AllByRecursion};
-ghost use Rattle.fit_base.specs.declared.base.BaseType.TheVariants as types;
 ghost use Rattle.fit_activity.specs.Messages.ProfileField.{profile_field as told_field, ProfileFieldFits};
-ghost use Rattle.fit_activity.specs.Private.Reader.{Reads, ReadsSigned};
+ghost use Rattle.fit_activity.specs.Private.Reader.{Reads};
 
 use crate::speaking::profile_field::ProfileField;
 use fit_base::BaseType;
@@ -40,15 +38,15 @@ impl<'a> Reader<'a> {
         }
     }
 
-    // Whether none are left.
+    // Whether no fields are left.
     pub(crate) fn is_empty(&self) -> bool
         ensures { IsTrue result ↔ (self.now ≡ []) }
     {
         self.rest.is_empty()
     }
 
-    // Takes the next field, where it has this number and type.
-    fn next(&mut self, number: u8, base: BaseType) -> Option<u32>
+    // Takes the next field, if it has this number and type.
+    pub(crate) fn next(&mut self, number: u8, base: BaseType) -> Option<u32>
         ensures read { Reads number base self.old result self.new }
         ensures fits { IfSome result (λ value. ProfileFieldFits (told_field number base value)) }
     {
@@ -60,41 +58,5 @@ impl<'a> Reader<'a> {
         }
         self.rest = others;
         Some(first.value)
-    }
-
-    pub(crate) fn uint8(&mut self, number: u8) -> Option<u8>
-        ensures { Reads number types.Uint8 self.old result self.new }
-    {
-        Some(self.next(number, BaseType::Uint8)? as u8)
-    }
-
-    pub(crate) fn uint16(&mut self, number: u8) -> Option<u16>
-        ensures { Reads number types.Uint16 self.old result self.new }
-    {
-        Some(self.next(number, BaseType::Uint16)? as u16)
-    }
-
-    pub(crate) fn uint32(&mut self, number: u8) -> Option<u32>
-        ensures { Reads number types.Uint32 self.old result self.new }
-    {
-        self.next(number, BaseType::Uint32)
-    }
-
-    pub(crate) fn sint32(&mut self, number: u8) -> Option<i32>
-        ensures { ReadsSigned (λ z. FitsSigned w32 z) number types.Sint32 self.old result self.new }
-    {
-        match self.next(number, BaseType::Sint32) {
-            None => None,
-            Some(value) => Some(value.cast_signed()),
-        }
-    }
-
-    pub(crate) fn sint8(&mut self, number: u8) -> Option<i8>
-        ensures { ReadsSigned (λ z. FitsSigned w8 z) number types.Sint8 self.old result self.new }
-    {
-        match self.next(number, BaseType::Sint8) {
-            None => None,
-            Some(value) => Some((value as u8).cast_signed()),
-        }
     }
 }

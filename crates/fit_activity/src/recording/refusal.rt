@@ -2,31 +2,31 @@
 
 ghost use Rattle.std.specs.Prelude.{◌≡◌};
 
-/// Why a start or an entry is not recorded. Several may hold; the first in this order is answered.
+/// Why a start or an entry is not recorded. If several apply, the first in this order is returned.
 #[derive(Clone, Copy, Debug, PartialEq, Eq)]
 pub enum Refusal {
     /// The recording has ended.
     Stopped,
-    /// The time is below the last entry's, or is the invalid 0xFFFFFFFF; of a start, it is below 0x10000000 or invalid.
+    /// The time is below that of the last entry, or is the invalid 0xFFFFFFFF. For a start, it is below 0x10000000 or invalid.
     Time,
     /// The time is more than 4,000,000 seconds after the start.
     TooLong,
-    /// A sample or a pause while the timer stands.
+    /// A sample or a pause while the timer is stopped.
     TimerStopped,
     /// A resume while the timer runs.
     TimerRunning,
-    /// A lap behind 999 others.
+    /// A lap after 999 others.
     TooManyLaps,
-    /// A field of this number holds its invalid value; no field of a lower number does.
+    /// The field of this number holds its invalid value, and no field of a lower number does.
     Value(u8),
-    /// The distance is less than the last one known.
+    /// The distance is less than the last known one.
     Distance,
 }
 
 impl Refusal {
     ghost use Rattle.fit_activity.specs.Rides.Refusal.{refusal_code};
 
-    /// The number of the refusal.
+    /// The number of the refusal, 1 to 8. It does not follow the order above.
     pub fn code(&self) -> u8
         ensures { result ≡ refusal_code self.now }
     {

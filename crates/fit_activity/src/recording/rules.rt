@@ -1,22 +1,22 @@
-// The rules that do not hang on the totals: what a field may hold, and when a recording may start.
+// The rules that do not depend on the totals: what a field may hold, and when a recording may start.
 
 ghost use Rattle.std.specs.Prelude.{◌≡◌};
 ghost use Rattle.std.specs.Result.{result_err};
-ghost use Rattle.fit_activity.specs.Rides.Recording.{StartFits, SampleFits, EntryFits};
+ghost use Rattle.fit_activity.specs.Rides.Recording.{StartFits, EntryFits};
 ghost use Rattle.fit_activity.specs.Rides.Refusal.{start_refusal, first_invalid_in, invalid_field_of};
 
 use crate::recording::entry::{Entry, Sample};
 use crate::recording::refusal::Refusal;
 use crate::recording::start::Start;
-use crate::speaking::fields::sample_fields;
+use crate::recording::table::sample_fields;
 use crate::speaking::profile_field::ProfileField;
 
 impl Start {
-    /// Whether a recording may start so: the time has to be at least 0x10000000, the first calendar time, and not
-    /// 0xFFFFFFFF.
+    /// Whether a recording may have this start. Its time must be at least 0x10000000, the first calendar
+    /// time, and not 0xFFFFFFFF. Else it returns `Time`.
     pub fn check(&self) -> Result<(), Refusal>
         ensures first { result_err result ≡ start_refusal self.now }
-        // As its types say.
+        // This follows from its types.
         ensures fits { StartFits self.now }
     {
         let time = self.time;
@@ -51,24 +51,19 @@ fn first_invalid(fields: &[Option<ProfileField>]) -> Option<u8>
     None
 }
 
-// Each number of an entry is in its range, as its types say.
+// Returns the entry. Its types keep each number in its range.
 pub(crate) fn in_range(entry: &Entry) -> &Entry
     ensures same { result.now ≡ entry.now }
     ensures fits { EntryFits entry.now }
 {
     let _time = entry.time();
     if let Entry::Sample(sample) = entry {
-        sample_in_range(*sample);
+        let _values = sample.raw_values();
     }
     entry
 }
 
-// Each number of a sample is in its range, as its types say.
-fn sample_in_range(sample: Sample)
-    ensures { SampleFits sample }
-{}
-
-// The numbers of a start are in their range, as its types say.
+// Returns the start. Its types keep each number in its range.
 pub(crate) fn start_in_range(start: Start) -> Start
     ensures same { result ≡ start }
     ensures fits { StartFits start }

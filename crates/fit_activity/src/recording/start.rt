@@ -4,7 +4,7 @@ ghost use Rattle.std.specs.Prelude.{◌≡◌};
 
 use crate::recording::refusal::Refusal;
 
-/// What a ride is, by the numbers of the profile.
+/// The sport of a ride, by the numbers of the profile.
 #[derive(Clone, Copy, Debug, PartialEq, Eq)]
 pub enum Sport {
     Generic,
@@ -32,7 +32,7 @@ impl Sport {
 pub struct Start {
     /// Seconds since 1989-12-31T00:00:00Z.
     pub time: u32,
-    /// The device's serial number; 0 means that none is given.
+    /// The device's serial number; 0 if none is given.
     pub serial: u32,
     pub sport: Sport,
 }

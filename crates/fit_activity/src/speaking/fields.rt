@@ -1,34 +1,13 @@
-// The fields of each message that a recording says.
+// The fields of each message of a recording.
 
-ghost use Rattle.std.specs.Prelude.{◌≡◌, ◌∷◌, IfSome};
+ghost use Rattle.std.specs.Prelude.{◌≡◌, ◌∷◌};
 ghost use Rattle.std.specs.List.{AllByRecursion};
-ghost use Rattle.fit_activity.specs.Messages.ProfileField.{ProfileFieldFits, OptionFits};
-ghost use Rattle.fit_activity.specs.Messages.ProfileMessage.{sample_options, file_id_message, sport_message, event_message, lap_message, session_message, activity_message};
+ghost use Rattle.fit_activity.specs.Messages.ProfileField.{ProfileFieldFits};
+ghost use Rattle.fit_activity.specs.Messages.ProfileMessage.{file_id_message, sport_message, event_message, lap_message, session_message, activity_message};
 
-use crate::recording::entry::Sample;
 use crate::recording::start::Sport;
 use crate::speaking::profile_field::ProfileField;
 use crate::totals::summary::{ActivitySummary, LapSummary, SessionSummary};
-
-// The fields of a sample in the order of their numbers, each where it has one.
-pub(crate) fn sample_fields(sample: &Sample) -> [Option<ProfileField>; 11]
-    ensures fields { result ≡ sample_options sample.now }
-    ensures fit { AllByRecursion OptionFits result }
-{
-    [
-        ProfileField::maybe_sint32(0, sample.lat),
-        ProfileField::maybe_sint32(1, sample.long),
-        ProfileField::maybe_uint16(2, sample.altitude),
-        ProfileField::maybe_uint8(3, sample.heart_rate),
-        ProfileField::maybe_uint8(4, sample.cadence),
-        ProfileField::maybe_uint32(5, sample.distance),
-        ProfileField::maybe_uint16(6, sample.speed),
-        ProfileField::maybe_uint16(7, sample.power),
-        ProfileField::maybe_sint8(13, sample.temperature),
-        ProfileField::maybe_uint32(73, sample.enhanced_speed),
-        ProfileField::maybe_uint32(78, sample.enhanced_altitude),
-    ]
-}
 
 pub(crate) fn file_id_fields(time: u32, serial: u32) -> [ProfileField; 5]
     ensures fields { result ≡ (file_id_message time serial).fields }
@@ -53,7 +32,7 @@ pub(crate) fn sport_fields(sport: Sport) -> [ProfileField; 2]
     ]
 }
 
-// An event of the timer.
+// An event of the timer. The event type is start, stop or stop_all.
 pub(crate) fn event_fields(time: u32, event_type: u8) -> [ProfileField; 3]
     ensures fields { result ≡ (event_message time event_type).fields }
     ensures fit { AllByRecursion ProfileFieldFits result }

@@ -7,7 +7,7 @@ pub(crate) const STOP: u8 = 1;
 
 pub(crate) const STOP_ALL: u8 = 4;
 
-// What ends a lap: the athlete, the end of the session.
+// The triggers of a lap: manual, session_end.
 pub(crate) const MANUAL: u8 = 0;
 
 pub(crate) const SESSION_END: u8 = 7;

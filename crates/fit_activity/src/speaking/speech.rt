@@ -14,11 +14,11 @@ use fit_base::Arch;
 use fit_grammar::{Definition, FieldDefinition, write_native_definition};
 use std::marker::Model;
 
-// How many fields a message has at the most: those of a session.
+// The most fields of a message: those of a session.
 const MOST_FIELDS: usize = 19;
 
-/// A message as it is handed on: its definition, which has no developer fields, and the bytes of its content under it, low
-/// byte first. Contracts see the two.
+/// A message as it is handed on: its definition, which has no developer fields, and the bytes of its content
+/// under it, little-endian. Contracts see these two.
 #[derive(Debug, Drop)]
 pub struct SpokenMessage {
     local: u8,
@@ -40,8 +40,8 @@ impl Model for SpokenMessage {
     } };
 }
 
-/// The messages that one entry says, or a start, or the end of a recording: at most four. It is made once and used
-/// again, so that nothing of it is copied for an entry. Contracts see the list of its messages.
+/// The messages of one entry, of a start, or of the end of a recording: at most four. It is made once and
+/// reused, so nothing of it is copied for an entry. Contracts see the list of its messages.
 #[derive(Debug, Drop)]
 pub struct Speech {
     slots: [SpokenMessage; 4],
@@ -84,20 +84,21 @@ impl SpokenMessage {
         }
     }
 
-    /// The bytes of its content.
+    /// The bytes of its content, little-endian.
     pub fn content(&self) -> &[u8]
         ensures { result.now ≡ self.now.content }
     {
         &self.content
     }
 
-    /// Writes its definition at the front of `out`, as `write_definition` does.
+    /// Writes its definition at the front of `out`, which has room for it, and returns the number of bytes.
+    /// The local number must be below 16.
     pub fn write_definition(&self, out: &mut [u8]) -> usize
         requires local { self.now.definition.local < 16 }
         requires room { item_size (Defines self.now.definition) ≤ length out.old }
         ensures count { result ≡ item_size (Defines self.now.definition) }
         ensures written { out.new ≡ encoded_item (Defines self.now.definition) ++ drop result out.old }
-        // Each number fits into its bytes, as the types say.
+        // This follows from the types.
         ensures fits { DefinitionFits self.now.definition }
     {
         write_native_definition(self.local, Arch::Little, self.global, &self.fields, out)
@@ -123,7 +124,7 @@ impl SpokenMessage {
         self.content.clear();
     }
 
-    // A field more.
+    // Adds a field.
     fn put(&mut self, field: &ProfileField)
         requires fits { ProfileFieldFits field.now }
         requires few { length self.old.definition.fields.items < 19 }
@@ -143,7 +144,7 @@ impl SpokenMessage {
         self.content.try_extend_from_slice(&bytes[..size]).unwrap();
     }
 
-    // These fields more.
+    // Adds these fields.
     fn put_all(&mut self, fields: &[ProfileField])
         requires { CanPut self.old fields.now }
         ensures { HasPut self.old fields.now self.new }
@@ -155,7 +156,7 @@ impl SpokenMessage {
         }
     }
 
-    // Those of the fields that are there.
+    // Adds the fields that are present.
     fn put_present(&mut self, fields: &[Option<ProfileField>])
         requires { CanPut self.old (present fields.now) }
         ensures { HasPut self.old (present fields.now) self.new }
@@ -170,7 +171,7 @@ impl SpokenMessage {
         }
     }
 
-    // The message of these fields.
+    // The message with these fields.
     fn say(&mut self, local: u8, global: u16, fields: &[ProfileField])
         requires { CanSay fields.now }
         ensures { self.new ≡ spelled (record { local = local; global = global; fields = fields.now }) }
@@ -179,11 +180,11 @@ impl SpokenMessage {
         self.put_all(fields);
     }
 
-    // The record of this time and of the fields that are there.
+    // The record with this time and the fields that are present.
     fn say_record(&mut self, time: u32, fields: &[Option<ProfileField>])
         requires fit { AllByRecursion OptionFits fields.now }
-        requires few { length fields.now ≤ 11 }
-        requires short { content_length (present fields.now) ≤ 29 }
+        requires few { length fields.now ≤ 14 }
+        requires short { content_length (present fields.now) ≤ 37 }
         ensures { self.new
             ≡ spelled
             (record {
@@ -198,11 +199,11 @@ impl SpokenMessage {
         self.put_present(fields);
     }
 
-    // The same without its time.
+    // The record without its time.
     fn say_untimed(&mut self, fields: &[Option<ProfileField>])
         requires fit { AllByRecursion OptionFits fields.now }
-        requires few { length fields.now ≤ 11 }
-        requires short { content_length (present fields.now) ≤ 29 }
+        requires few { length fields.now ≤ 14 }
+        requires short { content_length (present fields.now) ≤ 37 }
         ensures { self.new
             ≡ spelled (record { local = 0; global = 20; fields = present fields.now }) }
     {
@@ -236,14 +237,14 @@ impl Speech {
         &self.slots[..self.count]
     }
 
-    // No messages any more.
+    // Removes all messages.
     pub(crate) fn clear(&mut self)
         ensures { self.new ≡ [] }
     {
         self.count = 0;
     }
 
-    // A message more.
+    // Adds a message.
     pub(crate) fn say(&mut self, local: u8, global: u16, fields: &[ProfileField])
         requires room { length self.old < 4 }
         requires fields { CanSay fields.now }
@@ -254,12 +255,12 @@ impl Speech {
         self.count += 1;
     }
 
-    // A record more.
+    // Adds a record.
     pub(crate) fn say_record(&mut self, time: u32, fields: &[Option<ProfileField>])
         requires room { length self.old < 4 }
         requires fit { AllByRecursion OptionFits fields.now }
-        requires few { length fields.now ≤ 11 }
-        requires short { content_length (present fields.now) ≤ 29 }
+        requires few { length fields.now ≤ 14 }
+        requires short { content_length (present fields.now) ≤ 37 }
         ensures said { self.new ≡ self.old
             ++ spelled
             (record {
@@ -268,19 +269,19 @@ impl Speech {
               fields = profile_field 253 types.Uint32 time
                   ∷ present fields.now;
             }) ∷ [] }
-        // As its type says.
+        // This follows from its type.
         ensures fits { ProfileFieldFits (profile_field 253 types.Uint32 time) }
     {
         self.slots[self.count].say_record(time, fields);
         self.count += 1;
     }
 
-    // A record more, without its time.
+    // Adds a record without its time.
     pub(crate) fn say_untimed(&mut self, fields: &[Option<ProfileField>])
         requires room { length self.old < 4 }
         requires fit { AllByRecursion OptionFits fields.now }
-        requires few { length fields.now ≤ 11 }
-        requires short { content_length (present fields.now) ≤ 29 }
+        requires few { length fields.now ≤ 14 }
+        requires short { content_length (present fields.now) ≤ 37 }
         ensures { self.new ≡ self.old
             ++ spelled (record { local = 0; global = 20; fields = present fields.now }) ∷ [] }
     {

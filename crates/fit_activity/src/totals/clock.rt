@@ -2,16 +2,16 @@
 
 ghost use Rattle.std.specs.Prelude.{◌≡◌, ◌+◌, ◌≤◌};
 
-// The times of a recording, and for how many seconds the timer ran, as far as it has come.
+// The times of a recording so far, and for how many seconds the timer ran.
 #[derive(Clone, Copy, Debug)]
 pub(crate) struct Clock {
     pub(crate) start: u32,
-    // The last time.
+    // The time of the last entry.
     pub(crate) end: u32,
     // The time at which the open lap begins.
     pub(crate) lap: u32,
     pub(crate) running: bool,
-    // The seconds of the timer, since the start and since the open lap began.
+    // For how many seconds the timer ran since the start, and since the open lap began.
     pub(crate) timer: u32,
     pub(crate) lap_timer: u32,
 }
@@ -20,7 +20,7 @@ impl Clock {
     ghost use Rattle.fit_activity.specs.Rides.RunningTotals.{KeepsTime};
     ghost use Rattle.fit_activity.specs.Private.Step.{clock_at, clock_until, clock_switched, clock_lapped};
 
-    // The clock of a start.
+    // The clock at a start.
     pub(crate) fn at(time: u32) -> Clock
         ensures { result ≡ clock_at time }
     {
@@ -53,7 +53,7 @@ impl Clock {
         }
     }
 
-    // The timer runs from now on, or it stands.
+    // The clock with the timer running or stopped from now on.
     pub(crate) fn switched(&self, running: bool) -> Clock
         requires { KeepsTime self.now }
         ensures clock { result ≡ clock_switched self.now running }
@@ -69,7 +69,7 @@ impl Clock {
         }
     }
 
-    // A lap begins now.
+    // The clock if a lap begins now.
     pub(crate) fn lapped(&self) -> Clock
         requires { KeepsTime self.now }
         ensures clock { result ≡ clock_lapped self.now }

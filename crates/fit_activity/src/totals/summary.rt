@@ -13,21 +13,21 @@ pub struct Stretch {
     pub elapsed: u32,
     /// How long the timer ran in it, in ms.
     pub timer: u32,
-    /// In cm. None where no distance is known at its end.
+    /// The distance covered in it, in cm. `None` if no distance is known at its end.
     pub distance: Option<u32>,
-    /// The distance over the time of the timer, in mm/s. None where there is no distance, where the timer did not run,
-    /// and above 65534.
+    /// The distance divided by the timer's time, in mm/s. `None` if there is no distance, if the timer did
+    /// not run, or if it is above 65534.
     pub average_speed: Option<u16>,
-    /// The greatest speed of its samples, in mm/s; that of a sample is the greater of its two. None where no sample has one,
-    /// and above 65534.
+    /// The greatest speed of its samples, in mm/s. The speed of a sample is the greater of its two. `None` if
+    /// no sample has one, or if it is above 65534.
     pub greatest_speed: Option<u16>,
-    /// In beats a minute.
+    /// In beats a minute, rounded down. `None` if no sample has a heart rate.
     pub average_heart_rate: Option<u8>,
-    /// In beats a minute.
+    /// In beats a minute. `None` if no sample has a heart rate.
     pub greatest_heart_rate: Option<u8>,
-    /// In W.
+    /// In W, rounded down. `None` if no sample has a power.
     pub average_power: Option<u16>,
-    /// In W.
+    /// In W. `None` if no sample has a power.
     pub greatest_power: Option<u16>,
 }
 
@@ -43,15 +43,15 @@ pub struct LapSummary {
 #[derive(Clone, Copy, Debug, PartialEq, Eq)]
 pub struct SessionSummary {
     pub sport: Sport,
-    /// How many laps it has, the last one included, which its end closes.
+    /// The number of laps. It includes the last one, which the end of the recording closes.
     pub laps: u16,
     pub stretch: Stretch,
 }
 
-/// The activity, which is one session.
+/// The activity. It has one session.
 #[derive(Clone, Copy, Debug, PartialEq, Eq)]
 pub struct ActivitySummary {
-    /// The last entry's time, in seconds since 1989-12-31T00:00:00Z.
+    /// The time of the last entry, in seconds since 1989-12-31T00:00:00Z.
     pub time: u32,
     /// How long the timer ran, in ms.
     pub timer: u32,

@@ -8,18 +8,18 @@ use crate::recording::entry::Sample;
 use crate::totals::summary::Stretch;
 use crate::totals::tally::Tally;
 
-// What the samples of a stretch add up to, and the last distance known where it begins (0 where none is), in cm.
+// What the samples of a stretch add up to, and the last distance known where it begins, in cm (0 if none is).
 #[derive(Clone, Copy, Debug)]
 pub(crate) struct Sums {
     known: u32,
-    // The greatest speed.
+    // The greatest speed, in mm/s.
     speed: Option<u32>,
     heart_rate: Tally,
     power: Tally,
 }
 
 impl Sums {
-    // No samples, where this distance is known.
+    // No samples. The distance is the last one known here.
     pub(crate) fn at(distance: Option<u32>) -> Sums
         ensures { result ≡ sums_at distance }
     {
@@ -31,7 +31,7 @@ impl Sums {
         }
     }
 
-    // A sample more.
+    // Adds a sample.
     pub(crate) fn add(&mut self, sample: &Sample)
         requires { SumsHaveRoom self.old }
         ensures { self.new ≡ sums_with self.old sample.now }
@@ -41,8 +41,8 @@ impl Sums {
         self.power = self.power.with(sample.power);
     }
 
-    // The summary of the stretch from one second to another, in which the timer ran for so many, where this distance
-    // is known at its end.
+    // The summary of the stretch from one second to another. The timer ran for so many seconds in it, and
+    // this distance is known at its end.
     pub(crate) fn stretch(&self, start: u32, end: u32, timer: u32, distance: Option<u32>) -> Stretch
         requires in_order { start ≤ end }
         requires short { end ≤ start + 4000000 }
@@ -66,14 +66,14 @@ impl Sums {
     }
 }
 
-// The greater of a sample's two speeds, or the one that it has.
+// The greater of a sample's two speeds, or the only one.
 fn speed_of(sample: &Sample) -> Option<u32>
     ensures { result ≡ greater_of sample.now.speed sample.now.enhanced_speed }
 {
     greater(sample.speed.map(u32::from), sample.enhanced_speed)
 }
 
-// The greater of two speeds, or the one that is there.
+// The greater of two speeds, or the only one.
 fn greater(one: Option<u32>, other: Option<u32>) -> Option<u32>
     ensures { result ≡ greater_of one other }
 {
@@ -84,7 +84,7 @@ fn greater(one: Option<u32>, other: Option<u32>) -> Option<u32>
     }
 }
 
-// A speed in mm/s, where it is not above 65534.
+// A speed in mm/s, if it is not above 65534.
 fn told(speed: Option<u64>) -> Option<u16>
     ensures { result ≡ told_speed speed }
 {
@@ -95,14 +95,14 @@ fn told(speed: Option<u64>) -> Option<u16>
     Some(speed as u16)
 }
 
-// The value, where it is that small.
+// The value, if it is below 256.
 fn in_one_byte(value: Option<u16>) -> Option<u8>
     ensures { result ≡ small value }
 {
     u8::try_from(value?).ok()
 }
 
-// In mm/s, of a distance in cm and seconds. None where there is no distance or no second.
+// In mm/s, from a distance in cm and seconds. `None` if there is no distance or the seconds are 0.
 fn average_speed(distance: Option<u32>, seconds: u32) -> Option<u16>
     ensures { result ≡ speed_over distance seconds }
 {

@@ -4,7 +4,6 @@ ghost use Rattle.std.specs.Prelude.{◌≡◌, ◌<◌, ◌+◌, ◌^◌, Some};
 ghost use Rattle.fit_activity.specs.Rides.Stretch.{greater_of};
 ghost use Rattle.fit_activity.specs.Private.Step.{tally_with, average_of};
 
-// The sum, the count and the greatest of some values.
 #[derive(Clone, Copy, Debug, PartialEq, Eq)]
 pub(crate) struct Tally {
     total: u64,
@@ -13,14 +12,14 @@ pub(crate) struct Tally {
 }
 
 impl Tally {
-    // Of no values.
+    // The tally of no values.
     pub(crate) const NONE: Tally = Tally {
         total: 0,
         count: 0,
         greatest: None,
     };
 
-    // With a value more, if there is one.
+    // The tally with one more value, if there is one.
     pub(crate) fn with(self, value: Option<u16>) -> Tally
         requires total { self.total < 2 ^ 60 }
         requires count { self.count < 2 ^ 60 }
@@ -36,7 +35,7 @@ impl Tally {
         }
     }
 
-    // The floor of the sum over the count, where there are values and it is that small.
+    // The average, rounded down, if there are values and it is below 65536.
     pub(crate) fn average(&self) -> Option<u16>
         ensures { result ≡ average_of self.now }
     {
@@ -47,7 +46,7 @@ impl Tally {
     }
 }
 
-// The greater of a value and those before it.
+// The greater of a value and the greatest one before it.
 fn greater(greatest: Option<u16>, value: u16) -> Option<u16>
     ensures { result ≡ greater_of greatest (Some value) }
 {

@@ -13,7 +13,7 @@ use std::alloc::Global;
 use std::process::Abort;
 use std::test::Fail;
 
-// The messages of a start at T and of its end, but for those of these global numbers.
+// The messages of a start at T and of its end, without those of these global numbers.
 fn short_ride(rt: &impl Abort, alloc: Global, left_out: &[u16]) -> Result<File, PutFault> {
     let mut file = empty_file(alloc);
     let mut speech = Speech::new();
@@ -65,7 +65,7 @@ fn tells_what_is_missing(rt: HostRuntime) -> Result<(), Fail> {
     Ok(())
 }
 
-// A file without messages, and one with a file_id alone.
+// A file without messages, and one with a file_id message alone.
 const EMPTY: [u8; 16] = [
     0x0E, 0x10, 0x64, 0x00, 0x00, 0x00, 0x00, 0x00, 0x2E, 0x46, 0x49, 0x54, 0x21, 0xEE, 0x00, 0x00,
 ];
@@ -91,7 +91,7 @@ fn judges_known_files(rt: HostRuntime) -> Result<(), Fail> {
     Ok(())
 }
 
-// A definition of fields, three bytes each.
+// A definition of these fields. Each triple is number, size and base type.
 fn definition(local: u8, arch: Arch, global: u16, fields: &[[u8; 3]]) -> Definition
     requires { length fields.now ≤ 255 }
     ensures { result.local ≡ local }
@@ -115,7 +115,7 @@ fn definition(local: u8, arch: Arch, global: u16, fields: &[[u8; 3]]) -> Definit
     }
 }
 
-// Adds messages of no field.
+// Adds messages without fields.
 fn put_empty(file: &mut File, globals: &[u16]) -> Result<(), PutFault> {
     for global in globals {
         file.define(&definition(0, Arch::Little, *global, &[]))?;
@@ -124,7 +124,7 @@ fn put_empty(file: &mut File, globals: &[u16]) -> Result<(), PutFault> {
     Ok(())
 }
 
-// What a file is whose file_id has these fields and content, with a lap, a session and an activity of no field.
+// The answer for a file whose file_id has these fields and this content, and whose lap, session and activity have no fields.
 fn with_file_id(
     alloc: Global,
     fields: &[[u8; 3]],
@@ -158,7 +158,7 @@ fn wants_the_type_of_an_activity(rt: HostRuntime) -> Result<(), PutFault> {
     equal(&rt, with_file_id(rt.alloc(), &[[0, 2, 0]], &[4, 4])?, wrong);
     equal(&rt, with_file_id(rt.alloc(), &[[1, 1, 0]], &[4])?, wrong);
     equal(&rt, with_file_id(rt.alloc(), &[], &[])?, wrong);
-    // The first of two fields counts.
+    // The first of two fields with one number counts.
     equal(
         &rt,
         with_file_id(rt.alloc(), &[[0, 1, 0], [0, 1, 0]], &[4, 5])?,
@@ -177,7 +177,7 @@ fn wants_the_type_of_an_activity(rt: HostRuntime) -> Result<(), PutFault> {
     Ok(())
 }
 
-// The first session counts, and in it the first field of a number.
+// The first session counts, and in it the first field with a number.
 #[test]
 fn reads_the_first_session(rt: HostRuntime) -> Result<(), PutFault> {
     let mut file = empty_file(rt.alloc());

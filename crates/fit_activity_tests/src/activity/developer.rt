@@ -1,4 +1,4 @@
-// Messages with developer fields: no recording has one, and in an activity they count as without.
+// Messages with developer fields. In a recording no message has one; in an activity they are ignored.
 
 ghost use Rattle.std.specs.Prelude.{◌≡◌, IfOk};
 
@@ -11,7 +11,7 @@ use fit_base::Arch;
 use fit_grammar::{Definition, DeveloperFieldDefinition, FieldDefinition, File};
 use std::test::Fail;
 
-// A definition of these fields and developer fields, three bytes each.
+// A definition of these fields and developer fields. Each triple is number, size, and base type or index.
 fn definition(global: u16, fields: &[[u8; 3]], developer: &[[u8; 3]]) -> Result<Definition, Fail>
     ensures { IfOk result (λ d. d.local ≡ 0) }
 {
@@ -40,7 +40,7 @@ fn definition(global: u16, fields: &[[u8; 3]], developer: &[[u8; 3]]) -> Result<
     })
 }
 
-// A start and a sample: global numbers, fields and contents.
+// The messages of a start and a sample: global number, fields and content of each.
 const RIDE: [(u16, &[[u8; 3]], &[u8]); 4] = [
     (
         0,
@@ -66,7 +66,7 @@ const RIDE: [(u16, &[[u8; 3]], &[u8]); 4] = [
     ),
 ];
 
-// How many of the messages say something of a ride.
+// How many of the messages encode a part of a ride.
 fn told(file: &File) -> usize {
     let mut told = 0usize;
     for message in file.messages() {
@@ -80,7 +80,7 @@ fn told(file: &File) -> usize {
     told
 }
 
-// The message of this place has one of this size, and the others none; behind the last place no message has one.
+// The message at this place has a developer field of this size, and the others have none. After the last place no message has one.
 #[test]
 fn no_message_of_a_ride_has_one(rt: HostRuntime) -> Result<(), Fail> {
     for size in [0, 1] {
@@ -106,7 +106,7 @@ fn no_message_of_a_ride_has_one(rt: HostRuntime) -> Result<(), Fail> {
     Ok(())
 }
 
-// Developer fields with the numbers of fields that are looked at.
+// Developer fields with the numbers of the fields that are read.
 #[test]
 fn an_activity_may_have_them(rt: HostRuntime) -> Result<(), Fail> {
     let mut file = empty_file(rt.alloc());

@@ -1,4 +1,4 @@
-// What rides say, as bytes and as messages that are read again.
+// Rides as bytes, and as messages that are read again.
 
 use super::{START, T, ride, say, say_compressed, with_distance, with_heart_rate};
 use crate::equality::equal;
@@ -20,7 +20,7 @@ pub(super) fn empty_file(alloc: Global) -> File {
     File::new(alloc, frame)
 }
 
-// Adds what was said, each message with its definition.
+// Adds the messages of this speech, each with its definition.
 pub(super) fn put(file: &mut File, speech: &Speech) -> Result<(), PutFault> {
     put_messages(file, speech.messages())
 }
@@ -196,7 +196,7 @@ fn says_a_lap_and_the_end(rt: HostRuntime) -> Result<(), PutFault> {
     Ok(())
 }
 
-// Behind a stop no event is said again.
+// After a stop no event is added.
 #[test]
 fn says_the_end_behind_a_stop(rt: HostRuntime) -> Result<(), AllocError> {
     let mut speech = Speech::new();
@@ -213,11 +213,10 @@ fn says_the_end_behind_a_stop(rt: HostRuntime) -> Result<(), AllocError> {
     Ok(())
 }
 
-// A sample with all fields: latitude and temperature below zero go by two's complement.
+// A sample with all fields. A latitude and a temperature below zero are in two's complement.
 #[test]
 fn says_a_sample(rt: HostRuntime) -> Result<(), AllocError> {
     let full = Sample {
-        time: T,
         lat: Some(-2),
         long: Some(1),
         altitude: Some(2600),
@@ -229,6 +228,7 @@ fn says_a_sample(rt: HostRuntime) -> Result<(), AllocError> {
         temperature: Some(-5),
         enhanced_speed: Some(70_000),
         enhanced_altitude: Some(0xFFFF_FFFE),
+        ..Sample::new(T)
     };
     let mut speech = Speech::new();
     say(&rt, &[], Entry::Sample(full), &mut speech);
@@ -267,7 +267,7 @@ fn says_a_sample(rt: HostRuntime) -> Result<(), AllocError> {
     Ok(())
 }
 
-// A sample with a field leaves out its time up to 31 seconds behind the last entry.
+// A sample with a field leaves out its time up to 31 seconds after the last entry.
 #[test]
 fn says_a_close_sample_without_its_time(rt: HostRuntime) -> Result<(), Fail> {
     let entries = [Entry::Lap(T + 1)];
@@ -293,7 +293,7 @@ fn says_a_close_sample_without_its_time(rt: HostRuntime) -> Result<(), Fail> {
     Ok(())
 }
 
-// The entry of the one message of a file.
+// The entry of the only message of a file.
 fn entry_in(file: &File) -> Option<Entry> {
     let mut entry = None;
     for message in file.messages() {
@@ -305,7 +305,6 @@ fn entry_in(file: &File) -> Option<Entry> {
 #[test]
 fn reads_entries_again(rt: HostRuntime) -> Result<(), PutFault> {
     let full = Sample {
-        time: T + 1,
         lat: Some(i32::MIN),
         long: Some(-1),
         altitude: Some(1),
@@ -317,6 +316,7 @@ fn reads_entries_again(rt: HostRuntime) -> Result<(), PutFault> {
         temperature: Some(-128),
         enhanced_speed: Some(0),
         enhanced_altitude: Some(0xFFFF_FFFE),
+        ..Sample::new(T + 1)
     };
     let some = Sample {
         lat: Some(7),
@@ -351,7 +351,7 @@ fn reads_entries_again(rt: HostRuntime) -> Result<(), PutFault> {
     Ok(())
 }
 
-// A message's file_id, sport and entry.
+// What a message encodes: a file_id, a sport or an entry.
 fn heard(message: &Message) -> (Option<(u32, u32)>, Option<Sport>, Option<Entry>) {
     (file_id_of(message), sport_of(message), entry_of(message))
 }
@@ -380,7 +380,7 @@ fn reads_starts_and_ends_again(rt: HostRuntime) -> Result<(), PutFault> {
         equal(&rt, wanted.next(), None);
     }
 
-    // The lap that closes a recording, the session and the activity are no entry's.
+    // The lap that closes a recording, the session and the activity encode no entry.
     let mut speech = Speech::new();
     speak_closing(&ride(&rt, &[Entry::Stop(T)]), &mut speech);
     let mut file = empty_file(rt.alloc());

@@ -1,4 +1,4 @@
-// Why entries are refused: each cause alone, at its bound, and beside each later one.
+// Why entries are refused: each cause alone, at its bound, and together with each later one.
 
 use super::{T, refusal, ride, with_distance, with_heart_rate};
 use crate::equality::equal;
@@ -85,7 +85,7 @@ fn refuses_times(rt: HostRuntime) {
     );
 }
 
-// A sample that holds every invalid value from one field on.
+// One field after another, from the last to the first, gets its invalid value. The refusal names the first invalid one.
 #[test]
 fn refuses_invalid_values(rt: HostRuntime) {
     let mut worst = Sample {
@@ -159,11 +159,10 @@ fn refuses_invalid_values(rt: HostRuntime) {
     );
 }
 
-// The greatest values that are valid, and the least.
+// The greatest and the least valid values.
 #[test]
 fn allows_extreme_values(rt: HostRuntime) {
     let most = Sample {
-        time: T,
         lat: Some(0x7FFF_FFFE),
         long: Some(0x7FFF_FFFE),
         altitude: Some(0xFFFE),
@@ -175,6 +174,7 @@ fn allows_extreme_values(rt: HostRuntime) {
         temperature: Some(0x7E),
         enhanced_speed: Some(0xFFFF_FFFE),
         enhanced_altitude: Some(0xFFFF_FFFE),
+        ..Sample::new(T)
     };
     equal(&rt, refusal(&rt, &[], Entry::Sample(most)), None);
     let least = Sample {
@@ -192,7 +192,7 @@ fn allows_extreme_values(rt: HostRuntime) {
     );
 }
 
-// Each cause beside each later one that can hold with it.
+// Each cause together with each later one that can hold with it.
 #[test]
 fn answers_the_first_cause(rt: HostRuntime) {
     let bad = Sample {

@@ -1,4 +1,4 @@
-// What messages tell when they are heard again, and which are refused.
+// What messages encode when they are heard again, and which ones are refused.
 
 ghost use Rattle.std.specs.Prelude.{◌<◌, ◌^◌, length};
 
@@ -13,7 +13,7 @@ use fit_grammar::{File, PutFault};
 use std::alloc::Global;
 use std::process::Abort;
 
-// What the messages of a file tell, if they are all heard.
+// What the messages of a file encode, if all of them are accepted.
 pub(super) fn replay(file: &File) -> Option<Replay> {
     // Every file has fewer than 2^32 messages.
     let _frame = file.frame();
@@ -27,7 +27,7 @@ pub(super) fn replay(file: &File) -> Option<Replay> {
     Some(replay)
 }
 
-// The messages of a ride.
+// The messages of a ride, without those that close it.
 fn told(rt: &impl Abort, alloc: Global, entries: &[Entry]) -> Result<File, PutFault>
     requires { length entries.now < 2 ^ 31 }
 {
@@ -70,7 +70,7 @@ fn hears_a_ride_again(rt: HostRuntime) -> Result<(), PutFault> {
     Ok(())
 }
 
-// What the messages of a ride tell of its finished file, and what is said of that file.
+// The summary from a ride's messages before it is finished, and the summary of its finished file.
 fn summaries(
     rt: &impl Abort,
     alloc: Global,
@@ -115,7 +115,7 @@ fn sums_up_the_finished_file(rt: HostRuntime) -> Result<(), PutFault> {
         (Some(whole), Some(whole)),
     );
 
-    // Cut off while it stands in its second lap, and behind its start.
+    // Cut off in its second lap, and right after its start.
     let paused = Summary {
         records: 2,
         laps: 2,
@@ -145,7 +145,7 @@ fn sums_up_the_finished_file(rt: HostRuntime) -> Result<(), PutFault> {
     Ok(())
 }
 
-// Adds a message with another byte at a place of its content.
+// Adds a message with the byte at this place of its content changed.
 fn put_changed(
     alloc: Global,
     file: &mut File,
@@ -174,7 +174,7 @@ fn refuses_a_lap_with_another_value(rt: HostRuntime) -> Result<(), PutFault> {
         for message in speech.messages() {
             put_changed(rt.alloc(), &mut file, message, place)?;
         }
-        // Behind the content's last byte nothing is changed.
+        // After the last byte of the content nothing is changed.
         assert_eq!(rt; replay(&file).is_some(), place == 35, "at {place}");
     }
     Ok(())
@@ -188,7 +188,7 @@ fn hears_starts(rt: HostRuntime) -> Result<(), PutFault> {
     put_messages(&mut file, &speech.messages()[1..])?;
     assert!(rt; replay(&file).is_none());
 
-    // Two messages are no recording yet.
+    // Two messages are not a recording yet.
     let mut file = empty_file(rt.alloc());
     put_messages(&mut file, &speech.messages()[..2])?;
     let begun = replay(&file).expect(&rt, "each message is heard");
@@ -203,7 +203,7 @@ fn hears_starts(rt: HostRuntime) -> Result<(), PutFault> {
     put_messages(&mut file, &speech.messages()[2..])?;
     assert!(rt; replay(&file).is_none());
 
-    // No calendar time.
+    // The start is before the first calendar time.
     let early = Start {
         time: 0x0FFF_FFFF,
         ..START
@@ -233,7 +233,7 @@ fn refuses_what_may_not_come_next(rt: HostRuntime) -> Result<(), PutFault> {
     put(&mut file, &speech)?;
     assert!(rt; replay(&file).is_none());
 
-    // The lap that closes a recording is no entry's.
+    // The lap that closes a recording encodes no entry.
     let stopped = [Entry::Stop(T + 1)];
     let mut file = told(&rt, rt.alloc(), &stopped)?;
     speak_closing(&ride(&rt, &stopped), &mut speech);

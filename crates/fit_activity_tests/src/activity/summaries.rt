@@ -7,7 +7,7 @@ use crate::equality::equal;
 use fit_activity::{Entry, Refusal, Sample, Sport, Start};
 use std::process::Abort;
 
-// The elapsed time and the timer's time of the open lap of a ride, in ms.
+// The elapsed time and the timer time of the open lap of a ride, in ms.
 fn lap_times(rt: &impl Abort, entries: &[Entry]) -> (u32, u32)
     requires { length entries.now < 2 ^ 31 }
 {
@@ -36,7 +36,7 @@ fn times_laps(rt: HostRuntime) {
     equal(&rt, lap_times(&rt, &paused), (3000, 1000));
 }
 
-// The distance and the average speed of a ride.
+// The distance (cm) and the average speed (mm/s) of a ride.
 fn distance_and_speed(rt: &impl Abort, entries: &[Entry]) -> (Option<u32>, Option<u16>)
     requires { length entries.now < 2 ^ 31 }
 {
@@ -94,12 +94,12 @@ fn measures_a_lap_from_its_beginning(rt: HostRuntime) {
     equal(&rt, totals.lap().stretch.distance, Some(300));
     equal(&rt, totals.session().stretch.distance, Some(800));
 
-    // None in this lap, which begins where 800 is known.
+    // No distance in this lap: 800 is already known at its start.
     let none = ride(&rt, &[with_distance(T + 10, 800), Entry::Lap(T + 10)]);
     equal(&rt, none.lap().stretch.distance, Some(0));
 }
 
-// A ride of two laps, with 100 and 101 in the first, and 110 in the second.
+// A ride of two laps, with heart rates 100 and 101 in the first and 110 in the second.
 #[test]
 fn adds_up_a_ride_of_two_laps(rt: HostRuntime) {
     let entries = [
@@ -145,7 +145,7 @@ fn adds_up_a_ride_of_two_laps(rt: HostRuntime) {
     equal(&rt, totals.end_time(), T + 2);
 }
 
-// The greatest speed and power, which stand in the first lap; floors of averages.
+// The greatest speed and power are in the first lap. Averages are rounded down.
 #[test]
 fn adds_up_speed_and_power(rt: HostRuntime) {
     let entries = [
@@ -194,7 +194,7 @@ fn with_speeds(time: u32, speed: Option<u16>, enhanced_speed: Option<u32>) -> En
     })
 }
 
-// The greatest speed of the open lap of a ride, and that of the whole ride.
+// The greatest speed of the open lap of a ride, and of the whole ride.
 fn greatest_speeds(rt: &impl Abort, entries: &[Entry]) -> (Option<u16>, Option<u16>)
     requires { length entries.now < 2 ^ 31 }
 {
@@ -203,7 +203,7 @@ fn greatest_speeds(rt: &impl Abort, entries: &[Entry]) -> (Option<u16>, Option<u
     (lap, totals.session().stretch.greatest_speed)
 }
 
-// The speed of a sample is the greater of its two, or the one that it has.
+// The speed of a sample is the greater of its two speeds, or the only one that it has.
 #[test]
 fn takes_the_greater_speed(rt: HostRuntime) {
     let first = with_speeds(T, Some(5000), Some(6000));
@@ -238,7 +238,7 @@ fn takes_the_greater_speed(rt: HostRuntime) {
     );
 }
 
-// A lap whose greatest speed is more than its field holds, and one where it is not.
+// A lap whose greatest speed is more than its field holds, and a lap whose greatest speed is not.
 #[test]
 fn tells_no_greatest_speed_above_65534(rt: HostRuntime) {
     let entries = [
@@ -249,14 +249,14 @@ fn tells_no_greatest_speed_above_65534(rt: HostRuntime) {
     equal(&rt, greatest_speeds(&rt, &entries[..1]), (None, None));
     equal(&rt, greatest_speeds(&rt, &entries), (Some(65_533), None));
 
-    // What is above it is none, however far; the greatest value that is none itself is refused.
+    // A speed above that gives none, however great. Only 0xFFFF_FFFF, the invalid value, is refused.
     let far = [with_speeds(T, Some(1), Some(0xFFFF_FFFE))];
     equal(&rt, greatest_speeds(&rt, &far), (None, None));
     let wrapped = [with_speeds(T, None, Some(65_536 + 7))];
     equal(&rt, greatest_speeds(&rt, &wrapped), (None, None));
 }
 
-// Averages are of distances, whatever the speeds are.
+// Average speeds are computed from distances, whatever the speeds are.
 #[test]
 fn averages_no_speeds(rt: HostRuntime) {
     let sample = |time, distance, enhanced_speed| {

@@ -1,6 +1,6 @@
 // The tables of the checksum.
 
-// `AFTER[k][byte]` is the register after this byte and k zero bytes, from a register of zero.
+// `AFTER[k][byte]` is the register after this byte and k zero bytes, starting at zero.
 pub(crate) static AFTER: [[u16; 256]; 16] = [
     [
         0x0000, 0xC0C1, 0xC181, 0x0140, 0xC301, 0x03C0, 0x0280, 0xC241, 0xC601, 0x06C0, 0x0780,

@@ -1,4 +1,4 @@
-// Power cuts behind calls that failed, and a file that is long. The expected contents are worked out by hand.
+// Power cuts after calls that failed. The expected contents are worked out by hand.
 
 use super::{cut, cycle, expect, sync, write};
 use fit_disk::{DeviceError, Memory, Which};
@@ -24,7 +24,7 @@ fn a_cut_of_the_journal_that_failed_was_begun(rt: HostRuntime) -> Result<(), Dev
     disk.fail_at(1);
     assert!(rt; cut(&mut disk, Which::Journal, 2).is_err());
     expect(&rt, &disk, Which::Journal, b"abcdef");
-    // The data file takes four choice bytes, and the journal comes back with 2 to 6 bytes.
+    // The data file takes four choice bytes. The journal comes back with 2 to 6 bytes.
     cycle(&rt, &mut disk, &[0, 0, 0, 0, 1, 0, 0, 0, 0xA5], 9);
     expect(&rt, &disk, Which::Journal, b"ab\xA5");
     Ok(())

@@ -4,7 +4,7 @@ use super::{cut, cycle, expect, sync, write};
 use fit_disk::{DeviceError, Memory, Which};
 use std::alloc::Global;
 
-// The data file is synced as `abcd`, and its two middle bytes are written over.
+// The data file is synced as `abcd`, then its two middle bytes are overwritten.
 fn torn(alloc: Global) -> Result<Memory, DeviceError> {
     let mut disk = Memory::new(alloc);
     write(&mut disk, Which::Data, 0, b"abcd")?;
@@ -42,7 +42,7 @@ fn the_length_of_what_was_not_synced_varies(rt: HostRuntime) -> Result<(), Devic
         (&[2, 0, 0, 0, 0xA5, 0xFF], 6, b"\xA5\xFF"),
         (&[7, 0, 0, 0, 1, 2, 3], 7, b"\x01\x02\x03"),
         (&[0, 1, 0, 0, 9], 5, b""),
-        // A5A5A5A5 leaves 1 by 4, and FFFFFFFF leaves 3.
+        // A5A5A5A5 leaves a length of 1, its remainder modulo 4; FFFFFFFF leaves 3.
         (&[0xA5; 20], 9, b"\xA5"),
         (&[0xFF; 20], 11, b"\xFF\xFF\xFF"),
     ];
@@ -65,7 +65,7 @@ fn a_cut_may_come_back_as_any_bytes(rt: HostRuntime) -> Result<(), DeviceError> 
             b"ab\xA5\xA5\xA5\xA5",
         ),
         (&[1, 0, 0, 0, 0xFF], 5, b"ab\xFF"),
-        // FFFFFFFF leaves 0 by 5.
+        // FFFFFFFF leaves 0 more bytes, its remainder modulo 5.
         (&[0xFF; 9], 8, b"ab"),
     ];
     for (choices, taken, content) in cases {
@@ -103,7 +103,7 @@ fn what_was_left_is_kept_from_then_on(rt: HostRuntime) -> Result<(), DeviceError
     cycle(&rt, &mut disk, &[7, 7, 7], 3);
     cycle(&rt, &mut disk, &[7; 10], 8);
     expect(&rt, &disk, Which::Data, b"a\xA5\xFFd");
-    // It is what the next write is torn against.
+    // The next write is torn against that content.
     write(&mut disk, Which::Data, 3, b"Z")?;
     cycle(&rt, &mut disk, &[0, 0, 0, 0, 0x5A], 5);
     expect(&rt, &disk, Which::Data, b"a\xA5\xFF\x5A");

@@ -1,4 +1,4 @@
-// A data file of 16 MiB: memory is there for it, and a power cut behind its writes comes to its end.
+// A data file of 16 MiB: memory suffices for it, and a power cut after its writes completes.
 
 use super::{cycle, size, sync, write};
 use crate::equality::equal;
@@ -26,7 +26,7 @@ fn a_file_of_16_mib_is_filled_and_comes_back(rt: HostRuntime) -> Result<(), Devi
     fill(&mut disk, 0x6B)?;
     assert!(rt; !disk.spent());
     equal(&rt, disk.content(Which::Data).last().copied(), Some(0x6B));
-    // Each place of it varies.
+    // Each of its bytes varies.
     cycle(&rt, &mut disk, &[0, 0, 0, 0, 0xA5], 5);
     let content = disk.content(Which::Data);
     assert_eq!(rt; content.len(), 16_777_216);

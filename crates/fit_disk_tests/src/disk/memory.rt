@@ -1,4 +1,4 @@
-// Reads, writes, cuts and syncs of the memory disk, and its scheduled and refused calls.
+// Reads, writes, cuts and syncs of the memory disk, and calls that fail by schedule or for want of memory.
 
 use super::{cut, cycle, expect, read, size, sync, write};
 use crate::equality::equal;
@@ -19,7 +19,7 @@ fn reads_what_was_written(rt: HostRuntime) -> Result<(), DeviceError> {
     for at in [4, 5, u64::MAX] {
         equal(&rt, read(&mut disk, Which::Data, at, &mut buffer)?, 0);
     }
-    // Over the end, at the end, and nothing.
+    // A write over the end, one at the end, and one of no bytes.
     write(&mut disk, Which::Data, 2, b"XYZ")?;
     write(&mut disk, Which::Data, 5, b"!")?;
     write(&mut disk, Which::Data, 6, b"")?;
@@ -108,7 +108,7 @@ fn a_schedule_replaces_the_pending_one(rt: HostRuntime) {
     for expected in [false, false, true, false] {
         equal(&rt, sync(&mut disk, Which::Data).is_err(), expected);
     }
-    // One call of both kinds: it fails once, and the power is gone and stays so.
+    // Both kinds at one call: it fails, and from then on the power is gone.
     disk.fail_at(2);
     disk.cut_at(2);
     for expected in [false, true, true] {
@@ -116,7 +116,7 @@ fn a_schedule_replaces_the_pending_one(rt: HostRuntime) {
     }
     disk.cut_at(9);
     assert!(rt; sync(&mut disk, Which::Data).is_err());
-    // A power cut drops both kinds.
+    // A power cut drops both schedules.
     cycle(&rt, &mut disk, &[], 0);
     disk.fail_at(1);
     disk.cut_at(2);
@@ -126,8 +126,8 @@ fn a_schedule_replaces_the_pending_one(rt: HostRuntime) {
     }
 }
 
-// Run with each allocation refused in turn: the call that wanted it fails and changes nothing, the disk says
-// that it is spent, and the same call made again goes on.
+// Run with each allocation refused in turn: the call that needed it fails and changes nothing, the disk reports
+// that it is spent, and the same call succeeds when it is made again.
 #[test]
 fn a_refused_growth_changes_nothing(rt: HostRuntime) -> Result<(), DeviceError> {
     let mut disk = Memory::new(rt.alloc());

@@ -1,4 +1,4 @@
-// Which places vary where written ranges touch, overlap or leave a gap. The expected contents are worked out by hand.
+// Which bytes vary if written ranges touch, overlap or leave a gap. The expected contents are worked out by hand.
 
 use super::{cycle, expect, sync, write};
 use fit_disk::{DeviceError, Memory, Which};
@@ -7,16 +7,16 @@ use fit_disk::{DeviceError, Memory, Which};
 fn just_the_written_places_vary(rt: HostRuntime) -> Result<(), DeviceError> {
     // Two writes, each a place and a number of bytes, over ten bytes.
     let cases: [([(usize, usize); 2], &[u8]); 8] = [
-        // Behind each other, and with a gap of one byte.
+        // One right after the other, and with a gap of one byte.
         ([(2, 2), (4, 2)], b"ab\xA5\xA5\xA5\xA5ghij"),
         ([(2, 2), (5, 2)], b"ab\xA5\xA5e\xA5\xA5hij"),
-        // The second begins within the first, and ends within it, at its end and past it.
+        // The second begins within the first. It ends within it, at its end, and past it.
         ([(2, 4), (3, 2)], b"ab\xA5\xA5\xA5\xA5ghij"),
         ([(2, 4), (4, 2)], b"ab\xA5\xA5\xA5\xA5ghij"),
         ([(2, 4), (5, 3)], b"ab\xA5\xA5\xA5\xA5\xA5\xA5ij"),
         // The second begins before the first.
         ([(4, 2), (2, 2)], b"ab\xA5\xA5\xA5\xA5ghij"),
-        // One of no bytes.
+        // One of them has no bytes.
         ([(2, 0), (2, 2)], b"ab\xA5\xA5efghij"),
         ([(2, 2), (4, 0)], b"ab\xA5\xA5efghij"),
     ];

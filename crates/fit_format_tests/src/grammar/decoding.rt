@@ -1,4 +1,4 @@
-// Files and bytes that are no files, with faults and places from outside. Checksums were computed by another
+// Files, and bytes that are not files, with faults and places from outside. The checksums were computed by another
 // program, bit by bit.
 
 use crate::equality::equal;
@@ -7,7 +7,7 @@ use fit_grammar::{FaultKind, FileFault, decode_file, encode_file};
 use std::alloc::{AllocError, Global};
 use std::test::*;
 
-// A header of 12 bytes and protocol 2.0.
+// A header of 12 bytes, with protocol 2.0.
 const SHORT_HEADER: [u8; 14] = [
     0x0C, 0x20, 0x64, 0x00, 0x00, 0x00, 0x00, 0x00, 0x2E, 0x46, 0x49, 0x54, 0x27, 0x29,
 ];
@@ -19,7 +19,7 @@ pub(crate) const REDEFINED: [u8; 39] = [
     0x02, 0x84, 0x00, 0xC8, 0x00, 0x83, 0x25,
 ];
 
-// Compressed timestamps.
+// Messages with compressed timestamps.
 pub(crate) const COMPRESSED: [u8; 53] = [
     0x0E, 0x10, 0x64, 0x00, 0x25, 0x00, 0x00, 0x00, 0x2E, 0x46, 0x49, 0x54, 0xE3, 0xC9, 0x46, 0x00,
     0x00, 0x15, 0x00, 0x03, 0xFD, 0x04, 0x86, 0x00, 0x01, 0x00, 0x01, 0x01, 0x00, 0x06, 0x00, 0xCA,
@@ -173,8 +173,8 @@ fn refused_at_the_first_byte_that_shows_it(rt: HostRuntime) -> Result<(), AllocE
     Ok(())
 }
 
-// Run with each allocation refused in turn: the item that wanted it is told, and a header that promises much
-// takes none.
+// Run with each allocation refused in turn: the fault is at the item that needed it. A header that promises much
+// makes no request.
 #[test]
 fn tells_which_item_wants_memory(rt: HostRuntime) {
     for _ in 0..8 {

@@ -1,21 +1,21 @@
-// Developer fields, as they are read, written and refused. The bytes are from outside, put together by hand.
+// Developer fields as they are read, written and refused. The bytes are from outside, put together by hand.
 
 mod reading;
 mod refusing;
 mod writing;
 
-// A definition of a record with a field of one byte and a developer field of two, of number 0 and index 0.
+// A definition of a record with a field of one byte and a developer field of two bytes, with number 0 and index 0.
 const RECORD: [u8; 13] = [0x60, 0, 0, 20, 0, 1, 3, 1, 2, 1, 0, 2, 0];
 
-// It and a message of it, in a file.
+// A file with that definition and a message of it.
 const FILE: [u8; 33] = [
     0x0E, 0x10, 0x64, 0x00, 0x11, 0x00, 0x00, 0x00, 0x2E, 0x46, 0x49, 0x54, 0xE1, 0x2E, 0x60, 0x00,
     0x00, 0x14, 0x00, 0x01, 0x03, 0x01, 0x02, 0x01, 0x00, 0x02, 0x00, 0x00, 0x64, 0xAB, 0xCD, 0xB9,
     0x7C,
 ];
 
-// The same with a compressed timestamp; then its local number without developer fields, and another one with two of them and
-// nothing else, of which one has no byte.
+// The same with a compressed timestamp; then its local number without developer fields; then another local number with two
+// developer fields and nothing else, one of them of no bytes.
 pub(crate) const ANEW: [u8; 59] = [
     0x0E, 0x10, 0x64, 0x00, 0x2B, 0x00, 0x00, 0x00, 0x2E, 0x46, 0x49, 0x54, 0x62, 0x45, 0x60, 0x00,
     0x00, 0x14, 0x00, 0x01, 0x03, 0x01, 0x02, 0x01, 0x00, 0x02, 0x00, 0x9F, 0x64, 0xAB, 0xCD, 0x40,

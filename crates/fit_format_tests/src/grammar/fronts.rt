@@ -1,4 +1,4 @@
-// The longest row of whole items that bytes begin with. The lengths are from outside: by hand, item by item.
+// The longest prefix of whole items. The lengths are from outside, counted by hand, item by item.
 
 use crate::equality::equal;
 use crate::grammar::decoding::{COMPRESSED, REDEFINED};
@@ -8,7 +8,7 @@ use fit_grammar::longest_front;
 use std::alloc::AllocError;
 use std::test::Fail;
 
-// Each beginning of some records has as its front the last of these places that it reaches.
+// The longest prefix of whole items in the first `size` bytes: the last of these places that is in them.
 fn front_at(places: &[usize], size: usize) -> usize {
     let mut front = 0;
     for place in places {
@@ -40,8 +40,8 @@ fn a_front_ends_behind_a_whole_item(rt: HostRuntime) -> Result<(), Fail> {
     Ok(())
 }
 
-// Behind the definition of local number 0 stand data of another one, one of it that is cut short, definitions that are cut
-// short in their fields and in their developer fields, and nothing.
+// After the definition of local number 0 and a message comes data of another local number, data of its own that is cut short, a
+// definition that is cut short in its header, its fields or its developer fields, or nothing.
 #[test]
 fn a_front_ends_before_what_is_no_item(rt: HostRuntime) -> Result<(), AllocError> {
     let definition = [0x40, 0, 0, 20, 0, 1, 3, 1, 2];
@@ -57,13 +57,13 @@ fn a_front_ends_before_what_is_no_item(rt: HostRuntime) -> Result<(), AllocError
         bytes.extend_from_slice(&[0x00, 0x64])?;
         bytes.extend_from_slice(behind)?;
         equal(&rt, longest_front(bytes.as_slice()), 11);
-        // Without the definition not even the first is one.
+        // Without the definition the message is no item either.
         equal(&rt, longest_front(&bytes.as_slice()[9..]), 0);
     }
     Ok(())
 }
 
-// A million messages without content, and as many definitions.
+// A million messages without content, then as many definitions.
 #[test]
 fn a_front_of_many_items(rt: HostRuntime) -> Result<(), AllocError> {
     let definition = [0x40, 0, 0, 0xE8, 3, 0];

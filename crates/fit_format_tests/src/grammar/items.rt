@@ -1,4 +1,4 @@
-// Items as other writers write them, at every window.
+// Items as other writers write them, in every window.
 use crate::equality::equal;
 use arrayvec::ArrayVec;
 use fit_base::Arch;
@@ -6,14 +6,14 @@ use fit_grammar::*;
 use std::process::Abort;
 use std::test::*;
 
-// Asserts that each shorter window only begins the item.
+// Asserts that each shorter window needs more bytes.
 pub(super) fn assert_begun(rt: &impl Abort, bytes: &[u8], table: &Table) {
     for count in 0..bytes.len() {
         assert!(rt; matches!(next_item(&bytes[..count], table), Step::NeedMore));
     }
 }
 
-// Takes the definition that the bytes are.
+// Reads these bytes as a definition and puts it in force.
 pub(super) fn define(rt: &impl Abort, bytes: &[u8], table: &mut Table) {
     assert_begun(rt, bytes, table);
     match next_item(bytes, table) {
@@ -29,7 +29,7 @@ pub(super) fn define(rt: &impl Abort, bytes: &[u8], table: &mut Table) {
     }
 }
 
-// The message that the bytes are.
+// Reads these bytes as a message.
 pub(super) fn read_message<'a>(
     rt: &impl Abort,
     bytes: &'a [u8],
@@ -179,7 +179,7 @@ fn largest_definition(rt: &impl Abort) -> Definition {
     }
 }
 
-// Asserts that the bytes are the largest data message, and that one byte less only begins it.
+// Asserts that the bytes are the largest data message, and that one byte less needs more.
 fn assert_largest(rt: &impl Abort, bytes: &[u8], table: &Table) {
     assert_eq!(rt; bytes.len(), 130_051);
     equal(rt, least_length(&bytes[..1], table).ok(), Some(130_051));
@@ -231,7 +231,7 @@ fn each_first_byte(rt: HostRuntime) {
         match next_item(&window, &table) {
             Step::Item(item, used) => {
                 assert!(rt; 0x40 <= first && first < 0x80);
-                // One that announces developer fields has their number.
+                // A definition that announces developer fields has a byte for their number.
                 let wanted = if first & 0x20 == 0 { 6 } else { 7 };
                 equal(&rt, used, wanted);
                 match item {

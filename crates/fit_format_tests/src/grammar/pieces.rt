@@ -1,8 +1,9 @@
-// Files that come in pieces.
+// Files that are read in pieces.
 
 ghost use Rattle.std.specs.Prelude.{◌<◌};
 
 use crate::equality::equal;
+use crate::grammar::decoding::behind_header;
 use crate::grammar::sizes::{content_of, definition_of};
 use crate::known_files::{FILE_ID, empty_file};
 use fit_grammar::{Decoder, EncodeFault, FaultKind, File, FileFault, encode_file};
@@ -10,7 +11,7 @@ use std::alloc::{AllocError, Global};
 use std::process::Abort;
 use std::test::*;
 
-// Reads bytes in pieces of this size.
+// Reads the bytes in pieces of this size.
 fn read_in_pieces(alloc: Global, bytes: &[u8], size: usize) -> Result<File, FileFault>
     requires { 0 < size }
 {
@@ -21,7 +22,7 @@ fn read_in_pieces(alloc: Global, bytes: &[u8], size: usize) -> Result<File, File
     decoder.finish()
 }
 
-// Reads bytes in two pieces, with an empty one between them.
+// Reads the bytes in two pieces, with an empty piece between them.
 pub(super) fn read_in_two(alloc: Global, front: &[u8], back: &[u8]) -> Result<File, FileFault> {
     let mut decoder = Decoder::new(alloc);
     decoder.feed(front)?;
@@ -43,7 +44,7 @@ fn fault_of<T: Drop>(answer: Result<T, FileFault>) -> Option<(FaultKind, usize)>
     }
 }
 
-// Each later call answers this fault.
+// Asserts that each later call returns this fault.
 fn check_for_good(rt: &impl Abort, mut decoder: Decoder, fault: Option<(FaultKind, usize)>) {
     for piece in [[].as_slice(), &[0x40], &FILE_ID] {
         equal(rt, fault_of(decoder.feed(piece)), fault);
@@ -82,7 +83,7 @@ fn an_unfinished_file_is_cut_short(rt: HostRuntime) {
     }
 }
 
-// The byte that shows a fault is refused, and no byte before it.
+// Asserts that the last byte shows the fault, and no byte before it does.
 pub(super) fn check_shown_by_last(
     rt: &impl Abort,
     alloc: Global,
@@ -112,13 +113,21 @@ fn refused_with_the_byte_that_shows_it(rt: HostRuntime) -> Result<(), AllocError
     longer.push(0)?;
     check_shown_by_last(&rt, alloc, &longer, (FaultKind::TrailingBytes, 34));
     check_shown_by_last(&rt, alloc, &[0x0D], (FaultKind::HeaderSize, 0));
+    check_shown_by_last(&rt, alloc, &[0x0E, 0x30], (FaultKind::Protocol, 1));
+    let mut unmarked = FILE_ID.to_vec(alloc)?;
+    unmarked.truncate(12);
+    unmarked[9] = 0x00;
+    check_shown_by_last(&rt, alloc, &unmarked, (FaultKind::Magic, 8));
+    let undefined = behind_header(alloc, 1, &[0x05])?;
+    let fault = (FaultKind::UndefinedLocal(5), 12);
+    check_shown_by_last(&rt, alloc, &undefined, fault);
     bytes.truncate(14);
     bytes[12] = 0xA0;
     check_shown_by_last(&rt, alloc, &bytes, (FaultKind::HeaderCrc, 12));
     Ok(())
 }
 
-// A definition of 255 fields and 255 developer fields and a message of 130,050 bytes, cut at one place, or at a hundred and more.
+// A definition of 255 fields and 255 developer fields and a message with 130,050 bytes of content, cut at one place or into pieces.
 #[test]
 fn long_items_are_cut(rt: HostRuntime) -> Result<(), Fail> {
     let alloc = rt.alloc();
@@ -135,15 +144,14 @@ fn long_items_are_cut(rt: HostRuntime) -> Result<(), Fail> {
         let read = read_in_two(alloc, front, back)?;
         assert_eq!(rt; written(alloc, &read)?.as_slice(), bytes, "{cut}");
     }
-    for size in [19, 650, 4_096, 65_536] {
+    for size in [1, 19, 650, 4_096, 65_536] {
         let read = read_in_pieces(alloc, bytes, size)?;
         assert_eq!(rt; written(alloc, &read)?.as_slice(), bytes, "{size}");
     }
     Ok(())
 }
 
-// Run with each allocation refused in turn: the item that wanted it is told, for good, and a header that promises much
-// takes none.
+// Run with each allocation refused in turn: the fault is at the item that needed it, and stays.
 #[test]
 fn tells_for_good_which_item_wants_memory(rt: HostRuntime) {
     for _ in 0..8 {
@@ -159,10 +167,17 @@ fn tells_for_good_which_item_wants_memory(rt: HostRuntime) {
             assert!(rt; place == 14 || place == 26, "{place}");
             check_for_good(&rt, decoder, fault);
         }
-        let promised = [
-            0x0C, 0x10, 0x64, 0x00, 0xFF, 0xFF, 0xFF, 0xFF, 0x2E, 0x46, 0x49, 0x54,
-        ];
-        let answer = read_in_pieces(rt.alloc(), &promised, 5);
+    }
+}
+
+// Run with the first request for memory refused: no request is made.
+#[test]
+fn a_promise_of_much_takes_no_memory(rt: HostRuntime) {
+    let promised = [
+        0x0C, 0x10, 0x64, 0x00, 0xFF, 0xFF, 0xFF, 0xFF, 0x2E, 0x46, 0x49, 0x54,
+    ];
+    for size in 1..13 {
+        let answer = read_in_pieces(rt.alloc(), &promised, size);
         equal(&rt, fault_of(answer), Some((FaultKind::Truncated, 12)));
     }
 }

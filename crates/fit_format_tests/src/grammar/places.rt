@@ -1,4 +1,4 @@
-// Items where they stand in a file.
+// The items of a file, in their order.
 
 use super::decoding::{COMPRESSED, REDEFINED};
 use crate::known_files::{FILE_ID, empty_file};
@@ -6,7 +6,7 @@ use fit_grammar::{FileItem, decode_file};
 use std::alloc::Global;
 use std::test::*;
 
-// What an item says: its local number, the global number of its definition, the offset and the time of a compressed
+// What an item encodes: its local number, the global number of its definition, the offset and the time of a compressed
 // timestamp, and its content.
 #[derive(Clone, Copy, Debug, PartialEq, Eq)]
 struct Told<'a> {

@@ -1,17 +1,17 @@
-// Files with each compressed timestamp written out, with bytes from outside.
+// Files with each compressed timestamp written out. The bytes are from outside.
 
 use crate::equality::equal;
 use crate::slow::Slow;
 use arrayvec::ArrayVec;
-use fit_base::Arch;
+use fit_base::{Arch, Crc};
 use fit_grammar::{
-    Definition, DeveloperFieldDefinition, FieldDefinition, File, Frame, PlainFault, PlainFaultKind,
-    decode_file, encode_file, plain_file,
+    Decoder, Definition, DeveloperFieldDefinition, FieldDefinition, File, Frame, Places,
+    PlainFault, PlainFaultKind, encode_file, plain_file,
 };
 use std::alloc::Global;
 use std::test::Fail;
 
-// A full time, and two messages of another local number with offsets 30 and 1.
+// A message with a full time, and two messages of another local number with offsets 30 and 1.
 const COMPRESSED: [u8; 47] = [
     0x0E, 0x10, 0x64, 0x00, 0x1F, 0x00, 0x00, 0x00, 0x2E, 0x46, 0x49, 0x54, 0x60, 0xA2, 0x40, 0x00,
     0x00, 0x14, 0x00, 0x02, 0xFD, 0x04, 0x86, 0x03, 0x01, 0x02, 0x00, 0x00, 0xCA, 0x9A, 0x3B, 0x64,
@@ -27,14 +27,14 @@ const PLAIN: [u8; 67] = [
     0x66, 0xC8, 0x43,
 ];
 
-// An offset of 3 over a developer field, and a definition that announces none.
+// An offset of 3 in a message with a developer field, and a definition that announces developer fields and has none.
 const DEVELOPER: [u8; 41] = [
     0x0E, 0x10, 0x64, 0x00, 0x19, 0x00, 0x00, 0x00, 0x2E, 0x46, 0x49, 0x54, 0xE0, 0x88, 0x60, 0x00,
     0x00, 0x14, 0x00, 0x01, 0x03, 0x01, 0x02, 0x01, 0x00, 0x02, 0x00, 0x83, 0x64, 0xAB, 0xCD, 0x61,
     0x00, 0x00, 0x14, 0x00, 0x00, 0x00, 0x01, 0x46, 0x84,
 ];
 
-// The same messages, the first under a definition that has field 253, and nothing announced for the second.
+// The same messages. The first is under a definition that has field 253; the second definition announces nothing.
 const PLAIN_DEVELOPER: [u8; 60] = [
     0x0E, 0x10, 0x64, 0x00, 0x2C, 0x00, 0x00, 0x00, 0x2E, 0x46, 0x49, 0x54, 0x23, 0xA3, 0x60, 0x00,
     0x00, 0x14, 0x00, 0x01, 0x03, 0x01, 0x02, 0x01, 0x00, 0x02, 0x00, 0x60, 0x00, 0x00, 0x14, 0x00,
@@ -42,10 +42,12 @@ const PLAIN_DEVELOPER: [u8; 60] = [
     0x64, 0xAB, 0xCD, 0x41, 0x00, 0x00, 0x14, 0x00, 0x00, 0x01, 0x36, 0x8F,
 ];
 
-// What is made of these bytes; a fault of theirs is none of what is made.
+// The plain form of these bytes, or its fault; None if the bytes are not a file.
 fn made(alloc: Global, bytes: &[u8]) -> Option<Result<File, PlainFault>> {
-    match decode_file(alloc, bytes) {
-        Ok(file) => Some(plain_file(alloc, &file)),
+    let mut decoder = Decoder::new(alloc);
+    let _ = decoder.feed(bytes);
+    match decoder.finish_with_places() {
+        Ok((file, places)) => Some(plain_file(alloc, &file, &places)),
         Err(_) => None,
     }
 }
@@ -69,7 +71,7 @@ fn times_are_written_out(rt: HostRuntime) -> Result<(), Fail> {
     Ok(())
 }
 
-// A file with a compressed timestamp under a definition of so many fields without content, and 255 developer fields.
+// A file with a compressed timestamp under a definition of so many fields of no bytes and 255 developer fields.
 fn widest(alloc: Global, count: usize) -> File {
     let mut file = File::new(
         alloc,
@@ -107,20 +109,47 @@ fn widest(alloc: Global, count: usize) -> File {
     file
 }
 
-// 14 bytes of a header, and 7 and 3 times 510 of a definition.
+// The place is after a header of 14 bytes and a definition of 7 + 3 * 510 bytes.
 #[test]
 fn a_definition_of_256_fields_is_too_long(rt: HostRuntime) {
-    assert!(rt; plain_file(rt.alloc(), &widest(rt.alloc(), 254)).is_ok());
+    let here = Places::new(rt.alloc());
+    assert!(rt; plain_file(rt.alloc(), &widest(rt.alloc(), 254), &here).is_ok());
     let fault = PlainFault {
         kind: PlainFaultKind::TooLong,
         place: 1551,
     };
-    let refused = plain_file(rt.alloc(), &widest(rt.alloc(), 255));
+    let refused = plain_file(rt.alloc(), &widest(rt.alloc(), 255), &here);
     equal(&rt, refused.err(), Some(fault));
     equal(&rt, fault.code(), 1);
 }
 
-// Run with each allocation refused in turn: the item that wanted it is told.
+// A definition that announces developer fields and has none, in 7 bytes from 14 on; then one of 255 fields in 771 bytes; and at 792 a
+// message with an offset. The first is written in 6 bytes, so the message would be written at 791.
+#[test]
+fn the_place_is_that_of_the_bytes_that_were_read(rt: HostRuntime) -> Result<(), Fail> {
+    let mut bytes = Vec::new(rt.alloc());
+    bytes.extend_from_slice(&[0x0E, 0x10, 0x64, 0x00, 0x0B, 0x03, 0x00, 0x00])?;
+    bytes.extend_from_slice(b".FIT\x00\x00")?;
+    bytes.extend_from_slice(&[0x61, 0x00, 0x00, 0x14, 0x00, 0x00, 0x00])?;
+    bytes.extend_from_slice(&[0x42, 0x00, 0x00, 0x14, 0x00, 0xFF])?;
+    for _ in 0..255 {
+        bytes.extend_from_slice(&[0x03, 0x00, 0x02])?;
+    }
+    bytes.push(0xC5)?;
+    let checksum = Crc::of(&bytes).to_le_bytes();
+    bytes.extend_from_slice(&checksum)?;
+    let fault = PlainFault {
+        kind: PlainFaultKind::TooLong,
+        place: 792,
+    };
+    match made(rt.alloc(), &bytes) {
+        Some(Err(told)) => equal(&rt, told, fault),
+        _ => panic!(rt; "it is a file, and too long"),
+    }
+    Ok(())
+}
+
+// Run with each allocation refused in turn: the fault is at the item that needed it.
 #[test]
 fn tells_where_memory_is_refused(rt: HostRuntime) {
     for _ in 0..8 {

@@ -14,7 +14,7 @@ use std::alloc::{AllocError, Global};
 use std::process::Abort;
 use std::test::Fail;
 
-// A definition of a record whose content has this size: fields of 255 bytes, and one of the rest. Behind 255 fields they are
+// A definition of a record whose content has this size, in fields of 255 bytes and one for the rest. After 255 fields come
 // developer fields.
 pub(crate) fn definition_of(rt: &impl Abort, size: usize) -> Definition
     ensures { result.local ≡ 3 }
@@ -51,7 +51,7 @@ pub(crate) fn definition_of(rt: &impl Abort, size: usize) -> Definition
     }
 }
 
-// Bytes of which no two near ones repeat the two before them.
+// Bytes in which no two in a row repeat the two before them.
 pub(crate) fn content_of(alloc: Global, size: usize) -> Result<Vec<u8>, AllocError> {
     let mut content = Vec::new(alloc);
     for at in 0..size {
@@ -60,7 +60,7 @@ pub(crate) fn content_of(alloc: Global, size: usize) -> Result<Vec<u8>, AllocErr
     Ok(content)
 }
 
-// The content of all messages of the file, one after another.
+// The content of all messages of the file, joined.
 fn shown(alloc: Global, file: &File) -> Result<Vec<u8>, AllocError> {
     let mut content = Vec::new(alloc);
     for message in file.messages() {
@@ -77,7 +77,7 @@ fn shown(alloc: Global, file: &File) -> Result<Vec<u8>, AllocError> {
 #[test]
 fn long_content(rt: HostRuntime) -> Result<(), Fail> {
     let alloc = rt.alloc();
-    // How many bytes their definition has: six, three for each field, and with developer fields one more.
+    // The size of their definition: six bytes, three for each field, and one more if there are developer fields.
     for (size, spelled) in [
         (255, 9),
         (256, 12),
@@ -117,7 +117,7 @@ fn long_content(rt: HostRuntime) -> Result<(), Fail> {
     Ok(())
 }
 
-// A file of more than a million messages, to a writer that takes three bytes a call.
+// A file of more than a million messages, written to a writer that takes three bytes a call.
 #[test]
 fn many_messages(rt: HostRuntime) -> Result<(), Fail> {
     let alloc = rt.alloc();
@@ -139,7 +139,7 @@ fn many_messages(rt: HostRuntime) -> Result<(), Fail> {
     Ok(())
 }
 
-// Some bytes a call, to the end.
+// A writer that takes some bytes a call receives them all.
 #[test]
 fn puts_all_to_a_slow_writer(rt: HostRuntime) -> Result<(), Fail> {
     let text = content_of(rt.alloc(), 100_000)?;

@@ -1,4 +1,4 @@
-// Developer fields as they are shown, each in the text of a whole file.
+// How developer fields are shown, each in the text of a whole file.
 
 ghost use Rattle.std.specs.Prelude.{◌≡◌, IfOk};
 
@@ -10,7 +10,7 @@ use fit_grammar::{Definition, DeveloperFieldDefinition, FieldDefinition};
 use fit_text::show;
 use std::test::Fail;
 
-// A definition of a record with these fields and developer fields, three bytes each.
+// A definition of a record with these fields and developer fields. Each triple is number, size, and base type or index.
 fn definition(
     local: u8,
     fields: &[(u8, u8, u8)],
@@ -43,7 +43,7 @@ fn definition(
     })
 }
 
-// No date, whatever the number is, and the bytes as they stand.
+// A developer field is never shown as a date, whatever its number is. Its bytes are shown as they are.
 #[test]
 fn shows_them_behind_the_fields(rt: HostRuntime) -> Result<(), Fail> {
     let mut file = empty_file(rt.alloc());
@@ -75,7 +75,7 @@ fn shows_them_behind_the_fields(rt: HostRuntime) -> Result<(), Fail> {
     Ok(())
 }
 
-// Each local number has as many of them as it says, of one byte each, and its messages take turns.
+// Each local number n has n developer fields of one byte each. Their messages take turns.
 #[test]
 fn shows_those_of_each_local_number(rt: HostRuntime) -> Result<(), Fail> {
     let mut file = empty_file(rt.alloc());
@@ -101,7 +101,7 @@ fn shows_those_of_each_local_number(rt: HostRuntime) -> Result<(), Fail> {
         let own = fields.get(..usize::from(local)).unwrap_or(&[]);
         file.define(&definition(local, &[], own)?)?;
     }
-    // Fifteen definitions of seven bytes and one of six, 120 fields of three, and as many bytes in each turn.
+    // Fifteen definitions of seven bytes and one of six; 120 developer fields of three bytes; and in each turn 16 + 120 bytes.
     let mut text = format!(in rt.alloc();
         "header 14 protocol 1.0 profile 100 data {}\n",
         111 + 360 + 2 * 136

@@ -8,7 +8,7 @@ use fit_text::show;
 use std::alloc::Global;
 use std::test::Fail;
 
-// The rows of the profile, of each message its number, its name and its fields.
+// The rows of the profile: for each message its number, its name and its fields.
 const ROWS: [(u16, &'static str, &[(u8, &'static str)]); 7] = [
     (
         0,
@@ -105,7 +105,7 @@ fn message_name(number: u16) -> Option<&'static str> {
     None
 }
 
-// The name of a field that every message has, or of one of these.
+// The name of a field that every message has, or of one of these fields.
 fn field_name(fields: &[(u8, &'static str)], number: u8) -> Option<&'static str> {
     for (known, name) in [(253, "timestamp"), (254, "message_index")] {
         if known == number {
@@ -120,7 +120,7 @@ fn field_name(fields: &[(u8, &'static str)], number: u8) -> Option<&'static str>
     None
 }
 
-// Adds a message with fields of no byte: those from the first number to the last.
+// Adds a message with fields of no bytes, numbered from `first` to `last`.
 fn put_fields(file: &mut File, global: u16, first: u8, last: u8) -> Result<(), Fail> {
     let mut fields = ArrayVec::new();
     for number in first..=last {
@@ -158,8 +158,8 @@ fn push_fields(
     Ok(())
 }
 
-// Whether all 256 fields of a message, one half of them in each of two, are shown with these names alone and with those that
-// every message has.
+// Whether all 256 fields of a message are shown with these names and those that every message has, and no others. The fields are
+// in two messages, one half in each.
 fn are_named(
     alloc: Global,
     global: u16,

@@ -1,4 +1,4 @@
-// Values, dates and names of messages and fields as they are shown, each in the text of a whole file.
+// How values, dates and the names of messages and fields are shown, each in the text of a whole file.
 
 ghost use Rattle.std.specs.Prelude.{◌≡◌, IfOk};
 
@@ -10,7 +10,7 @@ use fit_grammar::{Definition, FieldDefinition, File, Frame, PutFault};
 use fit_text::show;
 use std::test::Fail;
 
-// The text of a file of one message with one field, with times as dates or as they are.
+// The text of a file of one message with one field. Times are shown as dates or as numbers.
 fn text_of(
     rt: &HostRuntime,
     utc: bool,
@@ -40,14 +40,14 @@ fn text_of(
     Ok(out)
 }
 
-// The text of such a file, whose field has so many bytes and this text behind the name of its message.
+// The text of such a file. Its field has so many bytes, and this text follows the name of its message.
 fn text_around(
     rt: &HostRuntime,
     message: &str,
     size: usize,
     field: &str,
 ) -> Result<String, PutFault> {
-    // The definition has nine bytes, and the message one and its field.
+    // The definition has nine bytes; the message has one byte and its field.
     let size = size.saturating_add(10);
     let text = format!(in rt.alloc();
         "header 14 protocol 1.0 profile 100 data {size}\n0 {message}{field}\nmessages 1\n"
@@ -204,7 +204,7 @@ fn shows_other_numbers_as_they_are(rt: HostRuntime) -> Result<(), Fail> {
     Ok(())
 }
 
-// A definition of one field of one byte, and behind it fields of no byte: those from 100 on and below a last number.
+// A definition of one field of one byte, then fields of no bytes, numbered from 100 to below `last`.
 fn definition(local: u8, global: u16, number: u8, last: u8) -> Result<Definition, Fail>
     ensures { IfOk result (λ d. d.local ≡ local) }
 {
@@ -266,11 +266,11 @@ fn the_example_of_the_crate(rt: HostRuntime) -> Result<(), Fail> {
     Ok(())
 }
 
-// Sixteen local numbers take turns, and two of them get another definition on the way. The columns of sixteen plans have
-// room where each has one, not where each has 41 or 151.
+// Sixteen local numbers take turns, and two of them are defined again on the way. The columns of sixteen plans have room if each
+// plan has one, and no room if each has 41 or 151.
 #[test]
 fn shows_many_definitions(rt: HostRuntime) -> Result<(), Fail> {
-    // Each with the number of the message before which it stands.
+    // Each begins with the number of the message that it comes before.
     let definitions: [(u8, u8, u16, u8, &str); 18] = [
         (0, 0, 0, 0, "file_id type"),
         (0, 1, 12, 0, "sport sport"),

@@ -8,7 +8,7 @@ use std::alloc::AllocError;
 use std::io::Write;
 use std::test::Fail;
 
-// How many bytes wait in a pen at most.
+// The most bytes that wait in a pen.
 const SIZE: usize = 32_768;
 
 #[test]
@@ -19,7 +19,7 @@ fn so_many_bytes_wait(rt: HostRuntime) {
     assert!(rt; pen.put(b"x").is_err());
 }
 
-// Puts this text, and some of each kind behind it.
+// Puts this text, then some of each kind.
 fn put_behind<W: Write>(pen: &mut Pen<'_, W>, text: &[u8]) -> Result<(), WriteFailed> {
     pen.put(text)?;
     pen.put(b" heart_rate=")?;
@@ -33,7 +33,7 @@ fn put_behind<W: Write>(pen: &mut Pen<'_, W>, text: &[u8]) -> Result<(), WriteFa
 
 const BEHIND: &[u8] = b" heart_rate=18446744073709551615-922337203685477580807\n";
 
-// The text behind crosses the end of the buffer at each of its places, and the writer refuses each call.
+// The text after the first one crosses the end of the buffer at each of its bytes. The writer takes no call, one, two or all.
 #[test]
 fn text_crosses_the_end_of_the_buffer(rt: HostRuntime) -> Result<(), AllocError> {
     let front = [b'x'; SIZE];
@@ -62,7 +62,7 @@ fn text_crosses_the_end_of_the_buffer(rt: HostRuntime) -> Result<(), AllocError>
     Ok(())
 }
 
-// A text that is longer than the buffer is handed over as it is, behind what waits.
+// A text longer than the buffer is handed over as it is, after what waits.
 #[test]
 fn long_text_is_whole(rt: HostRuntime) -> Result<(), Fail> {
     let long = [b'y'; SIZE + 1];

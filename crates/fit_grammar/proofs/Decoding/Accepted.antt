@@ -1,4 +1,4 @@
--- An exit: an item that begins well, what its bytes may still show, and the input's end within it. For `Shown`.
+-- An exit: an item that begins well, what its bytes may still show, and the end of the input within it. For `Shown`.
 use Rattle.std.proofs.Common.{◌≡◌, ℕ, ◌+◌, ◌*◌, ◌<◌, ◌≤◌, Bool, true, List, [], ◌∷◌, ◌++◌, length, take, drop, Option, Some, None, sym, ap, ◌∙◌, arith, inl, inr, ◌⊎◌}
 use Rattle.std.specs.Prelude.{slice_index, IsSomeAnd}
 use Rattle.std.proofs.lemmas.List.{length-append, append-nil, get_or-take, take-append-drop, length-take-le}
@@ -13,7 +13,7 @@ use Rattle.fit_grammar.proofs.Decoding.Quiet.{item_quiet, same_byte}
 use Rattle.fit_grammar.proofs.Decoding.Blocked.{Blocked, tail_not_empty}
 use Rattle.fit_grammar.proofs.Decoding.Refused.{Stands, refused, cut_short}
 
--- the first byte behind a front shows no fault: it begins an item whose least length is within the data
+-- the first byte after a front shows no fault: it begins an item whose least length fits into the data
 abbrev pub AcceptsHead : Front → Head → Type 0
 AcceptsHead f (DefinitionHead local announced) = length f.records + 6 ≤ f.size
 AcceptsHead f (DataHead local offset) = IsSomeAnd (in_force f.items local) (λ d. length f.records + (1 + content_size d) ≤ f.size)
@@ -27,7 +27,7 @@ both_sizes : (o : Option Definition) (r s : ℕ) → IsSomeAnd o (λ d. r + (1 +
 both_sizes None r s h g = h
 both_sizes (Some d) r s h g = omega arith
 
--- the head of an accepted byte is no other head
+-- an accepted byte accepts its own head
 accepts_as : (f : Front) (byte : ℕ) (h : Head) → AcceptsHead f (head_of byte) → head_of byte ≡ h → AcceptsHead f h
 accepts_as f byte h a e = rw e at a
 
@@ -44,11 +44,11 @@ first_accepted f byte after tail more a e (other, is, inr h) =
     let same = first_of_tail byte after tail more other e is in
     both_sizes (in_force f.items h.0) (length f.records) f.size (accepts_as f byte (DataHead h.0 h.1) a (ap head_of same ∙ h.2)) h.3
 
--- a number of fields, or of developer fields, shows that the definition passes the end of the data
+-- a number of fields, or of developer fields, shows that the definition extends past the end of the data
 abbrev pub SplitsAtCounts : Front → List ℕ → Type 0
 SplitsAtCounts f tail = SplitsAtCount f tail ⊎ SplitsAtDeveloperCount f tail
 
--- beside its first byte only these numbers of a definition can show a fault
+-- apart from its first byte, only these numbers of a definition can show a fault
 pub accepted_mute : (kind : FaultKind) (f : Front) (byte : ℕ) (after tail more : List ℕ) → length f.records < f.size
     → AcceptsHead f (head_of byte) → byte ∷ after ≡ tail ++ more → (SplitsAtCounts f tail → ⊥) → TailShows kind f tail → ⊥
 accepted_mute (UndefinedLocal local) f byte after tail more lt a e n sh =
@@ -80,7 +80,7 @@ stands_one b f rest p e = record {
   mute = λ kind tail after is lt shown. omega (arith, tail_not_empty kind f tail shown);
 }
 
--- a definition whose number of fields shows that it passes the end of the data
+-- a definition whose number of fields shows that it extends past the end of the data
 pub count_refused : (b : List ℕ) (f : Front) (byte : ℕ) (after : List ℕ) → IsFront f
     → b ≡ front_bytes f ++ (byte ∷ after) → length f.records < f.size → AcceptsHead f (head_of byte)
     → (local : ℕ) (announced : Bool) → head_of byte ≡ DefinitionHead local announced → 6 ≤ length (byte ∷ after)
@@ -105,7 +105,7 @@ count_refused b f byte after p e lt a local announced head six past =
           (few_quiet f t (omega (arith, short, length-take-le 6 rest six))) sh;
     }) (lt, inr (inl shown))
 
--- where six bytes do not show it, none before the number of developer fields do
+-- if six bytes do not show it, no bytes before the number of developer fields do
 before_count : (f : Front) (rest tail more : List ℕ) (local : ℕ) → 6 ≤ length rest → head_of (slice_index rest 0) ≡ DefinitionHead local true
     → length f.records + (6 + 3 * slice_index rest 5 + part_size true 0) ≤ f.size → rest ≡ tail ++ more
     → length tail < 7 + 3 * slice_index rest 5 → SplitsAtCounts f tail → ⊥
@@ -122,7 +122,7 @@ before_count f rest tail more local six head fits joined less (inr (long, l, oth
     let fifth = same_byte rest [] tail more 5 e (omega (arith, six)) (omega (arith, long)) in
     omega (arith, long, less, fifth)
 
--- a definition whose number of developer fields shows that it passes the end of the data
+-- a definition whose number of developer fields shows that it extends past the end of the data
 pub developer_count_refused : (b : List ℕ) (f : Front) (byte : ℕ) (after : List ℕ) → IsFront f
     → b ≡ front_bytes f ++ (byte ∷ after) → length f.records < f.size → AcceptsHead f (head_of byte)
     → (local : ℕ) → head_of byte ≡ DefinitionHead local true
@@ -155,7 +155,7 @@ developer_count_refused b f byte after p e lt a local head there fits past =
           (before_count f rest t more local (omega (arith, there)) head fits (sym parts ∙ is) (omega (arith, short, long))) sh;
     }) (lt, inr (inr shown))
 
--- the bytes end within an item that has begun
+-- the bytes end within an item that is not whole
 pub ends_within : (b : List ℕ) (f : Front) (byte : ℕ) (after : List ℕ) → IsFront f
     → b ≡ front_bytes f ++ (byte ∷ after) → length f.records < f.size → AcceptsHead f (head_of byte)
     → Blocked f (byte ∷ after) → ((tail more : List ℕ) → byte ∷ after ≡ tail ++ more → SplitsAtCounts f tail → ⊥)
@@ -168,7 +168,7 @@ ends_within b f byte after p e lt a blocked count =
       mute = λ kind tail more is short shown. accepted_mute kind f byte after tail more lt a is (count tail more is) shown;
     }) blocked (λ full. absurd (omega arith))
 
--- the bytes end where an item is to begin
+-- the bytes end at the place of the next item
 pub ends_before : (b : List ℕ) (f : Front) → IsFront f → b ≡ front_bytes f ++ [] → length f.records < f.size
     → Refusal b Truncated (length b)
 ends_before b f p e lt =

@@ -1,11 +1,11 @@
--- Two rows of items at the front of the same bytes: one begins the other. For `Fronts`, `Blocked` and `OneValue`.
+-- Of two rows of items at the front of the same bytes, one is a prefix of the other. For `Fronts`, `Blocked` and `OneValue`.
 use Rattle.std.proofs.Common.{◌≡◌, ℕ, List, [], ◌∷◌, ◌++◌, refl, sym, ap, subst, ◌∙◌, append_assoc}
 use Rattle.std.proofs.lemmas.List.{append-nil}
 use Rattle.fit_grammar.specs.Format.Item.{Item}
 use Rattle.fit_grammar.specs.Format.Records.{RecordsAfter, in_force}
 use Rattle.fit_grammar.proofs.OneItem.Spelling.{spelling_one}
 
--- the row of js begins with that of is, and goes on with more
+-- the row of js begins with that of is, and continues with more
 pub record GoesOn (before : List Item) (a : List ℕ) (is : List Item) (x b : List ℕ) (js : List Item) (y : List ℕ)
     (more : List Item) : Type 0 where
   pub bytes : List ℕ

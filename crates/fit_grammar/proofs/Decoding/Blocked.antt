@@ -1,4 +1,4 @@
--- Behind a front at which no item begins, a beginning shows only what the bytes there show: for `Refused`.
+-- After a front at which no item begins, a prefix shows only what the bytes there show: for `Refused`.
 use Rattle.std.proofs.Common.{◌≡◌, ℕ, ◌+◌, ◌<◌, ◌≤◌, List, [], ◌∷◌, ◌++◌, length, take, sym, ap, subst, ◌∙◌, append_assoc, arith, inl, inr}
 use Rattle.std.proofs.lemmas.List.{length-append, length-take, append-nil}
 use Rattle.fit_grammar.specs.declared.file.frame.Frame.{Frame}
@@ -12,7 +12,7 @@ use Rattle.fit_grammar.proofs.Decoding.Quiet.{ItemInside}
 use Rattle.fit_grammar.proofs.Decoding.Alignment.{GoesOn}
 use Rattle.fit_grammar.proofs.Decoding.Fronts.{ShowsLater, later}
 
--- no item begins the rest within the data
+-- the rest begins with no item that fits into the data
 abbrev pub Blocked : Front → List ℕ → Type 0
 Blocked f rest = (item : Item) (own u : List ℕ) → rest ≡ own ++ u → ItemInside f item own u → ⊥
 
@@ -20,7 +20,7 @@ Blocked f rest = (item : Item) (own u : List ℕ) → rest ≡ own ++ u → Item
 abbrev pub Mute : Front → List ℕ → ℕ → Type 0
 Mute f rest limit = (kind : FaultKind) (tail after : List ℕ) → rest ≡ tail ++ after → length tail < limit → TailShows kind f tail → ⊥
 
--- a fault that is shown right behind a front
+-- a fault that is shown right after a front
 pub record ShowsHere (f : Front) (rest : List ℕ) (count : ℕ) (kind : FaultKind) (place : ℕ) : Type 0 where
   pub tail : List ℕ
   pub after : List ℕ
@@ -38,7 +38,7 @@ same_front f g a b c d e =
     ∙ ap (λ (x : List ℕ). front_by g.frame g.size x f.records f.items) c ∙ ap (λ (x : List ℕ). front_by g.frame g.size g.header x f.items) d
     ∙ ap (λ (x : List Item). front_by g.frame g.size g.header g.records x) e
 
--- where one front goes on from another with an item, that item begins the rest within the data
+-- if one front continues another with an item, that item begins the rest, within the data
 pub item_blocked : (f : Front) (rest : List ℕ) (count : ℕ) (kind : FaultKind) (place : ℕ) (item : Item)
     (others : List Item) → ShowsLater f rest count kind place (item ∷ others) → Blocked f rest → ⊥
 item_blocked f rest count kind place item others s blocked =
@@ -88,7 +88,7 @@ tail_not_empty HeaderCrc g tail sh = absurd sh
 tail_not_empty Truncated g tail sh = absurd sh
 tail_not_empty Memory g tail sh = absurd sh
 
--- behind a front the header shows nothing
+-- after a front the header shows no fault
 pub behind : (kind : FaultKind) (place n : ℕ) (b : List ℕ) (f : Front) (rest : List ℕ) → IsFront f
     → b ≡ front_bytes f ++ rest → Shows kind place (take n b) → ShowsBehind kind place (take n b)
 behind kind place n b f rest p e (inr s) = s
@@ -115,7 +115,7 @@ mute_here (item ∷ others) b f rest limit n kind place s blocked mute lt =
     ) in
     item_blocked f rest (length (take n b)) kind place item others s (blocked more)
 
--- no beginning that ends sooner than a tail behind the front shows a fault
+-- no prefix that ends sooner than a tail after the front shows a fault
 pub quiet_behind : (b : List ℕ) (f : Front) (rest : List ℕ) (limit : ℕ) → IsFront f → b ≡ front_bytes f ++ rest
     → (2 < limit → Blocked f rest) → Mute f rest limit → (n : ℕ) (kind : FaultKind) (place : ℕ)
     → n < front_end f + limit → Shows kind place (take n b) → ⊥
@@ -123,7 +123,7 @@ quiet_behind b f rest limit p e blocked mute n kind place lt s =
     let l = later kind place n b f rest p e (behind kind place n b f rest p e s) in
     mute_here l.0 b f rest limit n kind place l.1 blocked mute lt
 
--- a row that goes on with an item: the item begins the rest, within the data
+-- a row that continues with an item: the item begins the rest, within the data
 pub blocked_row : (f g : Front) (rest y : List ℕ) (item : Item) (others : List Item) → IsFront g → f.size ≡ g.size
     → GoesOn [] f.records f.items rest g.records g.items y (item ∷ others) → Blocked f rest → ⊥
 blocked_row f g rest y item others q size go blocked =

@@ -1,4 +1,4 @@
--- An exit: behind all the records, the closing checksum, what follows it, and the input's end. For `Shown`.
+-- An exit: after all the records come the closing checksum, what follows it, and the end of the input. For `Shown`.
 use Rattle.std.proofs.Common.{◌≡◌, ◌≢◌, ℕ, ◌+◌, ◌<◌, ◌≤◌, List, [], ◌∷◌, ◌++◌, length, take, sym, ap, subst, ◌∙◌, append_assoc, arith}
 use Rattle.std.proofs.Math.Seq.{take-append_seam}
 use Rattle.std.proofs.lemmas.List.{length-append}
@@ -10,7 +10,7 @@ use Rattle.fit_grammar.specs.Format.File.{FileOf, IsHeader, IsClosing}
 use Rattle.fit_grammar.specs.Format.Refusal.{Front, front_bytes, front_end, IsFront, TailShows, Refusal}
 use Rattle.fit_grammar.proofs.Decoding.Refused.{refused, cut_short, closed_blocked, closing_mute}
 
--- behind all the records one byte shows nothing
+-- after all the records one byte shows no fault
 full_mute : (kind : FaultKind) (f : Front) (tail : List ℕ) → length f.records ≡ f.size → TailShows kind f tail → 2 ≤ length tail
 full_mute FileCrc f tail full sh = omega (arith, sh.1)
 full_mute TrailingBytes f tail full sh = omega (arith, sh.1)

@@ -1,5 +1,5 @@
--- What a beginning of a file shows, once a front of the file is known: only what stands behind that front. For `Blocked`,
--- `Refused` and `HeaderRefused`.
+-- What a prefix of a file shows, given a front of the file: only what comes after that front. For `Blocked`, `Refused` and
+-- `HeaderRefused`.
 use Rattle.std.proofs.Common.{◌≡◌, ℕ, ◌+◌, ◌≤◌, List, [], ◌++◌, length, take, drop, sym, ap, ◌∙◌, append_assoc, arith}
 use Rattle.std.proofs.lemmas.List.{take-append-drop, length-append}
 use Rattle.fit_grammar.specs.declared.file.fault.FaultKind.{FaultKind}
@@ -38,13 +38,13 @@ same_fronts f g x y p q e =
           g.items y p.are_records q.are_records s.rest;
     }
 
--- a beginning that is a front and a tail, beside a front of all the bytes
+-- a prefix that is a front and a tail, beside a front of all the bytes
 pub beginning_joined : (b : List ℕ) (m : ℕ) (f g : Front) (rest tail : List ℕ) → b ≡ front_bytes f ++ rest
     → take m b ≡ front_bytes g ++ tail → front_bytes f ++ rest ≡ front_bytes g ++ (tail ++ drop m b)
 beginning_joined b m f g rest tail e d =
     sym e ∙ sym (take-append-drop m b) ∙ ap (λ (l : List ℕ). l ++ drop m b) d ∙ append_assoc (front_bytes g) tail (drop m b)
 
--- a fault that a beginning shows behind a front: the front that shows it goes on from this one with more items
+-- a fault that a prefix shows after a front: the front that shows it continues this one with more items
 pub record ShowsLater (f : Front) (rest : List ℕ) (count : ℕ) (kind : FaultKind) (place : ℕ) (more : List Item) : Type 0 where
   pub front : Front
   pub tail : List ℕ

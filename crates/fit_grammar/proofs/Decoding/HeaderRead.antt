@@ -1,4 +1,4 @@
--- The same as `read_header` meets it, exit by exit.
+-- The refusals of a header, exit by exit, as `read_header` and `read_header_front` meet them.
 use Rattle.std.proofs.Common.{◌≡◌, ◌≢◌, ℕ, ◌+◌, ◌-◌, ◌/◌, ◌<◌, ◌≤◌, List, [], ◌∷◌, length, take, drop, sym, ap, subst, ◌∙◌, arith, ◌⊎◌, inl, inr}
 use Rattle.std.specs.Prelude.{slice_index}
 use Rattle.std.proofs.lemmas.List.{length-take-le, length-drop, get_or-take, drop-take, take-take}
@@ -26,7 +26,7 @@ refused_by b kind place f e other r = rw e (other, r)
 pub empty_refused : (b : List ℕ) (f : FileFault) → f ≡ fault_at Truncated (length b) → length b ≡ 0 → IsRefusedBy b f
 empty_refused b f e none = refused_by b Truncated (length b) f e (λ bad. cc) (empty_cut b none)
 
--- byte 0 is no header size
+-- byte 0 is not a header size
 pub first_refused : (b : List ℕ) (f : FileFault) → f ≡ fault_at HeaderSize 0 → 1 ≤ length b
     → ((slice_index b 0 ≡ 12) ⊎ (slice_index b 0 ≡ 14) → ⊥) → IsRefusedBy b f
 first_refused [] f e some bad = absurd (omega arith)
@@ -62,7 +62,7 @@ four_read b i n le e =
     let four : length (take 4 (drop i b)) ≡ 4 = length-take-le 4 (drop i b) (omega (arith, length-drop i b)) in
     sym (e ∙ ap (λ (k : ℕ). little_number k (take 4 (drop i b))) (sym four) ∙ low_first-little (take 4 (drop i b)))
 
--- ---- a header that is read whatever its checksum is
+-- ---- a header that is read, whatever its checksum is
 
 pub begins_first : (b : List ℕ) (fr : Frame) (s : ℕ) → BeginsWithHeader b fr s → (slice_index b 0 ≡ 12) ⊎ (slice_index b 0 ≡ 14)
 begins_first b fr s h = elim h.is_frame.size [ inl e ↦ inl (h.header_size ∙ e) | inr e ↦ inr (h.header_size ∙ e) ]
@@ -78,7 +78,7 @@ begins_long b fr s h =
     let within = h.within in
     elim h.is_frame.size [ inl e ↦ omega arith | inr e ↦ omega arith ]
 
--- the checks before that of its checksum pass
+-- the checks before that of the checksum pass
 pub begins_passes : (b : List ℕ) (fr : Frame) (s : ℕ) → BeginsWithHeader b fr s → Passes b fr.header_size
 begins_passes b fr s h = record {
   first = begins_first b fr s h;
@@ -87,7 +87,7 @@ begins_passes b fr s h = record {
   within = omega (arith, h.header_size);
 }
 
--- with a checksum that is not given, or right, it is the header of a file
+-- if its checksum is not given, or right, it is the header of a file
 pub begins_good : (b : List ℕ) (fr : Frame) (s : ℕ) → BeginsWithHeader b fr s → (fr.header_size ≡ 14 → ChecksHeader (take 14 b))
     → IsHeader (take fr.header_size b) fr s
 begins_good b fr s h checks =

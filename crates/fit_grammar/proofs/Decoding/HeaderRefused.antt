@@ -10,7 +10,7 @@ use Rattle.fit_grammar.specs.Format.Refusal.{Front, front_bytes, IsFront, Header
 use Rattle.fit_grammar.proofs.Decoding.Headers.{header_at_least, header_first, take_read, take_own}
 use Rattle.fit_grammar.proofs.Decoding.Fronts.{file_front, file_is_front}
 
--- bytes that begin with a front have at least its header, whose length is byte 0
+-- bytes that begin with a front have at least its header; byte 0 gives the header's length
 front_long : (f : Front) (z : List ℕ) → IsFront f
     → (12 ≤ length f.header) × (length f.header ≤ length (front_bytes f ++ z)) × (slice_index (front_bytes f ++ z) 0 ≡ length f.header)
 front_long f z p =
@@ -20,7 +20,7 @@ front_long f z p =
       ap (λ (l : List ℕ). slice_index l 0) e ∙ header_first f.header f.frame f.size (f.records ++ z) p.is_header,
     )
 
--- fewer than 12 bytes, or fewer than 14 of which the first is 14, hold no front
+-- fewer than 12 bytes, or fewer than 14 that begin with 14, hold no front
 abbrev pub TooShort : List ℕ → Type 0
 TooShort x = (length x < 12) ⊎ ((slice_index x 0 ≡ 14) × (length x < 14))
 
@@ -29,16 +29,16 @@ no_front x f z p e (inl short) = let l = front_long f z p in omega (arith, ap le
 no_front x f z p e (inr short) =
     let l = front_long f z p in omega (arith, ap length e, ap (λ (k : List ℕ). slice_index k 0) e, l.1, l.2, short.0, short.1)
 
--- in too short bytes only the header shows a fault
+-- in bytes that are too short only the header shows a fault
 header_only : (kind : FaultKind) (place : ℕ) (x : List ℕ) → TooShort x → Shows kind place x → HeaderShows kind place x
 header_only kind place x short (inl h) = h
 header_only kind place x short (inr s) = absurd (no_front x s.front s.tail s.is_front s.joined short)
 
--- too short bytes are no file
+-- bytes that are too short are no file
 short_no_file : (x : List ℕ) → TooShort x → (v : FileValue) → FileOf x v → ⊥
 short_no_file x short v h = no_front x (file_front x v h) h.closing (file_is_front x v h) h.joined short
 
--- the checks of a header that need fewer bytes than these pass
+-- the header's checks that need fewer bytes than these pass
 pub record Passes (b : List ℕ) (count : ℕ) : Type 0 where
   pub first : (slice_index b 0 ≡ 12) ⊎ (slice_index b 0 ≡ 14)
   pub major : 2 < count → (slice_index b 1 / 16 ≡ 1) ⊎ (slice_index b 1 / 16 ≡ 2)
@@ -68,7 +68,7 @@ header_passed FileCrc place n count b p lt sh = sh
 header_passed TrailingBytes place n count b p lt sh = sh
 header_passed Memory place n count b p lt sh = sh
 
--- a beginning that is shorter than the header is too short
+-- a prefix that is shorter than the header is too short
 beginning_short : (n : ℕ) (b : List ℕ) → (slice_index b 0 ≡ 12) ⊎ (slice_index b 0 ≡ 14) → n < slice_index b 0 → TooShort (take n b)
 beginning_short n b (inl first) lt = inl (omega (arith, length-take n b))
 beginning_short n b (inr first) lt =

@@ -1,4 +1,4 @@
--- A header is read from its own bytes alone, and a good one shows no fault: for `Fronts` and `HeaderRefused`.
+-- A header is read from its own bytes alone, and a valid one shows no fault: for `Fronts` and `HeaderRefused`.
 use Rattle.std.proofs.Common.{◌≡◌, ℕ, ◌<◌, ◌≤◌, List, ◌++◌, length, take, drop, sym, ap, subst, ◌∙◌, arith, ◌⊎◌, inl, inr}
 use Rattle.std.specs.Prelude.{slice_index, slice_range}
 use Rattle.std.proofs.Math.Seq.{take-append_seam}
@@ -22,7 +22,7 @@ header_first h fr s z p =
     let long = header_at_least h fr s p in
     get_or_append_left h z 0 0 (omega arith) ∙ p.header_size ∙ sym p.whole
 
--- a header is of one frame
+-- the bytes of a header determine its frame and its size
 pub same_frame : (h : List ℕ) (fr : Frame) (s : ℕ) (fr' : Frame) (s' : ℕ) → IsHeader h fr s → IsHeader h fr' s' → fr ≡ fr'
 same_frame h fr s fr' s' p p' =
     let size : fr.header_size ≡ fr'.header_size = sym p.header_size ∙ p'.header_size in
@@ -32,7 +32,7 @@ same_frame h fr s fr' s' p p' =
     ∙ ap (λ (n : ℕ). record fr { header_size = fr'.header_size; protocol = n }) protocol
     ∙ ap (λ (n : ℕ). record fr' { profile = n }) profile
 
--- the same bytes begin with one header
+-- the same bytes begin with at most one header
 pub record SameHeader (h : List ℕ) (fr : Frame) (s : ℕ) (z h' : List ℕ) (fr' : Frame) (s' : ℕ) (z' : List ℕ) : Type 0 where
   pub header : h ≡ h'
   pub frame : fr ≡ fr'
@@ -52,7 +52,7 @@ same_header h fr s z h' fr' s' z' p p' e =
       rest = append_cancel_left h z z' (e ∙ ap (λ (l : List ℕ). l ++ z') (sym same));
     }
 
--- a beginning is the beginning of its own length
+-- a prefix is the prefix of its own length
 pub take_own : (m : ℕ) (b : List ℕ) → take m b ≡ take (length (take m b)) b
 take_own m b =
     sym (ap (λ (l : List ℕ). take (length (take m b)) l) (sym (take-append-drop m b)) ∙ take-append_seam (take m b) (drop m b))
@@ -60,7 +60,7 @@ take_own m b =
 pub take_read : (m : ℕ) (b : List ℕ) (i : ℕ) → i < length (take m b) → slice_index (take m b) i ≡ slice_index b i
 take_read m b i lt = get_or-take m b i 0 (omega (arith, length-take m b))
 
--- no beginning of bytes that begin with a good header shows a fault of the header
+-- if bytes begin with a valid header, none of their prefixes shows a fault of the header
 pub header_quiet : (kind : FaultKind) (place m : ℕ) (h : List ℕ) (fr : Frame) (s : ℕ) (z : List ℕ) → IsHeader h fr s
     → HeaderShows kind place (take m (h ++ z)) → ⊥
 header_quiet HeaderSize place m h fr s z p sh =

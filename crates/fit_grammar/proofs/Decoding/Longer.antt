@@ -1,4 +1,4 @@
--- Bytes with more behind them: what the first ones show, all show; and what was read of them was read of all.
+-- Bytes with more after them: what a prefix shows, the longer bytes show too, and what was read of it was read of them.
 use Rattle.std.proofs.Common.{◌≡◌, ℕ, ◌+◌, ◌-◌, ◌≤◌, min, List, ◌++◌, length, take, drop, refl, sym, ap, subst, ◌∙◌, append_assoc, arith, inl, inr}
 use Rattle.std.proofs.lemmas.Bool.{cases_lt}
 use Rattle.std.proofs.lemmas.List.{length-append, take-append-le, drop-append-le, take_all, take_min}
@@ -16,7 +16,7 @@ use Rattle.fit_grammar.proofs.Decoding.WantOfMemory.{front_before_refusal}
 
 -- ---- what is shown
 
--- the shortest beginning is a beginning of all the bytes
+-- the shortest prefix is also a prefix of the longer bytes
 beginning_shown : (b x : List ℕ) (kind : FaultKind) (place : ℕ) → IsShortestShown b kind place → IsShortestShown (b ++ x) kind place
 beginning_shown b x kind place s =
     let within = s.within in
@@ -41,6 +41,7 @@ shown_longer b x fault (inr m) =
         rest = item.rest ++ x;
         is_front = item.is_front;
         more = item.more;
+        come = omega (arith, item.come, length-append item.rest x);
         joined = joined;
         there = item.there;
       },
@@ -51,7 +52,7 @@ shown_longer b x fault (inr m) =
       ),
     )
 
--- no beginning shows that the input ends too soon
+-- no prefix shows that the input ends too soon
 truncated_shown : (place : ℕ) (bytes : List ℕ) → Shows Truncated place bytes → ⊥
 truncated_shown place bytes (inl h) = h
 truncated_shown place bytes (inr s) = s.shown
@@ -60,7 +61,7 @@ pub cut_of : (b : List ℕ) (place : ℕ) → Refusal b Truncated place → IsCu
 cut_of b place (inl s) = absurd (truncated_shown place (take s.count b) s.shown)
 cut_of b place (inr c) = c
 
--- every other fault is shown by a beginning
+-- every other fault is shown by a prefix
 pub shown_of : (b : List ℕ) (fault : FileFault) → IsFaultOf b fault → (fault.kind ≡ Truncated → ⊥) → IsShownBy b fault
 shown_of b fault (inl (other, inl s)) whole = inl (other, s)
 shown_of b fault (inl (other, inr c)) whole = absurd (whole c.truncated)
@@ -96,7 +97,7 @@ crc_from-nil : (register : ℕ) (x : List ℕ) → crc_from register (take 0 x) 
 unfolding crc_from
 crc_from-nil register x = refl
 
--- the checksum goes on over as many of the bytes as are before the end
+-- the checksum continues over those of the bytes that are before the end
 pub checked_longer : (b x : List ℕ) (end left checksum : ℕ) → checksum ≡ crc (take end b) → left ≡ end - length b
     → crc_from checksum (take (min left (length x)) x) ≡ crc (take end (b ++ x))
 checked_longer b x end left checksum c e =

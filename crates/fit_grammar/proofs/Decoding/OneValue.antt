@@ -16,7 +16,7 @@ no_items before bytes (item ∷ items) none r =
     let own = spelling_not_empty item r.1.own r.1.spelled in
     absurd (omega (arith, none, ap length r.1.joined, length-append r.1.own r.0))
 
--- a row that goes on with no bytes is the same row
+-- a row that continues with no bytes is the same row
 same_row : (before : List Item) (a : List ℕ) (is : List Item) (x b : List ℕ) (js : List Item) (y : List ℕ) (more : List Item)
     → GoesOn before a is x b js y more → length a ≡ length b → is ≡ js
 same_row before a is x b js y more g same =

@@ -1,4 +1,4 @@
--- Where an item begins and ends within the data, its bytes show no fault: for `Fronts`, `Blocked` and `Accepted`.
+-- If an item begins and ends within the data, its bytes show no fault: for `Fronts`, `Blocked` and `Accepted`.
 use Rattle.std.proofs.Common.{◌≡◌, ℕ, ◌+◌, ◌*◌, ◌<◌, ◌≤◌, Bool, true, false, List, ◌++◌, length, Option, Some, None, sym, ap, ◌∙◌, arith, inl, inr}
 use Rattle.std.specs.Prelude.{slice_index, IsSomeAnd}
 use Rattle.std.proofs.lemmas.List.{get_or_append_left}
@@ -15,7 +15,7 @@ not_defined : (o : Option Definition) (P : Definition → Type 0) → IsSomeAnd 
 not_defined None P h e = h
 not_defined (Some d) P h e = cc
 
--- the definition that a data message has is in force
+-- the definition of a data message is in force
 some_size : (o : Option Definition) (n : ℕ) (k s : ℕ) → IsSomeAnd o (λ d. content_size d ≡ n)
     → IsSomeAnd o (λ d. s < k + (1 + content_size d)) → s < k + (1 + n)
 some_size None n k s h g = absurd h
@@ -24,13 +24,13 @@ some_size (Some d) n k s h g = rw (← h) g
 same_local : (l m : ℕ) (o n : Option ℕ) → DataHead l o ≡ DataHead m n → l ≡ m
 same_local l m o n e = cc
 
--- where bytes begin in two ways, both have the same bytes
+-- if bytes begin in two ways, both have the same byte at each place
 pub same_byte : (own u tail after : List ℕ) (i : ℕ) → own ++ u ≡ tail ++ after → i < length own → i < length tail
     → slice_index own i ≡ slice_index tail i
 same_byte own u tail after i e lt less =
     sym (get_or_append_left own u 0 i lt) ∙ ap (λ (l : List ℕ). slice_index l i) e ∙ get_or_append_left tail after 0 i less
 
--- one byte does not show that the item passes the end
+-- one byte does not show that the item extends past the end
 first_quiet : (g : Front) (tail after : List ℕ) (item : Item) (own u : List ℕ) → Spells item own
     → IsDefined g.items item → own ++ u ≡ tail ++ after → length g.records + length own ≤ g.size → SplitsAtFirst g tail → ⊥
 first_quiet g tail after (Defines d) own u p q e le (byte, is, inl h) =
@@ -56,7 +56,7 @@ part_least true n = omega arith
 same_announced : (k l : ℕ) (a b : Bool) → DefinitionHead k a ≡ DefinitionHead l b → a ≡ b
 same_announced k l a b e = cc
 
--- where a tail begins as the bytes of a definition do, that definition announces what the tail does
+-- if a tail begins as the bytes of a definition do, that definition announces what the tail does
 announced_is : (d : Definition) (own u tail after : List ℕ) (p : SpellsDefinition d own) (local : ℕ) (announced : Bool)
     → own ++ u ≡ tail ++ after → 1 ≤ length tail → head_of (slice_index tail 0) ≡ DefinitionHead local announced → p.announced ≡ announced
 announced_is d own u tail after p local announced e some head =
@@ -73,7 +73,7 @@ data_announces local offset content own u tail after p l announced e some head =
     let bad : DataHead local offset ≡ DefinitionHead l announced = sym (data_first local offset content own p) ∙ ap head_of same ∙ head in
     cc
 
--- six bytes of a definition do not show that it passes the end
+-- six bytes of a definition do not show that it extends past the end
 count_quiet : (g : Front) (tail after : List ℕ) (item : Item) (own u : List ℕ) → Spells item own
     → own ++ u ≡ tail ++ after → length g.records + length own ≤ g.size → SplitsAtCount g tail → ⊥
 count_quiet g tail after (Defines d) own u p e le (six, local, announced, head, past) =
@@ -113,7 +113,7 @@ undefined_quiet g (Data l o content) own p byte local offset q f h n =
     let same = same_local l local o offset (sym f ∙ h) in
     not_defined (in_force g.items l) (λ d. content_size d ≡ length content) q (ap (in_force g.items) same ∙ n)
 
--- an item that begins behind a front and ends within the data
+-- an item that begins after a front and ends within the data
 pub record ItemInside (g : Front) (item : Item) (own u : List ℕ) : Type 0 where
   pub spelled : Spells item own
   pub defined : IsDefined g.items item

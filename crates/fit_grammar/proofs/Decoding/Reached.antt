@@ -1,4 +1,4 @@
--- A front of the bytes, whose items the file has: behind the header, and behind an item more. For the decoder's loop.
+-- A front of the bytes whose items the file has: after the header, and after one more item. For the decoder's loop.
 use Rattle.std.proofs.Common.{◌≡◌, ℕ, ◌+◌, ◌-◌, ◌<◌, ◌≤◌, ◌^◌, Bool, true, false, List, [], ◌∷◌, ◌++◌, length, take, drop, refl, sym, ap, subst, ◌∙◌, append_assoc, arith}
 use Rattle.std.proofs.Math.Seq.{drop-append_seam}
 use Rattle.std.proofs.lemmas.List.Sums.{sum_by-cons}
@@ -25,7 +25,7 @@ part_spelled false fields none = omega arith
 part_spelled true [] none = omega arith
 part_spelled true (field ∷ fields) none = omega arith
 
--- a spelling has as many bytes as its item is written in, or one more where a definition announces developer fields and has none
+-- a spelling has as many bytes as its item is written in, or one more if a definition announces developer fields and has none
 pub spelled_size : (item : Item) (own : List ℕ) → Spells item own → item_size item ≤ length own
 spelled_size (Defines d) own p = omega (arith, definition_length d own p, part_written p.announced d.developer.items p.none)
 spelled_size (Data local offset content) own p = omega (arith, data_length local offset content own p)
@@ -34,7 +34,12 @@ pub spelled_most : (item : Item) (own : List ℕ) → Spells item own → length
 spelled_most (Defines d) own p = omega (arith, definition_length d own p, part_spelled p.announced d.developer.items p.none)
 spelled_most (Data local offset content) own p = omega (arith, data_length local offset content own p)
 
--- so records have as many bytes as their items are written in, or more
+-- every item has at least one byte
+pub some_bytes : (item : Item) → 1 ≤ item_size item
+some_bytes (Defines d) = omega arith
+some_bytes (Data local offset content) = omega arith
+
+-- so records have at least as many bytes as their items are written in
 pub records_size : (before : List Item) (bytes : List ℕ) (items : List Item) → RecordsAfter before bytes items
     → data_size items ≤ length bytes
 records_size before bytes [] r = omega arith
@@ -48,7 +53,7 @@ records_size before bytes (item ∷ items) r =
       sum_by-cons item_size item items,
     )
 
--- one item more
+-- one more item
 pub records_more : (before : List Item) (bytes : List ℕ) (items : List Item) (item : Item) (own : List ℕ)
     → RecordsAfter before bytes items → Spells item own → IsDefined (before ++ items) item
     → RecordsAfter before (bytes ++ own) (items ++ item ∷ [])
@@ -74,13 +79,13 @@ records_more before bytes (i ∷ items) item own r p q = (
       (subst (λ (is : List Item). IsDefined is item) (sym (append_assoc before (i ∷ []) items)) q),
 )
 
--- the rest is what stands behind the place
+-- the rest is what comes after the place
 pub rest_there : (b : List ℕ) (f : Front) (rest : List ℕ) → b ≡ front_bytes f ++ rest → drop (front_end f) b ≡ rest
 rest_there b f rest e =
     ap (λ (k : ℕ). drop k b) (sym (length-append f.header f.records))
     ∙ ap (λ (l : List ℕ). drop (length (front_bytes f)) l) e ∙ drop-append_seam (front_bytes f) rest
 
--- behind the header no item is read yet
+-- after the header no item is read yet
 pub reached_first : (b : List ℕ) (h : Header) → BeginsWith b h → h.data_size < 2 ^ 32
     → Reached b (record { frame = h.frame; items = [] }) h.frame.header_size (h.frame.header_size + h.data_size)
 reached_first b h p fits =
@@ -98,7 +103,7 @@ reached_first b h p fits =
       fits = fits;
     }
 
--- and behind an item one more is
+-- and after an item one more is
 pub reached_more : (b : List ℕ) (v w : FileValue) (at end used : ℕ) → Reached b v at end
     → TakesItem v w (drop at b) (end - at) used → at < end → Reached b w (at + used) end
 reached_more b v w at end used r t lt =
@@ -126,7 +131,7 @@ reached_more b v w at end used r t lt =
       fits = r.fits;
     }
 
--- what is left of the data fits beside what was read
+-- what is left of the data fits after what was read
 pub reached_fits : (b : List ℕ) (v : FileValue) (at end : ℕ) → Reached b v at end → data_size v.items + (end - at) < 2 ^ 32
 reached_fits b v at end r =
     let size = records_size [] r.front.records r.front.items r.is_front.are_records in

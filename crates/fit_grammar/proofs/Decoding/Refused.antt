@@ -1,4 +1,4 @@
--- From what the bytes behind a front show to the refusal of all bytes: for each exit below.
+-- From what the bytes after a front show to the refusal of all bytes: for each exit below.
 use Rattle.std.proofs.Common.{◌≡◌, ℕ, ◌+◌, ◌<◌, List, [], ◌∷◌, ◌++◌, length, take, refl, sym, ap, ◌∙◌, append_assoc, arith, inl, inr}
 use Rattle.std.proofs.Math.Seq.{take-append_seam}
 use Rattle.std.proofs.lemmas.List.{length-append, append-nil}
@@ -13,11 +13,11 @@ use Rattle.fit_grammar.proofs.OneItem.Spelling.{spelling_not_empty, bytes_one}
 use Rattle.fit_grammar.proofs.Decoding.Fronts.{same_fronts, file_front, file_is_front}
 use Rattle.fit_grammar.proofs.Decoding.Blocked.{Blocked, Mute, quiet_behind, blocked_row}
 
--- behind all the records no item begins within the data
+-- after all the records no item begins within the data
 pub closed_blocked : (f : Front) (rest : List ℕ) → length f.records ≡ f.size → Blocked f rest
 closed_blocked f rest e item own u joined p = omega (arith, p.inside, spelling_not_empty item own p.spelled)
 
--- behind a right checksum less than a file and a byte shows no fault
+-- after a right checksum, a tail of fewer than three bytes shows no fault
 pub closing_mute : (kind : FaultKind) (f : Front) (closing after tail more : List ℕ) → length f.records ≡ f.size
     → IsClosing (front_bytes f) closing → closing ++ after ≡ tail ++ more → length tail < 3 → TailShows kind f tail → ⊥
 closing_mute FileCrc f closing after tail more full c is lt sh =
@@ -33,7 +33,7 @@ closing_mute HeaderCrc f closing after tail more full c is lt sh = sh
 closing_mute Truncated f closing after tail more full c is lt sh = sh
 closing_mute Memory f closing after tail more full c is lt sh = sh
 
--- the bytes behind a front, of which no tail shorter than this shows a fault
+-- the bytes after a front, if none of their tails shorter than this shows a fault
 pub record Stands (b : List ℕ) (f : Front) (rest : List ℕ) (limit : ℕ) : Type 0 where
   pub is_front : IsFront f
   pub joined : b ≡ front_bytes f ++ rest
@@ -44,7 +44,7 @@ pub quiet : (b : List ℕ) (f : Front) (rest : List ℕ) (limit : ℕ) → Stand
     → (n : ℕ) (kind : FaultKind) (place : ℕ) → n < front_end f + limit → Shows kind place (take n b) → ⊥
 quiet b f rest limit s n kind place lt h = quiet_behind b f rest limit s.is_front s.joined s.blocked s.mute n kind place lt h
 
--- the beginning that ends with a tail behind the front
+-- the prefix that ends with a tail after the front
 beginning : (b : List ℕ) (f : Front) (tail after : List ℕ) → b ≡ front_bytes f ++ (tail ++ after)
     → take (front_end f + length tail) b ≡ front_bytes f ++ tail
 beginning b f tail after e =
@@ -78,7 +78,7 @@ refused kind b f tail after s h =
       shortest = λ n other at lt shown. quiet b f (tail ++ after) (length tail) s n other at lt shown;
     })
 
--- the bytes are no file where they end behind a front too soon
+-- the bytes are no file if they end too soon after a front
 no_file_behind : (b : List ℕ) (f : Front) (rest : List ℕ) → IsFront f → b ≡ front_bytes f ++ rest → Blocked f rest
     → (length f.records ≡ f.size → length rest < 2) → (v : FileValue) → FileOf b v → ⊥
 no_file_behind b f rest p e blocked unclosed v h =
@@ -117,7 +117,7 @@ cut_short b f rest s blocked unclosed =
       no_file = no_file_behind b f rest s.is_front s.joined blocked unclosed;
     })
 
--- no beginning of a file shows a fault
+-- no prefix of a file shows a fault
 pub file_shows_nothing : (b : List ℕ) (v : FileValue) → FileOf b v → ShowsNothing b
 file_shows_nothing b v h = λ n kind place le shown.
     let g = file_front b v h in

@@ -1,5 +1,5 @@
--- The exits as the loop meets them: from what an item shows, behind the front that was reached, to the fault of the
--- bytes. For `read_file`.
+-- The exits as the loop meets them: from what an item shows, after the front that was reached, to the fault of the bytes. For
+-- the readings of `Pieces`.
 use Rattle.std.proofs.Common.{◌≡◌, ◌≢◌, ℕ, ◌+◌, ◌-◌, ◌*◌, ◌<◌, ◌≤◌, List, [], ◌∷◌, ◌++◌, length, take, drop, Option, Some, None, Ok, Err, Bool, true, false, refl, sym, ap, subst, ◌∙◌, arith, inl, inr}
 use Rattle.std.specs.Prelude.{slice_index, IsSomeAnd}
 use Rattle.std.proofs.lemmas.Bool.{cases_lt, lt-ltb, le-ltb}
@@ -56,7 +56,7 @@ split_first : (b : List ℕ) (f : Front) (byte : ℕ) (after : List ℕ) → IsF
     → length f.records < f.size → SplitsAtFirst f (byte ∷ []) → Refusal b SplitMessage (front_end f)
 split_first b f byte after p j lt h = refused SplitMessage b f (byte ∷ []) after (stands_one b f (byte ∷ after) p j) (lt, inl h)
 
--- what passes the end of the data by more than the number of its fields says
+-- a definition that extends past the end of the data only by its developer fields
 split_behind : (b : List ℕ) (f : Front) (byte : ℕ) (after : List ℕ) (local : ℕ) (announced : Bool)
     → head_of byte ≡ DefinitionHead local announced → IsFront f → b ≡ front_bytes f ++ byte ∷ after → length f.records < f.size
     → AcceptsHead f (head_of byte)
@@ -118,7 +118,7 @@ split_by b f byte after (DataHead l o) least e p j lt is past = split_under (in_
           ),
         )
 
--- the first byte of an item whose least length is within the data
+-- the first byte of an item whose least length fits into the data
 accepts_by : (f : Front) (byte : ℕ) (after : List ℕ) (h : Head) (least : ℕ)
     → length_by (in_force f.items) h (byte ∷ after) ≡ Ok least → length f.records + least ≤ f.size → AcceptsHead f h
 accepts_by f byte after (DefinitionHead l n) least is le =
@@ -130,7 +130,7 @@ accepts_by f byte after (DataHead l o) least is le = accepts_under (in_force f.i
     accepts_under None is = absurd cc
     accepts_under (Some d) is = omega (arith, le, ok_is (1 + content_size d) least is)
 
--- a definition whose least length is within the data has numbers of fields that are
+-- if the least length of a definition fits into the data, so do the numbers of its fields
 counts_within : (f : Front) (window tail more : List ℕ) (l : ℕ) (n : Bool) → head_of (slice_index window 0) ≡ DefinitionHead l n
     → length f.records + definition_length_of n window ≤ f.size → window ≡ tail ++ more → SplitsAtCounts f tail → ⊥
 counts_within f window tail more l n e le j (inl (six, local, announced, head, past)) =
@@ -177,7 +177,7 @@ count_by_head f byte after tail more (DataHead l o) least e is le j (inl (six, l
 count_by_head f byte after tail more (DataHead l o) least e is le j (inr (count, local, head, past)) =
     no_definition byte after tail more l o local true e j (omega (arith, count)) head
 
--- no item is whole where one has only begun
+-- no item is whole if one has only begun
 begun_blocked : (f : Front) (window : List ℕ) → ItemBegun (in_force f.items) window → Blocked f window
 begun_blocked f window begun item own u j inside =
     let long : length own ≤ length window = omega (arith, ap length j, length-append own u) in
@@ -220,9 +220,11 @@ pub reached_refused : (b : List ℕ) (v : FileValue) (at end : ℕ) (kind : Faul
 reached_refused b v at end kind fault r lt (inl memory) e =
     let f = r.front in
     let place : fault ≡ record { kind = Memory; place = front_end f } = e
-    ∙ ap (λ (k : FaultKind). fault_of k at (length b)) memory ∙ ap (λ (n : ℕ). fault_of Memory n (length b)) r.at_is in
+    ∙ ap (λ (k : FaultKind). fault_of k at (length b)) memory.0 ∙ ap (λ (n : ℕ). fault_of Memory n (length b)) r.at_is in
     let more : length f.records < f.size = omega (arith, r.at_is, r.end_is) in
-    rw place (inr (refl, item_begins b f r.rest r.is_front r.joined more, front_before_refusal b f r.rest r.is_front r.joined))
+    let window : drop at b ≡ r.rest = ap (λ (k : ℕ). drop k b) r.at_is ∙ rest_there b f r.rest r.joined in
+    let come : 1 ≤ length r.rest = omega (arith, memory.1, ap length window) in
+    rw place (inr (refl, item_begins b f r.rest r.is_front r.joined more come, front_before_refusal b f r.rest r.is_front r.joined))
 reached_refused b v at end kind fault r lt (inr sh) e =
     let f = r.front in
     let window : drop at b ≡ r.rest = ap (λ (k : ℕ). drop k b) r.at_is ∙ rest_there b f r.rest r.joined in
@@ -233,7 +235,7 @@ reached_refused b v at end kind fault r lt (inr sh) e =
     rw (e, r.at_is) (window_refused kind b f r.rest (end - at) r.is_front r.joined
     (omega (arith, r.at_is, r.end_is, r.is_front.inside)) (omega arith) shown)
 
--- ---- behind the records
+-- ---- after the records
 
 whole_length : (b : List ℕ) (f : Front) (rest : List ℕ) → b ≡ front_bytes f ++ rest → length b ≡ front_end f + length rest
 whole_length b f rest e = omega (arith, ap length e, length-append (front_bytes f) rest, length-append f.header f.records)
@@ -282,7 +284,7 @@ end_refused (UndefinedLocal local) place b f rest p j full sh = absurd sh
 end_refused SplitMessage place b f rest p j full sh = absurd sh
 end_refused Memory place b f rest p j full sh = absurd sh
 
--- the fault behind the records
+-- the fault after the records
 pub reached_end_refused : (b : List ℕ) (v : FileValue) (at end : ℕ) (fault : FileFault) → Reached b v at end
     → end ≤ at → EndShows b end fault.kind fault.place → IsFaultOf b fault
 reached_end_refused b v at end fault r le sh =

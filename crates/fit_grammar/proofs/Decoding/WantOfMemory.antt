@@ -1,4 +1,4 @@
--- Want of memory comes at an item that begins at or before the place of the refusal: for `Shown`.
+-- Lack of memory comes at an item that begins at or before the place of the refusal: for `Shown`.
 use Rattle.std.proofs.Common.{◌≡◌, ℕ, ◌<◌, ◌≤◌, List, ◌++◌, length, take, ap, arith, inl, inr, refl}
 use Rattle.std.proofs.lemmas.List.{length-append}
 use Rattle.fit_grammar.specs.declared.file.fault.FaultKind.{FaultKind}
@@ -26,7 +26,7 @@ shown_after b f rest n place kind p e s =
     let le = front_le_place kind l.1.front in
     omega (arith, l.1.there, ap length l.1.header_is, ap length l.1.records_are, length-append f.records l.1.bytes)
 
--- the item behind a front begins at or before the place of the refusal
+-- the item after a front begins at or before the place of the refusal
 pub front_before_refusal : (b : List ℕ) (f : Front) (rest : List ℕ) → IsFront f → b ≡ front_bytes f ++ rest
     → (kind : FaultKind) (place : ℕ) → Refusal b kind place → front_end f ≤ place
 front_before_refusal b f rest p e kind place (inl r) = shown_after b f rest r.count place kind p e r.shown
@@ -34,5 +34,5 @@ front_before_refusal b f rest p e kind place (inr r) =
     omega (arith, r.at_end, ap length e, length-append (front_bytes f) rest, length-append f.header f.records)
 
 pub item_begins : (b : List ℕ) (f : Front) (rest : List ℕ) → IsFront f → b ≡ front_bytes f ++ rest
-    → length f.records < f.size → ItemBeginsAt b (front_end f)
-item_begins b f rest p e lt = record { front = f; rest = rest; is_front = p; more = lt; joined = e; there = refl }
+    → length f.records < f.size → 1 ≤ length rest → ItemBeginsAt b (front_end f)
+item_begins b f rest p e lt come = record { front = f; rest = rest; is_front = p; more = lt; come = come; joined = e; there = refl }

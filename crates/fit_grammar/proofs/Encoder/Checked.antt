@@ -1,4 +1,4 @@
--- The same with a checksum running along: for the encoder.
+-- The same with a checksum of the text: for the encoder.
 use Rattle.std.proofs.Common.{◌≡◌, ℕ, List, ◌++◌, Option, Result, Ok, Err, sym, ap, ◌∙◌, subst}
 use Rattle.std.specs.Prelude.{OnOk}
 use Rattle.std.specs.Result.{IsErr}
@@ -28,14 +28,14 @@ no_checksum : {T E : Type 0} (r : Result T E) (P : Type 0) → IsErr r → OnOk 
 no_checksum (Ok x) P bad = cc
 no_checksum (Err e) P bad = tt
 
--- one text was not written, and so none behind it
+-- if a text was not written, none after it was
 pub stops_checked : {S T E F : Type 0} {o n : Option (List ℕ)} {before middle : ℕ} {e : E} {r : Result T F} {a : List ℕ} →
     IsErr r → WritesChecked {T = S} {E = E} o n before middle (Err e) a → (after : ℕ) (b : List ℕ)
     → WritesChecked o n before after r (a ++ b)
 stops_checked {before = before} {r = r} {a = a} bad h after b =
     record { writes = stops_before bad h.writes b; checksum = no_checksum r (after ≡ crc_from before (a ++ b)) bad }
 
--- a text is another one
+-- a text may be replaced by an equal one
 pub checked_same : {T E : Type 0} {o n : Option (List ℕ)} {before after : ℕ} {r : Result T E} {a b : List ℕ}
     → WritesChecked o n before after r a → a ≡ b → WritesChecked o n before after r b
 checked_same {o = o} {n = n} {before = before} {after = after} {r = r} h e =

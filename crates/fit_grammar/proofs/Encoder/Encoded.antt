@@ -1,4 +1,4 @@
--- The encoded file is a file: for the law of that name; and its parts, as they are written one after another: for `put_framed`.
+-- The encoded file is a file: for the law of that name. And its parts, as they are written one after another: for `put_framed`.
 use Rattle.std.proofs.Common.{◌≡◌, ℕ, ◌+◌, ◌/◌, ◌%◌, ◌<◌, List, [], ◌∷◌, ◌++◌, length, refl, sym, ap, subst, ◌∙◌, arith, inl, inr}
 use Rattle.std.specs.Prelude.{flat_map}
 use Rattle.std.proofs.lemmas.List.{length-append}
@@ -21,7 +21,7 @@ two_length : (a : Arch) (n : ℕ) → length (two_bytes a n) ≡ 2
 two_length Little n = refl
 two_length Big n = refl
 
--- an item is written in as many bytes as it has
+-- an item is written in as many bytes as its size
 pub encoded_item-length : (item : Item) → length (encoded_item item) ≡ item_size item
 encoded_item-length (Defines d) =
     let fields = flat_map field_bytes d.fields.items in
@@ -58,7 +58,7 @@ two_again n = omega arith
 pub four_again : (n : ℕ) → low_first (four_bytes n) ≡ n
 four_again n = omega arith
 
--- twelve bytes and what stands behind them: nothing, or their checksum
+-- twelve bytes, and after them nothing or their checksum
 header_by : (frame : Frame) (size : ℕ) (behind : List ℕ) → IsFrame frame → length behind + 12 ≡ frame.header_size
     → (frame.header_size ≡ 14 → ChecksHeader (header_front frame size ++ behind))
     → IsHeader (header_front frame size ++ behind) frame size
@@ -101,14 +101,14 @@ header_joined frame size front own long e f =
 two_whole : (n : ℕ) → n < 65536 → n % 256 ∷ n / 256 % 256 ∷ [] ≡ two_bytes Little n
 two_whole n small = let e : n / 256 % 256 ≡ n / 256 = omega arith in rw e refl
 
--- the two bytes of a register that went over some bytes are their checksum
+-- the two bytes of a register that covers some bytes are their checksum
 pub checksum_bytes : (before closing : List ℕ) (value register start : ℕ)
     → closing ≡ value % 256 ∷ value / 256 % 256 ∷ [] → value < 65536 → value ≡ register
     → register ≡ crc_from start before → start ≡ 0 → closing ≡ two_bytes Little (crc before)
 checksum_bytes before closing value register start e small read over none =
     e ∙ two_whole value small ∙ ap (λ (n : ℕ). two_bytes Little n) (read ∙ over ∙ ap (λ (n : ℕ). crc_from n before) none)
 
--- the records of a file as it is written
+-- the records of a file, as it is written
 pub framed_items : (v : FileValue) (frame : Frame) (records : List ℕ) → frame ≡ v.frame → records ≡ encoded_items v.items
     → framed frame records ≡ encoded v
 framed_items v frame records f r =
@@ -124,7 +124,7 @@ encoded_is_header frame size is_frame =
           subst (λ (h : List ℕ). IsHeader h frame size) (sym (encoded_header_14 frame size long)) (header_14 frame size is_frame long)
     ]
 
--- the closing checksum behind header and records
+-- the closing checksum after header and records
 closing_of : (before : List ℕ) → IsClosing before (two_bytes Little (crc before))
 closing_of before = record { whole = refl; right = two_again (crc before) }
 

@@ -1,4 +1,4 @@
--- What is written of an item is a spelling of it: for the law of that name, and for what is read again.
+-- The bytes that an item is written as are a spelling of it: for the law of that name, and for what is read again.
 use Rattle.std.proofs.Common.{◌≡◌, ℕ, ◌+◌, ◌*◌, ◌/◌, ◌%◌, ◌<◌, Bool, true, false, List, [], ◌∷◌, Some, None, refl, arith}
 use Rattle.std.specs.Prelude.{nat_lt, nat_eq}
 use Rattle.std.proofs.lemmas.Bool.{lt-ltb, le-ltb, eq-eqb, ne_eqb}

@@ -1,5 +1,5 @@
--- How texts that were handed to a writer one after another join, and what a loop that writes keeps: for `put`, the encoder,
--- and all that shows a file.
+-- How texts that were handed to a writer one after another join, and what a loop that writes keeps: for `put`, the encoder, and
+-- every crate that prints.
 use Rattle.std.proofs.Common.{◌≡◌, ℕ, List, [], ◌++◌, Option, Some, None, Result, Ok, Err, refl, sym, ap, ◌∙◌, append_assoc, subst, ◌+◌, ◌<◌, ◌≤◌, length, get_or, drop}
 use Rattle.std.proofs.lemmas.List.{append-nil, at_drop_more, at_drop_all}
 use Rattle.std.specs.List.{flat_map}
@@ -48,26 +48,26 @@ writes-beginning : {T E : Type 0} (o n : Option (List ℕ)) (r : Result T E) (te
 writes-beginning o n (Ok x) text bad h = cc
 writes-beginning o n (Err e) text bad h = record { all = tt; beginning = h }
 
--- one text was not written, and so none behind it
+-- if a text was not written, none after it was
 pub stops_before : {S T E F : Type 0} {o n : Option (List ℕ)} {e : E} {r : Result T F} {a : List ℕ} →
     IsErr r → WritesText {T = S} {E = E} o n (Err e) a → (b : List ℕ) → WritesText o n r (a ++ b)
 stops_before {o = o} {n = n} {r = r} {a = a} bad h b = writes-beginning o n r (a ++ b) bad (begins-more o n a b h.beginning)
 
--- a text is another one
+-- a text may be replaced by an equal one
 pub writes_same : {T E : Type 0} {o n : Option (List ℕ)} {r : Result T E} {a b : List ℕ} → WritesText o n r a → a ≡ b → WritesText o n r b
 writes_same {o = o} {n = n} {r = r} h e = let P : List ℕ → Type 0 = λ t. WritesText o n r t in subst P e h
 
--- nothing was written yet of no text
+-- of the empty text, all is written at the start
 pub writes_none : {T E : Type 0} (o : Option (List ℕ)) (x : T) → WritesText {E = E} o o (Ok x) []
 writes_none o x = record { all = appends-none o; beginning = tt }
 
--- what was written so far of a text, and the rest that is left to write
+-- what was written so far of a text, and the rest
 pub record Leaves (old now : Option (List ℕ)) (text rest : List ℕ) : Type 0 where
   pub done : List ℕ
   pub split : text ≡ done ++ rest
   pub appended : Appends old now done
 
--- all is left at first
+-- at first all of it is left
 pub leaves_all : (o : Option (List ℕ)) (text : List ℕ) → Leaves o o text text
 leaves_all o text = record { done = []; split = refl; appended = appends-none o }
 
@@ -85,7 +85,7 @@ pub leaves_less : {T E : Type 0} {o m n : Option (List ℕ)} {x : T} {text rest 
     Leaves o m text rest → WritesText {E = E} m n (Ok x) part → rest ≡ part ++ more → Leaves o n text more
 leaves_less {part = part} more h k e = leaves_rest part more h k.all e
 
--- nothing is left at last
+-- at the end nothing is left
 pub leaves_none : {T E : Type 0} {o n : Option (List ℕ)} {text : List ℕ} (x : T) → Leaves o n text [] → WritesText {E = E} o n (Ok x) text
 leaves_none {o = o} {n = n} {text = text} x h =
     let e : text ≡ h.done = h.split ∙ append-nil h.done in

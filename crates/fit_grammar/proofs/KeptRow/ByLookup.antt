@@ -1,4 +1,4 @@
--- Lent and defined items by a lookup of definitions, and by the items before: for the reading of a kept row.
+-- Lent and defined items, by a lookup of definitions and by the items before: for the reading of a kept row.
 use Rattle.std.proofs.Common.{◌≡◌, ℕ, List, [], ◌∷◌, ◌++◌, Option, Some, None, refl, sym, ap, subst, ◌∙◌}
 use Rattle.std.specs.Prelude.{unwrap_or, option_to_list}
 use Rattle.std.proofs.Math.Path.{fun_ext}
@@ -12,7 +12,7 @@ use Rattle.fit_grammar.specs.Calls.Possible.{AllCanFollow}
 use Rattle.fit_grammar.specs.Private.ByLookup.{time_by, lent_by, lent_items_by, AllDefinedBy}
 use Rattle.fit_grammar.proofs.KeptRow.InForce.{in_force-append}
 
--- the definitions in force behind one item more
+-- the definitions in force after one more item
 pub behind-in_force : (before : List Item) (item : Item) → behind item (in_force before) ≡ in_force (before ++ item ∷ [])
 behind-in_force before item = fun_ext (λ l. sym (in_force-append before item l))
 
@@ -25,7 +25,7 @@ time_same before time (Defines d) = refl
 time_same before time (Data local None content) = refl
 time_same before time (Data local (Some offset) content) = refl
 
--- the items behind items are those under their definitions in force
+-- the items lent after others are those under the definitions in force there
 pub lent_items_same : (before : List Item) (time : ℕ) (items : List Item)
     → lent_items_by (in_force before) time items ≡ lent_after before time items
 lent_items_same before time [] = refl
@@ -39,7 +39,7 @@ lent_items_same before time (item ∷ items) =
     ∙ ap (λ (ls : List LentItem). option_to_list (lent_at before time item) ++ ls)
     (lent_items_same (before ++ item ∷ []) (unwrap_or (time_given before time item) time) items)
 
--- items that can stand in their places are defined under the definitions in force
+-- items that can be in their places are defined under the definitions in force
 pub all_defined : (before items : List Item) → AllCanFollow before items → AllDefinedBy (in_force before) items
 all_defined before [] a = tt
 all_defined before (item ∷ items) a = (

@@ -1,4 +1,5 @@
--- A row of items whose numbers fit and whose data messages are defined goes on to be one: for `File::data` and `Kept`.
+-- A row of items whose numbers fit and whose data messages are defined stays one with another item: for `File::data` and
+-- `Kept`.
 use Rattle.std.proofs.Common.{◌≡◌, ℕ, ◌+◌, ◌^◌, ◌<◌, List, [], ◌∷◌, ◌++◌, get_or, suc, Option, Some, None, refl, sym, ap, subst, ◌∙◌, append_assoc, arith, inl, inr}
 use Rattle.std.specs.List.{AllByRecursion}
 use Rattle.std.specs.Option.{option_or}
@@ -27,7 +28,7 @@ AllCanFollow-push before (first ∷ items) item a h = (
 pub data_size-push : (items : List Item) (item : Item) → data_size (items ++ item ∷ []) ≡ data_size items + item_size item
 data_size-push items item = sum_by-append item_size items (item ∷ []) ∙ ap (λ (n : ℕ). data_size items + n) (omega arith)
 
--- a file goes on to be one behind an item that can follow and is not too long
+-- a file can still be one after an item that can follow and is not too long
 pub CanBeFile-push : (v : FileValue) (item : Item) → CanBeFile v → CanFollow v.items item → (IsTooLong v item → ⊥)
     → CanBeFile (with_item v item)
 CanBeFile-push v item h follows short =
@@ -41,7 +42,7 @@ CanBeFile-push v item h follows short =
       ];
     }
 
--- an item that can follow behind equal files
+-- an item that can follow can follow an equal file
 pub follows_in : (v w : FileValue) (item : Item) → v ≡ w → CanFollow w.items item → CanFollow v.items item
 follows_in v w item e h = subst (λ (u : FileValue). CanFollow u.items item) (sym e) h
 

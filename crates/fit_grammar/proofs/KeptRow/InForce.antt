@@ -1,4 +1,4 @@
--- A table that agrees with the definitions in force, and goes on to agree with them behind one item more: for `Kept`.
+-- A table that agrees with the definitions in force still does after one more item: for `Kept`.
 use Rattle.std.proofs.Common.{◌≡◌, ◌≢◌, ℕ, List, [], ◌∷◌, ◌++◌, Option, Some, None, refl, sym, ap, ◌∙◌}
 use Rattle.std.specs.Option.{option_or}
 use Rattle.std.proofs.lemmas.Bool.{eq-eqb, ne_eqb}
@@ -14,7 +14,7 @@ or_none : {A : Type 0} (a : Option A) → option_or a None ≡ a
 or_none None = refl
 or_none (Some x) = refl
 
--- one item more comes before all others
+-- one more item takes precedence over all others
 pub in_force-append : (items : List Item) (item : Item) (l : ℕ)
     → in_force (items ++ item ∷ []) l ≡ option_or (definition_by item l) (in_force items l)
 in_force-append [] item l = sym (or_none (definition_by item l))
@@ -22,7 +22,7 @@ in_force-append (first ∷ items) item l =
     ap (λ (o : Option Definition). option_or o (definition_by first l)) (in_force-append items item l)
     ∙ or_assoc (definition_by item l) (in_force items l) (definition_by first l)
 
--- behind a definition
+-- after a definition
 pub in_force-defines : (items : List Item) (d : Definition) → in_force (items ++ Defines d ∷ []) d.local ≡ Some d
 in_force-defines items d = in_force-append items (Defines d) d.local ∙ rw (eq-eqb d.local d.local refl) refl
 

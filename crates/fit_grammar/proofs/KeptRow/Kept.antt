@@ -1,4 +1,4 @@
--- A file goes on to be kept as it is when an item is added to it: for `push_definition` and `push_data`.
+-- A file stays well kept when an item is added to it: for `push_definition`, `push_data` and `push_timed`.
 use Rattle.std.proofs.Common.{◌≡◌, ◌≢◌, ℕ, List, [], ◌∷◌, ◌++◌, Option, Some, sym, ap, subst, ◌∙◌, inl, inr}
 use Rattle.std.proofs.lemmas.Bool.Decides.{eqb_tells}
 use Rattle.fit_grammar.specs.declared.definition.Definition.{Definition}
@@ -17,7 +17,7 @@ use Rattle.fit_grammar.proofs.KeptRow.Following.{CanBeFile-push}
 use Rattle.fit_grammar.proofs.KeptRow.InForce.{in_force-defines, in_force-others}
 use Rattle.fit_grammar.proofs.KeptRow.ReadAgain.{items_in-push, encoded_items-push}
 
--- the table that takes a definition has the definitions in force behind it
+-- a table that takes a definition has the definitions in force after it
 pub table-take : (old new : List (Option Definition)) (items : List Item) (d : Definition)
     → ((l : ℕ) → definition_in old l ≡ in_force items l)
     → definition_in new d.local ≡ Some d → ((l : ℕ) → l ≢ d.local → definition_in new l ≡ definition_in old l)
@@ -31,7 +31,7 @@ table-take old new items d agrees taken others l =
 abbrev file_by : Frame → List Item → FileValue
 file_by frame items = record { frame = frame; items = items }
 
--- a file with the bytes of one item more is kept, and is the file with that item
+-- a file with the bytes of one more item is well kept, and is the file with that item
 pub kept : (old new : Inside) (item : Item) → IsKept old → new.frame ≡ old.frame
     → new.records.items ≡ old.records.items ++ encoded_item item
     → CanFollow (file_view old).items item → (IsTooLong (file_view old) item → ⊥)

@@ -1,4 +1,4 @@
--- The items that are left go on behind the first of them: for `Messages::next`.
+-- The items that are left continue after the first of them: for `Items::next`.
 use Rattle.std.proofs.Common.{◌≡◌, ◌≢◌, ℕ, ◌≤◌, List, [], ◌∷◌, ◌++◌, length, take, drop, Option, Some, refl, sym, ap, subst, ◌∙◌, arith, inl, inr}
 use Rattle.std.proofs.Math.Path.{fun_ext}
 use Rattle.std.proofs.lemmas.Bool.Decides.{eqb_tells}
@@ -60,7 +60,7 @@ lent_by : (f : ℕ → Option Definition) (bytes : List ℕ) (item : ReadItem) (
 lent_by f bytes (items.Definition d) used step = step.local
 lent_by f bytes (items.Data m) used step = step.lent
 
--- and the first of those that are left
+-- and it is the first of those that are left
 pub first_is : (f : ℕ → Option Definition) (bytes : List ℕ) (item : ReadItem) (used : ℕ) → AreWritten f bytes → 1 ≤ length bytes
     → IsStep f bytes (steps.Item item used) → IsFirst f bytes item (drop used bytes)
 first_is f bytes item used w some step =
@@ -85,7 +85,7 @@ first_is f bytes item used w some step =
       lent = lent_by f bytes item used step;
     }
 
--- the latest definitions behind one
+-- the latest definitions after one more
 pub latest_behind : (old new : ℕ → Option Definition) (d : Definition) → new d.local ≡ Some d → ((l : ℕ) → l ≢ d.local → new l ≡ old l)
     → new ≡ behind (Defines d) old
 latest_behind old new d taken others = fun_ext (λ l. at_local l)

@@ -1,5 +1,5 @@
--- The items that a file lends: they are its items, say its messages, and stand under their definitions: for `File::items`, and
--- for callers that keep the definition in force of each local number.
+-- The items that a file lends: they are its items, they encode its messages, and they have their definitions. For
+-- `File::items`, and for callers that keep the definition in force of each local number.
 use Rattle.std.proofs.Common.{◌≡◌, ℕ, ◌<◌, List, [], ◌∷◌, ◌++◌, length, map, Option, Some, None, refl, sym, ap, subst, ◌∙◌, arith, ◌≢◌, ◌⊎◌, inl, inr}
 use Rattle.std.proofs.lemmas.Bool.Decides.{eqb_tells}
 use Rattle.std.proofs.lemmas.Option.{same_Some}
@@ -14,7 +14,7 @@ use Rattle.fit_grammar.specs.Calls.LentItem.{LentItem, DataHere, data_under, ite
 use Rattle.fit_grammar.specs.Calls.Possible.{AllCanFollow}
 use Rattle.fit_grammar.proofs.KeptRow.ByLookup.{behind-in_force}
 
--- a data message in front of others, where this is the definition of its local number
+-- a data message before others, if this is the definition of its local number
 abbrev front : Option Definition → ℕ → Option ℕ → Option ℕ → List ℕ → List LentItem → List LentItem
 front o local offset time content others = option_to_list (option_map (λ d. DataHere (data_under d local offset time content)) o) ++ others
 
@@ -24,7 +24,7 @@ front_message : (o : Option Definition) (local : ℕ) (offset time : Option ℕ)
 front_message None local offset time content others = refl
 front_message (Some d) local offset time content others = refl
 
--- they say the messages
+-- they encode the messages
 pub lent_messages : (before : List Item) (time : ℕ) (items : List Item)
     → messages_in (lent_after before time items) ≡ messages_after before time items
 lent_messages before time [] = refl
@@ -64,7 +64,7 @@ front_under : (f : ℕ → Option Definition) (o : Option Definition) (local : �
 front_under f None local offset time content others is small under = under
 front_under f (Some d) local offset time content others is small under = (small, is, under)
 
--- and stand under their definitions
+-- and they have their definitions
 pub lent_under : (before : List Item) (time : ℕ) (items : List Item) → AllCanFollow before items
     → AllUnder (in_force before) (lent_after before time items)
 lent_under before time [] a = tt
@@ -81,7 +81,7 @@ lent_under before time (Data local offset content ∷ items) a =
     (subst (λ (f : ℕ → Option Definition). AllUnder f (lent_after (before ++ item ∷ []) after items))
     (sym (behind-in_force before item)) (lent_under (before ++ item ∷ []) after items a.1))
 
--- which definition is in force behind a definition
+-- the definition in force after a definition
 pub behind_defines : (d e : Definition) (f : ℕ → Option Definition) (local : ℕ) → behind (Defines d) f local ≡ Some e
     → ((local ≡ d.local) × (d ≡ e)) ⊎ ((local ≢ d.local) × (f local ≡ Some e))
 behind_defines d e f local is =

@@ -1,4 +1,4 @@
--- What items are written as is read as those items again: for a kept definition, a kept row, and `Kept`.
+-- The bytes that items are written as are read as those items again: for a kept definition, a kept row, and `Kept`.
 use Rattle.std.proofs.Common.{◌≡◌, ℕ, Bool, true, false, zero, suc, ◌+◌, ◌*◌, ◌<◌, ◌≤◌, List, [], ◌∷◌, ◌++◌, length, take, drop, Option, Some, None, refl, sym, ap, subst, ◌∙◌, arith, append-nil, append_assoc, length-append}
 use Rattle.std.specs.Prelude.{slice_index, IsSomeAnd, unwrap_or, option_map}
 use Rattle.std.proofs.Math.Seq.{take-append_seam, drop-append_seam}
@@ -24,7 +24,7 @@ part_count : (announced : Bool) (count there : ℕ) → (announced ≡ true → 
 part_count false count there is = refl
 part_count true count there is = ap (part_size true) (sym (is refl))
 
--- the bytes that spell a definition are those of one, and are read as it
+-- the bytes that spell a definition are those of one, and are read as that one
 pub are_definition : (d : Definition) (bytes : List ℕ) → SpellsDefinition d bytes → AreDefinition bytes
 are_definition d bytes p =
     let count = definition_count d bytes p in
@@ -42,7 +42,7 @@ pub definition_again : (d : Definition) (bytes : List ℕ) → SpellsDefinition 
 definition_again d bytes p =
     (definition_one (definition_at bytes) d bytes [] bytes [] (definition_spelled bytes (are_definition d bytes p)) p refl).1
 
--- an item stands at the front of its bytes
+-- an item is at the front of its bytes
 pub encoded_front : (f : ℕ → Option Definition) (item : Item) (rest : List ℕ) → HasEncoding item → IsDefinedBy f item
     → ItemAtFront f (encoded_item item ++ rest) item (length (encoded_item item))
 encoded_front f item rest fits defined =
@@ -119,14 +119,14 @@ pub items_under-encoded : (f : ℕ → Option Definition) (items : List Item) �
     → items_under f (encoded_items items) ≡ items
 items_under-encoded f items a = items_at-encoded (length (encoded_items items)) f items a (omega arith)
 
--- the bytes of one item more
+-- the bytes of one more item
 pub encoded_items-push : (items : List Item) (item : Item) → encoded_items (items ++ item ∷ []) ≡ encoded_items items ++ encoded_item item
 encoded_items-push [] item = append-nil (encoded_item item)
 encoded_items-push (first ∷ items) item =
     ap (λ (bytes : List ℕ). encoded_item first ++ bytes) (encoded_items-push items item)
     ∙ sym (append_assoc (encoded_item first) (encoded_items items) (encoded_item item))
 
--- are read as one item more
+-- are read as one more item
 pub items_in-push : (records : List ℕ) (item : Item) → encoded_items (items_in records) ≡ records
     → AllCanFollow [] (items_in records ++ item ∷ [])
     → items_in (records ++ encoded_item item) ≡ items_in records ++ item ∷ []
@@ -136,7 +136,7 @@ items_in-push records item written follow =
     ∙ ap items_in (sym (encoded_items-push (items_in records) item))
     ∙ items_under-encoded (in_force []) items (all_defined [] items follow)
 
--- the bytes of a definition in front of others
+-- the bytes of a definition before others
 pub written_front : (d : Definition) (bytes rest : List ℕ) (len : ℕ) → d.local < 16
     → bytes ≡ encoded_item (Defines d) ++ rest → len ≡ item_size (Defines d)
     → IsWrittenAt bytes len × (definition_at (take len bytes) ≡ d)

@@ -1,5 +1,5 @@
--- What is read of a definition is spelled so, and a beginning of an item goes on as one: for `DefinitionMessage` and the
--- reading of one item.
+-- A definition that is read is spelled by its bytes, and a prefix of an item can be completed to one: for `DefinitionMessage`
+-- and the reading of one item.
 use Rattle.std.proofs.Common.{◌≡◌, ℕ, zero, suc, ◌+◌, ◌*◌, ◌-◌, ◌/◌, ◌%◌, ◌<◌, ◌≤◌, Bool, true, false, cond, List, [], ◌∷◌, ◌++◌, length, map, take, drop, replicate, Option, Some, None, refl, sym, ap, ◌∙◌, inl, inr, arith, append-nil, length-append, length-drop}
 use Rattle.std.specs.Prelude.{slice_index, nat_lt, nat_eq, sum_by}
 use Rattle.std.specs.List.{flat_map}
@@ -31,7 +31,7 @@ head_local byte l announced e =
 pub head_below : (byte l : ℕ) (announced : Bool) → head_of byte ≡ DefinitionHead l announced → l < 16
 head_below byte l announced e = let local = head_local byte l announced e in omega arith
 
--- and so that of a definition that is spelled
+-- and so is that of a definition that is spelled
 pub local_below : (d : Definition) (a : List ℕ) → SpellsDefinition d a → d.local < 16
 local_below d a p = head_below p.first d.local p.announced p.head
 
@@ -110,7 +110,7 @@ spelled_by a b c d e n announced fields rest developer head whole joined none =
       global = refl;
     }
 
--- what stands behind six bytes, as it is announced
+-- what comes after six bytes, with developer fields announced or not
 rest_is : (announced : Bool) (n : ℕ) (rest : List ℕ) → 3 * n ≤ length rest
     → length rest ≡ 3 * n + part_size announced (slice_index rest (3 * n))
     → (rest ≡ take (3 * n) rest ++ developer_part announced (developer_in (drop (3 * n + 1) rest)))
@@ -190,7 +190,7 @@ pub all_fields : (announced : Bool) (window : List ℕ) → 6 ≤ length window
 all_fields announced window le =
     ap (λ (t : Bool). cond t 6 (behind_fields announced (6 + 3 * slice_index window 5) window)) (le-ltb (length window) 6 le)
 
--- the front of a window that has as many bytes as its definition
+-- the front of a window, if it has as many bytes as its definition
 pub front_is : (window : List ℕ) (l used : ℕ) (announced : Bool) → head_of (slice_index window 0) ≡ DefinitionHead l announced
     → 1 ≤ length window → used ≡ definition_length_of announced window → used ≤ length window → AreDefinition (take used window)
 front_is window l used announced head some length_is long =
@@ -214,12 +214,12 @@ begun_by : (f : ℕ → Option Definition) (window rest : List ℕ) (d : Definit
     → SpellsDefinition d (window ++ rest) → ItemBegun f window
 begun_by f window rest d more spelled = record { item = Defines d; rest = rest; more = more; spelled = spelled; defined = tt }
 
--- a definition of no fields
+-- a definition without fields
 bare : (a b c d e : ℕ) (announced : Bool) → head_of a ≡ DefinitionHead (a % 16) announced
     → SpellsDefinition (read_as a c d e [] []) (a ∷ b ∷ c ∷ d ∷ e ∷ 0 ∷ developer_part announced [])
 bare a b c d e announced head = spelled_by a b c d e 0 announced [] (developer_part announced []) [] head refl refl (λ _. refl)
 
--- nothing begins a definition
+-- the empty list is a prefix of a definition
 pub begun_empty : (f : ℕ → Option Definition) → ItemBegun f []
 begun_empty f =
     begun_by f [] (64 ∷ 0 ∷ 0 ∷ 0 ∷ 0 ∷ 0 ∷ []) (read_as 64 0 0 0 [] []) (omega arith) (bare 64 0 0 0 0 false refl)
@@ -229,7 +229,7 @@ pub nothing_there : (f : ℕ → Option Definition) (window : List ℕ) → leng
 nothing_there f [] none = record { says = begun_empty f; lent = tt; local = tt }
 nothing_there f (byte ∷ window) none = absurd (omega arith)
 
--- with zeros behind them, the bytes behind the first six of a definition are whole
+-- with zeros after them, the bytes after the first six of a definition are whole
 completed : (announced : Bool) (n : ℕ) (window rest : List ℕ) → length window ≡ 6 + length rest
     → slice_index window (6 + 3 * n) ≡ slice_index rest (3 * n) → length window < behind_fields announced (6 + 3 * n) window
     → (count : ℕ) × (1 ≤ count) × (3 * n ≤ length rest + count)
@@ -251,7 +251,7 @@ completed true n window rest long same short =
           (missing, omega arith, omega arith, omega (arith, zero_there))
     ]
 
--- what is shorter than the definition at its front begins one
+-- a window that is shorter than the definition at its front is a prefix of one
 pub begun_definition : (f : ℕ → Option Definition) (window : List ℕ) (l : ℕ) (announced : Bool) → 1 ≤ length window
     → head_of (slice_index window 0) ≡ DefinitionHead l announced
     → length window < definition_length_of announced window → ItemBegun f window
@@ -284,7 +284,7 @@ begun_definition f (a ∷ b ∷ c ∷ d ∷ e ∷ n ∷ rest) l announced some h
     (spelled_rest a b c d e n announced (rest ++ zeros) (own_head a l announced head)
     (omega (arith, count, joined, done.2)) (omega (arith, count, joined, done.3)))
 
--- what is shorter than the data message at its front begins one
+-- a window that is shorter than the data message at its front is a prefix of one
 pub begun_data : (f : ℕ → Option Definition) (window : List ℕ) (d : Definition) (local : ℕ) (offset : Option ℕ) → 1 ≤ length window
     → head_of (slice_index window 0) ≡ DataHead local offset → f local ≡ Some d → length window < 1 + content_size d → ItemBegun f window
 begun_data f [] d local offset some head there short = absurd (omega arith)

@@ -1,4 +1,4 @@
--- What the least length says by what the window holds: a whole item, a beginning of one, or none: for the decoder.
+-- What the least length means for the window: a whole item, a prefix of one, or none: for the decoder.
 use Rattle.std.proofs.Common.{◌≡◌, ℕ, ◌+◌, ◌*◌, ◌<◌, ◌≤◌, Bool, true, List, [], ◌∷◌, ◌++◌, length, take, drop, Option, Some, None, Result, Ok, refl, sym, ap, subst, ◌∙◌, arith}
 use Rattle.std.specs.Prelude.{slice_index, IsSomeAnd}
 use Rattle.std.proofs.lemmas.List.{append-nil, length-take-le, get_or-take, take-append-drop}
@@ -74,7 +74,7 @@ least_of_data f first rest more local offset content p defined =
     [] (rest ++ more) first p (append-nil ((first ∷ rest) ++ more)) in
     least_by_head f first rest (DataHead local offset) head ∙ some_length (f local) local (length content) defined
 
--- a window that is shorter than its least length is a beginning of an item
+-- a window that is shorter than its least length is a prefix of an item
 begun_by : (f : ℕ → Option Definition) (first : ℕ) (rest : List ℕ) (least : ℕ) (h : Head) → head_of first ≡ h
     → length_by f h (first ∷ rest) ≡ Ok least → length (first ∷ rest) < least → ItemBegun f (first ∷ rest)
 begun_by f first rest least (DefinitionHead l n) e is short =

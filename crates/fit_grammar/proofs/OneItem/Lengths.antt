@@ -1,4 +1,4 @@
--- The least length of the item at the front of a window, against each spelling that begins with it: for `least_length`.
+-- The least length of the item at the front of a window, against each spelling that continues the window: for `least_length`.
 use Rattle.std.proofs.Common.{◌≡◌, ℕ, ◌+◌, ◌*◌, ◌<◌, Bool, true, false, List, [], ◌∷◌, ◌++◌, length, Option, Some, None, Result, Ok, Err, refl, sym, ap, subst, ◌∙◌, inl, inr, arith}
 use Rattle.std.specs.Prelude.{IsSomeAnd, IfOk, slice_index}
 use Rattle.std.proofs.lemmas.Bool.{cases_lt, lt-ltb, le-ltb}
@@ -18,7 +18,7 @@ result x = Ok x
 ok_one : (a b : ℕ) → result a ≡ result b → a ≡ b
 ok_one a b e = cc
 
--- the least length behind the fields, where the announced part has so many developer fields
+-- the least length after the fields, if the announced part has so many developer fields
 pub part_least : (announced : Bool) (end count whole : ℕ) (window : List ℕ) → whole ≡ end + part_size announced count
     → (announced ≡ true → end < length window → slice_index window end ≡ count)
     → IsLeastLength (behind_fields announced end window) (length window) whole
@@ -69,7 +69,7 @@ by_head f (Data local offset content) window rest n p defined e =
     (data_length local offset content (window ++ rest) p) defined e in
     record { least = omega arith; exact = λ _. same }
 
--- the least length of a window holds of each spelling that begins with it
+-- the least length of a window holds for each spelling that continues it
 pub least_length_holds : (f : ℕ → Option Definition) (i : Item) (window rest : List ℕ) (n : ℕ) → Spells i (window ++ rest) → IsDefinedBy f i
     → least_length_of f window ≡ Ok n → IsLeastLength n (length window) (length (window ++ rest))
 least_length_holds f i [] rest n p defined e =
@@ -80,7 +80,7 @@ least_length_holds f i (first ∷ window) rest n p defined e =
     let head = spelling_head i ((first ∷ window) ++ rest) [] (window ++ rest) first p (append-nil ((first ∷ window) ++ rest)) in
     by_head f i (first ∷ window) rest n p defined (ap (λ (h : Head). length_by f h (first ∷ window)) (sym head) ∙ e)
 
--- the same of what a function answered
+-- the same for what a function returned
 pub answer_holds : (f : ℕ → Option Definition) (i : Item) (window rest : List ℕ) (answer : Result ℕ ItemFault)
     → answer ≡ least_length_of f window
     → Spells i (window ++ rest) → IsDefinedBy f i → IfOk answer (λ n. IsLeastLength n (length window) (length (window ++ rest)))

@@ -1,4 +1,4 @@
--- Where spellings of items begin, how long they are, and that none begins another: for the law of that name, and for
+-- How spellings of items begin, how long they are, and that none is a prefix of another: for the law of that name, and for
 -- whatever reads items one after another.
 use Rattle.std.proofs.Common.{◌≡◌, ℕ, ◌+◌, ◌*◌, ◌≤◌, Bool, true, false, List, [], ◌∷◌, ◌++◌, length, Option, Some, None, refl, sym, ap, ◌∙◌, append_assoc, arith}
 use Rattle.std.specs.Prelude.{slice_index, IsSomeAnd}
@@ -23,7 +23,7 @@ pub fields_length : (fields : List FieldDefinition) → length (flat_map field_b
 fields_length [] = refl
 fields_length (field ∷ fields) = let e = fields_length fields in omega (arith, e)
 
--- bytes of as many fields, with anything behind, are those of the same fields
+-- if two rows of as many fields begin the same bytes, they are the same
 pub fields_one : (fs gs : List FieldDefinition) (x y : List ℕ) → length fs ≡ length gs
     → flat_map field_bytes fs ++ x ≡ flat_map field_bytes gs ++ y → (fs ≡ gs) × (x ≡ y)
 fields_one [] [] x y same e = (refl, e)
@@ -45,7 +45,7 @@ developer_length : (fields : List DeveloperFieldDefinition) → length (flat_map
 developer_length [] = refl
 developer_length (field ∷ fields) = let e = developer_length fields in omega (arith, e)
 
--- the same of developer fields
+-- the same for developer fields
 developer_one : (fs gs : List DeveloperFieldDefinition) (x y : List ℕ) → length fs ≡ length gs
     → flat_map developer_bytes fs ++ x ≡ flat_map developer_bytes gs ++ y → (fs ≡ gs) × (x ≡ y)
 developer_one [] [] x y same e = (refl, e)
@@ -72,7 +72,7 @@ part_one true fs gs x y f g e =
     let fields : flat_map developer_bytes fs ++ x ≡ flat_map developer_bytes gs ++ y = cc in
     developer_one fs gs x y count fields
 
--- bytes of one length, with anything behind
+-- if two lists of one length begin the same bytes, they are the same
 pub bytes_one : (c k x y : List ℕ) → length c ≡ length k → c ++ x ≡ k ++ y → (c ≡ k) × (x ≡ y)
 bytes_one [] [] x y same e = (refl, e)
 bytes_one [] (b ∷ k) x y same e = absurd (omega arith)
@@ -148,7 +148,7 @@ mixed d l o c a x b y p q e =
     let first : p.first ≡ q.first = cc in
     heads_differ d.local l p.announced o (sym p.head ∙ ap head_of first ∙ q.head)
 
--- under one lookup of definitions, no spelling of a defined item begins the spelling of another
+-- under one lookup of definitions, no spelling of a defined item is a prefix of the spelling of another
 pub spelling_one : (f : ℕ → Option Definition) (i j : Item) (a x b y : List ℕ) → Spells i a → Spells j b → IsDefinedBy f i → IsDefinedBy f j
     → a ++ x ≡ b ++ y → (a ≡ b) × (i ≡ j) × (x ≡ y)
 spelling_one f (Defines d) (Defines c) a x b y p q defined other e =
@@ -184,7 +184,7 @@ developer_count_by : (announced : Bool) (bytes : List ℕ) (n : ℕ) (fields : L
 developer_count_by false bytes n fields e long = absurd cc
 developer_count_by true bytes n fields e long = rw (← long) (get_or-append_seam bytes (length fields) (flat_map developer_bytes fields) 0)
 
--- the byte behind its fields is the number of its developer fields, where they are announced
+-- the byte after its fields is the number of its developer fields, if they are announced
 pub developer_count : (d : Definition) (a : List ℕ) (p : SpellsDefinition d a) → p.announced ≡ true
     → slice_index a (6 + 3 * length d.fields.items) ≡ length d.developer.items
 developer_count d a p e =

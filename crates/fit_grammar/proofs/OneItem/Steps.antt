@@ -1,4 +1,4 @@
--- Of a window and a lookup of definitions only one step is right: so `next_item` answers wherever an answer is right.
+-- For a window and a lookup of definitions only one step is right. So `next_item` gives an answer whenever it is right.
 use Rattle.std.proofs.Common.{◌≡◌, ℕ, List, [], ◌∷◌, ◌++◌, length, take, drop, Option, Some, None, refl, sym, ap, ◌∙◌, arith, append_assoc}
 use Rattle.std.specs.Prelude.{IsSomeAnd}
 use Rattle.std.proofs.lemmas.List.{take-append-drop, length-take, append-nil, length-append}
@@ -22,7 +22,7 @@ items_one f window i j m n p q =
     let inside = q.within in
     (one.1, omega (arith, same, length-take m window, length-take n window))
 
--- an item at the front has not only begun
+-- an item at the front is not a mere prefix of one
 pub item_not_begun : (f : ℕ → Option Definition) (window : List ℕ) (i : Item) (used : ℕ) → ItemAtFront f window i used
     → ItemBegun f window → ⊥
 item_not_begun f window i used p q =
@@ -35,7 +35,7 @@ item_not_begun f window i used p q =
     let more = q.more in
     absurd (omega (arith, none, length-append (drop used window) q.rest))
 
--- the head of an item as it is spelled
+-- the head of an item, as it is spelled
 abbrev pub item_head : (i : Item) (a : List ℕ) → Spells i a → Head
 item_head (Defines d) a p = DefinitionHead d.local p.announced
 item_head (Data local offset content) a p = DataHead local offset

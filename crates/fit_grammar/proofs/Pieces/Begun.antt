@@ -1,4 +1,4 @@
--- The header of a file that comes in pieces, and where a reading begins behind it.
+-- The header of a file that comes in pieces, and the start of a reading after it.
 use Rattle.std.proofs.Common.{◌≡◌, ℕ, ◌+◌, ◌-◌, ◌<◌, ◌≤◌, ◌^◌, List, [], ◌++◌, length, take, drop, refl, sym, ap, subst, ◌∙◌, arith, inl, inr}
 use Rattle.std.proofs.lemmas.Bool.{cases_lt}
 use Rattle.std.proofs.lemmas.List.{length-append, length-take, length-take-le, take-append-drop, take-take, take_all, drop_all}
@@ -18,6 +18,7 @@ use Rattle.fit_grammar.specs.Private.Feeding.{StandsBefore, ReadsOn}
 use Rattle.fit_grammar.proofs.OneItem.DefinitionRead.{begun_empty}
 use Rattle.fit_grammar.proofs.Decoding.Longer.{cut_of, shown_of, shown_longer}
 use Rattle.fit_grammar.proofs.Decoding.Reached.{reached_first}
+use Rattle.fit_grammar.proofs.Pieces.Noted.{none_noted}
 use Rattle.fit_grammar.proofs.Pieces.Items.{item_waits}
 use Rattle.fit_grammar.proofs.Pieces.Ended.{end_cut}
 
@@ -40,7 +41,7 @@ header_shown bytes taken fault e r whole =
     subst (λ (l : List ℕ). IsShownBy l fault) (ap (λ (l : List ℕ). l ++ drop 14 bytes) e ∙ take-append-drop 14 bytes)
     (shown_longer taken (drop 14 bytes) fault (shown_of taken fault (inl r) whole))
 
--- ---- a header that is whole, of which some bytes came before this piece
+-- ---- a header that is whole, with some bytes from before this piece
 
 -- it has 14 bytes at most
 size_within : (taken : List ℕ) (h : Header) → BeginsWith taken h → h.frame.header_size ≤ 14
@@ -65,7 +66,7 @@ header_parts fed bytes taken rest h had long e p le is =
     ∙ drop-append-add fed bytes (size - had) ∙ sym is in
     ap (λ (l : List ℕ). l ++ rest) front ∙ ap (λ (l : List ℕ). take size all ++ l) (sym back) ∙ take-append-drop size all
 
--- it is read of its own bytes alone
+-- it is read from its own bytes alone
 pub header_alone : (taken : List ℕ) (h : Header) → BeginsWith taken h → BeginsWith (take h.frame.header_size taken) h
 header_alone taken h p =
     let size = h.frame.header_size in
@@ -74,12 +75,12 @@ header_alone taken h p =
       is_header = subst (λ (l : List ℕ). IsHeader l h.frame h.data_size) (sym (take-take size size taken (omega arith))) p.is_header;
     }
 
--- ---- behind the header
+-- ---- after the header
 
 pub begun_reads : (b : List ℕ) (h : Header) (r : Reading) → BeginsWith b h → length b ≡ h.frame.header_size
-    → h.data_size < 2 ^ 32 → r.file.frame ≡ h.frame → r.file.items ≡ [] → r.at ≡ length b
+    → h.data_size < 2 ^ 32 → r.file.frame ≡ h.frame → r.file.items ≡ [] → r.places ≡ [] → r.at ≡ length b
     → r.end ≡ length b + h.data_size → r.checksum ≡ crc b → r.carry.items ≡ [] → r.closing.items ≡ [] → ReadsOn b r
-begun_reads b h r p whole fits frame items at end checksum carry closing =
+begun_reads b h r p whole fits frame items none at end checksum carry closing =
     let f = in_force r.file.items in
     let first = reached_first b h p fits in
     let reached : Reached b r.file r.at r.end = record {
@@ -97,11 +98,13 @@ begun_reads b h r p whole fits frame items at end checksum carry closing =
       reached = reached;
       window_is = drop_all r.at b (omega arith);
       checked = checksum ∙ ap crc (sym (take_all r.end b (omega arith)));
+      noted = rw (take_all r.at b (omega arith), frame, items, none) (none_noted b h p whole);
     } in
     record {
       stands = subst (StandsBefore b r) (sym (ap (λ (l : List ℕ). l ++ r.closing.items) carry ∙ closing)) stands;
       within = λ _. (closing, rw carry (begun_empty f));
       behind = λ _. carry;
+      short = omega (arith, ap length carry);
       cut = λ _. elim (cases_lt r.at r.end) [
         | inl lt ↦ (item_waits b [] r stands lt (inr (1, refl, omega arith, begun_empty f))).cut
         | inr le ↦ end_cut b r.file r.at r.end reached le (omega arith)

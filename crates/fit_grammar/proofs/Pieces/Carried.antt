@@ -1,4 +1,4 @@
--- The item that a piece's end cut: with bytes of the next one it is whole, or shows a fault, or is still cut.
+-- The item that the end of a piece cut: with bytes of the next piece it is whole, or shows a fault, or is still cut.
 use Rattle.std.proofs.Common.{◌≡◌, ℕ, ◌+◌, ◌-◌, ◌*◌, ◌<◌, ◌≤◌, Bool, true, false, min, List, [], ◌∷◌, ◌++◌, length, take, drop, Option, Some, None, refl, sym, ap, subst, ◌∙◌, append_assoc, arith, inl, inr}
 use Rattle.std.specs.Prelude.{slice_index, IfOk}
 use Rattle.std.proofs.lemmas.Bool.{cases_lt}
@@ -23,7 +23,7 @@ use Rattle.fit_grammar.proofs.Decoding.Shown.{front_taken}
 use Rattle.fit_grammar.proofs.Pieces.Standing.{StaysAt, stands_same}
 use Rattle.fit_grammar.proofs.Pieces.Items.{takes_longer, stands_item, item_shown, item_waits, begun_of}
 
--- an item that is whole where it had only begun has more bytes than had come
+-- an item that is whole now and was not before has at least as many bytes as had come
 pub behind_begun : (f : ℕ → Option Definition) (window : List ℕ) (item : Item) (had used : ℕ) → had ≤ length window
     → ItemAtFront f window item used → ItemBegun f (take had window) → had ≤ used
 behind_begun f window item had used le there begun =
@@ -37,13 +37,13 @@ behind_begun f window item had used le there begun =
       | inr more ↦ more
     ]
 
--- ---- where it is still cut, all the bytes were added to it
+-- ---- if it is still cut, all the bytes were added to it
 
 part_most : (announced : Bool) (count : ℕ) → (announced ≡ true → count < 256) → part_size announced count ≤ 766
 part_most false count few = omega arith
 part_most true count few = omega (arith, few refl)
 
--- an item that begins so has no more bytes than this
+-- an item that begins with these bytes has no more than so many
 longest_by : (f : ℕ → Option Definition) (item : Item) (first : ℕ) (carry x rest : List ℕ) (most : ℕ) → 1 ≤ length rest
     → Spells item (((first ∷ carry) ++ x) ++ rest) → IsDefinedBy f item
     → IfOk (least_length_of f (first ∷ carry)) (λ least. least ≤ most) → 1537 ≤ most
@@ -101,7 +101,7 @@ all_carried f carry piece added most own a some begun least long =
 
 -- ---- the steps of the carried item
 
--- one reading goes on from another with what was added to the carry
+-- one reading continues another, with more bytes in the carry
 pub record Carries (old mid : Reading) (piece : List ℕ) (most own : ℕ) : Type 0 where
   pub stays : StaysAt old mid
   pub adds : Adds old.carry.items piece mid.carry.items most own
@@ -121,13 +121,14 @@ carried_window old mid piece most own k =
 pub carries_on : (b piece : List ℕ) (old mid new : Reading) (most own : ℕ) (used : Option ℕ)
     → StandsBefore b old (old.carry.items ++ piece) → Carries old mid piece most own → GoesOnFrom mid new
     → TakesBegun mid new (length old.carry.items) used → CarriesOn b new piece used
-carries_on b piece old mid new most own None s k on (cut, file, at, carry) =
+carries_on b piece old mid new most own None s k on (cut, file, places, at, carry) =
     let f = in_force mid.file.items in
     let begun = begun_of f mid.carry.items (mid.end - mid.at) cut in
     let all : mid.carry.items ≡ old.carry.items ++ piece = all_carried f old.carry.items piece mid.carry.items most own
     k.adds k.some begun (rw (sym k.stays.file) at k.least) k.longest in
     let stays : StaysAt old new = record {
       file = file ∙ k.stays.file;
+      places = places ∙ k.stays.places;
       at = at ∙ k.stays.at;
       end = on.end ∙ k.stays.end;
       checksum = on.checksum ∙ k.stays.checksum;
@@ -142,14 +143,14 @@ carries_on b piece old mid new most own None s k on (cut, file, at, carry) =
 carries_on b piece old mid new most own (Some used) s k on (taken, at, none) =
     let had = length old.carry.items in
     let joined = carried_window old mid piece most own k in
-    let here = rw (k.stays.file, k.stays.at, k.stays.end) at taken in
-    let longer = takes_longer old.file new.file mid.carry.items (drop own piece) (old.end - old.at) (had + used) here in
+    let here = rw (k.stays.file, k.stays.places, k.stays.at, k.stays.end) at taken in
+    let longer = takes_longer old.file new.file old.places new.places mid.carry.items (drop own piece) old.at (old.end - old.at) (had + used) here in
     let stands = stands_item b (old.carry.items ++ piece) old new (had + used) s k.more
     (rw joined longer) (at ∙ ap (λ (n : ℕ). n + (had + used)) k.stays.at) (on.end ∙ k.stays.end)
     (on.checksum ∙ k.stays.checksum) in (
       omega (
         arith,
-        taken.at_front.within,
+        taken.taken.at_front.within,
         ap length k.adds.added_is,
         length-append old.carry.items (take own piece),
         length-take own piece,
@@ -158,7 +159,7 @@ carries_on b piece old mid new most own (Some used) s k on (taken, at, none) =
       none,
     )
 
--- what is carried is a beginning of the window, and shows its fault alone
+-- what is carried is a prefix of the window, and its fault is one of the whole window
 reached_shorter : (b window x : List ℕ) (v : FileValue) (at end : ℕ) → Reached b v at end → drop at b ≡ window ++ x
     → Reached (take at b ++ window) v at end
 reached_shorter b window x v at end r is = record {
@@ -192,9 +193,9 @@ carried_fault b piece old mid new most own kind s k sh whole at =
     (item_shown front carry old.file old.at old.end new kind r there k.more
     (rw (k.stays.file, k.stays.at, k.stays.end) at sh) whole (at ∙ k.stays.at)))
 
--- want of memory at the item
+-- lack of memory at the item
 pub memory_shown : (b window : List ℕ) (old new : Reading) (kind : FaultKind) → StandsBefore b old window → old.at < old.end
-    → kind ≡ Memory → new.at ≡ old.at → IsShownBy b (fault_in new kind)
-memory_shown b window old new kind s lt memory at =
+    → 1 ≤ length window → kind ≡ Memory → new.at ≡ old.at → IsShownBy b (fault_in new kind)
+memory_shown b window old new kind s lt some memory at =
     subst (λ (k : FaultKind). IsShownBy b (fault_in new k)) (sym memory)
-    (item_shown b window old.file old.at old.end new Memory s.reached s.window_is lt (inl refl) (λ e. cc) at)
+    (item_shown b window old.file old.at old.end new Memory s.reached s.window_is lt (inl (refl, some)) (λ e. cc) at)

@@ -1,4 +1,4 @@
--- The end of a piece behind the whole items: within an item that waits for more, or behind all the records.
+-- The end of a piece after the whole items: within an unfinished item, or after all the records.
 use Rattle.std.proofs.Common.{◌≡◌, ℕ, ◌+◌, ◌<◌, ◌≤◌, List, [], ◌++◌, length, take, drop, refl, sym, ap, subst, ◌∙◌, arith}
 use Rattle.std.proofs.lemmas.List.{append-nil, length-take-le}
 use Rattle.fit_base.specs.Number.{low_first}
@@ -27,21 +27,22 @@ use Rattle.fit_grammar.proofs.Pieces.Standing.{StaysAt, stands_same, stands_leng
 abbrev fault_at : FaultKind → ℕ → FileFault
 fault_at kind place = record { kind = kind; place = place }
 
--- an item that has begun waits in the carry
+-- an unfinished item waits in the carry
 pub carried_reads : (b : List ℕ) (r : Reading) → StandsBefore b r r.carry.items → r.at < r.end → Waits b r r.carry.items
-    → r.closing.items ≡ [] → ReadsOn b r
-carried_reads b r stands lt waits none = record {
+    → r.closing.items ≡ [] → length r.carry.items < 130051 → ReadsOn b r
+carried_reads b r stands lt waits none short = record {
   stands = subst (StandsBefore b r) (sym (ap (λ (l : List ℕ). r.carry.items ++ l) none ∙ append-nil r.carry.items)) stands;
   within = λ _. (none, waits.begun);
   behind = λ le. absurd (omega arith);
+  short = short;
   cut = λ _. waits.cut;
   whole = λ two. absurd (omega (arith, ap length none));
 }
 
--- and what stands behind the whole items of a piece goes there
+-- and what comes after the whole items of a piece goes there
 pub waits_reads : (b rest : List ℕ) (old new : Reading) → TakesItems b old rest → old.at < old.end → StaysAt old new
-    → old.carry.items ≡ [] → new.carry.items ≡ old.carry.items ++ rest → new.closing ≡ old.closing → ReadsOn b new
-waits_reads b rest old new t lt stays none carry closing =
+    → old.carry.items ≡ [] → new.carry.items ≡ old.carry.items ++ rest → new.closing ≡ old.closing → length rest < 130051 → ReadsOn b new
+waits_reads b rest old new t lt stays none carry closing short =
     let waits = (t.waits lt).1 in
     let empty : new.closing.items ≡ [] = rw closing (t.waits lt).0 in
     let kept : new.carry.items ≡ rest = carry ∙ ap (λ (l : List ℕ). l ++ rest) none in
@@ -49,9 +50,9 @@ waits_reads b rest old new t lt stays none carry closing =
     let begun : ItemBegun (in_force new.file.items) new.carry.items = rw (stays.file, kept) waits.begun in
     carried_reads b new
     (stands_same b new.carry.items old new (subst (StandsBefore b old) window t.stands) stays)
-    (omega (arith, stays.at, stays.end)) (record { begun = begun; cut = waits.cut }) empty
+    (omega (arith, stays.at, stays.end)) (record { begun = begun; cut = waits.cut }) empty (omega (arith, ap length kept, short))
 
--- ---- behind all the records
+-- ---- after all the records
 
 -- the bytes end within the closing checksum
 pub end_cut : (b : List ℕ) (v : FileValue) (at end : ℕ) → Reached b v at end → end ≤ at → length b < end + 2
@@ -63,7 +64,7 @@ end_cut b v at end r le short =
 abbrev file_by : Frame → List Item → FileValue
 file_by frame items = record { frame = frame; items = items }
 
--- or behind it, where it is right
+-- or after it, if it is right
 closed_file : (b closing : List ℕ) (v : FileValue) (at end : ℕ) → Reached b v at end → end ≤ at → drop at b ≡ closing
     → length closing ≡ 2 → low_first closing ≡ crc (take end b) → FileOf b v
 closed_file b closing v at end r le is two right =
@@ -97,6 +98,7 @@ closed_reads b rest old new t le stays carry none closing right most =
       stands = stands;
       within = λ more. absurd (omega arith);
       behind = λ _. empty;
+      short = omega (arith, ap length empty);
       cut = λ short. end_cut b new.file new.at new.end stands.reached behind (omega arith);
       whole = λ two.
           let file = closed_file b new.closing.items new.file new.at new.end stands.reached behind there (omega arith)
@@ -104,7 +106,7 @@ closed_reads b rest old new t le stays carry none closing right most =
           (file, file_shows_nothing b new.file file);
     }
 
--- the bytes behind the records are those of the window
+-- the bytes after the records are those of the window
 closing_place : (b rest : List ℕ) (r : Reading) → TakesItems b r rest → r.end ≤ r.at
     → (r.end ≡ r.at) × (length b ≡ r.at + length (r.closing.items ++ rest)) × (drop r.end b ≡ r.closing.items ++ rest)
 closing_place b rest r t le =

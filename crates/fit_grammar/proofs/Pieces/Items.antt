@@ -1,4 +1,4 @@
--- Taking items of a piece: an item that is there, a fault that one shows, and an item that has only begun.
+-- Taking items of a piece: an item that is there, a fault that an item shows, and an unfinished item.
 use Rattle.std.proofs.Common.{◌≡◌, ℕ, ◌+◌, ◌-◌, ◌<◌, List, [], ◌++◌, length, drop, Option, refl, sym, ap, subst, ◌∙◌, arith, inl, inr}
 use Rattle.std.proofs.lemmas.List.{length-append, take-append-le, drop-drop}
 use Rattle.fit_grammar.specs.declared.file.fault.FaultKind.{FaultKind}
@@ -12,40 +12,46 @@ use Rattle.fit_grammar.specs.Format.File.{FileValue}
 use Rattle.fit_grammar.specs.Format.Refusal.{Refusal, IsFaultOf}
 use Rattle.fit_grammar.specs.Calls.Pieces.{IsShownBy}
 use Rattle.fit_grammar.specs.Calls.Step.{ItemBegun}
-use Rattle.fit_grammar.specs.Private.Decoding.{Reached, TakesItem, IsItemFault, fault_of}
-use Rattle.fit_grammar.specs.Private.Feeding.{StandsBefore, Waits, TakesItems, fault_in}
+use Rattle.fit_grammar.specs.Private.Decoding.{Reached, IsItemFault, fault_of}
+use Rattle.fit_grammar.specs.Private.Feeding.{StandsBefore, Waits, TakesItems, TakesNext, fault_in}
 use Rattle.fit_grammar.proofs.Decoding.Longer.{cut_of, shown_of}
 use Rattle.fit_grammar.proofs.Decoding.Reached.{reached_more}
 use Rattle.fit_grammar.proofs.Decoding.Shown.{reached_refused}
+use Rattle.fit_grammar.proofs.Pieces.Noted.{noted_next}
 use Rattle.fit_grammar.proofs.Pieces.Standing.{StaysAt, stands_same}
 
 -- an item at the front of a window is at the front of a longer one
-pub takes_longer : (v w : FileValue) (window x : List ℕ) (left used : ℕ) → TakesItem v w window left used
-    → TakesItem v w (window ++ x) left used
-takes_longer v w window x left used t =
-    let within = t.at_front.within in
+pub takes_longer : (v w : FileValue) (places after window x : List ℕ) (at left used : ℕ) → TakesNext v w places after window at left used
+    → TakesNext v w places after (window ++ x) at left used
+takes_longer v w places after window x at left used t =
+    let front = t.taken.at_front in
+    let within = front.within in
     record {
-      item = t.item;
-      at_front = record {
-        within = omega (arith, length-append window x);
-        spelled = subst (λ (l : List ℕ). Spells t.item l) (sym (take-append-le used window x within)) t.at_front.spelled;
-        defined = t.at_front.defined;
+      taken = record {
+        item = t.taken.item;
+        at_front = record {
+          within = omega (arith, length-append window x);
+          spelled = subst (λ (l : List ℕ). Spells t.taken.item l) (sym (take-append-le used window x within)) front.spelled;
+          defined = front.defined;
+        };
+        inside = t.taken.inside;
+        added = t.taken.added;
       };
-      inside = t.inside;
-      added = t.added;
+      noted_is = t.noted_is;
     }
 
--- behind an item that was taken the rest of the window stands
+-- after an item that was taken comes the rest of the window
 pub stands_item : (b window : List ℕ) (old new : Reading) (used : ℕ) → StandsBefore b old window → old.at < old.end
-    → TakesItem old.file new.file window (old.end - old.at) used → new.at ≡ old.at + used → new.end ≡ old.end
+    → TakesNext old.file new.file old.places new.places window old.at (old.end - old.at) used → new.at ≡ old.at + used → new.end ≡ old.end
     → new.checksum ≡ old.checksum → StandsBefore b new (drop used window)
 stands_item b window old new used s lt t at end checksum =
-    let here : TakesItem old.file new.file (drop old.at b) (old.end - old.at) used =
-    subst (λ (l : List ℕ). TakesItem old.file new.file l (old.end - old.at) used) (sym s.window_is) t in
+    let here : TakesNext old.file new.file old.places new.places (drop old.at b) old.at (old.end - old.at) used =
+    subst (λ (l : List ℕ). TakesNext old.file new.file old.places new.places l old.at (old.end - old.at) used) (sym s.window_is) t in
     record {
-      reached = rw (at, end) (reached_more b old.file new.file old.at old.end used s.reached here lt);
+      reached = rw (at, end) (reached_more b old.file new.file old.at old.end used s.reached here.taken lt);
       window_is = ap (λ (n : ℕ). drop n b) at ∙ sym (drop-drop used old.at b) ∙ ap (λ (l : List ℕ). drop used l) s.window_is;
       checked = rw (checksum, end) s.checked;
+      noted = rw at (noted_next b old.file new.file old.places new.places old.at old.end used s.reached here s.noted);
     }
 
 -- ---- faults
@@ -53,7 +59,7 @@ stands_item b window old new used s lt t at end checksum =
 abbrev fault_at : FaultKind → ℕ → FileFault
 fault_at kind place = record { kind = kind; place = place }
 
--- but for an input that ends too soon, what an item shows stands at the item
+-- unless the input ends too soon, the fault that an item shows is at the item
 pub record IsAtItem (kind : FaultKind) (at len : ℕ) (r : Reading) : Type 0 where
   pub whole : fault_of kind at len ≡ fault_at kind at
   pub here : fault_in r kind ≡ fault_at kind at
@@ -61,7 +67,7 @@ pub record IsAtItem (kind : FaultKind) (at len : ℕ) (r : Reading) : Type 0 whe
 is_at_item : (v : FileValue) (window : List ℕ) (left : ℕ) (kind : FaultKind) (at len : ℕ) (r : Reading)
     → IsItemFault (in_force v.items) window left kind → (kind ≡ Truncated → ⊥) → r.at ≡ at → IsAtItem kind at len r
 is_at_item v window left Truncated at len r sh whole e = absurd (whole refl)
-is_at_item v window left TrailingBytes at len r (inl memory) whole e = absurd cc
+is_at_item v window left TrailingBytes at len r (inl (memory, some)) whole e = absurd cc
 is_at_item v window left TrailingBytes at len r (inr sh) whole e = absurd sh
 is_at_item v window left HeaderSize at len r sh whole e = record { whole = refl; here = ap (fault_at HeaderSize) e }
 is_at_item v window left Magic at len r sh whole e = record { whole = refl; here = ap (fault_at Magic) e }
@@ -84,10 +90,10 @@ item_shown b window v at end new kind r is lt sh whole e =
     subst (IsShownBy b) (sym place.here) (shown_of b (fault_at kind at)
     (reached_refused b v at end kind (fault_at kind at) r lt there (sym place.whole)) whole)
 
--- ---- an item that has only begun
+-- ---- an unfinished item
 
 pub begun_of : (f : ℕ → Option Definition) (window : List ℕ) (left : ℕ) → IsItemFault f window left Truncated → ItemBegun f window
-begun_of f window left (inl memory) = absurd cc
+begun_of f window left (inl (memory, some)) = absurd cc
 begun_of f window left (inr sh) = sh.3
 
 pub refusal_of : (b : List ℕ) (place : ℕ) → IsFaultOf b (fault_at Truncated place) → Refusal b Truncated place
@@ -111,10 +117,11 @@ item_waits b window r s lt sh =
 
 -- ---- the loop over the items of a piece
 
--- behind one more item
+-- after one more item
 pub next_item : (b bytes : List ℕ) (old new : Reading) (used own : ℕ)
     → StandsBefore b old (old.closing.items ++ drop used bytes) → old.at < old.end → old.closing.items ≡ []
-    → TakesItem old.file new.file (drop used bytes) (old.end - old.at) own → new.at ≡ old.at + own → new.end ≡ old.end
+    → TakesNext old.file new.file old.places new.places (drop used bytes) old.at (old.end - old.at) own → new.at ≡ old.at + own
+    → new.end ≡ old.end
     → new.checksum ≡ old.checksum → new.closing ≡ old.closing
     → StandsBefore b new (new.closing.items ++ drop (used + own) bytes)
 next_item b bytes old new used own s lt none t at end checksum closing =
@@ -124,7 +131,7 @@ next_item b bytes old new used own s lt none t at end checksum closing =
     drop-drop own used bytes ∙ ap (λ (l : List ℕ). l ++ drop (used + own) bytes) (sym empty) in
     subst (StandsBefore b new) window (stands_item b (drop used bytes) old new own here lt t at end checksum)
 
--- and before one that has only begun
+-- and before an unfinished one
 pub cut_items : (b rest : List ℕ) (old new : Reading) (kind : FaultKind)
     → StandsBefore b old (old.closing.items ++ rest) → old.at < old.end → old.closing.items ≡ []
     → IsItemFault (in_force old.file.items) rest (old.end - old.at) kind → kind ≡ Truncated → StaysAt old new

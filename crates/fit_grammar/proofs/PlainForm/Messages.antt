@@ -1,4 +1,4 @@
--- The plain form says the messages of the items, and none of its items has a compressed timestamp.
+-- The plain form encodes the messages of the items, and none of its items has a compressed timestamp.
 use Rattle.std.proofs.Common.{◌≡◌, ◌<◌, ℕ, List, [], ◌∷◌, ◌++◌, Bool, true, false, length, drop, Option, Some, None, refl, sym, ap, ◌∙◌, arith, append-nil, append_assoc}
 use Rattle.std.specs.Prelude.{slice_set, is_some, unwrap_or}
 use Rattle.std.specs.List.{AllByRecursion}
@@ -31,7 +31,7 @@ time_again : (arch : Arch) (time : ℕ) (fields : List FieldDefinition) (content
 time_again Little time fields content = ap (timed_fields (fields_of Little fields content)) (four_again time)
 time_again Big time fields content = ap (timed_fields (fields_of Big fields content)) (four_again time)
 
--- what stands behind the fields stands there with the time in front too
+-- what comes after the fields also does so with the time in front
 developer_again : (d : Definition) (arch : Arch) (time : ℕ) (content : List ℕ)
     → drop (fields_size (timed_definition true d)) (time_bytes arch time ++ content) ≡ drop (fields_size d) content
 developer_again d Little time content =
@@ -54,7 +54,7 @@ message_again d (Some time) content =
 
 -- ---- all messages
 
--- a definition in front of other items is no message
+-- a definition before other items is no message
 behind_definitions : (before : List Item) (time : ℕ) (has needs : Bool) (d : Definition) (others : List Item)
     → messages_after before time (definitions_before has needs d ++ others) ≡ messages_after (before ++ definitions_before has needs d) time others
 behind_definitions before time true true d others = ap (λ (b : List Item). messages_after b time others) (sym (append-nil before))

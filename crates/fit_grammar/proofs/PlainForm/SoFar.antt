@@ -1,12 +1,14 @@
--- The plain form of a file goes on to be made when the next item is taken: for `plain_file`.
-use Rattle.std.proofs.Common.{◌≡◌, ◌<◌, ◌^◌, ℕ, ◌+◌, List, [], ◌∷◌, ◌++◌, Bool, false, true, length, map, Option, Some, None, refl, sym, ap, subst, ◌∙◌, arith, append_assoc, append-nil, inl, inr}
+-- The plain form of a file, as it grows with each item that is taken: for `plain_file`.
+use Rattle.std.proofs.Common.{◌≡◌, ◌<◌, ◌≤◌, ◌^◌, ℕ, ◌+◌, List, [], ◌∷◌, ◌++◌, Bool, false, true, length, map, Option, Some, None, refl, sym, ap, subst, ◌∙◌, arith, append_assoc, append-nil, inl, inr}
 use Rattle.std.specs.Prelude.{slice_set, is_some, if◌then◌else◌}
 use Rattle.std.specs.List.{AllByRecursion}
 use Rattle.std.proofs.lemmas.List.{length-set, get_or-replicate, get_or_past}
 use Rattle.std.proofs.lemmas.Bool.{cases_lt}
-use Rattle.std.proofs.lemmas.Option.{none-some}
-use Rattle.std.proofs.lemmas.List.Sums.{sum_by-append}
+use Rattle.std.proofs.lemmas.Option.{none-some, same_Some}
+use Rattle.std.proofs.lemmas.List.Sums.{sum_by-append, sum_by-cons}
 use Rattle.fit_grammar.specs.declared.definition.Definition.{Definition}
+use Rattle.fit_grammar.specs.declared.plain.fault.PlainFaultKind.{PlainFaultKind}
+use Rattle.fit_grammar.specs.declared.plain.fault.PlainFaultKind.TheVariants.{TooLong, Memory}
 use Rattle.fit_grammar.specs.Format.Item.{Item, Defines, item_size}
 use Rattle.fit_grammar.specs.Format.Records.{in_force, data_size}
 use Rattle.fit_grammar.specs.Format.File.{FileValue}
@@ -14,8 +16,9 @@ use Rattle.fit_grammar.specs.Format.Message.{messages_of}
 use Rattle.fit_grammar.specs.Calls.Possible.{CanBeFile}
 use Rattle.fit_grammar.specs.Calls.Table.{behind}
 use Rattle.fit_grammar.specs.Calls.LentItem.{LentItem, DefinesHere, DataHere, item_lent, items_lent, AllUnder}
-use Rattle.fit_grammar.specs.Calls.PlainForm.{plain_item, plain_data, plain_content, definitions_before, is_timed, timed_behind, none_timed, plain_after, plain_items, IsPlain, is_too_long, too_long_after, too_long_at, IsItemPlace}
+use Rattle.fit_grammar.specs.Calls.PlainForm.{plain_item, plain_data, plain_content, definitions_before, is_timed, timed_behind, none_timed, plain_after, plain_items, IsPlain, is_too_long, too_long_after, too_long_at, IsItemPlace, IsRefusedAt}
 use Rattle.fit_grammar.specs.Private.PlainSoFar.{PlainSoFar, AreTimed, IsReady}
+use Rattle.fit_grammar.proofs.Decoding.Reached.{some_bytes}
 use Rattle.fit_grammar.proofs.KeptRow.Lent.{lent_messages, lent_under}
 use Rattle.fit_grammar.proofs.PlainForm.Messages.{same_messages}
 use Rattle.fit_grammar.proofs.PlainForm.Unchanged.{unchanged}
@@ -53,11 +56,6 @@ knows_more items timed (DataHere m) left k =
       count = length-set timed m.local needs ∙ k.count;
     }
 
-first_size : (item : LentItem) (left : List LentItem)
-    → data_size (map item_lent (item ∷ left)) ≡ item_size (item_lent item) + data_size (map item_lent left)
-first_size item left =
-    sum_by-append item_size (item_lent item ∷ []) (map item_lent left) ∙ ap (λ (n : ℕ). n + data_size (map item_lent left)) (omega arith)
-
 -- the next item can be taken
 pub is_ready : (v : FileValue) (items : List Item) (timed : List Bool) (place : ℕ) (item : LentItem) (left : List LentItem)
     → PlainSoFar v items timed place (item ∷ left) → IsReady items timed item
@@ -91,8 +89,9 @@ goes_on v items timed place item left p fits =
       made = append_assoc items own others ∙ p.made;
       long = ap long (sum_by-append item_size items own)
           ∙ sym (ap (λ (b : Bool). if b then Some place else long (data_size items + data_size own)) fits) ∙ p.long;
-      begins = λ at b. p.begins at (inr b);
-      size = omega (arith, p.size, first_size item left);
+      before = p.before ++ item_lent item ∷ [];
+      passed = p.passed ∙ sym (append_assoc p.before (item_lent item ∷ []) (map item_lent left));
+      place_is = omega (arith, p.place_is, sum_by-append item_size p.before (item_lent item ∷ []));
     }
 
 -- ---- from the first item to the last
@@ -118,8 +117,9 @@ start v under same = record {
   count = refl;
   made = refl;
   long = refl;
-  begins = λ at b. b;
-  size = ap (λ (is : List Item). v.frame.header_size + data_size is) same;
+  before = [];
+  passed = sym same;
+  place_is = omega arith;
 }
 
 pub started : (v : FileValue) (items : List Item) (timed : List Bool) (place : ℕ) (left : List LentItem) → items ≡ [] → timed ≡ none_timed
@@ -128,7 +128,7 @@ pub started : (v : FileValue) (items : List Item) (timed : List Bool) (place : �
 started v items timed place left none flags first all under same =
     rw (none, flags, first, all) (start v (rw all at under) (rw all at same))
 
--- behind the next item
+-- after the next item
 pub went_on : (v : FileValue) (items new : List Item) (timed flags : List Bool) (place : ℕ) (item : LentItem) (left : List LentItem)
     → PlainSoFar v items timed place (item ∷ left) → is_too_long (data_size items) (plain_item timed item) ≡ false
     → new ≡ items ++ plain_item timed item → flags ≡ timed_behind timed item
@@ -136,7 +136,7 @@ pub went_on : (v : FileValue) (items new : List Item) (timed flags : List Bool) 
 went_on v items new timed flags place item left p fits added set = rw (added, set) (goes_on v items timed place item left p fits)
 
 -- at an item that is too long
-pub stopped : (v : FileValue) (items : List Item) (timed : List Bool) (place : ℕ) (item : LentItem) (left : List LentItem)
+stopped : (v : FileValue) (items : List Item) (timed : List Bool) (place : ℕ) (item : LentItem) (left : List LentItem)
     → PlainSoFar v items timed place (item ∷ left) → is_too_long (data_size items) (plain_item timed item) ≡ true
     → too_long_at v ≡ Some place
 stopped v items timed place item left p long =
@@ -145,26 +145,68 @@ stopped v items timed place item left p long =
     (data_size items + data_size (plain_item timed item)) (place + item_size (item_lent item)) left) long
 
 -- its place
-pub stood : (v : FileValue) (items : List Item) (timed : List Bool) (place : ℕ) (item : LentItem) (left : List LentItem)
+pub stands_at : (v : FileValue) (items : List Item) (timed : List Bool) (place : ℕ) (item : LentItem) (left : List LentItem)
     → PlainSoFar v items timed place (item ∷ left) → IsItemPlace v place
-stood v items timed place item left p = p.begins place (inl refl)
+stands_at v items timed place item left p = record {
+  before = p.before;
+  item = item_lent item;
+  after = map item_lent left;
+  items_are = p.passed;
+  place_is = p.place_is;
+}
 
 pub has_room : (v : FileValue) (items : List Item) (timed : List Bool) (place : ℕ) (item : LentItem) (left : List LentItem)
     → PlainSoFar v items timed place (item ∷ left) → CanBeFile v → place + item_size (item_lent item) < 2 ^ 33
 has_room v items timed place item left p can =
+    let all : data_size v.items ≡ data_size p.before + data_size (item_lent item ∷ map item_lent left) =
+    ap data_size p.passed ∙ sum_by-append item_size p.before (item_lent item ∷ map item_lent left) in
+    let own = sum_by-cons item_size (item_lent item) (map item_lent left) in
     elim can.is_frame.size [
-      | inl e ↦ omega (arith, e, p.size, first_size item left, can.bound)
-      | inr e ↦ omega (arith, e, p.size, first_size item left, can.bound)
+      | inl e ↦ omega (arith, e, p.place_is, all, own, can.bound)
+      | inr e ↦ omega (arith, e, p.place_is, all, own, can.bound)
     ]
 
--- behind the last item
+-- ---- the first item that is too long comes after those that are not
+
+later : (timed : List Bool) (size place : ℕ) (items : List LentItem) (at : ℕ) → too_long_after timed size place items ≡ Some at → place ≤ at
+later timed size place [] at e = absurd (none-some at e)
+later timed size place (item ∷ items) at e =
+    let own = plain_item timed item in
+    let next = place + item_size (item_lent item) in
+    let others = too_long_after (timed_behind timed item) (size + data_size own) next items in
+    let behind : others ≡ Some at → next ≤ at = λ f. later (timed_behind timed item) (size + data_size own) next items at f in
+    (elim (is_too_long size own) as (λ b. (if b then Some place else others) ≡ Some at → place ≤ at) [
+      | true ↦ λ f. omega (arith, same_Some place at f)
+      | false ↦ λ f. omega (arith, behind f)
+    ]) e
+
+before_long : (v : FileValue) (items : List Item) (timed : List Bool) (place : ℕ) (item : LentItem) (left : List LentItem)
+    → PlainSoFar v items timed place (item ∷ left) → is_too_long (data_size items) (plain_item timed item) ≡ false
+    → (at : ℕ) → too_long_at v ≡ Some at → place < at
+before_long v items timed place item left p fits at e =
+    let flags = timed_behind timed item in
+    let size = data_size items + data_size (plain_item timed item) in
+    let next = place + item_size (item_lent item) in
+    let here : too_long_after flags size next left ≡ Some at =
+    sym (ap (λ (b : Bool). if b then Some place else too_long_after flags size next left) fits) ∙ p.long ∙ e in
+    omega (arith, later flags size next left at here, some_bytes (item_lent item))
+
+-- at an item that is refused
+pub refused : (v : FileValue) (items : List Item) (timed : List Bool) (place : ℕ) (item : LentItem) (left : List LentItem)
+    (kind : PlainFaultKind) → PlainSoFar v items timed place (item ∷ left)
+    → (kind ≡ TooLong → is_too_long (data_size items) (plain_item timed item) ≡ true)
+    → (kind ≡ Memory → is_too_long (data_size items) (plain_item timed item) ≡ false) → IsRefusedAt v kind place
+refused v items timed place item left TooLong p long fits = stopped v items timed place item left p (long refl)
+refused v items timed place item left Memory p long fits = before_long v items timed place item left p (fits refl)
+
+-- after the last item
 pub ended : (v : FileValue) (items : List Item) (timed : List Bool) (place : ℕ) → PlainSoFar v items timed place [] → items ≡ plain_items v.items
 ended v items timed place p = sym (append-nil items) ∙ p.made
 
 pub fitted : (v : FileValue) (items : List Item) (timed : List Bool) (place : ℕ) → PlainSoFar v items timed place [] → too_long_at v ≡ None
 fitted v items timed place p = sym p.long
 
--- so it says the messages, and is the file itself where nothing is compressed
+-- so it encodes the messages, and is the file itself if nothing is compressed
 pub says : (v : FileValue) → CanBeFile v → messages_of (plain_items v.items) ≡ messages_of v.items
 says v can =
     same_messages (in_force []) none_timed [] 0 (items_lent v.items) none_named (lent_under [] 0 v.items can.items_follow) refl (λ l. refl)

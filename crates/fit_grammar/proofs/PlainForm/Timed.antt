@@ -1,4 +1,4 @@
--- The definitions in force in a plain form, with the time in front or not, behind one item more.
+-- The definitions in force in a plain form, with the time in front or not, after one more item.
 use Rattle.std.proofs.Common.{◌≡◌, ◌≢◌, ◌<◌, ℕ, List, [], ◌∷◌, ◌++◌, Bool, true, false, length, Option, Some, refl, sym, ap, subst, ◌∙◌, inl, inr, arith, append-nil}
 use Rattle.std.specs.Prelude.{slice_set, option_map}
 use Rattle.std.proofs.lemmas.List.{get_or-set_same, get_or-set_other}
@@ -14,7 +14,7 @@ use Rattle.fit_grammar.proofs.KeptRow.InForce.{in_force-defines, in_force-others
 use Rattle.fit_grammar.proofs.KeptRow.Lent.{behind_defines}
 use Rattle.fit_grammar.proofs.PlainForm.Taken.{timed_local, set_again}
 
--- behind a definition, which the lookup has
+-- after a definition that the lookup has
 timed-defines : (f g : ℕ → Option Definition) (timed : List Bool) (items : List Item) (d : Definition) (needs : Bool) → d.local < length timed
     → AreTimed f timed items → g d.local ≡ Some d → ((l : ℕ) → l ≢ d.local → g l ≡ f l)
     → AreTimed g (slice_set timed d.local needs) (items ++ Defines (timed_definition needs d) ∷ [])
@@ -42,7 +42,7 @@ here_behind d f = rw (eq-eqb d.local d.local refl) refl
 others_behind : (d : Definition) (f : ℕ → Option Definition) (l : ℕ) → l ≢ d.local → behind (Defines d) f l ≡ f l
 others_behind d f l other = rw (ne_eqb d.local l (λ e. other (sym e))) refl
 
--- behind a definition of the file
+-- after a definition of the file
 pub timed-definition : (f : ℕ → Option Definition) (timed : List Bool) (items : List Item) (d : Definition) → d.local < length timed
     → AreTimed f timed items → AreTimed (behind (Defines d) f) (slice_set timed d.local false) (items ++ Defines d ∷ [])
 timed-definition f timed items d small are =
@@ -65,7 +65,7 @@ kept_flag f timed items local needs is are =
     subst (λ (is : List Item). AreTimed f (slice_set timed local needs) is) (sym (append-nil items))
     (subst (λ (t : List Bool). AreTimed f t items) (sym (set_again timed local needs is)) are)
 
--- behind the definition that is written in front of a message, if one is
+-- after the definition that is written before a message, if one is
 pub timed-before : (f : ℕ → Option Definition) (timed : List Bool) (items : List Item) (d : Definition) (local : ℕ) (has needs : Bool)
     → local < length timed → d.local ≡ local → f local ≡ Some d → is_timed timed local ≡ has → AreTimed f timed items
     → AreTimed f (slice_set timed local needs) (items ++ definitions_before has needs d)
@@ -78,7 +78,7 @@ timed-before f timed items d local false true small named here is are =
     subst (λ (n : ℕ). AreTimed f (slice_set timed n true) (items ++ Defines (timed_definition true d) ∷ [])) named
     (timed-defines f f timed items d true (omega (arith, small, named)) are (ap f named ∙ here) (λ l other. refl))
 
--- behind a data message
+-- after a data message
 pub timed-data : (f : ℕ → Option Definition) (timed : List Bool) (items : List Item) (local : ℕ) (offset : Option ℕ) (content : List ℕ)
     → AreTimed f timed items → AreTimed f timed (items ++ Data local offset content ∷ [])
 timed-data f timed items local offset content are l = in_force-data items local offset content l ∙ are l

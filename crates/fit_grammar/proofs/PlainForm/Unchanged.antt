@@ -12,7 +12,7 @@ use Rattle.fit_grammar.specs.Calls.LentItem.{LentItem, DataHere, data_under, len
 use Rattle.fit_grammar.specs.Calls.PlainForm.{is_timed, definitions_before, plain_after, IsPlain}
 use Rattle.fit_grammar.proofs.PlainForm.Taken.{set_again}
 
--- a data message in front of others
+-- a data message before others
 front : (timed : List Bool) (o : Option Definition) (local : ℕ) (content : List ℕ) (others : List LentItem) → is_timed timed local ≡ false
     → IsSomeAnd o (λ d. content_size d ≡ length content)
     → plain_after timed (option_to_list (option_map (λ d. DataHere (data_under d local None None content)) o) ++ others)

@@ -1,10 +1,10 @@
--- The header that bytes begin with, whatever checksum it gives.
+-- The header that bytes begin with, whatever its checksum is.
 use Rattle.std.specs.Prelude.{◌≡◌, ℕ, ◌≤◌, List, length, slice_index, slice_range}
 use Rattle.fit_base.specs.Number.{low_first}
 use Rattle.fit_grammar.specs.declared.file.frame.Frame.{Frame}
 use Rattle.fit_grammar.specs.Format.File.{IsFrame, mark}
 
--- the bytes begin with a header of the frame over this many bytes of records, whose checksum, if it has one, may be any
+-- the bytes begin with a header of the frame over this many bytes of records; if it has a checksum, that may be any number
 pub record BeginsWithHeader (bytes : List ℕ) (frame : Frame) (size : ℕ) : Type 0 where
   pub is_frame : IsFrame frame
   pub within : frame.header_size ≤ length bytes

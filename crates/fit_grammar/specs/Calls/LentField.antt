@@ -1,4 +1,4 @@
--- Fields of a message as they are lent.
+-- Fields of a message, as they are lent.
 use Rattle.fit_base.specs.Value.{values_of}
 use Rattle.fit_grammar.specs.declared.message.developer.DeveloperField.{DeveloperField}
 use Rattle.fit_grammar.specs.declared.message.fields.Field.{Field}

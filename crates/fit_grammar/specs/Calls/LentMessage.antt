@@ -10,13 +10,13 @@ pub record LentMessage : Type 0 where
   pub compressed : Option ℕ
   pub message : Message
 
--- the message of an item, behind the time before it; a definition has none
+-- the message of an item, after the time before it; a definition has none
 abbrev pub message_lent : ReadItem → ℕ → Option LentMessage
 message_lent (items.Definition d) before = None
 message_lent (items.Data m) before =
     let time = compressed_time before m.offset in
     Some (record { compressed = time; message = message_under m.definition time m.content.now })
 
--- the time that a message gives: that of its compressed timestamp, else the one that its fields state
+-- the time that a message gives: that of its compressed timestamp, or else the one that its fields state
 abbrev pub time_of : LentMessage → Option ℕ
 time_of m = option_or m.compressed (time_stated m.message.fields)

@@ -1,6 +1,6 @@
--- The plain form of a file: the same messages, and no item with a compressed timestamp. Each message that had one has its time as
--- field 253 in front, under a definition of the same local number.
-use Rattle.std.specs.Prelude.{◌≡◌, ℕ, ◌+◌, List, [], ◌∷◌, ◌++◌, length, reverse, replicate, slice_set, slice_index_or, Bool, true, false, ◌||◌, nat_lt, if◌then◌else◌, Option, Some, None, is_some, ◌⊎◌}
+-- The plain form of a file: the same messages, and no item with a compressed timestamp. Each message that had one has its time
+-- as field 253 in front, under a definition of the same local number.
+use Rattle.std.specs.Prelude.{◌≡◌, ℕ, ◌+◌, ◌<◌, List, [], ◌∷◌, ◌++◌, length, reverse, replicate, slice_set, slice_index_or, Bool, true, false, ◌||◌, nat_lt, if◌then◌else◌, Option, Some, None, is_some}
 use Rattle.std.specs.List.{list_any}
 use Rattle.fit_base.specs.declared.order.Arch.{Arch}
 use Rattle.fit_base.specs.declared.order.Arch.TheVariants.{Little, Big}
@@ -9,7 +9,12 @@ use Rattle.fit_grammar.specs.declared.definition.Definition.{Definition}
 use Rattle.fit_grammar.specs.Format.Item.{Item, Defines, Data, item_size}
 use Rattle.fit_grammar.specs.Format.Records.{data_size}
 use Rattle.fit_grammar.specs.Format.Encoding.{four_bytes}
+use Rattle.fit_grammar.specs.declared.plain.fault.PlainFault.{PlainFault}
+use Rattle.fit_grammar.specs.declared.plain.fault.PlainFaultKind.{PlainFaultKind}
+use Rattle.fit_grammar.specs.declared.plain.fault.PlainFaultKind.TheVariants.{TooLong, Memory}
 use Rattle.fit_grammar.specs.Format.File.{FileValue}
+use Rattle.fit_grammar.specs.Format.Refusal.{Front, IsFront, front_bytes, front_end}
+use Rattle.fit_grammar.specs.Calls.Places.{place_read}
 use Rattle.fit_grammar.specs.Calls.LentItem.{LentItem, DefinesHere, DataHere, LentData, item_lent, items_lent}
 
 -- ---- a message
@@ -18,7 +23,7 @@ use Rattle.fit_grammar.specs.Calls.LentItem.{LentItem, DefinesHere, DataHere, Le
 abbrev pub time_definition : FieldDefinition
 time_definition = record { number = 253; size = 4; base = 0x86 }
 
--- a definition, which has the time in front or not
+-- a definition, with the time in front or not
 abbrev pub timed_definition : Bool → Definition → Definition
 timed_definition false d = d
 timed_definition true d =
@@ -33,7 +38,7 @@ abbrev pub time_front : Arch → Option ℕ → List ℕ
 time_front arch None = []
 time_front arch (Some time) = time_bytes arch time
 
--- the definition of a message's plain form, its content, and the item
+-- the definition of a message's plain form, its content, and its item
 abbrev pub plain_definition : LentData → Definition
 plain_definition m = timed_definition (is_some m.time) m.definition
 
@@ -45,15 +50,15 @@ plain_data m = Data m.local None (plain_content m)
 
 -- ---- the items of a file
 
--- whether the definition of a local number that was written last has the time in front, of each of them
+-- for each local number, whether the last definition written has the time in front
 abbrev pub is_timed : List Bool → ℕ → Bool
 is_timed timed local = slice_index_or timed local false
 
--- at first, none
+-- at the start, none has
 abbrev pub none_timed : List Bool
 none_timed = replicate 16 false
 
--- the definition that is written in front of a message: none where the one that was written last has the time as the message needs it
+-- the definition that is written before a message: none if the last one written already fits the message
 abbrev pub definitions_before : Bool → Bool → Definition → List Item
 definitions_before true true d = []
 definitions_before false false d = []
@@ -65,7 +70,7 @@ plain_item timed (DefinesHere d) = Defines d ∷ []
 plain_item timed (DataHere m) =
     definitions_before (is_timed timed m.local) (is_some m.time) m.definition ++ plain_data m ∷ []
 
--- and what was written last behind it
+-- the flags of the local numbers after it
 abbrev pub timed_behind : List Bool → LentItem → List Bool
 timed_behind timed (DefinesHere d) = slice_set timed d.local false
 timed_behind timed (DataHere m) = slice_set timed m.local (is_some m.time)
@@ -94,25 +99,54 @@ abbrev pub has_too_many_fields : Item → Bool
 has_too_many_fields (Defines d) = nat_lt 255 (length d.fields.items)
 has_too_many_fields (Data local offset content) = false
 
--- behind so many bytes, with these items the records would pass 4,294,967,295 bytes, or a definition would have 256 fields
+-- after so many bytes, with these items the records would exceed 4,294,967,295 bytes, or a definition would have 256 fields
 abbrev pub is_too_long : ℕ → List Item → Bool
 is_too_long size items = list_any has_too_many_fields items || nat_lt 4294967295 (size + data_size items)
 
--- the place of the first item that is too long, from this place on and behind so many bytes of plain items
+-- the place of the first item that is too long, from this place on, after so many bytes of plain items
 abbrev pub too_long_after : List Bool → ℕ → ℕ → List LentItem → Option ℕ
 too_long_after timed size place [] = None
 too_long_after timed size place (item ∷ items) =
     if is_too_long size (plain_item timed item) then Some place
     else too_long_after (timed_behind timed item) (size + data_size (plain_item timed item)) (place + item_size (item_lent item)) items
 
--- in a file; the place is an offset from its front
+-- the same for a whole file; the place is an offset from its front
 abbrev pub too_long_at : FileValue → Option ℕ
 too_long_at v = too_long_after none_timed 0 v.frame.header_size (items_lent v.items)
 
--- an item begins at a place of items that begin at this one
-abbrev pub BeginsAt : ℕ → List LentItem → ℕ → Type 0
-BeginsAt first [] place = ⊥
-BeginsAt first (item ∷ items) place = (place ≡ first) ⊎ BeginsAt (first + item_size (item_lent item)) items place
+-- an item of the file is written at this place, after the items `before`
+pub record IsItemPlace (v : FileValue) (place : ℕ) : Type 0 where
+  pub before : List Item
+  pub item : Item
+  pub after : List Item
+  pub items_are : v.items ≡ before ++ item ∷ after
+  pub place_is : place ≡ v.frame.header_size + data_size before
 
-abbrev pub IsItemPlace : FileValue → ℕ → Type 0
-IsItemPlace v place = BeginsAt v.frame.header_size (items_lent v.items) place
+-- the item written at `written` was at `place` in the bytes that were read
+pub record StoodAt (bytes : List ℕ) (v : FileValue) (written place : ℕ) : Type 0 where
+  pub is_item : IsItemPlace v written
+  pub front : Front
+  pub rest : List ℕ
+  pub is_front : IsFront front
+  pub joined : bytes ≡ front_bytes front ++ rest
+  pub items_are : front.items ≡ is_item.before
+  pub place_is : place ≡ front_end front
+
+-- The item written at this place is refused: it is the first that is too long, or there was no memory for it and no item up to
+-- it is too long.
+abbrev pub IsRefusedAt : FileValue → PlainFaultKind → ℕ → Type 0
+IsRefusedAt v TooLong written = too_long_at v ≡ Some written
+IsRefusedAt v Memory written = (at : ℕ) → too_long_at v ≡ Some at → written < at
+
+-- a fault of a file, with its place in the bytes that the file was read from
+pub record IsPlainFault (v : FileValue) (longer : List ℕ) (fault : PlainFault) : Type 0 where
+  pub written : ℕ
+  pub is_item : IsItemPlace v written
+  pub refused : IsRefusedAt v fault.kind written
+  pub place_is : fault.place ≡ place_read longer written
+
+-- a fault of the file that these bytes are
+pub record IsPlainFaultOf (bytes : List ℕ) (v : FileValue) (fault : PlainFault) : Type 0 where
+  pub written : ℕ
+  pub refused : IsRefusedAt v fault.kind written
+  pub stood : StoodAt bytes v written fault.place

@@ -1,4 +1,5 @@
--- What a file in memory can be: every number fits into the bits or bytes that it is written in, and every data message is defined.
+-- What a file in memory can be: every number fits into the bits or bytes that it is written in, and every data message has its
+-- definition.
 use Rattle.std.specs.Prelude.{◌^◌, ◌<◌, List, [], ◌∷◌, ◌++◌, length}
 use Rattle.std.specs.List.{AllByRecursion}
 use Rattle.fit_grammar.specs.declared.definition.FieldDefinition.{FieldDefinition}
@@ -10,7 +11,7 @@ use Rattle.fit_grammar.specs.Format.Records.{IsDefined, data_size}
 use Rattle.fit_grammar.specs.Format.Encoding.{HasEncoding}
 use Rattle.fit_grammar.specs.Format.File.{FileValue, IsFrame}
 
--- one byte of a header, and two
+-- one byte of a header for the protocol version, and two for the profile version
 pub record FrameFits (frame : Frame) : Type 0 where
   pub protocol : frame.protocol < 256
   pub profile : frame.profile < 65536
@@ -21,13 +22,13 @@ pub record FieldFits (field : FieldDefinition) : Type 0 where
   pub size : field.size < 256
   pub base : field.base < 256
 
--- and those of a developer field
+-- the three bytes of a developer field
 pub record DeveloperFieldFits (field : DeveloperFieldDefinition) : Type 0 where
   pub number : field.number < 256
   pub size : field.size < 256
   pub index : field.index < 256
 
--- two bytes of a definition, one for the number of its fields, and the fields; and the same of its developer fields
+-- two bytes for the global number, one for the number of fields, and the fields; the same for the developer fields
 pub record DefinitionFits (d : Definition) : Type 0 where
   pub global : d.global < 65536
   pub count : length d.fields.items < 256
@@ -40,13 +41,13 @@ abbrev pub ItemFits : Item → Type 0
 ItemFits (Defines d) = DefinitionFits d
 ItemFits (Data local offset content) = AllByRecursion (λ byte. byte < 256) content
 
--- the item has a spelling, and behind these items it is defined
+-- the item has a spelling, and after these items it is defined
 pub record CanFollow (before : List Item) (item : Item) : Type 0 where
   pub encodable : HasEncoding item
   pub fits : ItemFits item
   pub defined : IsDefined before item
 
--- behind these items, each of the items can stand in its place
+-- after these items, each of the items can be in its place
 abbrev pub AllCanFollow : List Item → List Item → Type 0
 AllCanFollow before [] = Unit {0}
 AllCanFollow before (item ∷ items) = CanFollow before item × AllCanFollow (before ++ item ∷ []) items

@@ -1,4 +1,4 @@
--- What the front of a window of bytes shows of an item.
+-- What the front of a window of bytes shows about an item.
 use Rattle.std.specs.Prelude.{◌≡◌, ℕ, ◌+◌, ◌*◌, ◌<◌, ◌≤◌, Bool, true, false, List, [], ◌∷◌, ◌++◌, length, take, slice_index, Option, Some, None, Result, Ok, Err, nat_lt, if◌then◌else◌}
 use Rattle.fit_grammar.specs.declared.definition.Definition.{Definition}
 use Rattle.fit_grammar.specs.declared.item.Item.{Item as ReadItem}
@@ -15,7 +15,8 @@ abbrev pub item_of : ReadItem → Item
 item_of (items.Definition d) = Defines d
 item_of (items.Data m) = Data m.local m.offset m.content.now
 
--- how many bytes a definition has at least, by its first bytes, where its fields end here, and developer fields are announced or not
+-- the least number of bytes of a definition, by its first bytes; its fields end at `end`, and developer fields are announced or
+-- not
 abbrev pub behind_fields : Bool → ℕ → List ℕ → ℕ
 behind_fields false end window = end
 behind_fields true end window =
@@ -35,12 +36,12 @@ abbrev pub length_by : (ℕ → Option Definition) → Head → List ℕ → Res
 length_by definition_for (DefinitionHead local announced) window = Ok (definition_length_of announced window)
 length_by definition_for (DataHead local offset) window = data_length_of local (definition_for local)
 
--- how many bytes the item at the front of a window has at least, as far as the window shows; or why there is none
+-- the least number of bytes of the item at the front of a window, as far as the window shows; or why there is none
 abbrev pub least_length_of : (ℕ → Option Definition) → List ℕ → Result ℕ ItemFault
 least_length_of definition_for [] = Ok 1
 least_length_of definition_for (first ∷ rest) = length_by definition_for (head_of first) (first ∷ rest)
 
--- a spelling of this whole length has at least so many bytes, and exactly so many where these are there
+-- a spelling of length `whole` has at least n bytes, and exactly n if that many are there
 pub record IsLeastLength (n there whole : ℕ) : Type 0 where
   pub least : n ≤ whole
   pub exact : n ≤ there → n ≡ whole
@@ -51,7 +52,7 @@ pub record ItemAtFront (definition_for : ℕ → Option Definition) (window : Li
   pub spelled : Spells item (take used window)
   pub defined : IsDefinedBy definition_for item
 
--- with some bytes behind it, the window spells an item that is defined
+-- with some more bytes after it, the window spells an item that is defined
 pub record ItemBegun (definition_for : ℕ → Option Definition) (window : List ℕ) : Type 0 where
   pub item : Item
   pub rest : List ℕ
@@ -59,7 +60,7 @@ pub record ItemBegun (definition_for : ℕ → Option Definition) (window : List
   pub spelled : Spells item (window ++ rest)
   pub defined : IsDefinedBy definition_for item
 
--- the first byte is that of data of this local number, which has no definition
+-- the first byte is that of a data message of this local number, which has no definition
 pub record ShowsUndefined (definition_for : ℕ → Option Definition) (window : List ℕ) (local : ℕ) : Type 0 where
   pub first : ℕ
   pub rest : List ℕ
@@ -68,7 +69,7 @@ pub record ShowsUndefined (definition_for : ℕ → Option Definition) (window :
   pub head : head_of first ≡ DataHead local offset
   pub undefined : definition_for local ≡ None
 
--- what a step says of the window
+-- what a step states about the window
 abbrev pub StepSays : (ℕ → Option Definition) → List ℕ → Step → Type 0
 StepSays definition_for window (steps.Item item used) = ItemAtFront definition_for window (item_of item) used
 StepSays definition_for window steps.NeedMore = ItemBegun definition_for window
@@ -84,12 +85,12 @@ abbrev pub LendsFrom : (ℕ → Option Definition) → Step → Type 0
 LendsFrom definition_for (steps.Item (items.Data m) used) = definition_for m.local ≡ Some m.definition
 LendsFrom definition_for _ = Unit {0}
 
--- the local number of a definition that was found is below this
+-- a definition that was found has a local number below this
 abbrev pub DefinesBelow : ℕ → Step → Type 0
 DefinesBelow count (steps.Item (items.Definition d) used) = d.local < count
 DefinesBelow count _ = Unit {0}
 
--- the step is that of the window under these definitions
+-- the step is right for the window under these definitions
 pub record IsStep (definition_for : ℕ → Option Definition) (window : List ℕ) (step : Step) : Type 0 where
   pub says : StepSays definition_for window step
   pub lent : LendsFrom definition_for step

@@ -1,14 +1,14 @@
--- The lookup of definitions: in a table of them, and behind an item.
+-- The lookup of definitions: in a table, and after an item.
 use Rattle.std.specs.Prelude.{ℕ, List, Option, None, slice_index_or}
 use Rattle.std.specs.Option.{option_or}
 use Rattle.fit_grammar.specs.declared.definition.Definition.{Definition}
 use Rattle.fit_grammar.specs.Format.Item.{Item}
 use Rattle.fit_grammar.specs.Format.Records.{definition_by}
 
--- the definition of a local number; none past the table's end
+-- the definition of a local number; none after the table's end
 abbrev pub definition_in : List (Option Definition) → ℕ → Option Definition
 definition_in table local = slice_index_or table local None
 
--- the definitions in force behind an item, where these are in force before it
+-- the definitions in force after an item, given those in force before it
 abbrev pub behind : Item → (ℕ → Option Definition) → ℕ → Option Definition
 behind item definition_for local = option_or (definition_by item local) (definition_for local)

@@ -1,5 +1,5 @@
 -- The bytes that items and files are written as: every reserved bit and byte is 0, an architecture byte is 0 or 1, developer
--- fields are announced exactly where there are any, and a header of 14 bytes has its checksum.
+-- fields are announced if and only if there are any, and a header of 14 bytes has its checksum.
 use Rattle.std.specs.Prelude.{ℕ, ◌+◌, ◌*◌, ◌/◌, ◌%◌, ◌<◌, ◌==◌, if◌then◌else◌, Bool, true, false, List, [], ◌∷◌, ◌++◌, length, flat_map, Option, Some, None}
 use Rattle.fit_base.specs.declared.order.Arch.{Arch}
 use Rattle.fit_base.specs.declared.order.Arch.TheVariants.{Little, Big}
@@ -19,7 +19,7 @@ abbrev pub two_bytes : Arch → ℕ → List ℕ
 two_bytes Little n = n % 256 ∷ n / 256 ∷ []
 two_bytes Big n = n / 256 ∷ n % 256 ∷ []
 
--- the first byte of a definition, which announces developer fields or not
+-- the first byte of a definition, with developer fields announced or not
 abbrev pub definition_byte : ℕ → Bool → ℕ
 definition_byte local false = 64 + local
 definition_byte local true = 96 + local
@@ -44,7 +44,7 @@ HasEncoding (Data local (Some offset) content) = (local < 4) × (offset < 32)
 abbrev pub encoded_items : List Item → List ℕ
 encoded_items items = flat_map encoded_item items
 
--- a number of four bytes, the low byte first
+-- a number of four bytes, low byte first
 abbrev pub four_bytes : ℕ → List ℕ
 four_bytes n = n % 256 ∷ n / 256 % 256 ∷ n / 65536 % 256 ∷ n / 16777216 ∷ []
 
@@ -53,11 +53,11 @@ abbrev pub header_front : Frame → ℕ → List ℕ
 header_front frame size =
     frame.header_size ∷ frame.protocol ∷ (two_bytes Little frame.profile ++ four_bytes size ++ mark)
 
--- bytes with their checksum behind them, the low byte first
+-- bytes with their checksum after them, low byte first
 abbrev pub with_checksum : List ℕ → List ℕ
 with_checksum bytes = bytes ++ two_bytes Little (crc bytes)
 
--- the header of this many bytes of records; one of 14 bytes has its checksum
+-- the header over this many bytes of records; one of 14 bytes has its checksum
 abbrev pub encoded_header : Frame → ℕ → List ℕ
 encoded_header frame size =
     if frame.header_size == 14 then with_checksum (header_front frame size) else header_front frame size

@@ -7,7 +7,7 @@ use Rattle.fit_grammar.specs.Format.Item.{Item}
 use Rattle.fit_grammar.specs.Format.Records.{Records}
 use Rattle.fit_grammar.specs.Format.Message.{Message, messages_of}
 
--- what a file says: its frame and its items
+-- what a file encodes: its frame and its items
 pub record FileValue : Type 0 where
   pub frame : Frame
   pub items : List Item
@@ -21,12 +21,12 @@ pub record IsFrame (frame : Frame) : Type 0 where
   pub size : (frame.header_size ≡ 12) ⊎ (frame.header_size ≡ 14)
   pub major : (frame.protocol / 16 ≡ 1) ⊎ (frame.protocol / 16 ≡ 2)
 
--- the checksum of a header of 14 bytes is zero, for "not given", or right
+-- the checksum of a header of 14 bytes is either zero, which means "not given", or right
 abbrev pub ChecksHeader : List ℕ → Type 0
 ChecksHeader header =
     (low_first (slice_range header 12 14) ≡ 0) ⊎ (low_first (slice_range header 12 14) ≡ crc (take 12 header))
 
--- the bytes are a header of the frame over this many bytes of records
+-- the bytes are a header of this frame over this many bytes of records
 pub record IsHeader (header : List ℕ) (frame : Frame) (size : ℕ) : Type 0 where
   pub is_frame : IsFrame frame
   pub whole : length header ≡ frame.header_size
@@ -37,7 +37,7 @@ pub record IsHeader (header : List ℕ) (frame : Frame) (size : ℕ) : Type 0 wh
   pub marked : slice_range header 8 12 ≡ mark
   pub checked : frame.header_size ≡ 14 → ChecksHeader header
 
--- two bytes that are the checksum of those before them, the low byte first
+-- two bytes that are the checksum of those before them, low byte first
 pub record IsClosing (before closing : List ℕ) : Type 0 where
   pub whole : length closing ≡ 2
   pub right : low_first closing ≡ crc before

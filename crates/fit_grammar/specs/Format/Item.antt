@@ -12,21 +12,22 @@ pub data Item : Type 0 where
   Defines : Definition → Item
   Data : ℕ → Option ℕ → List ℕ → Item
 
--- what the first byte of an item says: a definition of a local number, which announces developer fields or not,
--- or data of a local number, with a time offset or none
+-- what the first byte of an item encodes: a definition of a local number, with developer fields announced or not, or a data
+-- message of a local number, with a time offset or none
 pub data Head : Type 0 where
   DefinitionHead : ℕ → Bool → Head
   DataHead : ℕ → Option ℕ → Head
 
--- bit 7 compresses a timestamp beside the local number in bits 5 and 6; else bit 6 tells definitions from data,
--- bit 5 of a definition announces developer fields, and bits 0 to 3 are the local number; other bits are reserved
+-- if bit 7 is set: a compressed timestamp, with the local number in bits 5 and 6 and the time offset in bits 0 to 4; otherwise
+-- bit 6 separates definitions from data, bit 5 of a definition announces developer fields, and bits 0 to 3 are the local
+-- number; other bits are reserved
 abbrev pub head_of : ℕ → Head
 head_of byte =
     if nat_lt byte 64 then DataHead (byte % 16) None
     else if nat_lt byte 128 then DefinitionHead (byte % 16) (byte / 32 % 2 == 1)
     else DataHead (byte / 32 % 4) (Some (byte % 32))
 
--- the low bit of the architecture byte decides
+-- the low bit of the architecture byte gives the byte order
 abbrev pub arch_of : ℕ → Arch
 arch_of byte = if byte % 2 == 0 then Little else Big
 
@@ -38,18 +39,18 @@ field_bytes field = field.number ∷ field.size ∷ field.base ∷ []
 abbrev pub developer_bytes : DeveloperFieldDefinition → List ℕ
 developer_bytes field = field.number ∷ field.size ∷ field.index ∷ []
 
--- behind the fields, where developer fields are announced: their number, and three bytes each
+-- after the fields, if developer fields are announced: their number, and three bytes for each
 abbrev pub developer_part : Bool → List DeveloperFieldDefinition → List ℕ
 developer_part false fields = []
 developer_part true fields = length fields ∷ flat_map developer_bytes fields
 
--- how many bytes that part has
+-- the number of bytes of that part
 abbrev pub part_size : Bool → ℕ → ℕ
 part_size false count = 0
 part_size true count = 1 + 3 * count
 
--- the bytes of a definition; those named here may be anything that says what it has to. One that announces no developer
--- fields has none; one that announces them may have none too.
+-- the bytes of a definition. The bytes with names here may be any that encode what is required. A definition that announces no
+-- developer fields has none; one that announces them may have none too.
 pub record SpellsDefinition (d : Definition) (bytes : List ℕ) : Type 0 where
   pub first : ℕ
   pub reserved : ℕ
@@ -74,18 +75,18 @@ abbrev pub Spells : Item → List ℕ → Type 0
 Spells (Defines d) bytes = SpellsDefinition d bytes
 Spells (Data local offset content) bytes = SpellsData local offset content bytes
 
--- how many bytes the fields of a data message have under a definition, and its developer fields, which stand behind them
+-- the size in bytes of a data message's fields under a definition, and of its developer fields, which come after them
 abbrev pub fields_size : Definition → ℕ
 fields_size d = sum_by (λ field. field.size) d.fields.items
 
 abbrev pub developer_size : Definition → ℕ
 developer_size d = sum_by (λ field. field.size) d.developer.items
 
--- how many bytes of content a data message has under a definition
+-- the size in bytes of a data message's content under a definition
 abbrev pub content_size : Definition → ℕ
 content_size d = fields_size d + developer_size d
 
--- a definition is written with the announcement where it has developer fields
+-- whether a definition has developer fields; if so, it is written with the announcement
 abbrev pub has_any : List DeveloperFieldDefinition → Bool
 has_any [] = false
 has_any (field ∷ fields) = true
@@ -95,7 +96,7 @@ abbrev pub native_definition : ℕ → Arch → ℕ → List FieldDefinition →
 native_definition local arch global fields =
     record { local = local; arch = arch; global = global; fields = record { items = fields }; developer = record { items = [] } }
 
--- how many bytes an item has as it is written
+-- the number of bytes that an item is written as
 abbrev pub item_size : Item → ℕ
 item_size (Defines d) = 6 + 3 * length d.fields.items + part_size (has_any d.developer.items) (length d.developer.items)
 item_size (Data local offset content) = 1 + length content

@@ -1,4 +1,4 @@
--- Items, as they are and as they are lent, under a lookup of the definitions in force, in the place of the items before them.
+-- Items, as they are and as they are lent, under a lookup of the definitions in force instead of the items before them.
 use Rattle.std.specs.Prelude.{ℕ, List, [], ◌∷◌, ◌++◌, Option, Some, None, unwrap_or, option_map, option_and_then, option_to_list}
 use Rattle.fit_grammar.specs.declared.definition.Definition.{Definition}
 use Rattle.fit_grammar.specs.Format.Item.{Item, Defines, Data}
@@ -8,7 +8,7 @@ use Rattle.fit_grammar.specs.Calls.Table.{behind}
 use Rattle.fit_grammar.specs.Calls.LentItem.{LentItem, DefinesHere, DataHere, data_under}
 use Rattle.fit_grammar.specs.Format.Message.{Message, message_under, compressed_time, next_time, time_stated}
 
--- the message of an item, whose last time is given; a definition has none
+-- the message of an item, with `time` the last time before it; a definition has none
 abbrev pub message_by : (ℕ → Option Definition) → ℕ → Item → Option Message
 message_by definition_for time (Defines d) = None
 message_by definition_for time (Data local offset content) =
@@ -27,7 +27,7 @@ lent_by definition_for time (Defines d) = Some (DefinesHere d)
 lent_by definition_for time (Data local offset content) =
     option_map (λ d. DataHere (data_under d local offset (compressed_time time offset) content)) (definition_for local)
 
--- the items, from the time before them on
+-- the items, starting from the time before them
 abbrev pub lent_items_by : (ℕ → Option Definition) → ℕ → List Item → List LentItem
 lent_items_by definition_for time [] = []
 lent_items_by definition_for time (item ∷ items) =

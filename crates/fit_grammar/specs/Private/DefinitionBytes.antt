@@ -6,19 +6,19 @@ use Rattle.fit_grammar.specs.declared.definition.DeveloperFieldDefinition.{Devel
 use Rattle.fit_grammar.specs.declared.definition.Definition.{Definition}
 use Rattle.fit_grammar.specs.Format.Item.{DefinitionHead, head_of, arch_of, part_size}
 
--- the fields that bytes spell, three bytes each
+-- the fields that bytes spell, three bytes for each
 abbrev pub fields_in : List ℕ → List FieldDefinition
 fields_in (number ∷ size ∷ base ∷ bytes) = record { number = number; size = size; base = base } ∷ fields_in bytes
 fields_in _ = []
 
--- the developer fields that bytes spell, which have their index in the place of a base type
+-- the developer fields that bytes spell; they have their index in the place of a base type
 abbrev pub as_developer : FieldDefinition → DeveloperFieldDefinition
 as_developer field = record { number = field.number; size = field.size; index = field.base }
 
 abbrev pub developer_in : List ℕ → List DeveloperFieldDefinition
 developer_in bytes = map as_developer (fields_in bytes)
 
--- six bytes, the fields, and behind one byte the developer fields
+-- six bytes, the fields, and after one more byte the developer fields
 abbrev pub definition_at : List ℕ → Definition
 definition_at bytes =
     record {

@@ -4,7 +4,7 @@ use Rattle.fit_grammar.specs.declared.definition.Definition.{Definition}
 use Rattle.fit_grammar.specs.Format.Item.{Item}
 use Rattle.fit_grammar.specs.Format.Records.{Records, in_force}
 
--- so many of the first bytes are the records of some items, and these are the definitions in force behind them
+-- so many of the first bytes are the records of some items, and these definitions are in force after them
 pub record HasPassed (definition_for : ℕ → Option Definition) (bytes : List ℕ) (front : ℕ) : Type 0 where
   pub within : front ≤ length bytes
   pub items : List Item

@@ -11,7 +11,7 @@ use Rattle.fit_grammar.specs.Calls.Step.{definition_length_of, item_of}
 use Rattle.fit_grammar.specs.Calls.Table.{behind}
 use Rattle.fit_grammar.specs.Private.ByLookup.{AllDefinedBy}
 
--- the item that bytes begin with, by their head
+-- the item that the bytes begin with, given their head
 abbrev pub item_by : (ℕ → Option Definition) → Head → List ℕ → Item
 item_by definition_for (DefinitionHead local announced) bytes =
     Defines (definition_at (take (definition_length_of announced bytes) bytes))
@@ -21,7 +21,7 @@ item_by definition_for (DataHead local offset) bytes =
 abbrev pub item_at : (ℕ → Option Definition) → List ℕ → Item
 item_at definition_for bytes = item_by definition_for (head_of (slice_index bytes 0)) bytes
 
--- the items that bytes begin with, this many at most
+-- the items that the bytes begin with, at most this many
 abbrev pub items_at : ℕ → (ℕ → Option Definition) → List ℕ → List Item
 items_at zero definition_for bytes = []
 items_at (suc count) definition_for [] = []
@@ -33,21 +33,21 @@ items_at (suc count) definition_for (byte ∷ bytes) =
 abbrev pub items_under : (ℕ → Option Definition) → List ℕ → List Item
 items_under definition_for bytes = items_at (length bytes) definition_for bytes
 
--- and under none
+-- the same under no definitions
 abbrev pub items_in : List ℕ → List Item
 items_in bytes = items_under (in_force []) bytes
 
--- the bytes are those that the items are written as which they begin with, and these are defined
+-- the items that the bytes begin with are written as exactly these bytes, and are defined
 pub record AreWritten (definition_for : ℕ → Option Definition) (bytes : List ℕ) : Type 0 where
   pub written : encoded_items (items_under definition_for bytes) ≡ bytes
   pub defined : AllDefinedBy definition_for (items_under definition_for bytes)
 
--- a definition has a local number that there is, and a data message the definition of its local number
+-- a definition has a local number below 16, and a data message has the definition of its local number
 abbrev pub IsLentBy : (ℕ → Option Definition) → ReadItem → Type 0
 IsLentBy definition_for (items.Definition d) = d.local < 16
 IsLentBy definition_for (items.Data m) = definition_for m.local ≡ Some m.definition
 
--- the bytes are written as this item and others, whose bytes these are
+-- the bytes are written as this item and others, and `others` are the bytes of those
 pub record IsFirst (definition_for : ℕ → Option Definition) (bytes : List ℕ) (item : ReadItem) (others : List ℕ) : Type 0 where
   pub first : items_under definition_for bytes ≡ item_of item ∷ items_under (behind (item_of item) definition_for) others
   pub written : AreWritten (behind (item_of item) definition_for) others

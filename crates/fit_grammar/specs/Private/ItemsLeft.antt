@@ -1,4 +1,4 @@
--- The items that are left of a file while they are lent one after another.
+-- The items that are left of a file, while they are lent one after another.
 use Rattle.std.specs.Prelude.{List}
 use Rattle.fit_grammar.specs.declared.item.row.Items.TheInside.{Inside}
 use Rattle.fit_grammar.specs.Calls.LentItem.{LentItem}

@@ -6,13 +6,14 @@ use Rattle.fit_grammar.specs.Format.Item.{Item}
 use Rattle.fit_grammar.specs.Format.Records.{in_force, data_size}
 use Rattle.fit_grammar.specs.Format.File.{FileValue}
 use Rattle.fit_grammar.specs.Calls.LentItem.{LentItem, DefinesHere, DataHere, LentData, data_under, item_lent, items_lent, AllUnder}
-use Rattle.fit_grammar.specs.Calls.PlainForm.{timed_definition, plain_definition, is_timed, none_timed, plain_after, too_long_after, BeginsAt}
+use Rattle.fit_grammar.specs.Calls.PlainForm.{timed_definition, plain_definition, is_timed, none_timed, plain_after, too_long_after}
 
--- a data message with a time, as it is lent
+-- a data message with its time, as it is lent
 abbrev pub lent_data : DataMessage → Option ℕ → LentData
 lent_data m time = data_under m.definition m.local m.offset time m.content.now
 
--- an item can be taken: its local number is one, and where no definition is written, that of a message is in force
+-- an item can be taken: its local number is below 16, and if no definition is written before a message, its plain one is in
+-- force
 abbrev pub IsReady : List Item → List Bool → LentItem → Type 0
 IsReady items timed (DefinesHere d) = d.local < 16
 IsReady items timed (DataHere m) =
@@ -24,7 +25,7 @@ abbrev pub AreTimed : (ℕ → Option Definition) → List Bool → List Item �
 AreTimed definition_for timed items =
     (l : ℕ) → in_force items l ≡ option_map (timed_definition (is_timed timed l)) (definition_for l)
 
--- these items were made of the file so far, which stands here, with others left
+-- these items are the plain form of the file up to this place; the items `left` come after it
 pub record PlainSoFar (v : FileValue) (items : List Item) (timed : List Bool) (place : ℕ) (left : List LentItem) : Type 0 where
   pub definition_for : ℕ → Option Definition
   pub under : AllUnder definition_for left
@@ -33,5 +34,6 @@ pub record PlainSoFar (v : FileValue) (items : List Item) (timed : List Bool) (p
   pub count : length timed ≡ 16
   pub made : items ++ plain_after timed left ≡ plain_after none_timed (items_lent v.items)
   pub long : too_long_after timed (data_size items) place left ≡ too_long_after none_timed 0 v.frame.header_size (items_lent v.items)
-  pub begins : (at : ℕ) → BeginsAt place left at → BeginsAt v.frame.header_size (items_lent v.items) at
-  pub size : place + data_size (map item_lent left) ≡ v.frame.header_size + data_size v.items
+  pub before : List Item
+  pub passed : v.items ≡ before ++ map item_lent left
+  pub place_is : place ≡ v.frame.header_size + data_size before

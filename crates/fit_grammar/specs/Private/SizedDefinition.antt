@@ -1,4 +1,4 @@
--- The bytes of a definition with the size of the content that it gives a data message.
+-- The bytes of a definition, with the size of a data message's content under it.
 use Rattle.std.specs.Prelude.{◌≡◌, ◌≤◌}
 use Rattle.fit_grammar.specs.declared.definition.lent.SizedBytes.{SizedBytes}
 use Rattle.fit_grammar.specs.Format.Item.{content_size}

@@ -1,4 +1,4 @@
-// Definitions kept as they are written.
+// Definitions that are kept in the bytes they are written as.
 
 ghost use Rattle.std.specs.Prelude.{◌≡◌, ◌<◌};
 ghost use Rattle.fit_grammar.specs.Format.Item.{Defines};
@@ -15,7 +15,7 @@ use std::marker::Model;
 pub(crate) struct WrittenDefinition {
     bytes: [u8; LONGEST_DEFINITION],
     len: usize,
-    // How many bytes of content a data message has.
+    // The size of a data message's content in bytes.
     content_size: usize,
 }
 
@@ -34,7 +34,7 @@ impl WrittenDefinition {
     pub(crate) fn new(d: &Definition) -> Self
         requires { d.now.local < 16 }
         ensures same { result ≡ d.now }
-        // Each number fits into its bytes, as the types say.
+        // Each number fits into its bytes, as its type guarantees.
         ensures fits { DefinitionFits d.now }
     {
         let mut bytes = [0; LONGEST_DEFINITION];

@@ -7,8 +7,7 @@ use crate::definition::DefinitionMessage;
 use crate::definition::lent::SizedBytes;
 use std::marker::Model;
 
-// For each of the sixteen local numbers the bytes of its latest definition, or none. Contracts see the
-// definitions.
+// The bytes of the latest definition of each of the sixteen local numbers, or none. Contracts see the definitions.
 #[derive(Drop)]
 pub(crate) struct Latest<'a> {
     slots: [Option<SizedBytes<'a>>; 16],
@@ -44,7 +43,7 @@ impl<'a> Latest<'a> {
         self.slots[definition.local() as usize] = Some(definition.bytes());
     }
 
-    // The latest definition of a local number, if there is one.
+    // The latest definition of a local number, if one exists.
     pub(crate) fn get(&self, local: u8) -> Option<DefinitionMessage<'a>>
         ensures { result ≡ definition_in self.now local }
     {

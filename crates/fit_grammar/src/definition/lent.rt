@@ -1,4 +1,4 @@
-// Definition messages as they stand in a file.
+// Definition messages, as they are in a file.
 
 ghost use Rattle.std.specs.Prelude.{◌≡◌, ◌≤◌, ◌*◌, length, sum_by};
 ghost use Rattle.fit_base.specs.Number.{number};
@@ -11,17 +11,17 @@ use arrayvec::ArrayVec;
 use fit_base::{Arch, number_of};
 use std::marker::Model;
 
-// The bytes of a definition, and how many bytes of content a data message has under it.
+// The bytes of a definition, and the size in bytes of a data message's content under it.
 #[derive(Clone, Copy)]
 pub(crate) struct SizedBytes<'a> {
     pub(crate) bytes: &'a [u8],
     pub(crate) content_size: usize,
 }
 
-/// A definition message, lent in the bytes that spell it. Contracts see the definition.
+/// A definition message, borrowed in the bytes that spell it. Contracts see the definition.
 #[derive(Drop)]
 pub struct DefinitionMessage<'a> {
-    // Added up once, where the definition was read.
+    // The size is added up once, when the definition is read.
     sized: SizedBytes<'a>,
 }
 
@@ -38,7 +38,7 @@ impl<'a> Model for DefinitionMessage<'a> {
 }
 
 impl<'a> DefinitionMessage<'a> {
-    // The definition of these bytes, the sizes of whose fields and developer fields are added up.
+    // The definition of these bytes. It adds up the sizes of the fields and developer fields.
     pub(crate) fn new(bytes: &'a [u8]) -> Self
         requires { AreDefinition bytes.now }
         ensures { result ≡ definition_at bytes.now }
@@ -51,7 +51,7 @@ impl<'a> DefinitionMessage<'a> {
         })
     }
 
-    // The same, where the sizes were added up before.
+    // The same, if the sizes are already added up.
     pub(crate) fn of(sized: SizedBytes<'a>) -> Self
         requires { AreSized sized }
         ensures { result ≡ definition_at sized.entry.bytes.now }
@@ -59,7 +59,7 @@ impl<'a> DefinitionMessage<'a> {
         DefinitionMessage { sized }
     }
 
-    // The same, lent again.
+    // The same definition, borrowed again.
     pub(crate) fn lent(&self) -> DefinitionMessage<'a>
         ensures { result ≡ self.now }
     {
@@ -81,21 +81,21 @@ impl<'a> DefinitionMessage<'a> {
         self.sized.bytes[0] % 16
     }
 
-    /// The architecture of the definition's and the data messages' numbers.
+    /// The byte order of the numbers in the definition and in its data messages.
     pub fn arch(&self) -> Arch
         ensures { result ≡ self.now.arch }
     {
         read_arch(self.sized.bytes[2])
     }
 
-    /// The global message number of the profile.
+    /// The global message number, as the profile numbers messages.
     pub fn global(&self) -> u16
         ensures { result ≡ self.now.global }
     {
         number_of(self.arch(), &self.sized.bytes[3..5]) as u16
     }
 
-    // The bytes of the fields, three each.
+    // The bytes of the fields, three for each.
     pub(crate) fn fields(&self) -> &'a [u8]
         ensures fields { fields_in result.now ≡ self.now.fields.items }
         ensures bound { length result.now ≤ 765 }
@@ -103,7 +103,7 @@ impl<'a> DefinitionMessage<'a> {
         fields_behind(self.sized.bytes)
     }
 
-    // The bytes of the developer fields, three each.
+    // The bytes of the developer fields, three for each.
     pub(crate) fn developer(&self) -> &'a [u8]
         ensures fields { developer_in result.now ≡ self.now.developer.items }
         ensures bound { length result.now ≤ 765 }
@@ -111,14 +111,14 @@ impl<'a> DefinitionMessage<'a> {
         developer_behind(self.sized.bytes)
     }
 
-    // How many bytes of content the fields have.
+    // The size of the fields' content in bytes.
     pub(crate) fn fields_size(&self) -> usize
         ensures { result ≡ fields_size_of self.now }
     {
         sum_of_sizes(self.fields())
     }
 
-    /// How many bytes of content a data message has under this definition.
+    /// The size in bytes of a data message's content under this definition, without the message's first byte.
     pub fn content_size(&self) -> usize
         ensures size { result ≡ content_size self.now }
         ensures bound { result ≤ 130050 }
@@ -126,14 +126,14 @@ impl<'a> DefinitionMessage<'a> {
         self.sized.content_size
     }
 
-    // How many bytes the definition is written as.
+    // The number of bytes that the definition is written as.
     pub(crate) fn size(&self) -> usize
         ensures { result ≡ item_size (Defines self.now) }
     {
         self.read().size()
     }
 
-    /// Reads all of the definition.
+    /// Reads the whole definition.
     pub fn read(&self) -> Definition
         ensures { result ≡ self.now }
     {
@@ -147,7 +147,7 @@ impl<'a> DefinitionMessage<'a> {
     }
 }
 
-// The bytes of the fields, behind the first six of a definition.
+// The bytes of the fields, after the first six of a definition.
 fn fields_behind(bytes: &[u8]) -> &[u8]
     requires { AreDefinition bytes.now }
     ensures fields { fields_in result.now ≡ (definition_at bytes.now).fields.items }
@@ -157,7 +157,7 @@ fn fields_behind(bytes: &[u8]) -> &[u8]
     &bytes[6..6 + size]
 }
 
-// The bytes of the developer fields, behind their number. There is none where they are not announced.
+// The bytes of the developer fields, after their number. There are none if the definition announces none.
 fn developer_behind(bytes: &[u8]) -> &[u8]
     requires { AreDefinition bytes.now }
     ensures fields { developer_in result.now ≡ (definition_at bytes.now).developer.items }
@@ -171,7 +171,7 @@ fn developer_behind(bytes: &[u8]) -> &[u8]
     }
 }
 
-// The sizes of the fields that these bytes spell, added up. Those of developer fields stand in the same places.
+// The sum of the sizes of the fields that these bytes spell. Developer fields have their sizes at the same places.
 fn sum_of_sizes(bytes: &[u8]) -> usize
     requires { length bytes.now ≤ 765 }
     ensures sum { result ≡ sum_by (λ field. field.size) (fields_in bytes.now) }
@@ -187,7 +187,7 @@ fn sum_of_sizes(bytes: &[u8]) -> usize
     size
 }
 
-// How many bytes so many fields have.
+// The number of bytes that so many fields have.
 fn fields_size(count: u8) -> usize
     ensures size { result ≡ 3 * count }
     ensures bound { result ≤ 765 }
@@ -195,7 +195,7 @@ fn fields_size(count: u8) -> usize
     3 * count as usize
 }
 
-// The architecture by its byte.
+// The architecture that its byte encodes.
 fn read_arch(byte: u8) -> Arch
     ensures { result ≡ arch_of byte }
 {
@@ -206,7 +206,7 @@ fn read_arch(byte: u8) -> Arch
     }
 }
 
-// The fields that these bytes spell, three bytes each.
+// The fields that these bytes spell, three bytes for each.
 fn read_fields(bytes: &[u8]) -> ArrayVec<FieldDefinition, 255>
     requires { length bytes.now ≤ 765 }
     ensures { result.items ≡ fields_in bytes.now }
@@ -224,7 +224,7 @@ fn read_fields(bytes: &[u8]) -> ArrayVec<FieldDefinition, 255>
     fields
 }
 
-// The developer fields that these bytes spell, three bytes each.
+// The developer fields that these bytes spell, three bytes for each.
 fn read_developer(bytes: &[u8]) -> ArrayVec<DeveloperFieldDefinition, 255>
     requires { length bytes.now ≤ 765 }
     ensures { result.items ≡ developer_in bytes.now }

@@ -7,7 +7,7 @@ use crate::definition::kept::WrittenDefinition;
 use crate::definition::{Definition, DefinitionMessage};
 use std::marker::Model;
 
-/// For each of the sixteen local numbers its definition in force, or none.
+/// The definition in force for each of the sixteen local numbers, or none.
 #[derive(Drop)]
 pub struct Table {
     slots: [Option<WrittenDefinition>; 16],
@@ -35,7 +35,7 @@ impl Table {
         }
     }
 
-    /// Makes this the definition of its local number, in the place of an earlier one.
+    /// Makes this the definition of its local number, and replaces an earlier one.
     pub fn take(&mut self, d: &Definition)
         requires { d.now.local < 16 }
         ensures taken { definition_in self.new d.now.local ≡ Some d.now }
@@ -44,7 +44,7 @@ impl Table {
         self.keep(WrittenDefinition::new(d));
     }
 
-    // The same, of a definition that is written.
+    // The same for a written definition.
     pub(crate) fn keep(&mut self, written: WrittenDefinition)
         requires { written.local < 16 }
         ensures taken { definition_in self.new written.local ≡ Some written }
@@ -54,7 +54,7 @@ impl Table {
         self.slots[local] = Some(written);
     }
 
-    /// The definition of a local number, if there is one.
+    /// The definition of a local number, if one exists.
     pub fn get(&self, local: u8) -> Option<DefinitionMessage<'_>>
         ensures { result ≡ definition_in self.now local }
     {

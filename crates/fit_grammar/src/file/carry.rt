@@ -12,19 +12,22 @@ use crate::file::taking::{is_cut, take_item};
 use crate::file::{FaultKind, File};
 use crate::item::writing::LONGEST_DEFINITION;
 
-// Adds so many of the bytes to the carried item that it is whole, where so many came, and takes it. Answers how many of
-// the bytes it has, or none where it is still cut.
+// Adds bytes to the carried item until it is whole, and takes it. Returns how many of these bytes it used, or `None` if the
+// item is still cut.
 pub(crate) fn take_carried(reading: &mut Reading, bytes: &[u8]) -> Result<Option<usize>, FaultKind>
     requires stands { (b : List ℕ) × StandsBefore b reading.old (reading.old.carry.items ++ bytes.now) }
     requires more { reading.old.at < reading.old.end }
     requires closing { reading.old.closing.items ≡ [] }
     requires begun { ItemBegun (in_force reading.old.file.items) reading.old.carry.items }
     requires some { 1 ≤ length reading.old.carry.items }
+    requires short { length reading.old.carry.items < 130051 }
     ensures same { GoesOnFrom reading.old reading.new }
     ensures ok { (b : List ℕ) → StandsBefore b reading.old (reading.old.carry.items ++ bytes.now)
         → IfOk result (CarriesOn b reading.new bytes.now) }
     ensures err { (b : List ℕ) → StandsBefore b reading.old (reading.old.carry.items ++ bytes.now)
         → IfErr result (λ kind. IsShownBy b (fault_in reading.new kind)) }
+    ensures short { IfOk result (λ _. length reading.new.carry.items < 130051) }
+    ensures later { reading.old.at ≤ reading.new.at }
 {
     let had = reading.carry.len();
     let most = most_length(&reading.file, &reading.carry);
@@ -35,10 +38,11 @@ pub(crate) fn take_carried(reading: &mut Reading, bytes: &[u8]) -> Result<Option
     }
 }
 
-// Takes the carried item, where it is whole now, and answers how many bytes it has behind the first ones.
+// Takes the carried item if it is whole now, and returns how many bytes it has after the first `had`.
 fn take_begun(reading: &mut Reading, had: usize) -> Result<Option<usize>, FaultKind>
     requires fits { data_size reading.old.file.items + (reading.old.end - reading.old.at) < 2 ^ 32 }
     requires more { reading.old.at < reading.old.end }
+    requires noted { length reading.old.places ≤ reading.old.at }
     requires had { had ≤ length reading.old.carry.items }
     requires begun { ItemBegun (in_force reading.old.file.items) (take had reading.old.carry.items) }
     ensures same { GoesOnFrom reading.old reading.new }
@@ -47,8 +51,17 @@ fn take_begun(reading: &mut Reading, had: usize) -> Result<Option<usize>, FaultK
         IsItemFault (in_force reading.old.file.items) reading.old.carry.items
         (reading.old.end - reading.old.at) kind
         × (kind ≡ FaultKind.Truncated → ⊥) × (reading.new.at ≡ reading.old.at)) }
+    ensures short { IfOk result (λ _. length reading.new.carry.items < 130051) }
+    ensures later { reading.old.at ≤ reading.new.at }
 {
-    match take_item(&mut reading.file, &reading.carry, reading.end - reading.at) {
+    let left = reading.end - reading.at;
+    match take_item(
+        &mut reading.file,
+        &mut reading.places,
+        &reading.carry,
+        reading.at,
+        left,
+    ) {
         Ok(used) => {
             reading.carry.clear();
             reading.at += used;
@@ -58,21 +71,24 @@ fn take_begun(reading: &mut Reading, had: usize) -> Result<Option<usize>, FaultK
     }
 }
 
-// Keeps bytes of an item that has begun.
+// Keeps bytes of an item that is not whole.
 pub(crate) fn keep_begun(carry: &mut Vec<u8>, bytes: &[u8]) -> Result<(), FaultKind>
+    // The carried bytes are never more than the longest item has.
+    requires { length carry.old.items + length bytes.now ≤ 130051 }
     ensures ok { OnOk result (carry.new.items ≡ carry.old.items ++ bytes.now) }
-    ensures err { IfErr result (λ kind. kind ≡ FaultKind.Memory) }
-    // As their type says.
+    ensures err { IfErr result (λ kind. (kind ≡ FaultKind.Memory) × (1 ≤ length bytes.now)) }
+    // As their type guarantees.
     ensures bytes { (i : ℕ) → slice_index_or carry.new.items i 0 < 256 }
 {
     carry.extend_from_slice(bytes)?;
     Ok(())
 }
 
-// The most bytes that an item can have which begins so.
+// An upper bound of the length of an item that begins with these bytes.
 fn most_length(file: &File, carry: &[u8]) -> usize
     ensures least { IfOk (least_length_of (in_force file.now.items) carry.now) (λ least. least ≤ result) }
     ensures longest { 1537 ≤ result }
+    ensures bound { result ≤ 130051 }
 {
     match file.least_length(carry) {
         Ok(least) => least.max(LONGEST_DEFINITION),

@@ -1,4 +1,4 @@
-// The checksum behind the records, and nothing behind it.
+// The checksum after the records, with nothing after it.
 
 ghost use Rattle.std.specs.Prelude.{◌≡◌, ◌≤◌, ◌++◌, length, OnOk, IfErr};
 ghost use Rattle.fit_base.specs.Number.{low_first};
@@ -8,7 +8,7 @@ use crate::file::FaultKind;
 use arrayvec::ArrayVec;
 use byteorder::{ByteOrder, LittleEndian};
 
-// Adds to the bytes of the checksum, and tests them where they are whole.
+// Adds bytes to the checksum, and checks it once both of its bytes are there.
 pub(crate) fn take_closing(
     closing: &mut ArrayVec<u8, 2>,
     checksum: u16,

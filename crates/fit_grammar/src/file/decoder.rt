@@ -3,20 +3,21 @@
 ghost use Rattle.std.specs.Prelude.{◌≡◌, ◌<◌, ◌≤◌, ◌^◌, ◌++◌, [], ℕ, List, Err, length, take, IfOk, OnOk, IfErr};
 ghost use Rattle.fit_grammar.specs.Format.File.{FileOf};
 ghost use Rattle.fit_grammar.specs.Format.Refusal.{IsFaultOf};
-ghost use Rattle.fit_grammar.specs.Calls.Pieces.{ShowsNothing, IsShownBy};
+ghost use Rattle.fit_grammar.specs.Calls.Pieces.{ShowsNothing, IsShownBy, NoItemEndsPast};
+ghost use Rattle.fit_grammar.specs.Calls.Places.{ArePlaces};
 ghost use Rattle.fit_grammar.specs.Private.Decoding.{BeginsWith};
-ghost use Rattle.fit_grammar.specs.Private.Feeding.{WasFed, IsOpen, ReadsOn};
+ghost use Rattle.fit_grammar.specs.Calls.Fed.{WasFed, IsOpen, carried};
+ghost use Rattle.fit_grammar.specs.Private.Feeding.{ReadsOn};
 
 use crate::file::header::{Header, LONGEST_HEADER, fault, take_header};
 use crate::file::reading::{Reading, begun, finished, read_on};
-use crate::file::{FaultKind, File, FileFault};
+use crate::file::{FaultKind, File, FileFault, Places};
 use arrayvec::ArrayVec;
 use std::alloc::Global;
 use std::marker::Model;
 
-/// Reads a file that comes in pieces. What it answers is what `decode_file` answers of all of them joined, wherever
-/// they are cut. Contracts say by `WasFed` which bytes these are; a caller hands that on from call to call, and never
-/// looks into it.
+/// Reads a file that comes in pieces. Wherever the pieces are cut, its answers are those of `decode_file` for all of them
+/// joined. In contracts, `WasFed` names the bytes fed so far. A caller passes it on from call to call, and never looks into it.
 #[derive(Drop)]
 pub struct Decoder {
     alloc: Global,
@@ -35,7 +36,7 @@ pub(crate) enum State {
 impl Model for Decoder {
     ghost use Rattle.std.specs.Prelude.{List, ℕ};
     ghost use Rattle.fit_grammar.specs.declared.file.decoder.State.{State};
-    ghost use Rattle.fit_grammar.specs.Private.Feeding.{WasFed};
+    ghost use Rattle.fit_grammar.specs.Calls.Fed.{WasFed};
 
     ghost Value = { State };
 
@@ -55,28 +56,46 @@ impl Decoder {
         }
     }
 
-    /// Reads on. What the bytes show is told as soon as they are here, and by every call from then on. Memory is taken
-    /// only for bytes that are here.
+    /// Reads more bytes, which may be none. A fault is reported as soon as the bytes show it, and by every later call. Memory
+    /// is taken only for bytes that were fed, whatever sizes they announce.
     pub fn feed(&mut self, bytes: &[u8]) -> Result<(), FileFault>
-        // Whatever was fed before, now these bytes were fed behind it.
+        // Whatever was fed before, these bytes are now fed after it.
         ensures fed { (fed : List ℕ) → WasFed fed self.old → WasFed (fed ++ bytes.now) self.new }
-        // Nothing is refused only where no beginning shows a fault.
+        // It succeeds only if no prefix shows a fault.
         ensures quiet { (fed : List ℕ) → WasFed fed self.old → OnOk result (ShowsNothing (fed ++ bytes.now)) }
         ensures open { OnOk result (IsOpen self.new) }
         // A refusal comes with the byte that shows it.
         ensures refused { (fed : List ℕ) → WasFed fed self.old → IfErr result (IsShownBy (fed ++ bytes.now)) }
-        // It is kept, and answered for good.
+        // Lack of memory comes only for an item that was not whole before.
+        ensures asked { (fed : List ℕ) → WasFed fed self.old → IsOpen self.old
+            → IfErr result (λ fault. fault.kind ≡ FaultKind.Memory → NoItemEndsPast fed fault.place) }
+        // Fewer bytes are kept of an unfinished item than the longest item has.
+        ensures short { carried self.new < 130051 }
+        // A refusal is kept, and every later call returns it.
         ensures keeps { IfErr result (λ fault. self.new ≡ State.Refused fault) }
         ensures for_good { (fault : FileFault) → self.old ≡ State.Refused fault → result ≡ Err fault }
     {
         step(self.alloc, &mut self.state, bytes)
     }
 
-    /// The file, where all of it came.
+    /// The file, if all of it was fed. Otherwise the fault that was reported, or `Truncated` if more bytes are needed.
     pub fn finish(self) -> Result<File, FileFault>
         ensures file { (fed : List ℕ) → WasFed fed self → IfOk result (FileOf fed) }
         ensures refused { (fed : List ℕ) → WasFed fed self → IfErr result (IsFaultOf fed) }
-        // A refusal is answered again.
+        // A refusal is returned again.
+        ensures for_good { (fault : FileFault) → self ≡ State.Refused fault → result ≡ Err fault }
+    {
+        match self.finish_with_places() {
+            Ok((file, _)) => Ok(file),
+            Err(fault) => Err(fault),
+        }
+    }
+
+    /// The same, with the places that the items had in the bytes that were fed.
+    pub fn finish_with_places(self) -> Result<(File, Places), FileFault>
+        ensures file { (fed : List ℕ) → WasFed fed self → IfOk result (λ read. FileOf fed read.0) }
+        ensures places { (fed : List ℕ) → WasFed fed self → IfOk result (λ read. ArePlaces fed read.1) }
+        ensures refused { (fed : List ℕ) → WasFed fed self → IfErr result (IsFaultOf fed) }
         ensures for_good { (fault : FileFault) → self ≡ State.Refused fault → result ≡ Err fault }
     {
         match self.state {
@@ -87,12 +106,14 @@ impl Decoder {
     }
 }
 
-// Reads on, and keeps a refusal.
+// Reads more bytes, and keeps a refusal.
 fn step(alloc: Global, state: &mut State, bytes: &[u8]) -> Result<(), FileFault>
     requires { (fed : List ℕ) × WasFed fed state.old }
     ensures fed { (fed : List ℕ) → WasFed fed state.old → WasFed (fed ++ bytes.now) state.new }
     ensures open { OnOk result (IsOpen state.new) }
     ensures refused { (fed : List ℕ) → WasFed fed state.old → IfErr result (IsShownBy (fed ++ bytes.now)) }
+    ensures asked { (fed : List ℕ) → WasFed fed state.old → IsOpen state.old
+        → IfErr result (λ fault. fault.kind ≡ FaultKind.Memory → NoItemEndsPast fed fault.place) }
     ensures keeps { IfErr result (λ fault. state.new ≡ State.Refused fault) }
     ensures for_good { (fault : FileFault) → state.old ≡ State.Refused fault → result ≡ Err fault }
 {
@@ -105,12 +126,14 @@ fn step(alloc: Global, state: &mut State, bytes: &[u8]) -> Result<(), FileFault>
     }
 }
 
-// Reads on from where the bytes so far end.
+// Continues from the end of the bytes so far.
 fn take(alloc: Global, state: &mut State, bytes: &[u8]) -> Result<(), FileFault>
     requires { (fed : List ℕ) × WasFed fed state.old }
     ensures fed { (fed : List ℕ) → WasFed fed state.old → OnOk result (WasFed (fed ++ bytes.now) state.new) }
     ensures open { OnOk result (IsOpen state.new) }
     ensures refused { (fed : List ℕ) → WasFed fed state.old → IfErr result (IsShownBy (fed ++ bytes.now)) }
+    ensures asked { (fed : List ℕ) → WasFed fed state.old → IsOpen state.old
+        → IfErr result (λ fault. fault.kind ≡ FaultKind.Memory → NoItemEndsPast fed fault.place) }
     ensures for_good { (fault : FileFault) → state.old ≡ State.Refused fault → result ≡ Err fault }
 {
     match state {
@@ -133,7 +156,7 @@ fn take(alloc: Global, state: &mut State, bytes: &[u8]) -> Result<(), FileFault>
     }
 }
 
-// Reads on behind the header, which is the first of these bytes, and of which so many came before this piece.
+// Continues after the header. The header is the first bytes of `taken`; `had` of its bytes came before this piece.
 fn begin(
     alloc: Global,
     taken: &[u8],

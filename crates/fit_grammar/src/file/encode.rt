@@ -14,16 +14,15 @@ use crate::to_writer::{WriteFailed, put};
 use fit_base::Crc;
 use std::io::Write;
 
-/// Writes the bytes of the file, and at an `Err` a beginning of them. It takes no memory, and fails only
-/// where the writer does.
+/// Writes the bytes of the file; at an `Err`, a prefix of them. It takes no memory, and fails only if the writer does.
 pub fn encode_file<W: Write>(file: &File, out: &mut W) -> Result<(), EncodeFault>
     ensures { WritesText (W.contents out.old) (W.contents out.new) result (encoded file.now) }
 {
     encode_records(file.frame(), file.records(), out)
 }
 
-/// Writes the file of these records, as they stand, behind a header of this frame, and at an `Err` a beginning of it. It takes no
-/// memory, and fails only where the writer does.
+/// Writes a file of these records, unchanged, after a header of this frame; at an `Err`, a prefix of it. It takes no memory,
+/// and fails only if the writer does.
 pub fn encode_records<W: Write>(
     frame: Frame,
     records: &[u8],
@@ -31,7 +30,7 @@ pub fn encode_records<W: Write>(
 ) -> Result<(), EncodeFault>
     requires { length records.now < 2 ^ 32 }
     ensures written { WritesText (W.contents out.old) (W.contents out.new) result (framed frame records.now) }
-    // Where the records are those of some items, it is a file of these.
+    // If the records are those of some items, it is a file of these items.
     ensures file { (items : List AnyItem) → IsFrame frame → Records records.now items
         → FileOf (framed frame records.now) (record { frame = frame; items = items }) }
 {
@@ -52,7 +51,7 @@ fn put_framed<W: Write>(out: &mut W, frame: Frame, records: &[u8]) -> Result<(),
     put(out, &checksum.value().to_le_bytes())
 }
 
-// The header, with its checksum where it has 14 bytes.
+// The header, with its checksum if it has 14 bytes.
 fn put_header<W: Write>(
     out: &mut W,
     checksum: &mut Crc,
@@ -70,7 +69,7 @@ fn put_header<W: Write>(
     put_checked(out, checksum, &Crc::of(&front).to_le_bytes())
 }
 
-/// The bytes of a header before its checksum, over this many bytes of records.
+/// The first twelve bytes of a header, over `size` bytes of records. A header of 14 bytes has its checksum after them.
 pub fn header_front(frame: Frame, size: u32) -> [u8; 12]
     ensures { result ≡ header_front_of frame size }
 {
@@ -92,7 +91,7 @@ pub fn header_front(frame: Frame, size: u32) -> [u8; 12]
     ]
 }
 
-// Hands over the bytes, and takes them into the checksum.
+// Hands over the bytes, and adds them to the checksum.
 fn put_checked<W: Write>(out: &mut W, checksum: &mut Crc, bytes: &[u8]) -> Result<(), WriteFailed>
     ensures { WritesChecked (W.contents out.old)
         (W.contents out.new) checksum.old checksum.new result bytes.now }

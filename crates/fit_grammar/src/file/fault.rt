@@ -4,7 +4,7 @@ ghost use Rattle.fit_grammar.specs.declared.file.fault.PutFault.TheVariants as p
 
 use std::alloc::AllocError;
 
-/// What is wrong with the bytes of a file.
+/// The kind of fault that the bytes of a file show.
 #[derive(Clone, Copy, Debug, PartialEq, Eq)]
 pub enum FaultKind {
     /// The input ends before the closing checksum is whole.
@@ -15,17 +15,17 @@ pub enum FaultKind {
     Magic,
     /// The major protocol version is not 1 or 2.
     Protocol,
-    /// The header's checksum is given and wrong.
+    /// The header's checksum is present and wrong.
     HeaderCrc,
-    /// A data message of a local number that has no definition in force.
+    /// A data message whose local number has no definition in force.
     UndefinedLocal(u8),
-    /// An item passes the end of the data.
+    /// An item extends past the end of the data that the header gives.
     SplitMessage,
     /// The closing checksum is wrong.
     FileCrc,
     /// A byte follows the closing checksum.
     TrailingBytes,
-    /// A growth was refused.
+    /// The allocator refused to grow a buffer.
     Memory,
 }
 
@@ -51,8 +51,8 @@ impl FaultKind {
     }
 }
 
-/// Why bytes are not read as a file: the first check that fails, in the order of the bytes, and its place,
-/// an offset in bytes from the front of the file.
+/// Why bytes are not read as a file: the first check that fails, in the order of the bytes, and its place, an offset in bytes
+/// from the front of the file.
 #[derive(Clone, Copy, Debug, PartialEq, Eq)]
 pub struct FileFault {
     pub kind: FaultKind,
@@ -73,21 +73,21 @@ impl FileFault {
 /// Why an item is not added to a file.
 #[derive(Clone, Copy, Debug, PartialEq, Eq)]
 pub enum PutFault {
-    /// A data message of a local number that has no definition in force.
+    /// A data message whose local number has no definition in force.
     UndefinedLocal,
-    /// The content is not as long as the definition says, or the message cannot have that time offset: one
-    /// is below 32, and of a local number below 4.
+    /// The content is not as long as the definition requires, or the message cannot have that time offset. An offset is below
+    /// 32, and its local number below 4.
     Length,
-    /// The records would pass 4,294,967,295 bytes.
+    /// The records would exceed 4,294,967,295 bytes.
     TooLong,
-    /// A growth was refused.
+    /// The allocator refused to grow a buffer.
     Memory,
 }
 
 impl PutFault {
     ghost use Rattle.fit_grammar.specs.Calls.FaultCode.{put_code};
 
-    /// The number of the fault, 1 to 4: the first that holds is answered.
+    /// The number of the fault, 1 to 4. If several hold, the first is returned.
     pub fn code(&self) -> u8
         ensures { result ≡ put_code self.now }
     {

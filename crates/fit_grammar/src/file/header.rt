@@ -1,4 +1,4 @@
-// The header of a file, from the bytes of it that came.
+// The header of a file, read from the bytes that have come.
 
 ghost use Rattle.std.specs.Prelude.{◌≡◌, ◌≢◌, ◌<◌, ◌≤◌, ◌↔◌, ◌⊎◌, ◌^◌, ◌++◌, ℕ, length, take, slice_index, slice_range, IfOk, IfErr, IsTrue};
 ghost use Rattle.fit_grammar.specs.declared.file.frame.Frame.{Frame as AnyFrame};
@@ -31,7 +31,7 @@ pub(crate) fn fault(kind: FaultKind, place: usize) -> FileFault
     FileFault { kind, place }
 }
 
-// Adds to the bytes of a header those that belong to it, and reads it where it is whole.
+// Adds the bytes that belong to the header, and reads it once it is whole.
 pub(crate) fn take_header(
     header: &mut ArrayVec<u8, LONGEST_HEADER>,
     bytes: &[u8],
@@ -52,7 +52,7 @@ pub(crate) fn take_header(
     }
 }
 
-// Adds bytes up to the most that a header has.
+// Adds bytes, up to the most that a header has.
 fn add_header(header: &mut ArrayVec<u8, LONGEST_HEADER>, bytes: &[u8])
     ensures { header.new.items ≡ take 14 (header.old.items ++ bytes.now) }
 {
@@ -60,7 +60,7 @@ fn add_header(header: &mut ArrayVec<u8, LONGEST_HEADER>, bytes: &[u8])
     header.try_extend_from_slice(&bytes[..own]).unwrap();
 }
 
-// Reads the header, its checks in the order of the bytes that they need.
+// Reads the header. The checks come in the order of the bytes that they need.
 fn read_header(bytes: &[u8]) -> Result<Header, FileFault>
     ensures header { IfOk result (BeginsWith bytes.now) }
     ensures fits { IfOk result (λ header. header.data_size < 2 ^ 32) }
@@ -74,7 +74,7 @@ fn read_header(bytes: &[u8]) -> Result<Header, FileFault>
     Ok(header)
 }
 
-/// Reads the header that the bytes begin with, whatever its checksum is. Where they begin with none, the fault is the one that
+/// Reads the header that the bytes begin with, whatever its checksum is. If they begin with none, the fault is the one that
 /// they have as a file.
 pub fn read_header_front(bytes: &[u8]) -> Result<Header, FileFault>
     ensures header { IfOk result (λ header. BeginsWithHeader bytes.now header.frame header.data_size) }
@@ -83,7 +83,7 @@ pub fn read_header_front(bytes: &[u8]) -> Result<Header, FileFault>
         (λ fault. (fault.kind ≢ FaultKind.Memory) × Refusal bytes.now fault.kind fault.place) }
     ensures none { IfErr result
         (λ _. (frame : AnyFrame) (size : ℕ) → BeginsWithHeader bytes.now frame size → ⊥) }
-    // Where the bytes end within their header.
+    // When the bytes end within their header.
     ensures short { IfErr result (λ fault. fault.kind ≡ FaultKind.Truncated
         → (length bytes.now < 14) × ((length bytes.now ≡ 0) ⊎ (length bytes.now < slice_index bytes.now 0))) }
 {
@@ -128,14 +128,14 @@ fn is_header_size(size: u8) -> bool
     size == 12 || size == 14
 }
 
-// The major protocol versions that are read.
+// The major protocol versions that are accepted.
 fn is_major(number: u8) -> bool
     ensures { IsTrue result ↔ ((number ≡ 1) ⊎ (number ≡ 2)) }
 {
     number == 1 || number == 2
 }
 
-// The bytes 8 to 11 mark a FIT file.
+// Whether bytes 8 to 11 mark a FIT file.
 fn is_marked(bytes: &[u8]) -> bool
     requires { 12 ≤ length bytes.now }
     ensures { IsTrue result ↔ (slice_range bytes.now 8 12 ≡ mark) }
@@ -143,7 +143,7 @@ fn is_marked(bytes: &[u8]) -> bool
     bytes[8] == 0x2E && bytes[9] == 0x46 && bytes[10] == 0x49 && bytes[11] == 0x54
 }
 
-// The checksum of a header of 14 bytes is not given, or right.
+// Whether the checksum of a header of 14 bytes is zero, for "not given", or right.
 fn checks_header(header: &[u8]) -> bool
     requires { length header.now ≡ 14 }
     ensures { IsTrue result ↔ ChecksHeader header.now }

@@ -1,10 +1,11 @@
-// A file behind its header, read piece by piece: whole items where they stand, and a cut one over the carry.
+// A file after its header, read piece by piece: whole items in place, and a cut item in the carry.
 
 ghost use Rattle.std.specs.Prelude.{◌≡◌, ◌<◌, ◌≤◌, ◌^◌, ◌++◌, [], ℕ, List, length, IfOk, OnOk, IfErr};
 ghost use Rattle.fit_grammar.specs.Format.Records.{in_force};
 ghost use Rattle.fit_grammar.specs.Format.File.{FileOf};
 ghost use Rattle.fit_grammar.specs.Format.Refusal.{IsFaultOf};
 ghost use Rattle.fit_grammar.specs.Calls.Pieces.{IsShownBy};
+ghost use Rattle.fit_grammar.specs.Calls.Places.{ArePlaces};
 ghost use Rattle.fit_grammar.specs.Calls.Step.{ItemBegun};
 ghost use Rattle.fit_grammar.specs.Private.Decoding.{BeginsWith};
 ghost use Rattle.fit_grammar.specs.Private.Feeding.{StandsBefore, ReadsOn, TakesItems, fault_in};
@@ -13,27 +14,29 @@ use crate::file::carry::{keep_begun, take_carried};
 use crate::file::closing::take_closing;
 use crate::file::header::{Header, fault};
 use crate::file::taking::take_items;
-use crate::file::{FaultKind, File, FileFault};
+use crate::file::{FaultKind, File, FileFault, Places};
 use arrayvec::ArrayVec;
 use fit_base::Crc;
 use std::alloc::Global;
 
-// A file behind its header.
+// A file after its header.
 #[derive(Drop)]
 pub(crate) struct Reading {
     pub(crate) file: File,
-    // The place behind the items, and behind all the records.
+    // The places of its items.
+    pub(crate) places: Places,
+    // The place after the items so far, and the place after all the records.
     pub(crate) at: usize,
     pub(crate) end: usize,
-    // Over the header and the records so far.
+    // The checksum of the header and the records so far.
     pub(crate) checksum: Crc,
-    // The bytes of an item that is not whole.
+    // The bytes of an unfinished item.
     pub(crate) carry: Vec<u8>,
-    // The bytes of the closing checksum.
+    // The bytes of the closing checksum so far.
     pub(crate) closing: ArrayVec<u8, 2>,
 }
 
-// Behind this header.
+// The state right after this header.
 pub(crate) fn begun(alloc: Global, header: &[u8], found: Header) -> Reading
     requires begins { BeginsWith header.now found }
     requires whole { length header.now ≡ found.frame.header_size }
@@ -45,6 +48,7 @@ pub(crate) fn begun(alloc: Global, header: &[u8], found: Header) -> Reading
     checksum.add(header);
     Reading {
         file: File::new(alloc, found.frame),
+        places: Places::new(alloc),
         at,
         end: at + found.data_size as usize,
         checksum,
@@ -53,12 +57,13 @@ pub(crate) fn begun(alloc: Global, header: &[u8], found: Header) -> Reading
     }
 }
 
-// Reads on.
+// Reads more bytes.
 pub(crate) fn read_on(reading: &mut Reading, bytes: &[u8]) -> Result<(), FileFault>
     requires { (fed : List ℕ) × ReadsOn fed reading.old }
     ensures ok { (fed : List ℕ) → ReadsOn fed reading.old
         → OnOk result (ReadsOn (fed ++ bytes.now) reading.new) }
     ensures err { (fed : List ℕ) → ReadsOn fed reading.old → IfErr result (IsShownBy (fed ++ bytes.now)) }
+    ensures later { IfErr result (λ fault. fault.kind ≡ FaultKind.Memory → reading.old.at ≤ fault.place) }
 {
     add_checksum(reading, bytes);
     match take_bytes(reading, bytes) {
@@ -67,7 +72,7 @@ pub(crate) fn read_on(reading: &mut Reading, bytes: &[u8]) -> Result<(), FileFau
     }
 }
 
-// Takes those of the bytes into the checksum that are header and records.
+// Adds the bytes that are header or records to the checksum.
 fn add_checksum(reading: &mut Reading, bytes: &[u8])
     requires { (fed : List ℕ) × ReadsOn fed reading.old }
     ensures stands { (fed : List ℕ) → ReadsOn fed reading.old
@@ -79,7 +84,7 @@ fn add_checksum(reading: &mut Reading, bytes: &[u8])
     reading.checksum.add(&bytes[..left.min(bytes.len())]);
 }
 
-// Takes the bytes, behind those that are carried.
+// Takes the bytes, which follow the carried ones.
 fn take_bytes(reading: &mut Reading, bytes: &[u8]) -> Result<(), FaultKind>
     requires stands { (b : List ℕ)
         × StandsBefore b reading.old (reading.old.carry.items ++ reading.old.closing.items ++ bytes.now) }
@@ -87,6 +92,7 @@ fn take_bytes(reading: &mut Reading, bytes: &[u8]) -> Result<(), FaultKind>
         → (reading.old.closing.items ≡ [])
         × ItemBegun (in_force reading.old.file.items) reading.old.carry.items }
     requires behind { reading.old.end ≤ reading.old.at → reading.old.carry.items ≡ [] }
+    requires short { length reading.old.carry.items < 130051 }
     ensures ok { (b : List ℕ)
         → StandsBefore b reading.old (reading.old.carry.items ++ reading.old.closing.items ++ bytes.now)
         → OnOk result (ReadsOn b reading.new) }
@@ -94,6 +100,7 @@ fn take_bytes(reading: &mut Reading, bytes: &[u8]) -> Result<(), FaultKind>
         → StandsBefore b reading.old (reading.old.carry.items ++ reading.old.closing.items ++ bytes.now)
         → IfErr result (λ kind. IsShownBy b (fault_in reading.new kind)) }
     ensures end { reading.new.end ≡ reading.old.end }
+    ensures later { reading.old.at ≤ reading.new.at }
 {
     if reading.carry.is_empty() {
         take_rest(reading, bytes)
@@ -102,18 +109,20 @@ fn take_bytes(reading: &mut Reading, bytes: &[u8]) -> Result<(), FaultKind>
     }
 }
 
-// Takes the carried item, and what stands behind it.
+// Takes the carried item, and what follows it.
 fn take_on(reading: &mut Reading, bytes: &[u8]) -> Result<(), FaultKind>
     requires stands { (b : List ℕ) × StandsBefore b reading.old (reading.old.carry.items ++ bytes.now) }
     requires more { reading.old.at < reading.old.end }
     requires closing { reading.old.closing.items ≡ [] }
     requires begun { ItemBegun (in_force reading.old.file.items) reading.old.carry.items }
     requires some { 1 ≤ length reading.old.carry.items }
+    requires short { length reading.old.carry.items < 130051 }
     ensures ok { (b : List ℕ) → StandsBefore b reading.old (reading.old.carry.items ++ bytes.now)
         → OnOk result (ReadsOn b reading.new) }
     ensures err { (b : List ℕ) → StandsBefore b reading.old (reading.old.carry.items ++ bytes.now)
         → IfErr result (λ kind. IsShownBy b (fault_in reading.new kind)) }
     ensures end { reading.new.end ≡ reading.old.end }
+    ensures later { reading.old.at ≤ reading.new.at }
 {
     match take_carried(reading, bytes) {
         Ok(Some(used)) => take_rest(reading, &bytes[used..]),
@@ -122,7 +131,7 @@ fn take_on(reading: &mut Reading, bytes: &[u8]) -> Result<(), FaultKind>
     }
 }
 
-// Takes whole items where they stand, and keeps what is behind them.
+// Takes whole items in place, and keeps what follows them.
 fn take_rest(reading: &mut Reading, bytes: &[u8]) -> Result<(), FaultKind>
     requires stands { (b : List ℕ) × StandsBefore b reading.old (reading.old.closing.items ++ bytes.now) }
     requires within { reading.old.at < reading.old.end → reading.old.closing.items ≡ [] }
@@ -132,6 +141,7 @@ fn take_rest(reading: &mut Reading, bytes: &[u8]) -> Result<(), FaultKind>
     ensures err { (b : List ℕ) → StandsBefore b reading.old (reading.old.closing.items ++ bytes.now)
         → IfErr result (λ kind. IsShownBy b (fault_in reading.new kind)) }
     ensures end { reading.new.end ≡ reading.old.end }
+    ensures later { reading.old.at ≤ reading.new.at }
 {
     match take_items(reading, bytes) {
         Ok(used) => keep_rest(reading, &bytes[used..]),
@@ -139,14 +149,16 @@ fn take_rest(reading: &mut Reading, bytes: &[u8]) -> Result<(), FaultKind>
     }
 }
 
-// Keeps the bytes of an item that has begun, or of the closing checksum.
+// Keeps the bytes of an unfinished item, or of the closing checksum.
 fn keep_rest(reading: &mut Reading, rest: &[u8]) -> Result<(), FaultKind>
     requires stands { (b : List ℕ) × TakesItems b reading.old rest.now }
     requires none { reading.old.carry.items ≡ [] }
+    requires short { reading.old.at < reading.old.end → length rest.now < 130051 }
     ensures ok { (b : List ℕ) → TakesItems b reading.old rest.now → OnOk result (ReadsOn b reading.new) }
     ensures err { (b : List ℕ) → TakesItems b reading.old rest.now
         → IfErr result (λ kind. IsShownBy b (fault_in reading.new kind)) }
     ensures end { reading.new.end ≡ reading.old.end }
+    ensures later { reading.old.at ≤ reading.new.at }
 {
     if reading.at < reading.end {
         keep_begun(&mut reading.carry, rest)
@@ -155,7 +167,7 @@ fn keep_rest(reading: &mut Reading, rest: &[u8]) -> Result<(), FaultKind>
     }
 }
 
-// The fault of a kind that is met here.
+// The fault of this kind at this place.
 fn fault_here(reading: &Reading, kind: FaultKind) -> FileFault
     requires { reading.now.end < 2 ^ 33 }
     ensures { result ≡ fault_in reading.now kind }
@@ -166,15 +178,16 @@ fn fault_here(reading: &Reading, kind: FaultKind) -> FileFault
     }
 }
 
-// The file, where all of it was read.
-pub(crate) fn finished(reading: Reading) -> Result<File, FileFault>
+// The file, if all of it was read, and where its items were.
+pub(crate) fn finished(reading: Reading) -> Result<(File, Places), FileFault>
     requires { (fed : List ℕ) × ReadsOn fed reading }
-    ensures file { (fed : List ℕ) → ReadsOn fed reading → IfOk result (FileOf fed) }
+    ensures file { (fed : List ℕ) → ReadsOn fed reading → IfOk result (λ read. FileOf fed read.0) }
+    ensures places { (fed : List ℕ) → ReadsOn fed reading → IfOk result (λ read. ArePlaces fed read.1) }
     ensures refused { (fed : List ℕ) → ReadsOn fed reading → IfErr result (IsFaultOf fed) }
 {
     if reading.closing.len() < 2 {
         let len = reading.at + reading.carry.len() + reading.closing.len();
         return Err(fault(FaultKind::Truncated, len));
     }
-    Ok(reading.file)
+    Ok((reading.file, reading.places))
 }

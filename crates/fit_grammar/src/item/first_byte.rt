@@ -4,7 +4,7 @@ ghost use Rattle.std.specs.Prelude.{◌≡◌};
 ghost use Rattle.fit_grammar.specs.Format.Item.{head_of};
 ghost use Rattle.fit_grammar.specs.Private.FirstByte.{head_view, local_of};
 
-// What the first byte of an item says, as the specification's `Head`.
+// What the first byte of an item encodes, as the specification's `Head`.
 #[derive(Drop)]
 pub(crate) enum Head {
     // A local number, and whether developer fields are announced.
@@ -12,7 +12,7 @@ pub(crate) enum Head {
     Data(u8, Option<u8>),
 }
 
-// Reads a first byte.
+// Decodes a first byte.
 pub(crate) fn read_head(byte: u8) -> Head
     ensures { head_view result ≡ head_of byte }
 {

@@ -9,8 +9,8 @@ use crate::definition::latest::Latest;
 use crate::item::first_byte::first_local;
 use crate::item::{Item, Step, step_under};
 
-/// The greatest length of a beginning of the bytes that is a row of whole items, each data message with its definition in
-/// force. It passes over each item once, and takes no memory.
+/// The length in bytes of the longest prefix that is a row of whole items, each data message with its definition in force. It
+/// passes over each item once, and takes no memory.
 pub fn longest_front(bytes: &[u8]) -> usize
     ensures { IsLongestFront bytes.now result }
 {
@@ -23,7 +23,7 @@ pub fn longest_front(bytes: &[u8]) -> usize
     front
 }
 
-// The step of a window behind items with these latest definitions.
+// The step of a window after items with these latest definitions.
 fn step_behind<'a>(window: &'a [u8], latest: &Latest<'a>) -> Step<'a>
     ensures { IsStep (definition_in latest.now) window.now result }
 {
@@ -33,7 +33,7 @@ fn step_behind<'a>(window: &'a [u8], latest: &Latest<'a>) -> Step<'a>
     }
 }
 
-// Makes the definition that an item is, if it is one, the latest of its local number.
+// If the item is a definition, makes it the latest of its local number.
 fn take_over<'a>(latest: &mut Latest<'a>, item: &Item<'a>)
     requires { DefinesBelow 16 (Step.Item item.now 0) }
     ensures { definition_in latest.new ≡ behind (item_of item.now) (definition_in latest.old) }

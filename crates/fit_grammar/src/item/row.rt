@@ -15,12 +15,13 @@ use crate::message::message_in;
 use crate::message::time::compressed_time;
 use std::marker::Model;
 
-/// An item where it stands in a file.
+/// An item, borrowed where it is in a file.
 #[derive(Drop)]
 pub enum FileItem<'a> {
     /// A definition, which is in force for its local number from here on.
     Definition(DefinitionMessage<'a>),
-    /// A data message with its definition in force, and the time of its compressed timestamp, if it has one.
+    /// A data message with its definition in force, and the time of its compressed timestamp, if it has one: seconds since
+    /// 1989-12-31 00:00 UTC.
     Data(DataMessage<'a>, Option<u32>),
 }
 
@@ -28,7 +29,7 @@ impl<'a> FileItem<'a> {
     ghost use Rattle.fit_grammar.specs.Format.Item.{item_size};
     ghost use Rattle.fit_grammar.specs.Calls.LentItem.{lent_item, item_lent};
 
-    // How many bytes the item has.
+    // The number of bytes that the item is written as.
     pub(crate) fn size(&self) -> usize
         ensures { result ≡ item_size (item_lent (lent_item self.now)) }
     {
@@ -39,7 +40,7 @@ impl<'a> FileItem<'a> {
     }
 }
 
-/// The items of a file in order, with the time carried along. Contracts see those that are left.
+/// The items of a file in order, with the time carried along. Contracts see the items that are left.
 #[derive(Drop)]
 pub struct Items<'a> {
     // The bytes of the items that are left.
@@ -61,7 +62,7 @@ impl<'a> Model for Items<'a> {
 }
 
 impl<'a> Items<'a> {
-    // All the items of a file, which these bytes are.
+    // All the items of a file. These are their bytes.
     pub(crate) fn new(records: &'a [u8]) -> Self
         requires written { encoded_items (items_in records.now) ≡ records.now }
         requires follow { AllCanFollow [] (items_in records.now) }
@@ -85,7 +86,7 @@ impl<'a> Iterator for Items<'a> {
 
     ghost remaining = { item_count (λ s. s) };
 
-    #[inline(always)] // Else a loop over items has each of them written to memory and read again.
+    #[inline(always)] // Without it, a loop writes each item to memory and reads it again.
     fn next(&mut self) -> Option<FileItem<'a>> {
         if self.rest.is_empty() {
             return None;

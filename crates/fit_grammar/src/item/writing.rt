@@ -1,4 +1,4 @@
-// Writing items, in the one form with every reserved bit and byte 0.
+// Writing items in the one form that has every reserved bit and byte 0.
 
 ghost use Rattle.std.specs.Prelude.{◌≡◌, ◌+◌, ◌*◌, ◌<◌, ◌≤◌, ◌++◌, ◌∷◌, [], length, drop, flat_map};
 ghost use Rattle.std.specs.List.{AllByRecursion};
@@ -9,16 +9,16 @@ ghost use Rattle.fit_grammar.specs.Calls.Possible.{FieldFits, DeveloperFieldFits
 use crate::definition::{Definition, DeveloperFieldDefinition, FieldDefinition};
 use fit_base::Arch;
 
-// The number of bytes of a definition of 255 fields and 255 developer fields, the most that there are.
+// The number of bytes of the longest definition, which has 255 fields and 255 developer fields.
 pub(crate) const LONGEST_DEFINITION: usize = 1537;
 
-/// Writes a definition at the front of `out`, and leaves the bytes behind it. Answers how many bytes it has.
+/// Writes a definition at the front of `out`, and leaves the bytes after it. Returns the number of bytes written.
 pub fn write_definition(definition: &Definition, out: &mut [u8]) -> usize
     requires local { definition.now.local < 16 }
     requires room { item_size (Defines definition.now) ≤ length out.old }
     ensures count { result ≡ item_size (Defines definition.now) }
     ensures written { out.new ≡ encoded_item (Defines definition.now) ++ drop result out.old }
-    // Each number fits into its bytes, as the types say.
+    // Each number fits into its bytes, as its type guarantees.
     ensures fits { DefinitionFits definition.now }
 {
     let Definition { arch, global, .. } = *definition;
@@ -33,7 +33,8 @@ pub fn write_definition(definition: &Definition, out: &mut [u8]) -> usize
     used + write_developer_part(&definition.developer, behind)
 }
 
-/// The same of the definition of these fields, which has no developer fields.
+/// Writes a definition of these fields at the front of `out`, without developer fields, and leaves the bytes after it. Returns
+/// the number of bytes written.
 pub fn write_native_definition(
     local: u8,
     arch: Arch,
@@ -52,7 +53,8 @@ pub fn write_native_definition(
     write_front(0x40 + local, arch, global, fields, out)
 }
 
-// Writes the six bytes of a definition that come first, this the very first, and its fields. Answers how many bytes that are.
+// Writes the first six bytes of a definition, of which `first` is the very first, and its fields. Returns the number of bytes
+// written.
 fn write_front(
     first: u8,
     arch: Arch,
@@ -65,7 +67,7 @@ fn write_front(
     ensures count { result ≡ 6 + 3 * length fields.now }
     ensures written { out.new ≡ first ∷ 0 ∷ arch_byte arch ∷ (two_bytes arch global ++ length fields.now
         ∷ (flat_map field_bytes fields.now ++ drop result out.old)) }
-    // As their types say.
+    // As their types guarantee.
     ensures global { global < 65536 }
     ensures fields { AllByRecursion FieldFits fields.now }
 {
@@ -75,7 +77,7 @@ fn write_front(
     6 + 3 * fields.len()
 }
 
-// The first byte of a definition, which announces developer fields where there are any.
+// The first byte of a definition. It announces developer fields if there are any.
 fn first_byte(definition: &Definition) -> u8
     requires { definition.now.local < 16 }
     ensures { result ≡ definition_byte definition.now.local (has_any definition.now.developer.items) }
@@ -87,7 +89,7 @@ fn first_byte(definition: &Definition) -> u8
     }
 }
 
-// Writes the number of the developer fields and three bytes each, where there are any. Answers how many bytes that are.
+// Writes the number of the developer fields and three bytes for each, if there are any. Returns the number of bytes written.
 fn write_developer_part(fields: &[DeveloperFieldDefinition], out: &mut [u8]) -> usize
     requires count { length fields.now < 256 }
     requires room { part_size (has_any fields.now) (length fields.now) ≤ length out.old }
@@ -103,14 +105,14 @@ fn write_developer_part(fields: &[DeveloperFieldDefinition], out: &mut [u8]) -> 
     1 + 3 * fields.len()
 }
 
-/// Writes a data message at the front of `out`, with a compressed timestamp where an offset is given, and leaves the
-/// bytes behind it. Answers how many bytes it has.
+/// Writes a data message at the front of `out`, with a compressed timestamp if an offset is given, and leaves the bytes after
+/// it. Returns the number of bytes written.
 pub fn write_data(local: u8, offset: Option<u8>, content: &[u8], out: &mut [u8]) -> usize
     requires encoding { HasEncoding (Data local offset []) }
     requires room { 1 + length content.now ≤ length out.old }
     ensures count { result ≡ 1 + length content.now }
     ensures written { out.new ≡ encoded_item (Data local offset content.now) ++ drop result out.old }
-    // As its type says.
+    // As its type guarantees.
     ensures bytes { AllByRecursion (λ byte. byte < 256) content.now }
 {
     let used = 1 + content.len();
@@ -143,7 +145,7 @@ pub(crate) fn data_byte(local: u8, offset: Option<u8>) -> u8
 // The two bytes of a number.
 fn number_bytes(arch: Arch, number: u16) -> [u8; 2]
     ensures bytes { result ≡ two_bytes arch number }
-    // As its type says.
+    // As its type guarantees.
     ensures fits { number < 65536 }
 {
     match arch {
@@ -152,11 +154,11 @@ fn number_bytes(arch: Arch, number: u16) -> [u8; 2]
     }
 }
 
-// Writes the fields, three bytes each.
+// Writes the fields, three bytes for each.
 fn write_fields(fields: &[FieldDefinition], out: &mut [u8])
     requires { 3 * length fields.now ≤ length out.old }
     ensures written { out.new ≡ flat_map field_bytes fields.now ++ drop (3 * length fields.now) out.old }
-    // As their types say.
+    // As their types guarantee.
     ensures fit { AllByRecursion FieldFits fields.now }
 {
     for (i, field) in fields.iter().enumerate() {
@@ -165,11 +167,11 @@ fn write_fields(fields: &[FieldDefinition], out: &mut [u8])
     }
 }
 
-// Writes the developer fields, three bytes each.
+// Writes the developer fields, three bytes for each.
 fn write_developer_fields(fields: &[DeveloperFieldDefinition], out: &mut [u8])
     requires { 3 * length fields.now ≤ length out.old }
     ensures written { out.new ≡ flat_map developer_bytes fields.now ++ drop (3 * length fields.now) out.old }
-    // As their types say.
+    // As their types guarantee.
     ensures fit { AllByRecursion DeveloperFieldFits fields.now }
 {
     for (i, field) in fields.iter().enumerate() {

@@ -2,8 +2,8 @@
 
 use std::marker::Model;
 
-/// A developer field of a message: the index of its developer data, its number, and its bytes. What they mean is told by other
-/// messages of the file, which are not looked at.
+/// A developer field of a message: its developer data index, its number, and its bytes. Other messages of the file describe
+/// what the bytes mean; this crate does not read them.
 #[derive(Drop)]
 pub struct DeveloperField<'m> {
     pub index: u8,
@@ -14,7 +14,7 @@ pub struct DeveloperField<'m> {
 /// The developer fields of a message in order.
 #[derive(Drop)]
 pub struct DeveloperFields<'m> {
-    // Three bytes a field.
+    // Three bytes for each field.
     fields: &'m [u8],
     content: &'m [u8],
 }
@@ -37,7 +37,7 @@ impl<'m> DeveloperFields<'m> {
     ghost use Rattle.fit_grammar.specs.Format.Message.{developer_of};
     ghost use Rattle.fit_grammar.specs.Private.DefinitionBytes.{developer_in};
 
-    // The developer fields of this content, at whose front their bytes are.
+    // The developer fields of this content, which begins with their bytes.
     pub(crate) fn new(fields: &'m [u8], content: &'m [u8]) -> Self
         requires { sum_by (λ field. field.size) (developer_in fields.now) ≤ length content.now }
         ensures { result ≡ developer_of (developer_in fields.now) content.now }

@@ -10,12 +10,12 @@ pub struct Field<'m> {
     pub value: FieldValue<'m>,
 }
 
-/// The fields of a message in order, the time of a compressed timestamp in front.
+/// The fields of a message in order. The time of a compressed timestamp comes first.
 #[derive(Drop)]
 pub struct Fields<'m> {
     time: Option<&'m [u8]>,
     arch: Arch,
-    // Three bytes a field.
+    // Three bytes for each field.
     fields: &'m [u8],
     content: &'m [u8],
 }
@@ -41,7 +41,7 @@ impl<'m> Fields<'m> {
     ghost use Rattle.fit_grammar.specs.Format.Message.{time_fields, fields_of};
     ghost use Rattle.fit_grammar.specs.Private.DefinitionBytes.{fields_in};
 
-    // The fields of this content, at whose front their bytes are, behind a time of four bytes.
+    // The fields of this content, which begins with their bytes. A time of four bytes comes before them, if one is given.
     pub(crate) fn new(
         time: Option<&'m [u8]>,
         arch: Arch,

@@ -7,7 +7,7 @@ use crate::item::{FileItem, Items};
 use crate::message::{Message, message_in};
 use std::marker::Model;
 
-/// The messages of a file in order, with the time carried along. Contracts see those that are left.
+/// The messages of a file in order, with the time carried along. Contracts see the messages that are left.
 #[derive(Drop)]
 pub struct Messages<'a> {
     items: Items<'a>,
@@ -41,7 +41,7 @@ impl<'a> Iterator for Messages<'a> {
 
     ghost remaining = { item_count (λ s. s) };
 
-    #[inline(always)] // As the items that it walks over.
+    #[inline(always)] // For the same reason as `Items`.
     fn next(&mut self) -> Option<Message<'a>> {
         while let Some(item) = self.items.next() {
             if let FileItem::Data(data, time) = item {

@@ -8,14 +8,14 @@ ghost use Rattle.fit_grammar.specs.Calls.LentField.{field_view};
 use crate::message::{Field, Fields};
 use fit_base::{FieldValue, number_of};
 
-// The least time that is not below the one before and leaves the offset modulo 32, wrapped at 2^32.
+// The least time that is not below the one before and equals the offset modulo 32, wrapped at 2^32.
 fn next_time(before: u32, offset: u8) -> u32
     ensures { result ≡ next_time_of before offset }
 {
     before.wrapping_add((u32::from(offset) + 32 - before % 32) % 32)
 }
 
-// The time of a compressed timestamp, if there is one.
+// The time of a compressed timestamp, if one is given.
 pub(crate) fn compressed_time(before: u32, offset: Option<u8>) -> Option<u32>
     ensures { result ≡ compressed_time_of before offset }
 {
@@ -25,7 +25,7 @@ pub(crate) fn compressed_time(before: u32, offset: Option<u8>) -> Option<u32>
     }
 }
 
-// The time that the first field with one states.
+// The time of the first field that states one.
 pub(crate) fn stated_time(fields: Fields) -> Option<u32>
     ensures { result ≡ time_stated fields.entry }
 {
@@ -38,7 +38,7 @@ pub(crate) fn stated_time(fields: Fields) -> Option<u32>
     None
 }
 
-// The time that a field states: that of a field 253 of base type 86.
+// The time that a field states, if it is field 253 of base type 0x86.
 fn time_by(field: &Field) -> Option<u32>
     ensures { result ≡ stated_by (field_view field.now) }
 {
@@ -49,7 +49,7 @@ fn time_by(field: &Field) -> Option<u32>
     }
 }
 
-// The one number of a value of base type 86, where it is not invalid.
+// The one number of a value of base type 0x86, if it is valid.
 fn time_in(value: &FieldValue) -> Option<u32>
     requires { value.now.base ≡ 0x86 }
     ensures { result ≡ time_of_values (values_of value.now) }

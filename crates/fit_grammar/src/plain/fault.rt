@@ -1,20 +1,21 @@
-// Why a file is not made plain.
+// Why a file has no plain form.
 
 ghost use Rattle.std.specs.Prelude.{◌≡◌};
 ghost use Rattle.fit_grammar.specs.declared.plain.fault.PlainFaultKind.TheVariants as kinds;
 
 use std::alloc::AllocError;
 
-/// Why the plain form of an item does not follow those before it.
+/// Why the plain form of an item cannot be added to those before it.
 #[derive(Clone, Copy, Debug, PartialEq, Eq)]
 pub enum PlainFaultKind {
-    /// The records would pass 4,294,967,295 bytes, or the definition of a message would have 256 fields.
+    /// The records would exceed 4,294,967,295 bytes, or the definition of a message would have 256 fields.
     TooLong,
-    /// A growth was refused.
+    /// The allocator refused to grow a buffer.
     Memory,
 }
 
-/// Why a file is not made plain, and the place of the first item that is refused: an offset in bytes from the front of the file.
+/// Why a file has no plain form, and the place of the first item that is refused: an offset in bytes from the front of the
+/// file.
 #[derive(Clone, Copy, Debug, PartialEq, Eq)]
 pub struct PlainFault {
     pub kind: PlainFaultKind,

@@ -1,8 +1,8 @@
 // Making the plain form of a file, item by item.
 
-ghost use Rattle.std.specs.Prelude.{◌≡◌, ◌<◌, ◌++◌, ℕ, [], Some, is_some, slice_set, true, false, IfSome, IfNone, OnOk, IfErr, IsErrOf, length};
+ghost use Rattle.std.specs.Prelude.{◌≡◌, ◌<◌, ◌≤◌, ◌+◌, ◌^◌, ◌++◌, ℕ, [], Some, is_some, slice_set, true, false, IfSome, IfNone, OnOk, IfErr, length};
 ghost use Rattle.fit_grammar.specs.Format.File.{IsFrame};
-ghost use Rattle.fit_grammar.specs.Format.Item.{Defines};
+ghost use Rattle.fit_grammar.specs.Format.Item.{Defines, item_size};
 ghost use Rattle.fit_grammar.specs.Format.Records.{in_force, data_size};
 ghost use Rattle.fit_grammar.specs.Calls.Adding.{with_item, IsTooLong};
 ghost use Rattle.fit_grammar.specs.Calls.LentItem.{lent_item, DataHere};
@@ -14,9 +14,9 @@ use crate::file::{File, Frame};
 use crate::item::{DataMessage, FileItem};
 use crate::plain::PlainFaultKind;
 use fit_base::Arch;
-use std::alloc::Global;
+use std::alloc::{AllocError, Global};
 
-// The plain form of the items so far, and of each local number whether its last definition has field 253 in front.
+// The plain form of the items so far, and whether the last definition of each local number has field 253 in front.
 #[derive(Drop)]
 pub(crate) struct Plain {
     file: File,
@@ -24,7 +24,7 @@ pub(crate) struct Plain {
 }
 
 impl Plain {
-    // That of no items.
+    // The plain form of no items.
     pub(crate) fn new(alloc: Global, frame: Frame) -> Plain
         requires { IsFrame frame }
         ensures frame { result.file.frame ≡ frame }
@@ -37,7 +37,7 @@ impl Plain {
         }
     }
 
-    // The file that was made.
+    // The finished file.
     pub(crate) fn into_file(self) -> File
         ensures { result ≡ self.file }
     {
@@ -53,17 +53,20 @@ impl Plain {
         ensures timed { OnOk result (self.new.timed ≡ timed_behind self.old.timed (lent_item item.now)) }
         ensures fits { OnOk result (is_too_long (data_size self.old.file.items)
             (plain_item self.old.timed (lent_item item.now)) ≡ false) }
-        ensures too_long { IsErrOf result PlainFaultKind.TooLong
+        ensures too_long { IfErr result (λ kind. kind ≡ PlainFaultKind.TooLong
             → is_too_long (data_size self.old.file.items)
-            (plain_item self.old.timed (lent_item item.now)) ≡ true }
+            (plain_item self.old.timed (lent_item item.now)) ≡ true) }
+        ensures memory { IfErr result (λ kind. kind ≡ PlainFaultKind.Memory
+            → is_too_long (data_size self.old.file.items)
+            (plain_item self.old.timed (lent_item item.now)) ≡ false) }
     {
         match item {
-            FileItem::Definition(definition) => self.define(&definition.read(), false),
+            FileItem::Definition(definition) => self.define(&definition.read(), false, 0),
             FileItem::Data(message, time) => self.take_data(message, *time),
         }
     }
 
-    // Takes a data message, whose time is written out if it has one.
+    // Takes a data message, and writes out its time if it has one.
     fn take_data(
         &mut self,
         message: &DataMessage<'_>,
@@ -77,29 +80,46 @@ impl Plain {
             (self.new.timed ≡ slice_set self.old.timed message.now.local (is_some time)) }
         ensures fits { OnOk result (is_too_long (data_size self.old.file.items)
             (plain_item self.old.timed (DataHere (lent_data message.now time))) ≡ false) }
-        ensures too_long { IsErrOf result PlainFaultKind.TooLong
+        ensures too_long { IfErr result (λ kind. kind ≡ PlainFaultKind.TooLong
             → is_too_long (data_size self.old.file.items)
-            (plain_item self.old.timed (DataHere (lent_data message.now time))) ≡ true }
+            (plain_item self.old.timed (DataHere (lent_data message.now time))) ≡ true) }
+        ensures memory { IfErr result (λ kind. kind ≡ PlainFaultKind.Memory
+            → is_too_long (data_size self.old.file.items)
+            (plain_item self.old.timed (DataHere (lent_data message.now time))) ≡ false) }
     {
         let timed = time.is_some();
+        let size = plain_size(message, time);
         if self.timed[message.local as usize] != timed {
             let Some(definition) = plain_definition_of(&message.definition, timed) else {
                 return Err(PlainFaultKind::TooLong);
             };
-            self.define(&definition, timed)?;
+            self.define(&definition, timed, size)?;
+        } else if size > self.file.room() {
+            return Err(PlainFaultKind::TooLong);
         }
-        self.put(message, time)
+        self.put(message, time)?;
+        Ok(())
     }
 
-    // Adds a definition, which has field 253 in front or not.
-    fn define(&mut self, d: &Definition, timed: bool) -> Result<(), PlainFaultKind>
-        requires { d.now.local < 16 }
+    // Adds a definition, with field 253 in front or not, if an item of `following` bytes still fits after it.
+    fn define(
+        &mut self,
+        d: &Definition,
+        timed: bool,
+        following: usize,
+    ) -> Result<(), PlainFaultKind>
+        requires local { d.now.local < 16 }
+        requires small { following ≤ 130055 }
         ensures file { OnOk result (self.new.file ≡ with_item self.old.file (Defines d.now)) }
         ensures timed { OnOk result (self.new.timed ≡ slice_set self.old.timed d.now.local timed) }
-        ensures fits { OnOk result (IsTooLong self.old.file (Defines d.now) → ⊥) }
-        ensures too_long { IsErrOf result PlainFaultKind.TooLong → IsTooLong self.old.file (Defines d.now) }
+        ensures fits { OnOk result
+            (data_size self.old.file.items + item_size (Defines d.now) + following < 2 ^ 32) }
+        ensures too_long { IfErr result (λ kind. kind ≡ PlainFaultKind.TooLong
+            → 2 ^ 32 ≤ data_size self.old.file.items + item_size (Defines d.now) + following) }
+        ensures memory { IfErr result (λ kind. kind ≡ PlainFaultKind.Memory
+            → data_size self.old.file.items + item_size (Defines d.now) + following < 2 ^ 32) }
     {
-        if d.size() > self.file.room() {
+        if d.size() + following > self.file.room() {
             return Err(PlainFaultKind::TooLong);
         }
         self.file.push_definition(d)?;
@@ -107,35 +127,36 @@ impl Plain {
         Ok(())
     }
 
-    // Adds the plain form of a message, whose definition is in force.
-    fn put(&mut self, message: &DataMessage<'_>, time: Option<u32>) -> Result<(), PlainFaultKind>
+    // Adds the plain form of a message. Its definition is in force.
+    fn put(&mut self, message: &DataMessage<'_>, time: Option<u32>) -> Result<(), AllocError>
         requires local { message.now.local < 16 }
         requires in_force { in_force self.old.file.items message.now.local
             ≡ Some (plain_definition (lent_data message.now time)) }
+        requires fits { IsTooLong self.old.file (plain_data (lent_data message.now time)) → ⊥ }
         ensures file { OnOk result (self.new.file
             ≡ with_item self.old.file (plain_data (lent_data message.now time))) }
         ensures timed { self.new.timed ≡ self.old.timed }
-        ensures fits { OnOk result (IsTooLong self.old.file (plain_data (lent_data message.now time)) → ⊥) }
-        ensures too_long { IsErrOf result PlainFaultKind.TooLong
-            → IsTooLong self.old.file (plain_data (lent_data message.now time)) }
     {
-        let front = if time.is_some() { 5 } else { 1 };
-        if front + message.content.len() > self.file.room() {
-            return Err(PlainFaultKind::TooLong);
-        }
         match time {
             Some(time) => {
                 let bytes = bytes_of_time(message.definition.arch(), time);
-                self.file
-                    .push_timed(message.local, &bytes, message.content)?;
+                self.file.push_timed(message.local, &bytes, message.content)
             }
-            None => self.file.push_data(message.local, None, message.content)?,
+            None => self.file.push_data(message.local, None, message.content),
         }
-        Ok(())
     }
 }
 
-// The definition of a plain form, with field 253 in front or not; nothing where it would have 256 fields.
+// The number of bytes of a message's plain form.
+fn plain_size(message: &DataMessage<'_>, time: Option<u32>) -> usize
+    ensures size { result ≡ item_size (plain_data (lent_data message.now time)) }
+    ensures bound { result ≤ 130055 }
+{
+    let front = if time.is_some() { 5 } else { 1 };
+    front + message.definition.content_size()
+}
+
+// The definition of a plain form, with field 253 in front or not. `None` if it would have 256 fields.
 fn plain_definition_of(message: &DefinitionMessage<'_>, timed: bool) -> Option<Definition>
     ensures definition { IfSome result (λ d. d ≡ timed_definition timed message.now) }
     ensures full { IfNone result (255 < length (timed_definition timed message.now).fields.items) }
@@ -155,7 +176,7 @@ fn plain_definition_of(message: &DefinitionMessage<'_>, timed: bool) -> Option<D
     Some(definition)
 }
 
-// The bytes of a time.
+// The four bytes of a time.
 fn bytes_of_time(arch: Arch, time: u32) -> [u8; 4]
     ensures { result ≡ time_bytes_of arch time }
 {

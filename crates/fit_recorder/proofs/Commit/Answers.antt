@@ -1,4 +1,4 @@
--- What a call of a recorder answers, put together from its parts.
+-- The answers of a recorder's calls, derived from their parts.
 use Rattle.std.proofs.Common.{◌≡◌, ◌⊎◌, inl, inr, ℕ, ◌+◌, ◌≤◌, Bool, true, false, List, None, Result, Ok, Err, sym, ◌∙◌, subst}
 use Rattle.std.specs.Prelude.{OnOk, OnErr, IfErr}
 use Rattle.fit_activity.specs.declared.recording.entry.Entry.{Entry}
@@ -17,12 +17,12 @@ use Rattle.fit_recorder.specs.declared.recorder.Recorder.{Recorder}
 use Rattle.fit_recorder.specs.Calls.Recorder.{Behind, has_failed}
 use Rattle.fit_recorder.specs.Calls.Answers.{HandAnswers, CommitAnswers, StopAnswers}
 
--- a recorder in which no call failed stands somewhere
+-- a recorder in which no call failed has ended or stands at some list
 pub not_failed : {P : Type 0} (failed : Bool) → failed ≡ false → (failed ≡ true) ⊎ P → P
 not_failed failed is (inl other) = let clash : false ≡ true = sym is ∙ other in absurd cc
 not_failed failed is (inr at) = at
 
--- and one whose list has no stop stands where its calls go on
+-- and one whose list has no stop has not ended
 pub not_ended : {P : Type 0} (totals : TotalsState) → ((list : List Recorded) → AreTotals totals list → has_stopped list ≡ false)
     → ((list : List Recorded) × (AreTotals totals list × (has_stopped list ≡ true))) ⊎ P → P
 not_ended totals going (inl ended) = let clash : true ≡ false = sym ended.1.1 ∙ going ended.0 ended.1.0 in absurd cc
@@ -31,7 +31,7 @@ not_ended totals going (inr at) = at
 pub open_before : (totals : TotalsState) (list : List Recorded) (e : Entry) → AreTotals totals list → refusal_of list e ≡ None → has_stopped list ≡ false
 open_before totals list e are none = sym are.stopped ∙ going_on totals list e are none
 
--- nor has one in which an entry is not refused
+-- nor has one that does not refuse an entry
 pub not_refused : (honest : Bool) (memory : RecorderState) (story : Story) (failed : Bool) (e : Entry) → failed ≡ false → ((list : List Recorded) → AreTotals memory.totals list → None ≡ refusal_of list e)
     → (failed ≡ true) ⊎ (((list : List Recorded) × (AreTotals memory.totals list × (has_stopped list ≡ true))) ⊎ ((list : List Recorded) × (committed : List Recorded) × IsAt honest memory story list committed))
     → (list : List Recorded) × (committed : List Recorded) × IsAt honest memory story list committed × (refusal_of list e ≡ None) × (has_stopped list ≡ false)
@@ -52,12 +52,12 @@ pub commit_answers : (list : List Recorded) (journal_slots : Slots) (result : Re
 commit_answers list journal_slots (Ok done) going room device = (going, room)
 commit_answers list journal_slots (Err fault) going room device = subst (λ fault. CommitAnswers list journal_slots (Err fault)) (sym device) (going, room)
 
--- a recorder goes on after an Ok, and after a fault has failed
+-- after an Ok a recorder continues, and after a fault it has failed
 pub goes_by : {T E : Type 0} (A P Q G : Type 0) (result : Result T E) → OnOk result (A × P) → OnErr result Q → (P → G) → (Q → G) → G
 goes_by A P Q G (Ok x) ok err on_ok on_err = on_ok ok.1
 goes_by A P Q G (Err e) ok err on_ok on_err = on_err err
 
--- what stands behind a call that only the device can have refused
+-- what holds after a call that only the device can refuse
 pub behind_call : {D : Type 0} (old new : Recorder D) (result : Result (Unit {0}) RecFault) → has_failed old ≡ false → IfErr result (λ fault. fault ≡ Device)
     → OnOk result (has_failed new ≡ false) → OnErr result (has_failed new ≡ true) → Behind result old new
 behind_call old new (Ok done) not device going gone = record {

@@ -1,4 +1,4 @@
--- What files stand for, they stand for alone.
+-- Files stand for at most one list, and not also for nothing recorded.
 use Rattle.std.proofs.Common.{◌≡◌, ◌⊎◌, inl, inr, ⊎_elim, ℕ, List, length, Result, Ok, Err, refl, sym, ◌∙◌, ap, subst, arith}
 use Rattle.fit_grammar.specs.Format.Records.{Records}
 use Rattle.fit_grammar.specs.Format.Message.{messages_of}

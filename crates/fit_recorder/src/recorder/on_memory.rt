@@ -11,7 +11,7 @@ impl Recorder<Memory> {
     ghost use Rattle.fit_recorder.specs.Calls.OnMemory.{StandsAsBefore};
     ghost use Rattle.fit_recorder.specs.Calls.Recorder.{disk_of};
 
-    /// Lets the k-th call of the disk from now fail, from 1 on. No content and no promise changes.
+    /// Makes the k-th disk call from now fail; the next call is the first. Changes no content and no promise.
     pub fn fail_at(&mut self, k: u32)
         requires { 1 ≤ k }
         ensures same { StandsAsBefore self.old self.new }
@@ -21,7 +21,7 @@ impl Recorder<Memory> {
         self.files.disk.fail_at(k);
     }
 
-    /// Lets the power go at the k-th call of the disk from now, from 1 on. No content and no promise changes.
+    /// Cuts the power at the k-th disk call from now; the next call is the first. Changes no content and no promise.
     pub fn cut_at(&mut self, k: u32)
         requires { 1 ≤ k }
         ensures same { StandsAsBefore self.old self.new }
@@ -31,7 +31,7 @@ impl Recorder<Memory> {
         self.files.disk.cut_at(k);
     }
 
-    /// Whether a growth was refused in its disk so far, or the counts of calls are at their last value.
+    /// Whether the disk was ever refused memory, or the counts of calls have reached their last value.
     pub fn spent(&self) -> bool
         ensures { result ≡ is_spent (disk_of self.now) }
     {

@@ -1,4 +1,4 @@
-// Bodies made by hand behind a start, which a recovery reads window by window from the device.
+// Bodies made by hand after a start. A recovery reads them from the device window by window.
 
 ghost use Rattle.std.specs.Prelude.{◌≤◌};
 
@@ -12,7 +12,7 @@ use std::alloc::Global;
 use std::process::Abort;
 use std::test::Fail;
 
-// A record's definition with a time and a heart rate, and two records.
+// A record definition with a time and a heart rate, and two records.
 const RECORDS: [u8; 24] = [
     0x40, 0, 0, 0x14, 0, 2, 0xFD, 4, 0x86, 3, 1, 2, 0x00, 0x00, 0xCA, 0x9A, 0x3B, 0x64, 0x00, 0x01,
     0xCA, 0x9A, 0x3B, 0x65,
@@ -25,20 +25,20 @@ const COMPRESSED: [u8; 37] = [
     0x64, 0x9F, 0x65, 0x80, 0x66,
 ];
 
-// A record, high byte first.
+// A record with the high byte first.
 const HIGH_FIRST: [u8; 14] = [
     0x40, 0, 1, 0, 0x14, 0x01, 0xFD, 4, 0x86, 0x00, 0x3B, 0x9A, 0xCA, 0x00,
 ];
 
-// A body of a beginning and what stands behind it.
+// A body of two parts.
 pub(super) fn body_of(rt: &HostRuntime, beginning: &[u8], behind: &[u8]) -> Result<Vec<u8>, Fail> {
     let mut body = beginning.to_vec(rt.alloc())?;
     body.extend_from_slice(behind)?;
     Ok(body)
 }
 
-// Tests that a recovery of so many bytes of a body, behind which there may be more, finds samples alone: these, of which
-// the last is so many ms behind the start.
+// Asserts that a recovery of so many bytes of a body, which may be longer, finds these samples and nothing else. The last one is so
+// many ms after the start.
 pub(super) fn finds(
     rt: &impl Abort,
     alloc: Global,
@@ -75,7 +75,7 @@ fn a_body_is_read_back(rt: HostRuntime) -> Result<(), Fail> {
 fn an_item_that_passes_the_end_is_broken(rt: HostRuntime) -> Result<(), Fail> {
     let body = body_of(&rt, &START_RECORDS, &RECORDS)?;
     let sample = heart_rate(TIME, 100);
-    // The length, where its last item begins, and the samples before that.
+    // The length after the start, the place of the item that it cuts, and the samples before that.
     let cases: [(u32, usize, &[Entry]); 3] = [(11, 0, &[]), (17, 12, &[]), (23, 18, &[sample])];
     for (len, front, samples) in cases {
         finds(&rt, rt.alloc(), &body, 72 + front, samples, 0)?;
@@ -84,10 +84,10 @@ fn an_item_that_passes_the_end_is_broken(rt: HostRuntime) -> Result<(), Fail> {
     Ok(())
 }
 
-// A definition that nothing uses moves the records along, so that each of their bytes stands at an end of a window.
+// A definition that nothing uses moves the records, so that each of their bytes is at the end of a window.
 #[test]
 fn items_stand_across_two_windows(rt: HostRuntime) -> Result<(), Fail> {
-    // A record's definition with a time, a heart rate and a cadence, and two hundred records of seven bytes.
+    // A record definition with a time, a heart rate and a cadence, and two hundred records of seven bytes.
     let mut samples = Vec::new(rt.alloc());
     let mut records = RECORDS[..12].to_vec(rt.alloc())?;
     records[5] = 3;
@@ -114,8 +114,8 @@ fn items_stand_across_two_windows(rt: HostRuntime) -> Result<(), Fail> {
     Ok(())
 }
 
-// A message of a recording is far shorter. A definition that nothing uses may be so long, and a message of a field of 95
-// bytes is one of no recording.
+// A message of a recording is far shorter. A definition that nothing uses may have 96 bytes. A message with a field of 95 bytes
+// does not belong to a recording.
 #[test]
 fn an_item_has_at_most_96_bytes(rt: HostRuntime) -> Result<(), Fail> {
     let mut definition = [0; 99];
@@ -141,7 +141,7 @@ fn an_item_has_at_most_96_bytes(rt: HostRuntime) -> Result<(), Fail> {
 
 #[test]
 fn compressed_timestamps_follow_the_last_time(rt: HostRuntime) -> Result<(), Fail> {
-    // The event is that of the start.
+    // The body has the event of the start.
     let body = body_of(&rt, &START_RECORDS[..50], &COMPRESSED)?;
     let samples = [
         heart_rate(TIME, 100),

@@ -1,8 +1,9 @@
-// Just the calls of the device that are told, in their order: how many they are is seen by a power cut at the last of them and at
-// the next one, and their order by what the files hold where one fails.
+// The exact calls of the device, in their order. Their number is shown by power cuts at the last of them and at the call after it,
+// and their order by what the files hold if one of them fails.
 
 ghost use Rattle.std.specs.Prelude.{◌≤◌};
 
+use super::resuming::{committed_in_a_row, resumed};
 use super::{RUN, SHORT_RIDE, TIME, begun, committed, copy_of, one, play, short_ride};
 use crate::equality::equal;
 use fit_activity::Entry;
@@ -10,12 +11,12 @@ use fit_disk::{Disk, Memory, Which};
 use fit_recorder::{RecFault, Recorder, erase, recover};
 use std::test::Fail;
 
-// The header while a ride is recorded: over no records.
+// The header while a ride is recorded: it counts no records.
 const NO_RECORDS: [u8; 14] = [
     0x0E, 0x10, 0x64, 0x00, 0x00, 0x00, 0x00, 0x00, 0x2E, 0x46, 0x49, 0x54, 0x21, 0xEE,
 ];
 
-// Of the short ride, committed behind its start: two syncs, the size, the journal with its two slots, one read of the body, and
+// A recovery of the short ride after its commit: two syncs, the size, the journal with its two slots, one read of the body, and
 // the four calls that close the file.
 const RECOVERY: u32 = 2 + 1 + 1 + 1 + 4;
 
@@ -28,6 +29,38 @@ fn a_recovery_makes_just_its_calls(rt: HostRuntime) -> Result<(), RecFault> {
     disk.cut_at(RECOVERY + 1);
     equal(&rt, recover(&mut disk), Ok(SHORT_RIDE));
     equal(&rt, disk.size(Which::Data).is_ok(), false);
+    Ok(())
+}
+
+// A row of slots takes two more reads of the journal: its first 64 slots, and the last open slot.
+const RECOVERY_OVER_A_ROW: u32 = RECOVERY + 2;
+
+#[test]
+fn a_recovery_over_a_row_makes_just_its_calls(rt: HostRuntime) -> Result<(), Fail> {
+    for (k, expected) in [
+        (RECOVERY_OVER_A_ROW, Err(RecFault::Device)),
+        (RECOVERY_OVER_A_ROW + 1, Ok(SHORT_RIDE)),
+    ] {
+        let mut disk = committed_in_a_row(&rt, 2)?;
+        disk.cut_at(k);
+        equal(&rt, recover(&mut disk), expected);
+    }
+    Ok(())
+}
+
+// The calls of a recovery up to the read of the body, then the cut and its sync.
+#[test]
+fn a_resume_over_a_row_makes_just_its_calls(rt: HostRuntime) -> Result<(), Fail> {
+    let calls = RECOVERY_OVER_A_ROW - 2;
+    for (k, expected) in [(calls, Err(RecFault::Device)), (calls + 1, Ok(174))] {
+        let mut disk = committed_in_a_row(&rt, 2)?;
+        disk.cut_at(k);
+        let len = match resumed(disk) {
+            Ok(recorder) => Ok(recorder.data_len()),
+            Err(fault) => Err(fault),
+        };
+        equal(&rt, len, expected);
+    }
     Ok(())
 }
 
@@ -45,7 +78,7 @@ fn a_start_that_finds_a_ride_makes_two_calls(rt: HostRuntime) -> Result<(), RecF
     Ok(())
 }
 
-// Where the data file is empty the journal is left as it is, its mark too.
+// If the data file is empty the journal is left as it is, with its mark.
 #[test]
 fn an_erasing_of_nothing_makes_three_calls(rt: HostRuntime) -> Result<(), RecFault> {
     for (k, expected) in [(3, Err(RecFault::Device)), (4, Ok(()))] {
@@ -59,8 +92,8 @@ fn an_erasing_of_nothing_makes_three_calls(rt: HostRuntime) -> Result<(), RecFau
     Ok(())
 }
 
-// Behind its two syncs a recovery that finds nothing ends with the size of an empty data file, and with the head of a journal
-// that is none; one that finds damage ends there too.
+// A recovery begins with two syncs. If it finds nothing, it ends with the size of an empty data file, or with the head of a journal
+// that has none. If the head shows damage, it ends there too.
 #[test]
 fn a_recovery_that_finds_no_ride_ends_early(rt: HostRuntime) -> Result<(), RecFault> {
     let cases: [(&[u8], &[u8], [(u32, RecFault); 2]); 3] = [
@@ -90,7 +123,7 @@ fn a_recovery_that_finds_no_ride_ends_early(rt: HostRuntime) -> Result<(), RecFa
     Ok(())
 }
 
-// A start keeps the data file before it asks for its size: where that fails, a power cut leaves what was written.
+// A start syncs the data file before it reads the size: if that fails, a power cut leaves what was written.
 #[test]
 fn a_start_keeps_the_data_first(rt: HostRuntime) -> Result<(), RecFault> {
     let mut disk = Memory::new(rt.alloc());
@@ -106,7 +139,7 @@ fn a_start_keeps_the_data_first(rt: HostRuntime) -> Result<(), RecFault> {
     Ok(())
 }
 
-// Where the journal has no mark nothing is written there, and it is kept once more.
+// If the journal has no mark nothing is written there, and it is synced once more.
 #[test]
 fn an_erasing_without_a_mark_makes_seven_calls(rt: HostRuntime) -> Result<(), RecFault> {
     for (k, expected) in [(7, Err(RecFault::Device)), (8, Ok(()))] {
@@ -117,7 +150,7 @@ fn an_erasing_without_a_mark_makes_seven_calls(rt: HostRuntime) -> Result<(), Re
     Ok(())
 }
 
-// The data file is kept before the journal: where the second sync fails, a power cut leaves the data as reads gave it.
+// A recovery syncs the data file before the journal: if the second sync fails, a power cut leaves the data as reads gave it.
 #[test]
 fn a_recovery_keeps_the_data_first(rt: HostRuntime) -> Result<(), Fail> {
     let mut disk = begun(&rt)?.into_disk();
@@ -130,7 +163,7 @@ fn a_recovery_keeps_the_data_first(rt: HostRuntime) -> Result<(), Fail> {
     Ok(())
 }
 
-// How long the data file is behind a call that failed with its header over no records.
+// The size of the data file after a call that failed, if its header still counts no records.
 fn unfinished(fault: Result<(), RecFault>, disk: &Memory) -> Option<usize> {
     let content = disk.content(Which::Data);
     if fault == Err(RecFault::Device) && content.starts_with(&NO_RECORDS) {
@@ -140,7 +173,7 @@ fn unfinished(fault: Result<(), RecFault>, disk: &Memory) -> Option<usize> {
     }
 }
 
-// The same where this call of a stop of the short ride fails.
+// The same if this call of a stop of the short ride fails.
 fn stopped_until(rt: &HostRuntime, k: u32) -> Result<Option<usize>, RecFault>
     requires { 1 ≤ k }
 {
@@ -151,7 +184,7 @@ fn stopped_until(rt: &HostRuntime, k: u32) -> Result<Option<usize>, RecFault>
     Ok(unfinished(fault, &recorder.into_disk()))
 }
 
-// The closing messages stand behind the body before the header counts them: in a stop by its seventh and its eighth call.
+// The closing messages are written after the body before the header counts them: by the seventh and the eighth call of a stop.
 #[test]
 fn a_stop_writes_its_header_last(rt: HostRuntime) -> Result<(), RecFault> {
     let before = stopped_until(&rt, 7)?;
@@ -159,7 +192,7 @@ fn a_stop_writes_its_header_last(rt: HostRuntime) -> Result<(), RecFault> {
     Ok(())
 }
 
-// And where one of a recovery of that ride fails.
+// The same if this call of a recovery of that ride fails.
 fn recovered_until(rt: &HostRuntime, k: u32) -> Result<Option<usize>, RecFault>
     requires { 1 ≤ k }
 {
@@ -172,7 +205,7 @@ fn recovered_until(rt: &HostRuntime, k: u32) -> Result<Option<usize>, RecFault>
     Ok(unfinished(fault, &disk))
 }
 
-// And in a recovery by its last four, of which the third is the header's write.
+// And by the last four calls of a recovery. The third of them writes the header.
 #[test]
 fn a_recovery_writes_its_header_last(rt: HostRuntime) -> Result<(), RecFault> {
     let before = recovered_until(&rt, RECOVERY - 3)?;

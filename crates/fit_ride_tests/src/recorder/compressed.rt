@@ -1,4 +1,4 @@
-// Samples close behind the last entry, which have compressed timestamps. The bytes are those that the FIT protocol gives
+// Samples soon after the last entry, which have compressed timestamps. The bytes are those that the FIT protocol gives
 // such records.
 
 ghost use Rattle.std.specs.Prelude.{◌≡◌, ◌≤◌, IfOk, true, false};
@@ -17,7 +17,7 @@ use std::alloc::Global;
 use std::process::Abort;
 use std::test::Fail;
 
-// What a recording of these entries has behind the records of its start. A recovery leaves it as it is, and its file tells
+// The records of these entries after those of the start. Asserts that a recovery leaves them as they are, and that its file encodes
 // these entries.
 fn recorded(rt: &impl Abort, alloc: Global, entries: &[Entry]) -> Result<Vec<u8>, Fail> {
     let mut recorder = begun_on(Memory::new(alloc))?;
@@ -34,7 +34,7 @@ fn recorded(rt: &impl Abort, alloc: Global, entries: &[Entry]) -> Result<Vec<u8>
     Ok(records)
 }
 
-// Up to 31 seconds behind the last entry, and 32.
+// Up to 31 seconds after the last entry, and 32.
 #[test]
 fn a_time_close_behind_is_compressed(rt: HostRuntime) -> Result<(), Fail> {
     let entries = [
@@ -55,7 +55,7 @@ fn a_time_close_behind_is_compressed(rt: HostRuntime) -> Result<(), Fail> {
     Ok(())
 }
 
-// A lap, the end of a pause, and a sample without fields, which has its time itself.
+// After a lap, after the end of a pause, and after a sample without fields, which has its own time.
 #[test]
 fn each_entry_is_a_last_time(rt: HostRuntime) -> Result<(), Fail> {
     let at_a_lap = [Entry::Lap(TIME + 2), heart_rate(TIME + 2, 110)];
@@ -97,7 +97,7 @@ fn each_entry_is_a_last_time(rt: HostRuntime) -> Result<(), Fail> {
     Ok(())
 }
 
-// Around a multiple of 32, and with the same low five bits, 32 seconds later.
+// Around a multiple of 32, and 32 seconds later with the same low five bits.
 #[test]
 fn an_offset_below_the_last_is_32_seconds_on(rt: HostRuntime) -> Result<(), Fail> {
     let entries = [
@@ -159,7 +159,7 @@ fn the_last_times_are_compressed(rt: HostRuntime) -> Result<(), RecFault> {
     Ok(())
 }
 
-// Hands in a sample with the fields of this set. Tells whether it took so many bytes.
+// Hands in a sample with the fields of this set. Returns whether it took so many bytes.
 fn takes(recorder: &mut Recorder<Memory>, time: u32, set: u8, size: u32) -> Result<bool, RecFault>
     requires { GoesOn true memory_story recorder.old }
     ensures { GoesOn true memory_story recorder.new }
@@ -169,8 +169,8 @@ fn takes(recorder: &mut Recorder<Memory>, time: u32, set: u8, size: u32) -> Resu
     Ok(recorder.data_len() == before.saturating_add(size))
 }
 
-// Each of seventeen field lists with its time and then without, which has three bytes less in the definition and four in the
-// content: no definition is in force when it is wanted, and so they take the four local numbers in turn.
+// Seventeen field lists, each with its time and then without it, which is three bytes less in the definition and four in the
+// content. No definition is still in force when it is needed again, so they take the four local numbers in turn.
 #[test]
 fn both_kinds_of_definitions_take_turns(rt: HostRuntime) -> Result<(), Fail> {
     let mut recorder = begun(&rt)?;
@@ -186,7 +186,7 @@ fn both_kinds_of_definitions_take_turns(rt: HostRuntime) -> Result<(), Fail> {
         );
         entries.push(Entry::Sample(some_fields(time + 31, set)))?;
     }
-    // The thirty-fifth definition takes local number 2, and is in force then beside the three before it.
+    // The thirty-fifth definition takes local number 2. The three before it are in force then too.
     let time = TIME + 64 * 18;
     assert!(rt; takes(&mut recorder, time, 1, size_with_definition(1))?);
     entries.push(Entry::Sample(some_fields(time, 1)))?;

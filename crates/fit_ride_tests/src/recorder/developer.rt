@@ -1,4 +1,4 @@
-// Bodies with developer fields, which no recorder writes: a message has none, and a definition that nothing uses may have some.
+// Bodies with developer fields, which no recorder writes: no message may have one, but a definition that nothing uses may.
 
 use super::bodies::{body_of, finds};
 use super::recovering::is_damaged;
@@ -9,10 +9,10 @@ use std::alloc::Global;
 use std::process::Abort;
 use std::test::Fail;
 
-// A record's definition with a time, a heart rate and a developer field of one byte.
+// A record definition with a time, a heart rate and a developer field of one byte.
 const DEFINITION: [u8; 16] = [0x60, 0, 0, 0x14, 0, 2, 0xFD, 4, 0x86, 3, 1, 2, 1, 0, 1, 0];
 
-// The same without one, and a record.
+// The same without the developer field, and a record.
 const RECORD: [u8; 18] = [
     0x40, 0, 0, 0x14, 0, 2, 0xFD, 4, 0x86, 3, 1, 2, 0x00, 0x01, 0xCA, 0x9A, 0x3B, 0x65,
 ];
@@ -28,7 +28,7 @@ fn is_refused(alloc: Global, disk: Memory) -> Result<bool, Fail> {
     }
 }
 
-// With one byte, with none, and under a compressed timestamp one second behind the start.
+// With one byte, with no byte, and under a compressed timestamp one second after the start.
 #[test]
 fn a_message_has_none(rt: HostRuntime) -> Result<(), Fail> {
     for behind in [
@@ -58,7 +58,7 @@ fn a_message_has_none(rt: HostRuntime) -> Result<(), Fail> {
     Ok(())
 }
 
-// A definition with one, which the next of its local number takes the place of.
+// A definition with a developer field. The next definition of its local number replaces it.
 #[test]
 fn a_definition_that_nothing_uses_is_passed(rt: HostRuntime) -> Result<(), Fail> {
     let body = body_of(&rt, &START_RECORDS, &DEFINITION)?;
@@ -68,7 +68,7 @@ fn a_definition_that_nothing_uses_is_passed(rt: HostRuntime) -> Result<(), Fail>
     finds(&rt, rt.alloc(), &body, 72 + 16 + 18, &[sample], 1000)
 }
 
-// The same definition announces them and has none.
+// The same definition announces developer fields and has none.
 #[test]
 fn none_may_be_announced(rt: HostRuntime) -> Result<(), Fail> {
     let mut announced = [0; 19];
@@ -79,7 +79,7 @@ fn none_may_be_announced(rt: HostRuntime) -> Result<(), Fail> {
     finds(&rt, rt.alloc(), &body, 72 + 19, &[sample], 1000)
 }
 
-// As it is written it has seven bytes and three for each field of both kinds, and without a developer field one less: 94, 93, 96, 97.
+// It is written in seven bytes and three for each field of both kinds, or one byte less without developer fields: 94, 93, 96, 97.
 #[test]
 fn a_definition_has_at_most_96_bytes(rt: HostRuntime) -> Result<(), Fail> {
     for (fields, developer, is_short) in [

@@ -16,8 +16,8 @@ use std::alloc::Global;
 use std::process::Abort;
 use std::test::Fail;
 
-// How many calls of the device an erasing makes where there is a ride: the fifth takes the journal's mark away, the sixth
-// keeps that, and the seventh cuts the data file.
+// How many calls of the device an erasing of a ride makes. The fifth overwrites the journal's mark, the sixth syncs that, and the
+// seventh cuts the data file.
 const CALLS: u32 = 8;
 
 // The entries of the short ride with its stop.
@@ -26,7 +26,7 @@ fn stopped_ride() -> [Entry; 5] {
     [first, second, lap, third, Entry::Stop(TIME + 2)]
 }
 
-// Records a ride of one sample on a disk that was erased. The finished file tells that one alone.
+// Records a ride of one sample on a disk that was erased. The finished file encodes that ride alone.
 fn rides_anew(rt: &impl Abort, alloc: Global, disk: Memory) -> Result<(), Fail> {
     equal(rt, disk.content(Which::Data).len(), 0);
     let mut recorder = begun_on(disk)?;
@@ -82,18 +82,18 @@ fn an_erasing_done_again_does_not_bring_the_ride_back(rt: HostRuntime) -> Result
     Ok(())
 }
 
-// An erasing that does not come to its end.
+// An erasing that does not complete.
 #[derive(Clone, Copy, Debug)]
 struct Attempt {
-    // What befalls the k-th call.
+    // What happens to the k-th call.
     trouble: Trouble,
     k: u32,
-    // What a power cut leaves: the length of the data file, and each byte that is not sure.
+    // What a power cut leaves: the length of the data file, and the value of each byte that is not sure.
     len: u32,
     byte: u8,
 }
 
-// Whether the ride is still found: before its mark is written over it is, and then where the mark is left.
+// Whether the ride is still found: before its mark is overwritten, and after that if the mark is left.
 fn is_left(attempt: Attempt) -> bool {
     let is_marked = match attempt.trouble {
         Trouble::Cut => attempt.byte == 0x46,
@@ -102,7 +102,7 @@ fn is_left(attempt: Attempt) -> bool {
     attempt.k <= 4 || (attempt.k <= 6 && is_marked)
 }
 
-// A copy of a ride, behind the erasing.
+// A copy of a ride after the erasing.
 fn erased(
     rt: &impl Abort,
     alloc: Global,
@@ -126,7 +126,7 @@ fn erased(
     Ok(disk)
 }
 
-// Recovers what the erasing left, the ride or nothing.
+// Recovers what the erasing left: the ride, or nothing.
 fn finds_it_or_nothing(
     rt: &impl Abort,
     alloc: Global,
@@ -145,7 +145,7 @@ fn finds_it_or_nothing(
     Ok(())
 }
 
-// Erases a ride, and again what that left; once with a recovery between the two.
+// Erases a ride, and then what is left of it: once directly, and once with a recovery between the two.
 fn erases_again(rt: &impl Abort, alloc: Global, ride: &Memory, attempt: Attempt) -> Result<(), Fail>
     requires { 1 ≤ attempt.k }
 {

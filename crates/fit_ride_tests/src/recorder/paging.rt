@@ -1,4 +1,4 @@
-// Entries that wait in the page, and the calls that write it: how many these are is seen by a power cut at one of them.
+// Entries that wait in the page, and the calls that write it. Power cuts at one call or another show how many calls there are.
 
 ghost use Rattle.std.specs.Prelude.{◌≡◌, ◌≤◌, IfOk, true, false};
 ghost use Rattle.fit_activity.specs.Rides.Recording.{Added, is_stop};
@@ -14,20 +14,20 @@ use fit_recorder::{RecFault, Recorder};
 use std::process::Abort;
 use std::test::Fail;
 
-// The bytes of the first sample with its definition, and of the one behind it.
+// The bytes of the first sample with its definition, and of the sample after it.
 const SAMPLES: [u8; 24] = [
     0x40, 0x00, 0x00, 0x14, 0x00, 0x02, 0xFD, 0x04, 0x86, 0x03, 0x01, 0x02, 0x00, 0x20, 0xCA, 0x9A,
     0x3B, 0x64, 0x00, 0x40, 0xCA, 0x9A, 0x3B, 0x64,
 ];
 
-// The sample of this number, each 32 seconds behind the entry before it.
+// The sample of this number, 32 seconds after the entry before it.
 fn spaced(number: u32) -> Entry
     ensures { is_stop (Added result) ≡ false }
 {
     heart_rate(TIME.saturating_add(number.saturating_mul(32)), 100)
 }
 
-// Hands in the samples of the numbers from 1 to this one. Answers the last that was taken.
+// Hands in the samples from number 1 to this one. Returns the number of the last that was taken.
 fn hand_until(recorder: &mut Recorder<Memory>, last: u32) -> u32
     requires { GoesOn true memory_story recorder.old }
     ensures { GoesOn true memory_story recorder.new }
@@ -41,7 +41,7 @@ fn hand_until(recorder: &mut Recorder<Memory>, last: u32) -> u32
     taken
 }
 
-// A recording, which has a commit behind that of its start or none.
+// A recording, with a commit after its start or without.
 fn begun_with(rt: &HostRuntime, has_commit: bool) -> Result<Recorder<Memory>, RecFault>
     ensures { IfOk result (λ recorder. GoesOn true memory_story recorder) }
 {
@@ -53,8 +53,8 @@ fn begun_with(rt: &HostRuntime, has_commit: bool) -> Result<Recorder<Memory>, Re
     Ok(recorder)
 }
 
-// The data file behind a start, so many samples and a commit, where the power goes at the k-th call behind the start, and
-// how many of the samples were taken.
+// How many samples were taken, and the data file, after a start, so many samples and a commit. The power goes at the k-th call after
+// the start.
 fn written_until(rt: &HostRuntime, samples: u32, k: u32) -> Result<(u32, Vec<u8>), Fail>
     requires { 1 ≤ k }
 {
@@ -76,8 +76,8 @@ fn each_sample_is_counted(rt: HostRuntime) -> Result<(), RecFault> {
     Ok(())
 }
 
-// Where the next sample does not fit. The samples, the call at which the power goes, how many were taken, and how long the
-// file is then.
+// The page is written when the next sample does not fit. Each case: the samples, the call at which the power goes, how many samples
+// were taken, and the length of the file then.
 #[test]
 fn a_page_is_written_where_it_is_full(rt: HostRuntime) -> Result<(), Fail> {
     let cases = [
@@ -100,7 +100,7 @@ fn a_page_is_written_where_it_is_full(rt: HostRuntime) -> Result<(), Fail> {
     Ok(())
 }
 
-// Whether a commit of so many samples is answered where the power goes at its k-th call.
+// Whether a commit of so many samples is answered if the power goes at its k-th call.
 fn is_committed(rt: &HostRuntime, has_commit: bool, samples: u32, k: u32) -> Result<bool, RecFault>
     requires { 1 ≤ k }
 {
@@ -110,7 +110,7 @@ fn is_committed(rt: &HostRuntime, has_commit: bool, samples: u32, k: u32) -> Res
     Ok(recorder.commit().is_ok())
 }
 
-// How many calls a commit makes where the page is empty, where it is not, and where a gate is closed too.
+// How many calls a commit makes if the page is empty, if it is not, and if a gate is closed too.
 #[test]
 fn a_commit_writes_its_page_first(rt: HostRuntime) -> Result<(), RecFault> {
     for (has_commit, samples, calls) in [(false, 0, 5), (false, 1, 6), (true, 0, 7), (true, 1, 8)] {
@@ -123,7 +123,7 @@ fn a_commit_writes_its_page_first(rt: HostRuntime) -> Result<(), RecFault> {
     Ok(())
 }
 
-// Whether a stop behind a commit and so many samples is answered where the power goes at its k-th call.
+// Whether a stop after a commit and so many samples is answered if the power goes at its k-th call.
 fn is_stopped(rt: &HostRuntime, samples: u32, k: u32) -> Result<bool, RecFault>
     requires { 1 ≤ k }
 {
@@ -133,7 +133,7 @@ fn is_stopped(rt: &HostRuntime, samples: u32, k: u32) -> Result<bool, RecFault>
     Ok(recorder.stop(TIME + 3200).is_ok())
 }
 
-// The stop joins the page; where it does not fit the page is written before it too.
+// The stop joins the page. If it does not fit, the page is written before it too.
 #[test]
 fn a_stop_joins_the_page(rt: HostRuntime) -> Result<(), RecFault> {
     for (samples, calls) in [(0, 11), (82, 11), (83, 12)] {
@@ -143,7 +143,7 @@ fn a_stop_joins_the_page(rt: HostRuntime) -> Result<(), RecFault> {
     Ok(())
 }
 
-// Pages that were written and not committed are cut off by a recovery, whatever a power cut leaves of them.
+// A recovery cuts off pages that were written and not committed, whatever a power cut leaves of them.
 #[test]
 fn written_pages_without_a_commit_are_gone(rt: HostRuntime) -> Result<(), Fail> {
     for byte in [0x00, 0x40, 0xFF] {
@@ -157,7 +157,7 @@ fn written_pages_without_a_commit_are_gone(rt: HostRuntime) -> Result<(), Fail> 
     Ok(())
 }
 
-// Where a page is not written its recorder does nothing more.
+// If a page cannot be written, the recorder does nothing more.
 #[test]
 fn a_page_that_is_not_written_is_told(rt: HostRuntime) -> Result<(), Fail> {
     let mut recorder = begun(&rt)?;

@@ -1,5 +1,5 @@
-// Rides with a power cut or a failure at each call of the device, and recoveries with one at each of their calls. What
-// is recovered is what was committed, or what a commit had begun to commit.
+// Rides with a power cut or a failure at each call of the device, and recoveries with one at each of their calls. A recovery
+// finds what was committed, or what a commit had begun to commit.
 
 ghost use Rattle.std.specs.Prelude.{◌≤◌, true};
 ghost use Rattle.fit_disk.specs.Memory.{memory_story};
@@ -16,14 +16,14 @@ use std::alloc::Global;
 use std::process::Abort;
 use std::test::Fail;
 
-// With how many choices of noise each power cut is tried, beside the four that are not noise.
+// How many choices of noise each power cut of the ride with commits is tried with, beside the four without noise.
 const NOISES: u32 = 40;
 
-// How many calls of the device the ride makes: eleven for the start, six for the first commit, eight for each of the four that
+// How many calls of the device that ride makes: eleven for the start, six for the first commit, eight for each of the four that
 // close a gate, and eleven for the stop. Its entries wait in the page.
 const CALLS: u32 = 11 + (6 + 4 * 8) + 11;
 
-// And the long ride, which writes a full page before each of its two commits.
+// The same of the long ride, which writes a full page before each of its two commits.
 const LONG_CALLS: u32 = 11 + (1 + 6) + (1 + 8) + 11;
 
 // More calls than a recovery of a ride makes.
@@ -50,7 +50,7 @@ fn ride_with_commits() -> [Step; 10] {
     ]
 }
 
-// Two hundred samples and a stop, each 32 seconds behind the one before.
+// Two hundred samples and a stop, each 32 seconds after the one before.
 fn long_ride(alloc: Global) -> Result<Vec<Step>, Fail> {
     let mut ride = Vec::new(alloc);
     for number in 1..=200 {
@@ -60,14 +60,14 @@ fn long_ride(alloc: Global) -> Result<Vec<Step>, Fail> {
     Ok(ride)
 }
 
-// How many entries are committed, if a start is, and how many the last call that failed had begun to commit.
+// How many entries are committed, None if no start is; and how many the last call that failed had begun to commit.
 #[derive(Clone, Copy)]
 struct Way {
     committed: Option<usize>,
     begun: Option<usize>,
 }
 
-// Hands in the entry of this number, and commits it where a commit follows. Tells whether no call failed.
+// Hands in the entry of this number, and commits it if a commit follows. Returns whether no call failed.
 fn take_step(
     recorder: &mut Recorder<Memory>,
     entry: &Entry,
@@ -99,7 +99,7 @@ fn take_step(
     true
 }
 
-// Goes on with the ride until a call fails.
+// Records the ride until a call fails.
 fn go_on(recorder: &mut Recorder<Memory>, ride: &[Step]) -> Way
     requires { GoesOn true memory_story recorder.old }
 {
@@ -117,7 +117,7 @@ fn go_on(recorder: &mut Recorder<Memory>, ride: &[Step]) -> Way
     way
 }
 
-// What befalls a call of the device.
+// What happens to a call of the device.
 #[derive(Clone, Copy, Debug)]
 pub(super) enum Trouble {
     Cut,
@@ -125,7 +125,7 @@ pub(super) enum Trouble {
 }
 
 impl Trouble {
-    // Lets it befall the k-th call from now.
+    // Schedules it for the k-th call from now.
     pub(super) fn befall(self, disk: &mut Memory, k: u32)
         requires { 1 ≤ k }
     {
@@ -136,7 +136,7 @@ impl Trouble {
     }
 }
 
-// The disk behind the ride with trouble at its k-th call, and how far it came.
+// The disk after the ride with trouble at its k-th call, and how far the ride came.
 fn ride_with(alloc: Global, ride: &[Step], trouble: Trouble, k: u32) -> (Memory, Way)
     requires { 1 ≤ k }
 {
@@ -157,7 +157,7 @@ fn ride_with(alloc: Global, ride: &[Step], trouble: Trouble, k: u32) -> (Memory,
     }
 }
 
-// How many entries of the ride the file tells that a recovery with this answer left, if it left one.
+// How many entries of the ride the file of a recovery with this answer encodes. None if nothing was recorded.
 fn entries_in(
     rt: &impl Abort,
     alloc: Global,
@@ -180,8 +180,8 @@ fn entries_in(
     Ok(told)
 }
 
-// Lets the power go at the k-th call of the ride, or that call fail, and then at each call of the recovery, with these
-// choices for what the power cuts leave. Answers how many recoveries there were.
+// Cuts the power at the k-th call of the ride, or lets that call fail, and then does the same at each call of the recovery, with
+// these choices for what the power cuts leave. Returns how many recoveries there were.
 fn recover_from(
     rt: &impl Abort,
     alloc: Global,
@@ -223,15 +223,15 @@ fn recover_from(
     Ok(0)
 }
 
-// The next of a row of numbers that look like chance.
+// The next number of a pseudorandom sequence.
 fn next_noise(noise: u32) -> u32 {
     let first = noise ^ (noise << 13);
     let second = first ^ (first >> 17);
     second ^ (second << 5)
 }
 
-// Fills the choices of a power cut: none, and each byte an open gate, FF or 00; and from then on noise, with many an
-// open gate in it. Answers how many there are.
+// Fills the choices of a power cut. The first kinds are no choices, all open gates, all FF and all 00; each later one is noise with
+// many open gates in it. Returns how many choices there are.
 fn choose(kind: u32, noise: &mut u32, choices: &mut [u8; 1024]) -> usize
     ensures { result ≤ 1024 }
 {
@@ -251,7 +251,7 @@ fn choose(kind: u32, noise: &mut u32, choices: &mut [u8; 1024]) -> usize
     1024
 }
 
-// Tries trouble at each of so many calls of a ride, with each kind of choices.
+// Tries trouble at each of so many calls of a ride, with each kind of choices. Returns how many recoveries there were.
 fn try_each_call(
     rt: &impl Abort,
     alloc: Global,

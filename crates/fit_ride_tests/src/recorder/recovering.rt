@@ -16,10 +16,10 @@ use std::alloc::Global;
 use std::process::Abort;
 use std::test::Fail;
 
-// A field's number, and its one valid value.
+// A field's number, and its value if it has exactly one and that is valid.
 pub(super) type Told = (u8, Option<u64>);
 
-// The global number of the message at a place of a file, and what its fields tell.
+// The global number and the fields of the message at a place of a file.
 pub(super) fn told_at(
     rt: &HostRuntime,
     file: &File,
@@ -160,7 +160,7 @@ const ALONE_HEADER: [u8; 14] = [
     0x0E, 0x10, 0x64, 0x00, 0x44, 0x01, 0x00, 0x00, 0x2E, 0x46, 0x49, 0x54, 0x34, 0xED,
 ];
 
-// Recovers a disk on which a start alone is committed.
+// Asserts that a disk on which a start alone is committed is recovered.
 pub(super) fn recovers_the_start(
     rt: &impl Abort,
     alloc: Global,
@@ -202,7 +202,7 @@ fn a_start_counts_from_its_open_gate_on(rt: HostRuntime) -> Result<(), Fail> {
     recovers_the_start(&rt, rt.alloc(), disk)
 }
 
-// A commit whose k-th call fails leaves the start alone.
+// Asserts that a commit whose k-th call fails leaves the start alone.
 fn keeps_the_start(rt: &impl Abort, alloc: Global, k: u32) -> Result<(), Fail>
     requires { 1 ≤ k }
 {
@@ -215,7 +215,7 @@ fn keeps_the_start(rt: &impl Abort, alloc: Global, k: u32) -> Result<(), Fail>
     recovers_the_start(rt, alloc, recorder.into_disk())
 }
 
-// The first call writes the page, and the second is the sync behind it.
+// The first call writes the page, and the second is the sync after it.
 #[test]
 fn a_failed_commit_leaves_what_was_committed(rt: HostRuntime) -> Result<(), Fail> {
     keeps_the_start(&rt, rt.alloc(), 1)?;
@@ -239,8 +239,8 @@ fn nothing_is_recorded_before_a_start_is_committed(rt: HostRuntime) -> Result<()
     Ok(())
 }
 
-// The bytes of a finished file that a recovery leaves of a disk, where the k-th call of an earlier one failed with the
-// power gone.
+// The bytes of the finished file of a recovery, after an earlier recovery whose k-th call failed with the power
+// gone.
 fn recovered_again(rt: &HostRuntime, mut disk: Memory, k: u32) -> Result<Vec<u8>, Fail>
     requires { 1 ≤ k }
 {
@@ -277,10 +277,10 @@ fn a_stopped_recording_is_finished(rt: HostRuntime) -> Result<(), Fail> {
     Ok(())
 }
 
-// A recording spelled in another way: other local numbers, high byte first, noise in bits and bytes that say nothing, a
+// A recording spelled in another way: other local numbers, high byte first, reserved bits and bytes that are set, a
 // definition that is never used, and compressed timestamps.
 pub(super) const OTHER_SPELLING: [u8; 216] = [
-    // A definition of no message.
+    // A definition that no message uses.
     0x53, 0xA7, 0x01, 0x00, 0x14, 0x01, 0xFD, 0x04, 0x86, // The start: its file_id,
     0x5C, 0x00, 0x01, 0x00, 0x00, 0x05, 0x00, 0x01, 0x00, 0x01, 0x02, 0x84, 0x02, 0x02, 0x84, 0x03,
     0x04, 0x8C, 0x04, 0x04, 0x86, 0x3C, 0x04, 0x00, 0xFF, 0x00, 0x01, 0x00, 0x00, 0x00, 0x07, 0x3B,
@@ -330,7 +330,7 @@ fn another_spelling_is_recovered_as_it_stands(rt: HostRuntime) -> Result<(), Fai
     Ok(())
 }
 
-// The longest entry, a sample with each field: its definition, and the record of one 40 seconds behind the start.
+// The longest entry is a sample with each field: its definition, and its record 40 seconds after the start.
 const LONGEST: [u8; 76] = [
     0x40, 0x00, 0x00, 0x14, 0x00, 0x0C, 0xFD, 0x04, 0x86, 0x00, 0x04, 0x85, 0x01, 0x04, 0x85, 0x02,
     0x02, 0x84, 0x03, 0x01, 0x02, 0x04, 0x01, 0x02, 0x05, 0x04, 0x86, 0x06, 0x02, 0x84, 0x07, 0x02,
@@ -347,7 +347,7 @@ fn longest_sample(time: u32) -> Sample {
     }
 }
 
-// Recovers a disk that the one sample is committed on, so many seconds behind the start.
+// Recovers a disk on which only that sample is committed, so many seconds after the start.
 fn recovers_the_longest(
     rt: &impl Abort,
     alloc: Global,
@@ -383,7 +383,7 @@ fn the_longest_entry_is_recovered(rt: HostRuntime) -> Result<(), Fail> {
     recovers_the_longest(&rt, rt.alloc(), disk, 40)
 }
 
-// The same with a compressed timestamp, five seconds behind the start, and without a field of its own for it.
+// The same with a compressed timestamp five seconds after the start, and without a time field.
 #[test]
 fn the_longest_entry_with_a_compressed_timestamp_is_recovered(rt: HostRuntime) -> Result<(), Fail> {
     let mut records = START_RECORDS.to_vec(rt.alloc())?;
@@ -395,7 +395,7 @@ fn the_longest_entry_with_a_compressed_timestamp_is_recovered(rt: HostRuntime) -
     recovers_the_longest(&rt, rt.alloc(), disk, 5)
 }
 
-// Whether a recovery of these records, of which so many bytes are committed, answers Damaged and changes nothing.
+// Whether a recovery of these records, so many bytes of which are committed, answers Damaged and changes nothing.
 pub(super) fn is_damaged(rt: &HostRuntime, records: &[u8], len: u32) -> Result<bool, Fail> {
     let mut disk = holding(rt.alloc(), records, len)?;
     let data = disk.content(Which::Data).to_vec(rt.alloc())?;
@@ -406,7 +406,7 @@ pub(super) fn is_damaged(rt: &HostRuntime, records: &[u8], len: u32) -> Result<b
     Ok(is_told && is_same)
 }
 
-// The records of the short ride with more behind them.
+// The records of the short ride, and more after them.
 fn with_more(rt: &HostRuntime, more: &[u8]) -> Result<Vec<u8>, Fail> {
     let disk = committed(rt)?;
     let records = disk.content(Which::Data).get(14..).unwrap_or(&[]);
@@ -415,7 +415,7 @@ fn with_more(rt: &HostRuntime, more: &[u8]) -> Result<Vec<u8>, Fail> {
     Ok(records)
 }
 
-// Whether a recovery of the records of the short ride with more behind them answers Damaged and changes nothing.
+// Whether a recovery of the records of the short ride and more after them answers Damaged and changes nothing.
 fn is_damaged_by(rt: &HostRuntime, more: &[u8]) -> Result<bool, Fail> {
     let records = with_more(rt, more)?;
     let len = u32::try_from(records.len()).unwrap_or(0);
@@ -425,7 +425,7 @@ fn is_damaged_by(rt: &HostRuntime, more: &[u8]) -> Result<bool, Fail> {
 #[test]
 fn what_is_no_recording_is_damaged(rt: HostRuntime) -> Result<(), Fail> {
     assert!(rt; !is_damaged_by(&rt, &[])?);
-    // A record at the last time behind its definition, and one that is earlier.
+    // A record at the last time, after its definition; then one that is earlier.
     let mut record = [
         0x41, 0x00, 0x00, 0x14, 0x00, 0x02, 0xFD, 0x04, 0x86, 0x03, 0x01, 0x02, 0x01, 0x02, 0xCA,
         0x9A, 0x3B, 0x65,
@@ -527,7 +527,7 @@ fn a_stopped_body_has_a_most(rt: HostRuntime) -> Result<(), Fail> {
     Ok(())
 }
 
-// The journal that an older program left of a ride: a row of slots, with the lengths of its start and of its commit.
+// The journal of a ride from an older program: a row of slots, with the lengths of its start and of its commit.
 const ROW: [u8; 32] = [
     0x46, 0x52, 0x4A, 0x31, 0, 0, 0, 0, 0xA5, 0x48, 0, 0, 0, 0, 0, 0, 0xA5, 0xAE, 0, 0, 0, 0, 0, 0,
     0, 0, 0, 0, 0, 0, 0, 0,
@@ -539,7 +539,7 @@ fn a_row_of_slots_is_recovered(rt: HostRuntime) -> Result<(), RecFault> {
     let mut older = copy_of(rt.alloc(), disk.content(Which::Data), &ROW)?;
     equal(&rt, recover(&mut older), Ok(SHORT_RIDE));
     equal(&rt, older.content(Which::Journal), ROW.as_slice());
-    // With its first sixteen bytes, no slot of it is open.
+    // In its first sixteen bytes no slot is open: a slot is open only if the slot after it is whole.
     let mut short = copy_of(rt.alloc(), disk.content(Which::Data), &ROW[..16])?;
     equal(&rt, recover(&mut short), Err(RecFault::NothingRecorded));
     Ok(())

@@ -1,6 +1,6 @@
-// Rides that go on on the memory disk. The bytes are those of the description of what a recorder writes.
+// Rides that are resumed on the memory disk. The bytes are those of the description of what a recorder writes.
 
-ghost use Rattle.std.specs.Prelude.{◌≡◌, ◌≤◌, true, false, IfOk};
+ghost use Rattle.std.specs.Prelude.{◌≡◌, ◌≤◌, ◌<◌, true, false, IfOk};
 ghost use Rattle.fit_activity.specs.Rides.Recording.{Added, is_stop};
 ghost use Rattle.fit_disk.specs.Memory.{memory_story};
 ghost use Rattle.fit_recorder.specs.Calls.Recorder.{GoesOn};
@@ -19,7 +19,7 @@ use std::alloc::Global;
 use std::process::Abort;
 use std::test::Fail;
 
-// The ride of this disk, which goes on.
+// The resumed ride of this disk.
 pub(super) fn resumed(disk: Memory) -> Result<Recorder<Memory>, RecFault>
     ensures { IfOk result (λ recorder. GoesOn true memory_story recorder) }
 {
@@ -29,7 +29,7 @@ pub(super) fn resumed(disk: Memory) -> Result<Recorder<Memory>, RecFault>
     }
 }
 
-// The disk behind a resume that is refused, and why it is.
+// The disk after a resume that is refused, and the reason.
 fn refused(disk: Memory) -> Option<(Memory, RecFault)> {
     match resume(disk) {
         Ok(_) => None,
@@ -37,7 +37,7 @@ fn refused(disk: Memory) -> Option<(Memory, RecFault)> {
     }
 }
 
-// Why a resume of this disk is refused, where it is and changes nothing.
+// Why a resume of this disk is refused. None if it is not refused, or if it changes anything.
 fn refusal_of(alloc: Global, disk: Memory) -> Result<Option<RecFault>, Fail> {
     let data = disk.content(Which::Data).to_vec(alloc)?;
     let journal = disk.content(Which::Journal).to_vec(alloc)?;
@@ -49,7 +49,7 @@ fn refusal_of(alloc: Global, disk: Memory) -> Result<Option<RecFault>, Fail> {
     Ok(if is_same { Some(fault) } else { None })
 }
 
-// A sample with the definition that it needs, which is in force no more, and a stop.
+// A sample with its definition, since the earlier one is no longer in force, and a stop.
 const GONE_ON: [u8; 33] = [
     0x40, 0x00, 0x00, 0x14, 0x00, 0x01, 0x03, 0x01, 0x02, 0x82, 0x6E, 0x46, 0x00, 0x00, 0x15, 0x00,
     0x03, 0xFD, 0x04, 0x86, 0x00, 0x01, 0x00, 0x01, 0x01, 0x00, 0x06, 0x02, 0xCA, 0x9A, 0x3B, 0x00,
@@ -168,11 +168,16 @@ fn row_of(rt: &HostRuntime, slots: usize) -> Result<Vec<u8>, Fail> {
     Ok(row)
 }
 
+// The short ride with such a journal.
+pub(super) fn committed_in_a_row(rt: &HostRuntime, slots: usize) -> Result<Memory, Fail> {
+    let disk = committed(rt)?;
+    let row = row_of(rt, slots)?;
+    Ok(copy_of(rt.alloc(), disk.content(Which::Data), &row)?)
+}
+
 #[test]
 fn a_row_of_slots_goes_on_while_one_is_left(rt: HostRuntime) -> Result<(), Fail> {
-    let disk = committed(&rt)?;
-    let older = copy_of(rt.alloc(), disk.content(Which::Data), &row_of(&rt, 4095)?)?;
-    let mut recorder = resumed(older)?;
+    let mut recorder = resumed(committed_in_a_row(&rt, 4095)?)?;
     equal(&rt, recorder.commit(), Err(RecFault::JournalFull));
     recorder.hand(&heart_rate(TIME + 3, 120))?;
     recorder.stop(TIME + 4)?;
@@ -185,11 +190,63 @@ fn a_row_of_slots_goes_on_while_one_is_left(rt: HostRuntime) -> Result<(), Fail>
         ..SHORT_RIDE
     };
     equal(&rt, check_activity(&file), Ok(summary));
-    let full = copy_of(rt.alloc(), disk.content(Which::Data), &row_of(&rt, 4096)?)?;
+    let full = committed_in_a_row(&rt, 4096)?;
     equal(
         &rt,
         refusal_of(rt.alloc(), full)?,
         Some(RecFault::JournalFull),
+    );
+    Ok(())
+}
+
+// Resumes a ride whose journal is a row: one sample is committed, and another is handed in before the power goes.
+fn one_more_in_a_row(disk: Memory, time: u32) -> Result<Memory, RecFault>
+    requires { time < 4000000000 }
+{
+    let mut recorder = resumed(disk)?;
+    recorder.hand(&heart_rate(time, 120))?;
+    recorder.commit()?;
+    recorder.hand(&heart_rate(time + 1, 121))?;
+    let mut disk = recorder.into_disk();
+    disk.cycle(&[0xA5; 64]);
+    Ok(disk)
+}
+
+// Each commit takes a slot, which a power cut and a recovery after it keep. The last slot is reserved for the stop.
+#[test]
+fn commits_go_on_in_a_row_until_one_slot_is_left(rt: HostRuntime) -> Result<(), Fail> {
+    let mut disk = committed_in_a_row(&rt, 4092)?;
+    for more in 1..=3 {
+        disk = one_more_in_a_row(disk, TIME + 2 + more)?;
+        let summary = Summary {
+            records: 3 + more,
+            elapsed_ms: Some(2000 + 1000 * more),
+            timer_ms: Some(2000 + 1000 * more),
+            ..SHORT_RIDE
+        };
+        equal(&rt, recover(&mut disk), Ok(summary));
+    }
+    let mut recorder = resumed(disk)?;
+    equal(&rt, recorder.commit(), Err(RecFault::JournalFull));
+    recorder.stop(TIME + 6)?;
+    let disk = recorder.into_disk();
+    let file = decode_file(rt.alloc(), disk.content(Which::Data))?;
+    let [first, second, lap, last] = short_ride();
+    let entries = [
+        first,
+        second,
+        lap,
+        last,
+        heart_rate(TIME + 3, 120),
+        heart_rate(TIME + 4, 120),
+        heart_rate(TIME + 5, 120),
+        Entry::Stop(TIME + 6),
+    ];
+    equal(&rt, entries_told(&file, &entries), Some(8));
+    equal(
+        &rt,
+        refusal_of(rt.alloc(), disk)?,
+        Some(RecFault::Refused(Refusal::Stopped)),
     );
     Ok(())
 }
@@ -204,7 +261,7 @@ fn another_spelling_goes_on(rt: HostRuntime) -> Result<(), Fail> {
     let disk = recorder.into_disk();
     let written = disk.content(Which::Data);
     equal(&rt, written.get(14..230), Some(OTHER_SPELLING.as_slice()));
-    // Its definitions are in force no more, the first of them for the same local number.
+    // Its definitions are no longer in force, and the first new one takes local number 0.
     let samples = [
         0x40, 0x00, 0x00, 0x14, 0x00, 0x01, 0x03, 0x01, 0x02, 0x8C, 0x78, 0x8D, 0x79,
     ];
@@ -270,13 +327,13 @@ fn what_was_added_up_goes_on(rt: HostRuntime) -> Result<(), Fail> {
 }
 
 // How many calls of the device a resume of a short ride makes.
-const RESUME_CALLS: u32 = 8;
+const RESUME_CALLS: u32 = 2 + 1 + 1 + 1 + 2;
 
-// And with a commit behind it at the most.
+// And with a commit after it at most.
 const RESUME_AND_COMMIT_CALLS: u32 = RESUME_CALLS + 8;
 
-// Goes on with the short ride, where the power goes at the k-th call: a sample is handed in and committed. Answers the
-// disk, and whether that was answered.
+// Resumes the short ride, hands in a sample and commits it. The power goes at the k-th call. Returns the disk, and whether the
+// commit was answered.
 fn goes_on_until(mut disk: Memory, k: u32) -> (Memory, bool)
     requires { 1 ≤ k }
 {
@@ -332,7 +389,7 @@ fn cut_off_at(rt: &impl Abort, mut disk: Memory, k: u32) -> Result<Memory, Fail>
     }
 }
 
-// Goes on with a ride by one sample, behind a resume that was cut off at each of its calls.
+// Resumes a ride and commits one more sample, after resumes that were cut off at each of their calls.
 fn goes_on_by_one(rt: &impl Abort, mut disk: Memory, sample: &Entry) -> Result<Memory, Fail>
     requires { is_stop (Added sample.now) ≡ false }
 {

@@ -1,4 +1,4 @@
-// Rides that end with a stop, and the finished files that they leave.
+// Rides that end with a stop, and their finished files.
 
 ghost use Rattle.std.specs.Prelude.{◌≤◌, true};
 ghost use Rattle.fit_disk.specs.Memory.{memory_story};
@@ -21,7 +21,7 @@ fn with_distance(time: u32, distance: u32) -> Entry {
     Entry::Sample(sample)
 }
 
-// The one valid value of a field.
+// The value of a field if it has exactly one and that is valid.
 fn value_of(message: &Message, number: u8) -> Option<u64> {
     for field in message.fields() {
         if field.number == number {
@@ -31,7 +31,7 @@ fn value_of(message: &Message, number: u8) -> Option<u64> {
     None
 }
 
-// Two values of the lap of this index.
+// Two fields of the lap with this index.
 fn lap_values(
     file: &File,
     index: u64,
@@ -90,7 +90,7 @@ fn a_stop_closes_the_file(rt: HostRuntime) -> Result<(), Fail> {
     Ok(())
 }
 
-// Elapsed and timer time of the first two laps of a ride, in ms.
+// Elapsed time and timer time of the first two laps of a ride, in ms.
 fn two_laps(
     rt: &HostRuntime,
     entries: &[Entry],
@@ -133,7 +133,7 @@ fn pauses_are_not_timed(rt: HostRuntime) -> Result<(), Fail> {
     Ok(())
 }
 
-// Total distance in cm and average speed in mm/s of a ride with these two samples.
+// The distance (cm) and the average speed (mm/s) of the only lap of a ride with these two samples.
 fn distance_and_speed(
     rt: &HostRuntime,
     first: Entry,
@@ -159,7 +159,7 @@ fn distances_and_average_speeds(rt: HostRuntime) -> Result<(), Fail> {
     Ok(())
 }
 
-// A sample with each field but the longer ones of newer devices.
+// A sample with each field except the longer ones of newer devices.
 pub(super) fn full_sample(time: u32) -> Sample {
     Sample {
         lat: Some(-1),
@@ -178,7 +178,7 @@ pub(super) fn full_sample(time: u32) -> Sample {
 #[test]
 fn a_full_recording_takes_no_entry_more(rt: HostRuntime) -> Result<(), Fail> {
     let mut recorder = begun(&rt)?;
-    // The first has its definition of 33 bytes, each has 22 of its own, and the pause 7.
+    // The first sample has its definition of 33 bytes. Each has 22 bytes of its own, and the pause 7.
     for _ in 0..762_568 {
         recorder.hand(&Entry::Sample(full_sample(TIME)))?;
     }
@@ -203,7 +203,7 @@ fn a_full_recording_takes_no_entry_more(rt: HostRuntime) -> Result<(), Fail> {
     Ok(())
 }
 
-// A sample with the fields of this number's bits.
+// A sample with the fields that the bits of this number select.
 pub(super) fn some_fields(time: u32, set: u8) -> Sample {
     let mut sample = Sample::new(time);
     if set & 1 != 0 {
@@ -224,7 +224,7 @@ pub(super) fn some_fields(time: u32, set: u8) -> Sample {
     sample
 }
 
-// How many bytes a field of so many has in such a sample with its definition, if it is set.
+// The bytes that a field of this size adds to such a sample with its definition, if it is set.
 fn size_of_field(set: u8, bit: u8, bytes: u32) -> u32
     requires { bytes ≤ 4 }
     ensures { result ≤ 7 }
@@ -232,7 +232,7 @@ fn size_of_field(set: u8, bit: u8, bytes: u32) -> u32
     if set & bit != 0 { 3 + bytes } else { 0 }
 }
 
-// How many bytes such a sample has with its time and its definition: each field has three in the definition, and its own.
+// The size of such a sample with its time and its definition. Each field has three bytes in the definition, and its own.
 pub(super) fn size_with_definition(set: u8) -> u32
     ensures { result ≤ 100 }
 {
@@ -281,8 +281,8 @@ fn record_definitions_take_turns(rt: HostRuntime) -> Result<(), Fail> {
     Ok(())
 }
 
-// A ride whose k-th call behind the start fails: how many calls of the recorder answered Ok before the first Device, and
-// whether each one behind it answered Failed.
+// A ride whose k-th call after the start fails: how many calls of the recorder came before the first that answered Device, and
+// whether each one after it answered Failed.
 fn ride_failing_at(rt: &HostRuntime, k: u32) -> Option<(u32, bool)>
     requires least { 1 ≤ k }
     requires most { k ≤ 100 }

@@ -11,7 +11,7 @@ use fit_base::FieldValue;
 use fit_grammar::WriteFailed;
 use std::io::Write;
 
-/// `0x` and two digits a byte; of no byte nothing.
+/// `0x` and two digits a byte; nothing for no bytes.
 pub fn put_hex<W: Write>(pen: &mut Pen<'_, W>, bytes: &[u8]) -> Result<(), WriteFailed>
     ensures { Puts pen.old pen.new result (hex_text bytes.now) }
 {
@@ -65,7 +65,7 @@ fn is_plain(byte: u8) -> bool
     byte >= 32 && byte <= 126 && byte != b'"' && byte != b'\\'
 }
 
-/// The bytes of a field of type byte: `-` where all of them are FF.
+/// The bytes of a field of type byte: `-` if all of them are FF.
 pub fn put_byte_field<W: Write>(pen: &mut Pen<'_, W>, bytes: &[u8]) -> Result<(), WriteFailed>
     ensures { Puts pen.old pen.new result (byte_text bytes.now) }
 {

@@ -12,9 +12,9 @@ use fit_base::{Arch, FieldValue, number_of};
 use fit_grammar::WriteFailed;
 use std::io::Write;
 
-/// The fields at the front of this content, each with its name. Fields of some numbers are shown as dates. Answers the bytes
-/// behind them.
-// Out of line, so that what its loop needs stays in registers.
+/// The fields at the front of this content, each with its name. Fields of the numbers `dates` are shown as
+/// dates. Returns the bytes after them.
+// Not inlined, so its loop keeps its variables in registers.
 #[inline(never)]
 pub fn put_columns<'c, W: Write>(
     pen: &mut Pen<'_, W>,
@@ -40,7 +40,7 @@ pub fn put_columns<'c, W: Write>(
     Ok(rest)
 }
 
-/// A field with its name. Fields of some numbers are shown as dates.
+/// A field with its name. Fields of the numbers `dates` are shown as dates.
 #[inline(always)]
 pub fn put_column<W: Write>(
     pen: &mut Pen<'_, W>,
@@ -71,7 +71,7 @@ pub fn put_column<W: Write>(
     }
 }
 
-// A number, or `-` where it is this one.
+// A number, or `-` if it is the invalid one.
 #[inline]
 fn add_unsigned<W: Write>(pen: &mut Pen<'_, W>, invalid: u64, number: u64)
     requires { length pen.old.waiting + 21 ≤ SIZE }
@@ -84,7 +84,7 @@ fn add_unsigned<W: Write>(pen: &mut Pen<'_, W>, invalid: u64, number: u64)
     }
 }
 
-// The same of a number with a sign, whose invalid one is the greatest.
+// The same for a number with a sign. The invalid one is the greatest.
 #[inline]
 fn add_signed<W: Write>(pen: &mut Pen<'_, W>, invalid: u64, number: u64)
     requires room { length pen.old.waiting + 22 ≤ SIZE }

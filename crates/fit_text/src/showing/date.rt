@@ -12,14 +12,13 @@ use jiff::Timestamp;
 use jiff::fmt::temporal::DateTimePrinter;
 use std::io::Write;
 
-// The first time of the calendar. One below it counts from when the device was switched on.
+// The first calendar time. A time below it counts from when the device was switched on.
 const FIRST_DATE: u64 = 0x1000_0000;
 
 // From 1970-01-01T00:00:00Z to 1989-12-31T00:00:00Z, in seconds.
 const FIT_EPOCH: i64 = 631_065_600;
 
-/// The numbers of the fields that are shown as dates, in the message with this global number: under `utc`, those that
-/// hold times.
+/// The numbers of the fields that are shown as dates in messages with this global number: those that hold times if `utc` is set, else none.
 pub fn dates_of(utc: bool, global: u16) -> &'static [u8]
     ensures { result.now ≡ dates_of utc global }
 {
@@ -33,7 +32,8 @@ pub fn dates_of(utc: bool, global: u16) -> &'static [u8]
     }
 }
 
-/// The time that a field of this number holds, where it is shown as a date: these are the numbers of the fields that are.
+/// The time that a field of this number holds, if it is shown as a date. Fields of the numbers `dates` are,
+/// if they hold one valid uint32 that is a calendar time.
 pub fn date_in(dates: &[u8], number: u8, value: &FieldValue<'_>) -> Option<u32>
     ensures { result
         ≡ date_in dates.now
@@ -56,7 +56,7 @@ pub fn date_in(dates: &[u8], number: u8, value: &FieldValue<'_>) -> Option<u32>
     }
 }
 
-/// A time as a date in UTC, as `2021-09-08T01:46:40Z`.
+/// A time as a date in UTC, such as `2021-09-08T01:46:40Z`.
 pub fn put_date<W: Write>(pen: &mut Pen<'_, W>, time: u32) -> Result<(), WriteFailed>
     ensures { Puts pen.old pen.new result (date_text time) }
 {

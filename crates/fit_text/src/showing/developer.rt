@@ -32,7 +32,7 @@ pub fn put_developer_fields<W: Write>(
     Ok(())
 }
 
-// A developer field: the index of its developer data, its number, and two digits a byte.
+// A developer field: the index of its developer data, its number, and its bytes with two digits each.
 fn put_developer_field<W: Write>(
     pen: &mut Pen<'_, W>,
     field: &DeveloperFieldDefinition,

@@ -1,4 +1,4 @@
-// What a field of a message holds.
+// The values of a field.
 
 ghost use Rattle.fit_base.specs.Base.{base_type};
 ghost use Rattle.std.specs.Prelude.{◌≡◌, ◌≢◌};
@@ -16,7 +16,7 @@ use fit_base::{BaseType, FieldValue};
 use fit_grammar::WriteFailed;
 use std::io::Write;
 
-/// A date, where a field of this number is shown as one, or what it holds.
+/// A date if a field of this number is shown as one, else its values.
 pub fn put_shown<W: Write>(
     pen: &mut Pen<'_, W>,
     dates: &[u8],
@@ -33,7 +33,7 @@ pub fn put_shown<W: Write>(
     }
 }
 
-/// What a field holds.
+/// The values of a field.
 fn put_value<W: Write>(pen: &mut Pen<'_, W>, value: &FieldValue<'_>) -> Result<(), WriteFailed>
     ensures { Puts pen.old pen.new result
         (values_text (base_type value.now.base) (values_of value.now)) }
@@ -47,7 +47,7 @@ fn put_value<W: Write>(pen: &mut Pen<'_, W>, value: &FieldValue<'_>) -> Result<(
     }
 }
 
-// One value or more of this type.
+// The values of a field of this type, at least one.
 fn put_some<W: Write>(
     pen: &mut Pen<'_, W>,
     base: BaseType,

@@ -16,12 +16,12 @@ use std::io::Write;
 /// Why a file was not shown.
 #[derive(Clone, Copy, Debug, PartialEq, Eq)]
 pub enum ShowFault {
-    /// The writer failed, or took no byte.
+    /// The writer failed, or accepted no byte.
     Write,
 }
 
 impl ShowFault {
-    /// The number of the fault.
+    /// The number of the fault, 1.
     pub fn code(&self) -> u8
         ensures { result ≡ 1 }
     {
@@ -29,9 +29,9 @@ impl ShowFault {
     }
 }
 
-/// Writes the text of a file, in one pass and with no allocation, through a buffer of its own. Under `utc` times are dates
-/// in UTC.
-// Out of line, so that its buffers lie on the stack where those of the reading lay.
+/// Writes the text of a file, in one pass and without allocation, through a buffer of its own. If `utc` is
+/// set, times are dates in UTC. The writer is not flushed. If it fails, it has taken a prefix of the text.
+// Not inlined, so its buffers reuse the stack on which those of the reading were.
 #[inline(never)]
 pub fn show<W: Write>(file: &File, utc: bool, out: &mut W) -> Result<(), ShowFault>
     ensures { WritesText (W.contents out.old) (W.contents out.new) result (text_of utc file.now) }
@@ -51,7 +51,7 @@ fn put_file<W: Write>(out: &mut W, utc: bool, file: &File) -> Result<(), WriteFa
     done
 }
 
-// All of the text, to the last byte.
+// The whole text. At Ok none of it waits.
 fn put_all<W: Write>(pen: &mut Pen<'_, W>, utc: bool, file: &File) -> Result<(), WriteFailed>
     ensures text { Puts pen.old pen.new result (text_of utc file.now) }
     ensures none { IfOk result (λ _. pen.new.waiting ≡ []) }
@@ -69,7 +69,7 @@ fn put_lines<W: Write>(pen: &mut Pen<'_, W>, utc: bool, file: &File) -> Result<(
     pen.put(b"\n")
 }
 
-// The lines of the messages, and how many they are.
+// The lines of the messages. Returns how many there are.
 fn put_messages<W: Write>(pen: &mut Pen<'_, W>, utc: bool, file: &File) -> Result<u64, WriteFailed>
     requires { length (messages_of file.now.items) < 2 ^ 32 }
     ensures text { Puts pen.old pen.new result (messages_text utc (messages_of file.now.items)) }

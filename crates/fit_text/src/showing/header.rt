@@ -1,4 +1,4 @@
-// The first line: what the header of a file says.
+// The first line: what the header of a file states.
 
 ghost use Rattle.std.specs.Prelude.{◌++◌, decimal};
 ghost use Rattle.fit_text.specs.Pen.{Puts};
@@ -8,7 +8,7 @@ use crate::writing::Pen;
 use fit_grammar::{Frame, WriteFailed};
 use std::io::Write;
 
-/// The line of a header over this many bytes of records.
+/// The line of a header, for this many bytes of records.
 pub fn put_header<W: Write>(
     pen: &mut Pen<'_, W>,
     frame: Frame,

@@ -15,8 +15,7 @@ use fit_base::Arch;
 use fit_grammar::{DataMessage, DeveloperFieldDefinition, WriteFailed};
 use std::io::Write;
 
-/// The line of a message: its number, its name, the time of its compressed timestamp, if it has one, its fields and its
-/// developer fields.
+/// The line of a message: its number, its name, the time of its compressed timestamp if it has one, its fields, and its developer fields.
 pub fn put_message<W: Write>(
     pen: &mut Pen<'_, W>,
     plan: &Plan,

@@ -67,7 +67,7 @@ fn put_at<W: Write>(
     }
 }
 
-// A number of a type without a sign; of a float the digits of its bits.
+// A number of a type without a sign; for a float, the hexadecimal digits of its bits.
 fn put_unsigned<W: Write>(
     pen: &mut Pen<'_, W>,
     base: BaseType,

@@ -1,13 +1,13 @@
 // How the messages of a definition are shown, settled once for all of them.
 
-ghost use Rattle.std.specs.Prelude.{◌≡◌, ◌+◌, ◌≤◌, ◌++◌, List, length, codes, true};
+ghost use Rattle.std.specs.Prelude.{◌≡◌, ◌+◌, ◌≤◌, ◌++◌, List, length, codes};
 ghost use Rattle.fit_text.specs.declared.showing.plan.Column.{Column as AnyColumn};
 ghost use Rattle.fit_text.specs.declared.showing.plan.TheConstants.{COLUMNS};
 ghost use Rattle.fit_text.specs.Plan.{time_definition, IsKind, IsKindOf, IsColumn, AreColumns, IsPlanIn};
-ghost use Rattle.fit_text.specs.Profile.{field_rows, are_short};
+ghost use Rattle.fit_text.specs.Profile.{names_of_fields};
 ghost use Rattle.fit_text.specs.Text.{field_name, message_name};
 
-use crate::profile::{self, FieldName};
+use crate::profile;
 use crate::showing::date::dates_of;
 use crate::writing::Label;
 use arrayvec::ArrayVec;
@@ -20,9 +20,9 @@ const TIMESTAMP: u8 = 253;
 /// How the value of a field is shown.
 #[derive(Clone, Copy, Debug, Default)]
 pub enum Kind {
-    /// One whole number without a sign, which is not shown as a date; beside it the invalid one.
+    /// One whole number without a sign, not shown as a date, with its invalid value.
     Unsigned(u64),
-    /// The same with a sign. The invalid one is the greatest.
+    /// The same with a sign. The invalid value is the greatest.
     Signed(u64),
     /// Any other field.
     #[default]
@@ -41,14 +41,12 @@ pub struct Column {
 }
 
 impl Column {
-    /// The column of a field whose name is one of these or one that every message has. Fields of some numbers are shown as
-    /// dates.
-    pub fn new(names: &[FieldName], dates: &[u8], field: &FieldDefinition) -> Self
-        requires { are_short (field_rows names.now) ≡ true }
-        ensures { IsColumn (field_rows names.now) dates.now field.now result }
+    /// The column of a field in messages with this global number. Fields of the numbers `dates` are shown as dates.
+    pub fn new(global: u16, dates: &[u8], field: &FieldDefinition) -> Self
+        ensures { IsColumn (names_of_fields global) dates.now field.now result }
     {
         Column {
-            label: field_label(names, field.number),
+            label: field_label(global, field.number),
             number: field.number,
             base: field.base,
             size: field.size,
@@ -57,11 +55,10 @@ impl Column {
     }
 }
 
-/// The most columns of all plans together, and the most developer fields.
+/// The capacity of the row that holds the columns of all plans, and of the row of their developer fields.
 pub const COLUMNS: usize = 256;
 
-/// How the messages of one definition are shown. Its columns stand in a row, beside those of other plans, and its developer
-/// fields in another.
+/// How the messages of one definition are shown. Its columns are in a row that all plans share, and its developer fields in another.
 #[derive(Drop)]
 pub struct Plan {
     /// Whether times are shown as dates.
@@ -75,17 +72,16 @@ pub struct Plan {
     pub time: Column,
     /// The place of its first column in the row.
     pub first: usize,
-    /// The place behind its last one.
+    /// The place after its last column.
     pub end: usize,
     /// The place of its first developer field in their row.
     pub developer_first: usize,
-    /// The place behind its last one.
+    /// The place after its last developer field.
     pub developer_end: usize,
 }
 
 impl Plan {
-    /// The plan of this definition. Its columns and its developer fields come behind those in the rows, where there is room
-    /// for them.
+    /// The plan of this definition. Its columns and its developer fields are added at the ends of the rows, which have room for them.
     pub fn new(
         utc: bool,
         definition: &Definition,
@@ -99,10 +95,9 @@ impl Plan {
         ensures developer { developer.new.items ≡ developer.old.items ++ definition.now.developer.items }
     {
         let global = definition.global;
-        let names = profile::fields_of(global);
         let dates = dates_of(utc, global);
         let first = columns.len();
-        add_columns(columns, names, dates, definition.fields.as_slice());
+        add_columns(columns, global, dates, definition.fields.as_slice());
         let developer_first = developer.len();
         developer
             .try_extend_from_slice(definition.developer.as_slice())
@@ -112,7 +107,7 @@ impl Plan {
             arch: definition.arch,
             global,
             name: message_label(global),
-            time: time_column(names, dates),
+            time: time_column(global, dates),
             first,
             end: columns.len(),
             developer_first,
@@ -121,39 +116,37 @@ impl Plan {
     }
 }
 
-// The column of the time of a compressed timestamp.
-fn time_column(names: &[FieldName], dates: &[u8]) -> Column
-    requires { are_short (field_rows names.now) ≡ true }
-    ensures { IsColumn (field_rows names.now) dates.now time_definition result }
+// The column for the time of a compressed timestamp in messages with this global number.
+fn time_column(global: u16, dates: &[u8]) -> Column
+    ensures { IsColumn (names_of_fields global) dates.now time_definition result }
 {
     let time = FieldDefinition {
         number: TIMESTAMP,
         size: 4,
         base: BaseType::Uint32.code(),
     };
-    Column::new(names, dates, &time)
+    Column::new(global, dates, &time)
 }
 
-// The columns of these fields, behind those in the row.
+// Adds the columns of these fields, in messages with this global number, at the end of the row.
 fn add_columns(
     columns: &mut ArrayVec<Column, COLUMNS>,
-    names: &[FieldName],
+    global: u16,
     dates: &[u8],
     fields: &[FieldDefinition],
 )
-    requires short { are_short (field_rows names.now) ≡ true }
-    requires room { length columns.old.items + length fields.now ≤ COLUMNS }
+    requires { length columns.old.items + length fields.now ≤ COLUMNS }
     ensures { (own : List AnyColumn) × (columns.new.items ≡ columns.old.items ++ own)
-        × AreColumns (field_rows names.now) dates.now fields.now own }
+        × AreColumns (names_of_fields global) dates.now fields.now own }
 {
     let mut rest = fields;
     while let [field, others @ ..] = rest {
-        columns.push(Column::new(names, dates, field));
+        columns.push(Column::new(global, dates, field));
         rest = others;
     }
 }
 
-// How a field is shown, where those of some numbers are shown as dates.
+// How a field is shown, if the fields of the numbers `dates` are shown as dates.
 fn kind_of(dates: &[u8], field: &FieldDefinition) -> Kind
     ensures { IsKind dates.now field.now.number field.now.base field.now.size result }
 {
@@ -166,7 +159,7 @@ fn kind_of(dates: &[u8], field: &FieldDefinition) -> Kind
     }
 }
 
-// How one value of this type is shown that is no date.
+// How one value of this type is shown, if it is not a date.
 fn kind_of_one(base: BaseType) -> Kind
     ensures { IsKindOf base result }
 {
@@ -177,14 +170,13 @@ fn kind_of_one(base: BaseType) -> Kind
     }
 }
 
-// A space, the name of a field and `=`.
-fn field_label(names: &[FieldName], number: u8) -> Label
-    requires { are_short (field_rows names.now) ≡ true }
-    ensures { result ≡ codes " " ++ field_name (field_rows names.now) number ++ codes "=" }
+// A space, the name of a field in messages with this global number, and `=`.
+fn field_label(global: u16, number: u8) -> Label
+    ensures { result ≡ codes " " ++ field_name (names_of_fields global) number ++ codes "=" }
 {
     let mut label = Label::new();
     label.add(b" ");
-    match profile::field_name(names, number) {
+    match profile::field_name(global, number) {
         Some(name) => label.add(name.as_bytes()),
         None => {
             label.add(b"field_");

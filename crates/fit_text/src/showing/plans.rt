@@ -11,16 +11,16 @@ use crate::showing::plan::{COLUMNS, Column, Plan};
 use arrayvec::ArrayVec;
 use fit_grammar::{Definition, DefinitionMessage, DeveloperFieldDefinition};
 
-/// For each of the sixteen local numbers the plan of its definition, or none. A plan is made where the first message of its
-/// definition is met.
+/// For each of the sixteen local numbers the plan of its definition, or none. A plan is made when the first
+/// message of its definition is read.
 #[derive(Drop)]
 pub struct Plans {
     /// Whether times are shown as dates.
     pub utc: bool,
     pub slots: [Option<Plan>; 16],
-    /// The columns of the plans, those of one behind those of another.
+    /// The columns of all plans, one plan after another.
     pub columns: ArrayVec<Column, COLUMNS>,
-    /// Their developer fields, likewise.
+    /// Their developer fields, in the same way.
     pub developer: ArrayVec<DeveloperFieldDefinition, COLUMNS>,
 }
 
@@ -38,7 +38,7 @@ impl Plans {
         }
     }
 
-    /// A local number has another definition from here on, and no plan yet.
+    /// From here on the local number has another definition, and no plan yet.
     pub fn forget(&mut self, local: u8)
         requires { local < 16 }
         ensures utc { self.new.utc ≡ self.old.utc }
@@ -48,7 +48,7 @@ impl Plans {
         self.slots[usize::from(local)] = None;
     }
 
-    /// Makes the plan of a local number that has this definition, where there is none yet.
+    /// Makes the plan of a local number that has this definition, if there is none yet.
     pub fn settle(&mut self, local: u8, definition: &DefinitionMessage<'_>)
         requires { local < 16 }
         ensures utc { self.new.utc ≡ self.old.utc }
@@ -62,7 +62,7 @@ impl Plans {
         }
     }
 
-    // Makes the plan of a local number that has this definition. Where the rows have no room for what it has, all others go.
+    // Makes the plan of a local number that has this definition. If the rows have no room for it, all other plans are dropped.
     fn set(&mut self, local: u8, definition: &Definition)
         requires { local < 16 }
         ensures utc { self.new.utc ≡ self.old.utc }
@@ -76,7 +76,7 @@ impl Plans {
         self.slots[usize::from(local)] = Some(plan);
     }
 
-    // Makes room for so many columns and developer fields: all plans go where there is none.
+    // Makes room for so many columns and developer fields. If there is none, all plans are dropped.
     fn make_room(&mut self, columns: usize, developer: usize)
         requires columns { columns ≤ 255 }
         requires developer { developer ≤ 255 }
@@ -95,7 +95,7 @@ impl Plans {
         }
     }
 
-    /// The plan of a local number that has one, its columns and its developer fields.
+    /// The plan of a local number that has one, with its columns and its developer fields.
     #[inline]
     pub fn get(&self, local: u8) -> (&Plan, &[Column], &[DeveloperFieldDefinition])
         requires { (d : AnyDefinition) × IsPlanAt self.now local d }

@@ -1,4 +1,4 @@
-// Numbers in decimal, three digits at a time, the first ones first.
+// Numbers in decimal, written three digits at a time from the front.
 
 ghost use Rattle.std.specs.Prelude.{◌≡◌, ℕ, ◌<◌, ◌≤◌, ◌+◌, ◌++◌, length, take, drop, decimal};
 ghost use Rattle.fit_text.specs.declared.writing.decimal.digits.TheConstants.{DIGITS};
@@ -8,7 +8,7 @@ mod digits;
 
 use digits::DIGITS;
 
-/// Places the digits of a number, and answers where they end. Of the bytes behind that it may change some.
+/// Places the digits of a number, and returns the place after them. It may change some of the bytes after that.
 #[inline]
 pub fn place_number(bytes: &mut [u8], at: usize, number: u64) -> usize
     requires { at + 21 ≤ length bytes.old }
@@ -71,7 +71,7 @@ fn place_three(bytes: &mut [u8], at: usize, number: u32) -> usize
     at + 3
 }
 
-// Copies four digits, from this one of the table on: four bytes at a known place are one move.
+// Copies four digits, from this place of the table on. Four bytes at a known place are one move.
 #[inline]
 fn copy_digits(bytes: &mut [u8], at: usize, from: usize)
     requires digits { from + 4 ≤ 3003 }

@@ -1,11 +1,11 @@
-// Short texts that are put again and again.
+// Short texts that are put many times.
 
 ghost use Rattle.std.specs.Prelude.{◌≡◌, ◌+◌, ◌≤◌, [], ◌++◌, length, take, decimal};
 
 use crate::writing::decimal::place_number;
 use std::marker::Model;
 
-/// The most bytes of a label.
+/// The capacity of a label, in bytes.
 pub const LABEL: usize = 32;
 
 /// A text of at most 32 bytes.
@@ -36,7 +36,7 @@ impl Label {
         }
     }
 
-    /// A text behind it, for which there is room.
+    /// Adds a text, for which there is room.
     pub fn add(&mut self, text: &[u8])
         requires { length self.old + length text.now ≤ 32 }
         ensures { self.new ≡ self.old ++ text.now }
@@ -46,7 +46,7 @@ impl Label {
         self.len = end;
     }
 
-    /// A number in decimal behind it.
+    /// Adds a number in decimal, for which there is room.
     pub fn add_number(&mut self, number: u64)
         requires { length self.old ≤ 11 }
         ensures { self.new ≡ self.old ++ decimal number }

@@ -18,19 +18,19 @@ same_contents one other same_data same_journal =
     let with_journal : List ℕ → Contents = λ bytes. record { in_data = other.in_data; in_journal = bytes } in
     ap with_data same_data ∙ ap with_journal same_journal
 
--- ---- what is found
+-- ---- lists that are found
 
--- where nothing is recorded, the empty claim is there
+-- if nothing is recorded, the empty claim is present
 pub nothing_there : (claims : List Claim) (contents : Contents) → Keeps claims contents → IsNothing contents → IsTrue (has_none claims)
 nothing_there claims contents (inl stood) nothing = absurd (not_nothing stood.0 contents stood.2 nothing)
 nothing_there claims contents (inr none) nothing = none.0
 
--- a list for which they stand may be recorded
+-- a list that the files stand for may be recorded
 pub list_there : (claims : List Claim) (contents : Contents) (list : List Recorded) → Keeps claims contents → StandsFor list contents → MayBe claims list
 list_there claims contents list (inl stood) stands = subst (MayBe claims) (one_list stood.0 list contents stood.2 stands) stood.1
 list_there claims contents list (inr none) stands = absurd (not_nothing list contents stands none.1)
 
--- and they are not damaged
+-- the files are not damaged
 pub not_damaged : (claims : List Claim) (contents : Contents) → Keeps claims contents → IsDamaged contents → ⊥
 not_damaged claims contents (inl stood) damaged = damaged.no_list stood.0 stood.2
 not_damaged claims contents (inr none) damaged = damaged.something none.1
@@ -45,7 +45,7 @@ some_list (r ∷ list) contents stands is = absurd cc
 pub keeps_list : (claims : List Claim) (contents : Contents) (list : List Recorded) → MayBe claims list → StandsFor list contents → Keeps claims contents
 keeps_list claims contents list may stands = inl (list, may, stands)
 
--- a beginning that has what is promised
+-- a prefix that has what is promised
 pub keeps_front : (list committed rest : List Recorded) (promise : ℕ) (contents : Contents) → list ≡ committed ++ rest → promise ≤ length committed
     → StandsFor committed contents → Keeps (claim_of list promise ∷ []) contents
 keeps_front list committed rest promise contents begins least stands =
@@ -55,11 +55,11 @@ keeps_front list committed rest promise contents begins least stands =
 pub keeps_whole : (list : List Recorded) (contents : Contents) → StandsFor list contents → Keeps (whole list ∷ []) contents
 keeps_whole list contents stands = keeps_front list list [] (length list) contents (sym (append-nil list)) (omega arith) stands
 
--- nothing, where the empty claim is in front
+-- nothing recorded, if the empty claim is the first
 pub keeps_none : (claims : List Claim) (contents : Contents) → IsNothing contents → Keeps (no_claim ∷ claims) contents
 keeps_none claims contents nothing = inr (refl, nothing)
 
--- what was kept, with one claim more
+-- what was kept, with one more claim
 pub keeps_more : (claim : Claim) (claims : List Claim) (contents : Contents) → Keeps claims contents → Keeps (claim ∷ claims) contents
 keeps_more claim claims contents (inl stood) = inl (stood.0, inr stood.1, stood.2)
 keeps_more claim claims contents (inr none) = inr (behind (has_none (claim ∷ [])) none.0, none.1)
@@ -67,7 +67,7 @@ keeps_more claim claims contents (inr none) = inr (behind (has_none (claim ∷ [
     behind : (b : Bool) → IsTrue (has_none claims) → IsTrue (has_none (claim ∷ claims))
     behind b is = rw is (grind arith)
 
--- ---- a start that was broken off
+-- ---- a start that the device broke off
 
 started_claims : (start : Start) (claims : List Claim) → has_none claims ≡ true → with_start start claims ≡ whole (Started start ∷ []) ∷ claims
 started_claims start claims none = rw none refl
@@ -80,7 +80,7 @@ keeps_before start claims contents keeps = by (has_none claims) refl
     by true is = subst (λ claims. Keeps claims contents) (sym (started_claims start claims is)) (keeps_more (whole (Started start ∷ [])) claims contents keeps)
     by false is = rw is keeps
 
--- and the start or nothing, where nothing could be recorded
+-- and so are the start or nothing, if the empty claim was present
 pub keeps_started : (start : Start) (claims : List Claim) (contents : Contents) → has_none claims ≡ true → IsNothing contents ⊎ StandsFor (Started start ∷ []) contents
     → Keeps (with_start start claims) contents
 keeps_started start claims contents none either =

@@ -34,7 +34,7 @@ use Rattle.fit_world.specs.Rides.Replies.{reply_of, recovered_of}
 use Rattle.fit_world.specs.Rides.Standing.{told, Keeps, Fits, Rests}
 use Rattle.fit_world.proofs.Histories.Claims.{same_contents, nothing_there, list_there, not_damaged, some_list, keeps_list, keeps_whole, keeps_none, keeps_more, keeps_before, keeps_started}
 
--- the history stands where this may follow, no recorder runs, and what a power cut leaves is as it allows
+-- `Next` holds of a state in which no recorder runs, and a power cut leaves only what that state allows
 pub record GoesIdle (Next : History → Type 0) (story : Story) : Type 0 where
   pub claims : List Claim
   pub begun : Bool
@@ -45,7 +45,7 @@ pub record GoesIdle (Next : History → Type 0) (story : Story) : Type 0 where
 pub file_seen : (list : List Recorded) (story : Story) → IsFinished list story → IsFileOf (seen_of Data story) list
 file_seen list story file = subst (λ bytes. File bytes (spoken list ++ closing list)) (sym (ap (λ file. file.seen) file.rests)) file.valid
 
--- and all of its list is recorded
+-- and its whole list is recorded
 pub finished_rests : (list : List Recorded) (story : Story) (begun : Bool) → (begun ≡ false → ⊥) → IsFinished list story → Rests (Idle (whole list ∷ []) begun) story
 finished_rests list story begun is file contents left = record { keeps = keeps_whole list contents (file.stands contents left); empty = λ unbegun. absurd (is unbegun) }
 
@@ -57,11 +57,11 @@ module _ (before : History) (old : Story) (rests : Rests (ended before) old) (so
   pub empty_there : seen_of Data old ≡ [] → has_none (claims_of before) ≡ true
   empty_there empty = nothing_there (claims_of before) (seen_in old.now) seen_fits.keeps (inl empty)
 
-  -- where they stand for a list a start was begun
+  -- if the files stand for a list, a start was begun
   begun_by : (list : List Recorded) → StandsFor list (seen_in old.now) → was_begun before ≡ false → ⊥
   begun_by list stands unbegun = not_nothing list (seen_in old.now) stands (inl (seen_fits.empty unbegun))
 
-  -- a list for which they stand is found
+  -- a list that the files stand for is found
   pub found : (list : List Recorded) (stopped : Bool) → StandsFor list (seen_in old.now) → has_stopped list ≡ stopped → Finds before list stopped
   found list stopped stands stops = record {
     may_be = list_there (claims_of before) (seen_in old.now) list seen_fits.keeps stands;
@@ -76,7 +76,7 @@ module _ (before : History) (old : Story) (rests : Rests (ended before) old) (so
       by true is = refl
       by false is = absurd (some (seen_fits.empty is))
 
-  -- what could be left before is left
+  -- only what could be left before is left
   same_rests : (new : Story) → LeavesOnly (BothLeft old.now) new.now → Rests (ended before) new
   same_rests new same contents left = rests contents (same contents left)
 
@@ -114,7 +114,7 @@ module _ (before : History) (old : Story) (rests : Rests (ended before) old) (so
   -- ---- a recovery
 
   module _ (new : Story) where
-    -- what is left of files that are kept is what reads gave
+    -- if the files are kept, what is left of them is what reads gave
     left_seen : (contents : Contents) → IsSettled (seen_in old.now) new → BothLeft new.now contents → contents ≡ seen_in old.now
     left_seen contents settled left =
         same_contents contents (seen_in old.now) (rest_left new.now.data_file _ contents.in_data settled.data_rests left.data_left)
@@ -141,7 +141,7 @@ module _ (before : History) (old : Story) (rests : Rests (ended before) old) (so
     settled_rests : IsSettled (seen_in old.now) new → Rests (ended before) new
     settled_rests settled contents left = subst (Fits (ended before)) (sym (left_seen contents settled left)) seen_fits
 
-    -- one that was broken off
+    -- one that the device broke off
     broken_rests : InRecovery old new → Rests (ended before) new
     broken_rests run =
         let first = at_end (BothLeft old.now) old run.found run.before in
@@ -181,9 +181,9 @@ module _ (before : History) (old : Story) (rests : Rests (ended before) old) (so
     recover_goes file (Err JournalFull) is none run settled = absurd none
     recover_goes file (Err Failed) is none run settled = absurd none
 
-    -- ---- a ride that is to go on, and is refused or broken off
+    -- ---- a reopening that is refused or broken off
 
-    -- what stays where a fault is told that is none of the device
+    -- what stays after a fault other than `Device`
     kept_rests : (fault : RecFault) → (fault ≡ Device → ⊥) → (fault ≡ Device) ⊎ IsSettled (seen_in old.now) new → Rests (ended before) new
     kept_rests fault other settled = settled_rests (⊎_elim (λ device. absurd (other device)) (λ kept. kept) settled)
 

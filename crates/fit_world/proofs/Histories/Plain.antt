@@ -1,22 +1,20 @@
--- A ride in which no failure is arranged goes well: for the law.
+-- A ride goes well if no failure is arranged and there is room: for the law.
 use Rattle.std.proofs.Common.{◌≡◌, ℕ, false, List, [], ◌∷◌, ◌++◌, map, length, None, Some, refl, sym, ap, subst, ◌∙◌, true≢false}
-use Rattle.std.specs.List.{AllByRecursion}
 use Rattle.fit_activity.specs.declared.recording.entry.Entry.{Entry}
 use Rattle.fit_activity.specs.declared.recording.entry.Entry.TheVariants as entries
 use Rattle.fit_activity.specs.declared.recording.start.Start.{Start}
 use Rattle.fit_activity.specs.Rides.Recording.{Recorded, Started, Added}
 use Rattle.fit_activity.specs.Rides.Refusal.{refusal_of, start_refusal}
 use Rattle.fit_recorder.specs.declared.fault.RecFault.TheVariants as faults
-use Rattle.fit_world.specs.declared.answer.Answer.{Answer}
 use Rattle.fit_world.specs.declared.command.Command.{Command}
 use Rattle.fit_world.specs.declared.command.Command.TheVariants as commands
 use Rattle.fit_world.specs.declared.event.Event.{Event}
 use Rattle.fit_world.specs.Histories.Arranged.{Arranged, nothing_arranged, MayFail, arranged_after}
 use Rattle.fit_world.specs.Histories.Plain.{IsRide, RodeWell, HadRoom, is_full, command_of, RidesGoWell}
-use Rattle.fit_world.specs.Histories.Runs.{Runs, told_in}
+use Rattle.fit_world.specs.Histories.Runs.{Runs}
 use Rattle.fit_world.specs.Histories.Table.{History, Riding, Told, Done, Stopped, Fault, Step, StartStep, HandStep, CommitStep, StopStep, at_first}
 
--- ---- a run as commands and what is told
+-- ---- a run as commands and answers
 
 abbrev Tells : History → Arranged → List Command → List Told → Type 0
 Tells before arranged [] [] = Unit {0}
@@ -25,22 +23,15 @@ Tells before arranged (command ∷ commands) (told ∷ tolds) =
 Tells before arranged [] (told ∷ tolds) = ⊥
 Tells before arranged (command ∷ commands) [] = ⊥
 
-abbrev HasRoom : List Told → Type 0
-HasRoom tolds = AllByRecursion (λ told. is_full told ≡ false) tolds
-
-run_tells : (before : History) (arranged : Arranged) (events : List Event) (answers : List Answer) → Runs before arranged events answers →
-    Tells before arranged (map command_of events) (map told_in answers)
+run_tells : (before : History) (arranged : Arranged) (events : List Event) (tolds : List Told) → Runs before arranged events tolds →
+    Tells before arranged (map command_of events) tolds
 run_tells before arranged [] [] runs = tt
-run_tells before arranged (event ∷ events) (answer ∷ answers) runs =
-    (runs.0, runs.1, runs.2, run_tells runs.0 (arranged_after arranged event.command (told_in answer)) events answers runs.3)
-run_tells before arranged [] (answer ∷ answers) runs = absurd runs
+run_tells before arranged (event ∷ events) (told ∷ tolds) runs =
+    (runs.0, runs.1, runs.2, run_tells runs.0 (arranged_after arranged event.command told) events tolds runs.3)
+run_tells before arranged [] (told ∷ tolds) runs = absurd runs
 run_tells before arranged (event ∷ events) [] runs = absurd runs
 
-room_told : (answers : List Answer) → HadRoom answers → HasRoom (map told_in answers)
-room_told [] room = room
-room_told (answer ∷ answers) room = (room.0, room_told answers room.1)
-
--- ---- no device fails where nothing is arranged
+-- ---- the device does not fail if nothing is arranged
 
 no_failure : {A : Type 0} → MayFail nothing_arranged (Fault faults.Device) → A
 no_failure may = absurd (true≢false (sym (may refl)))
@@ -51,7 +42,7 @@ not_refused same = absurd cc
 -- ---- one step of a ride
 
 module _ (list : List Recorded) (promise : ℕ) where
-  -- where the recording stands behind an entry
+  -- the state of the history after an entry
   abbrev with_entry : Entry → History
   with_entry entry = Riding (list ++ Added entry ∷ []) promise false false
 
@@ -86,7 +77,7 @@ module _ (list : List Recorded) (promise : ℕ) where
   stop_done time told after rest tolds step allowed last may tells = absurd step
 
 rode_well : (list : List Recorded) (promise : ℕ) (commands : List Command) (tolds : List Told) → IsRide list commands →
-    Tells (Riding list promise false false) nothing_arranged commands tolds → HasRoom tolds → RodeWell list commands tolds
+    Tells (Riding list promise false false) nothing_arranged commands tolds → HadRoom tolds → RodeWell list commands tolds
 rode_well list promise [] tolds ride tells room = absurd ride
 rode_well list promise (command ∷ rest) [] ride tells room = absurd tells
 rode_well list promise (commands.Commit ∷ rest) (told ∷ tolds) ride tells room =
@@ -115,7 +106,7 @@ rode_well list promise (command ∷ rest) (told ∷ tolds) ride tells room = abs
 -- ---- the whole ride
 
 start_done : (start : Start) (told : Told) (after : History) (rest : List Command) (tolds : List Told) → StartStep at_first start told after →
-    start_refusal start ≡ None → MayFail nothing_arranged told → HasRoom tolds → IsRide (Started start ∷ []) rest →
+    start_refusal start ≡ None → MayFail nothing_arranged told → HadRoom tolds → IsRide (Started start ∷ []) rest →
     Tells after (arranged_after nothing_arranged (commands.Start start) told) rest tolds →
     (told ≡ Done) × RodeWell (Started start ∷ []) rest tolds
 start_done start Done after rest tolds step allowed may room ride tells =
@@ -126,7 +117,7 @@ start_done start (Fault faults.Device) after rest tolds step allowed may room ri
 start_done start told after rest tolds step allowed may room ride tells = absurd step
 
 whole_ride : (start : Start) (first : Command) (rest : List Command) (tolds : List Told) → first ≡ commands.Start start → start_refusal start ≡ None →
-    IsRide (Started start ∷ []) rest → Tells at_first nothing_arranged (first ∷ rest) tolds → HasRoom tolds →
+    IsRide (Started start ∷ []) rest → Tells at_first nothing_arranged (first ∷ rest) tolds → HadRoom tolds →
     (others : List Told) × (tolds ≡ Done ∷ others) × RodeWell (Started start ∷ []) rest others
 whole_ride start first rest [] is allowed ride tells room = absurd tells
 whole_ride start first rest (told ∷ tolds) is allowed ride tells room =
@@ -135,6 +126,5 @@ whole_ride start first rest (told ∷ tolds) is allowed ride tells room =
     (tolds, ap (λ (t : Told). t ∷ tolds) done.0, done.1)
 
 pub rides_go_well : RidesGoWell
-rides_go_well start first events answers is allowed ride runs room =
-    whole_ride start first.command (map command_of events) (map told_in answers) is allowed ride
-    (run_tells at_first nothing_arranged (first ∷ events) answers runs) (room_told answers room)
+rides_go_well start first events all is allowed ride runs room =
+    whole_ride start first.command (map command_of events) all is allowed ride (run_tells at_first nothing_arranged (first ∷ events) all runs) room

@@ -1,7 +1,7 @@
 -- The replies so far are steps of a history: for `playing`.
 use Rattle.std.proofs.Common.{◌≡◌, ◌<◌, ◌≤◌, ◌+◌, ℕ, Bool, List, [], ◌∷◌, ◌++◌, length, get_or, drop, refl, sym, subst, ◌∙◌, append_assoc}
 use Rattle.std.specs.Prelude.{IsTrue}
-use Rattle.std.proofs.lemmas.List.{drop_more, drop_all, append-nil}
+use Rattle.std.proofs.lemmas.List.{drop_more, drop_all, append-nil, append_cancel_right}
 use Rattle.fit_disk.specs.Story.{Story}
 use Rattle.fit_world.specs.declared.event.Event.{Event}
 use Rattle.fit_world.specs.declared.reply.Reply.{Reply}
@@ -9,10 +9,10 @@ use Rattle.fit_world.specs.declared.ride.Ride.{Ride}
 use Rattle.fit_world.specs.declared.ride.Ride.TheVariants as rides
 use Rattle.fit_world.specs.Histories.Claims.{Claim}
 use Rattle.fit_world.specs.Histories.Table.{History, Idle, Step, ended}
-use Rattle.fit_world.specs.Rides.Played.{GoesTo, LeavesBehind, BreaksOff}
+use Rattle.fit_world.specs.Rides.Played.{GoesTo, LeavesBehind}
 use Rattle.fit_world.specs.Rides.Standing.{StandsIn, GoesBy, Rests, content_of, told}
 
--- one step more
+-- one more step
 goes_on : (before middle after : History) (event : Event) (reply : Reply) (file : List ℕ) (events : List Event) (replies : List Reply) →
     GoesTo before events replies middle → Step middle event.command (told reply file) after →
     GoesTo before (events ++ event ∷ []) (replies ++ reply ∷ []) after
@@ -23,13 +23,13 @@ goes_on before middle after event reply file [] (said ∷ replies) goes step = a
 goes_on before middle after event reply file (first ∷ events) [] goes step = absurd goes
 
 module _ {D : Type 0} (honest : Bool) (story : D → Story) where
-  -- the ride stands where the history does behind these replies
+  -- the ride is in the state of the history after these replies
   pub record Stood (before : History) (played : List Event) (said : List Reply) (ride : Ride D) : Type 0 where
     pub after : History
     pub goes : GoesTo before played said after
     pub stands : StandsIn honest story ride after
 
-  -- these were replied to a beginning of the events, from any history that the disk was as
+  -- these were the replies to a prefix of the events, from any state that allows the disk as it was
   pub record Rode (old : Story) (events left : List Event) (said : List Reply) (ride : Ride D) : Type 0 where
     pub played : List Event
     pub begins : events ≡ played ++ left
@@ -60,7 +60,7 @@ module _ {D : Type 0} (honest : Bool) (story : D → Story) where
         };
   }
 
-  -- one event more
+  -- one more event
   pub rode_on : (old : Story) (events : List Event) (i : ℕ) (d : Event) (said : List Reply) (ride next : Ride D) (reply : Reply) →
       i < length events → Rode old events (drop i events) said ride →
       (IsTrue honest → (before : History) → StandsIn honest story ride before → GoesBy honest story before (get_or events i d).command reply next) →
@@ -69,7 +69,7 @@ module _ {D : Type 0} (honest : Bool) (story : D → Story) where
       behind old events (drop (i + 1) events) (get_or events i d) said ride next reply
       (subst (λ left. Rode old events left said ride) (drop_more events i d within) known)
 
-  -- where the ride is ended, this is left of the events that were played
+  -- what the events that were run leave if the ride is ended
   left_of : (old new : Story) (events left : List Event) (said : List Reply) (ride : Ride D) → (known : Rode old events left said ride) →
       (IsTrue honest → (before : History) → StandsIn honest story ride before → Rests (ended before) new) →
       LeavesBehind honest old new known.played said
@@ -77,7 +77,7 @@ module _ {D : Type 0} (honest : Bool) (story : D → Story) where
       let stood = known.stood sound claims begun rests in
       record { after = stood.after; goes = stood.goes; rests = ends sound stood.after stood.stands }
 
-  -- behind the last event
+  -- after the last event
   pub all_left : (old new : Story) (events : List Event) (i : ℕ) (said : List Reply) (ride : Ride D) → length events ≤ i →
       Rode old events (drop i events) said ride → (IsTrue honest → (before : History) → StandsIn honest story ride before → Rests (ended before) new) →
       LeavesBehind honest old new events said
@@ -86,13 +86,10 @@ module _ {D : Type 0} (honest : Bool) (story : D → Story) where
       let all : events ≡ end.played = end.begins ∙ append-nil end.played in
       subst (λ played. LeavesBehind honest old new played said) (sym all) (left_of old new events [] said ride end ends)
 
-  -- behind any
+  -- after any event, with the events that were run
   pub some_left : (old new : Story) (events left : List Event) (said : List Reply) (ride : Ride D) → Rode old events left said ride →
-      (IsTrue honest → (before : History) → StandsIn honest story ride before → Rests (ended before) new) → BreaksOff honest old new events
-  some_left old new events left said ride known ends = record {
-    played = known.played;
-    left = left;
-    begins = known.begins;
-    replies = said;
-    leaves = left_of old new events left said ride known ends;
-  }
+      (IsTrue honest → (before : History) → StandsIn honest story ride before → Rests (ended before) new) →
+      (played : List Event) → events ≡ played ++ left → LeavesBehind honest old new played said
+  some_left old new events left said ride known ends played is =
+      subst (λ run. LeavesBehind honest old new run said) (append_cancel_right known.played played left (sym known.begins ∙ is))
+      (left_of old new events left said ride known ends)

@@ -36,7 +36,7 @@ use Rattle.fit_world.specs.Rides.Standing.{told, Rests, RidesOn, StandsIn, GoesB
 use Rattle.fit_world.proofs.Histories.Claims.{keeps_front}
 use Rattle.fit_world.proofs.Histories.Idle.{GoesIdle, file_seen, finished_rests, found}
 
--- what a power cut leaves of a ride that is broken off: a beginning of its list
+-- what a power cut leaves of a ride that is broken off: a prefix of its list
 front_rests : (list committed rest : List Recorded) (promise : ℕ) (reopened failed : Bool) (story : Story) → list ≡ committed ++ rest → promise ≡ length committed
     → LeavesOnly (StandsFor committed) story.now → Rests (Riding list promise reopened failed) story
 front_rests list committed rest promise reopened failed story begins promised stands contents left =
@@ -54,7 +54,7 @@ either_rests list committed rest promise reopened failed story begins promised s
       empty = λ unbegun. absurd (true≢false unbegun);
     }
 
--- a step of an entry that is no stop
+-- a step of an entry that is not a stop
 entry_step : (before after : History) (entry : Entry) (answer : Told) → is_stop (Added entry) ≡ false → HandStep before entry answer after → EntryStep before entry answer after
 entry_step before after (Sample s) answer other step = step
 entry_step before after (Lap time) answer other step = step
@@ -69,7 +69,7 @@ never_full (HalfOpen slots) turns last = absurd cc
 never_full (InTurns first second) turns last = absurd last
 
 module _ {D : Type 0} (honest : Bool) (story : D → Story) where
-  -- no recorder runs behind it
+  -- no recorder runs after the command
   pub idle_goes : (before : History) (command : Command) (reply : Reply) (disk : D) → GoesIdle (λ after. Step before command (told reply (seen_of Data (story disk))) after) (story disk)
       → GoesBy honest story before command reply (rides.Idle disk)
   idle_goes before command reply disk goes = record { after = Idle goes.claims goes.begun; step = goes.step; stands = goes.rests }
@@ -85,7 +85,7 @@ module _ {D : Type 0} (honest : Bool) (story : D → Story) where
         stands = record { committed = Started start ∷ []; rest = []; begins = refl; promised = refl; stands = stands; going = going; no_stop = refl; turns = λ _. turns };
       }
 
-  -- a ride that was recorded goes on
+  -- a recorded ride continues
   pub reopened_goes : (before : History) (old : Story) → Rests (ended before) old → IsSound old.now → (recorder : Recorder D) → IsResumed honest story (seen_in old.now) recorder
       → GoesBy honest story before commands.Reopen replies.Done (rides.Riding recorder)
   reopened_goes before old rests sound recorder resumed =
@@ -105,7 +105,7 @@ module _ {D : Type 0} (honest : Bool) (story : D → Story) where
         };
       }
 
-  -- what is left of a ride is left of it when it has ended
+  -- what may be left of a ride may be left of it after its end
   pub ended_fits : (before : History) (at : Story) → Rests before at → Rests (ended before) at
   ended_fits before at rests contents left = record { keeps = (rests contents left).keeps; empty = (rests contents left).empty }
 
@@ -119,11 +119,11 @@ module _ {D : Type 0} (honest : Bool) (story : D → Story) where
 
   module _ (old new : Recorder D) (result : Result (Unit {0}) RecFault) (same : IfErr result (λ fault. (fault ≡ Device) ⊎ (new ≡ old)))
       (failed : has_failed old ≡ true → IsErrOf result Failed) (gone : IsErrOf result Device → has_failed new ≡ true) where
-    -- it has not changed where it was refused
+    -- a refusal does not change the recorder
     unchanged : (fault : RecFault) → result ≡ Err fault → fault ≢ Device → new ≡ old
     unchanged fault is other = ⊎_elim (λ device. absurd (other device)) (λ kept. kept) (rw is at same)
 
-    -- a recorder in which a call failed answers Failed, and nothing else
+    -- a recorder in which a call failed answers only `Failed`
     still_failed : (list : List Recorded) (promise : ℕ) (reopened : Bool) (command : Command) → StandsIn honest story (rides.Riding old) (Riding list promise reopened true)
         → ((after : History) → after ≡ Riding list promise reopened true → Step (Riding list promise reopened true) command (Fault Failed) after)
         → GoesBy honest story (Riding list promise reopened true) command (reply_of result) (rides.Riding new)
@@ -143,7 +143,7 @@ module _ {D : Type 0} (honest : Bool) (story : D → Story) where
     kept_goes list promise reopened command fault is other on step =
         record { after = Riding list promise reopened false; step = step; stands = subst (λ recorder. RidesOn honest story recorder list promise reopened) (sym (unchanged fault is other)) on }
 
-    -- ---- an entry that is no stop
+    -- ---- an entry that is not a stop
 
     module _ (entry : Entry) (other : is_stop (Added entry) ≡ false) (slots : journal_slots new ≡ journal_slots old)
         (answers : (list : List Recorded) → WasHanded old list → has_failed old ≡ false → HandAnswers list (data_len old) entry result)
@@ -270,7 +270,7 @@ module _ {D : Type 0} (honest : Bool) (story : D → Story) where
       stop_refused list promise reopened on NothingRecorded is none = absurd none
       stop_refused list promise reopened on Damaged is none = absurd none
 
-      -- a recorder goes on where the stop is not done
+      -- the recorder still runs if the stop was not done
       pub stop_goes : (before : History) (fault : RecFault) → result ≡ Err fault → StandsIn honest story (rides.Riding old) before
           → GoesBy honest story before (commands.Entry (Stop time)) (replies.Refused fault) (rides.Riding new)
       stop_goes (Idle claims begun) fault is none = absurd none
@@ -278,7 +278,7 @@ module _ {D : Type 0} (honest : Bool) (story : D → Story) where
       stop_goes (Riding list promise reopened true) fault is broken =
           rw is at still_failed list promise reopened (commands.Entry (Stop time)) broken (λ after same. same)
 
-      -- and none where it is
+      -- and none runs if it was done
       pub stop_done : (before : History) (disk : D) (done : Unit {0}) → result ≡ Ok done → disk ≡ disk_of new → StandsIn honest story (rides.Riding old) before
           → GoesBy honest story before (commands.Entry (Stop time)) replies.Stopped (rides.Idle disk)
       stop_done (Idle claims begun) disk done is same none = absurd none

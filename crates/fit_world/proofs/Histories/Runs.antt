@@ -1,5 +1,5 @@
--- The answers so far, and those that may come to the events that are left: for `world::run`.
-use Rattle.std.proofs.Common.{◌≡◌, ◌<◌, ◌≤◌, ◌+◌, ℕ, true, false, List, [], ◌∷◌, ◌++◌, length, get_or, drop, inl, inr, refl, sym, ap, subst, ◌∙◌, append_assoc}
+-- The answers so far, and those that may come to the remaining events: for `world::run`.
+use Rattle.std.proofs.Common.{◌≡◌, ◌<◌, ◌≤◌, ◌+◌, ℕ, true, false, List, [], ◌∷◌, ◌++◌, length, get_or, drop, inl, inr, refl, sym, ap, subst, append_assoc}
 use Rattle.std.proofs.lemmas.List.{drop_more, drop_all, append-nil}
 use Rattle.fit_disk.specs.declared.memory.Memory.{Memory}
 use Rattle.fit_disk.specs.Counts.{unplanned, no_calls}
@@ -7,27 +7,26 @@ use Rattle.fit_disk.specs.Events.{fresh}
 use Rattle.fit_disk.specs.Memory.{memory_story, memory_counts, memory_schedule, is_spent}
 use Rattle.fit_disk.specs.Story.{Story}
 use Rattle.fit_disk.proofs.Leaving.{rest_left}
-use Rattle.fit_world.specs.declared.answer.Answer.{Answer}
 use Rattle.fit_world.specs.declared.event.Event.{Event}
 use Rattle.fit_world.specs.declared.reply.Reply.{Reply}
 use Rattle.fit_world.specs.declared.ride.Ride.{Ride}
 use Rattle.fit_world.specs.declared.ride.Ride.TheVariants as rides
 use Rattle.fit_world.specs.Simulation.Arranging.{IsArranged, Moves}
 use Rattle.fit_world.specs.Histories.Arranged.{Arranged, nothing_arranged, MayFail, arranged_after}
-use Rattle.fit_world.specs.Histories.Runs.{Runs, IsHistory, told_in}
+use Rattle.fit_world.specs.Histories.Runs.{Runs, IsHistory}
 use Rattle.fit_world.specs.Histories.Table.{History, Step, Told, at_first}
 use Rattle.fit_world.specs.Rides.Ride.{disk_in}
 use Rattle.fit_world.specs.Rides.Standing.{StandsIn, GoesBy, Rests, content_of, told}
 use Rattle.fit_world.proofs.Simulation.Counts.{moved}
 
--- The ride stands in a history behind these answers: with any answers that may come from there to the events that are left,
--- they are answers to all events.
-pub record Leads (events left : List Event) (answers : List Answer) (ride : Ride Memory) : Type 0 where
+-- The ride is in the state of a history after these answers. With any answers that may come from there to the remaining events, they
+-- are answers to all events.
+pub record Leads (events left : List Event) (tolds : List Told) (ride : Ride Memory) : Type 0 where
   pub history : History
   pub arranged : Arranged
   pub stands : StandsIn true memory_story ride history
   pub is_arranged : IsArranged arranged (memory_counts (disk_in ride)) (memory_schedule (disk_in ride))
-  pub leads : (rest : List Answer) → Runs history arranged left rest → IsHistory events (answers ++ rest)
+  pub leads : (rest : List Told) → Runs history arranged left rest → IsHistory events (tolds ++ rest)
 
 empty_rests : (story : Story) → story ≡ fresh → Rests at_first story
 empty_rests story is contents left =
@@ -48,14 +47,14 @@ first_leads events disk story counts schedule = record {
   leads = λ rest runs. runs;
 }
 
-behind : (events left : List Event) (event : Event) (answers : List Answer) (ride next : Ride Memory) (reply : Reply) (file : List ℕ) (answer : Answer) →
-    is_spent (disk_in ride) ≡ false → is_spent (disk_in next) ≡ false → Leads events (event ∷ left) answers ride →
+behind : (events left : List Event) (event : Event) (tolds : List Told) (ride next : Ride Memory) (reply : Reply) (file : List ℕ) →
+    is_spent (disk_in ride) ≡ false → is_spent (disk_in next) ≡ false → Leads events (event ∷ left) tolds ride →
     ((before : History) → StandsIn true memory_story ride before → GoesBy true memory_story before event.command reply next) →
     Moves event.command reply (memory_counts (disk_in ride)) (memory_schedule (disk_in ride)) (memory_counts (disk_in next)) (memory_schedule (disk_in next)) →
-    file ≡ content_of memory_story next → told_in answer ≡ told reply file → Leads events left (answers ++ answer ∷ []) next
-behind events left event answers ride next reply file answer unspent next_unspent known step moves file_is tells =
+    file ≡ content_of memory_story next → Leads events left (tolds ++ told reply file ∷ []) next
+behind events left event tolds ride next reply file unspent next_unspent known step moves file_is =
     let goes = step known.history known.stands in
-    let says : told_in answer ≡ told reply (content_of memory_story next) = tells ∙ ap (told reply) file_is in
+    let says : told reply file ≡ told reply (content_of memory_story next) = ap (told reply) file_is in
     let may = moved known.arranged event.command reply (content_of memory_story next) (disk_in ride) (disk_in next) unspent next_unspent moves known.is_arranged in
     record {
       history = goes.after;
@@ -64,7 +63,7 @@ behind events left event answers ride next reply file answer unspent next_unspen
       is_arranged = may.1;
       leads = λ rest runs.
           rw append_assoc
-          (known.leads (answer ∷ rest) (
+          (known.leads (told reply file ∷ rest) (
             goes.after,
             subst (λ (t : Told). Step known.history event.command t goes.after) (sym says) goes.step,
             subst (λ (t : Told). MayFail known.arranged t) (sym says) may.0,
@@ -72,19 +71,19 @@ behind events left event answers ride next reply file answer unspent next_unspen
           ));
     }
 
--- one event more
-pub leads_on : (events : List Event) (i : ℕ) (d : Event) (answers : List Answer) (ride next : Ride Memory) (reply : Reply) (file : List ℕ) (answer : Answer) →
-    i < length events → is_spent (disk_in ride) ≡ false → is_spent (disk_in next) ≡ false → Leads events (drop i events) answers ride →
+-- one more event
+pub leads_on : (events : List Event) (i : ℕ) (d : Event) (tolds : List Told) (ride next : Ride Memory) (reply : Reply) (file : List ℕ) →
+    i < length events → is_spent (disk_in ride) ≡ false → is_spent (disk_in next) ≡ false → Leads events (drop i events) tolds ride →
     ((before : History) → StandsIn true memory_story ride before → GoesBy true memory_story before (get_or events i d).command reply next) →
     Moves (get_or events i d).command reply (memory_counts (disk_in ride)) (memory_schedule (disk_in ride)) (memory_counts (disk_in next)) (memory_schedule (disk_in next)) →
-    file ≡ content_of memory_story next → told_in answer ≡ told reply file → Leads events (drop (i + 1) events) (answers ++ answer ∷ []) next
-leads_on events i d answers ride next reply file answer within unspent next_unspent known =
-    behind events (drop (i + 1) events) (get_or events i d) answers ride next reply file answer unspent next_unspent
-    (subst (λ left. Leads events left answers ride) (drop_more events i d within) known)
+    file ≡ content_of memory_story next → Leads events (drop (i + 1) events) (tolds ++ told reply file ∷ []) next
+leads_on events i d tolds ride next reply file within unspent next_unspent known =
+    behind events (drop (i + 1) events) (get_or events i d) tolds ride next reply file unspent next_unspent
+    (subst (λ left. Leads events left tolds ride) (drop_more events i d within) known)
 
--- behind the last event
-pub at_the_end : (events : List Event) (i : ℕ) (answers : List Answer) (ride : Ride Memory) → length events ≤ i →
-    Leads events (drop i events) answers ride → IsHistory events answers
-at_the_end events i answers ride past known =
-    let end = subst (λ left. Leads events left answers ride) (drop_all i events past) known in
-    subst (λ all. IsHistory events all) (append-nil answers) (end.leads [] tt)
+-- after the last event
+pub at_the_end : (events : List Event) (i : ℕ) (tolds : List Told) (ride : Ride Memory) → length events ≤ i →
+    Leads events (drop i events) tolds ride → IsHistory events tolds
+at_the_end events i tolds ride past known =
+    let end = subst (λ left. Leads events left tolds ride) (drop_all i events past) known in
+    subst (λ all. IsHistory events all) (append-nil tolds) (end.leads [] tt)

@@ -1,4 +1,4 @@
--- A command that arranges no failure: what it does to the calls and the choices of a simulated disk.
+-- A command that arranges no failure: what it does to the calls and the choice bytes of a simulated disk.
 use Rattle.std.proofs.Common.{◌≡◌, ℕ, List, refl}
 use Rattle.fit_disk.specs.Counts.{Counts, Schedule}
 use Rattle.fit_disk.specs.State.{State}

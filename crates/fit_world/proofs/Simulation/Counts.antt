@@ -1,4 +1,4 @@
--- The memory disk fails only where that was arranged: for a run of its events.
+-- The memory disk fails only if that was arranged: for a run of events.
 use Rattle.std.proofs.Common.{◌≡◌, ◌⊎◌, inl, inr, ℕ, zero, suc, ◌+◌, ◌-◌, ◌<◌, ◌≤◌, Bool, true, false, ◌||◌, ◌==◌, IsTrue, Option, None, Some, List, refl, sym, ap, subst, ◌∙◌, true≢false, add-zero, add-suc, arith}
 use Rattle.std.proofs.lemmas.Bool.{or_parts, or_from, eq-eqb, ne_eqb, eqb-false, cases_lt}
 use Rattle.fit_disk.specs.declared.memory.Memory.{Memory}
@@ -24,7 +24,7 @@ failures_ordered schedule m n order =
     let same : m + (n - m) ≡ n = omega arith in
     rw same at (failures_more schedule m (n - m))
 
--- a schedule in which one call is planned to fail, or none, and no power cut
+-- a schedule with at most one call that is planned to fail, and no power cut
 abbrev without_cut : Option ℕ → Counts → Schedule
 without_cut fail since = record { fail = fail; cut = None; since = since }
 
@@ -32,14 +32,14 @@ not_at : (fail : Option ℕ) (calls number : ℕ) → IsPast fail calls → call
 not_at None calls number past behind = refl
 not_at (Some planned) calls number past behind = ne_eqb number planned (λ same. omega arith)
 
--- behind the planned call none fails
+-- after the planned call none fails
 none_behind : (fail : Option ℕ) (since : Counts) (n k : ℕ) → IsPast fail n →
     failures (without_cut fail since) (n + k) ≡ failures (without_cut fail since) n
 none_behind fail since n zero past = rw (add-zero n) refl
 none_behind fail since n (suc k) past =
     rw (add-suc n k, not_at fail n (suc (n + k)) past (omega arith)) (omega (arith, none_behind fail since n k past))
 
--- nor before it
+-- and none fails before it
 none_before : (planned : ℕ) (since : Counts) (n : ℕ) → n < planned → failures (without_cut (Some planned) since) n ≡ 0
 none_before planned since zero before = refl
 none_before planned since (suc n) before =
@@ -60,7 +60,7 @@ no_growth fail since old new past = by_order (cases_lt new old)
         let none = rw same at (none_behind fail since old (new - old) past) in
         omega (arith, none)
 
--- where more calls failed, the planned one was made
+-- if more calls failed, the planned one was made
 grown_past : (fail : Option ℕ) (since : Counts) (old new : ℕ) →
     failures (without_cut fail since) old < failures (without_cut fail since) new → IsPast fail new
 grown_past None since old new grown = tt
@@ -70,7 +70,7 @@ grown_past (Some planned) since old new grown = by_order (cases_lt new planned)
     by_order (inl before) = absurd (omega (arith, none_before planned since new before))
     by_order (inr made) = made
 
--- and it stays made where no fewer calls failed
+-- and it stays made if no fewer calls failed
 stays_past : (fail : Option ℕ) (since : Counts) (old new : ℕ) → IsPast fail old →
     failures (without_cut fail since) old ≤ failures (without_cut fail since) new → IsPast fail new
 stays_past None since old new past no_fewer = tt
@@ -86,7 +86,7 @@ stays_past (Some planned) since old new past no_fewer = by_order (cases_lt new p
         ))
     by_order (inr made) = made
 
--- ---- what is arranged behind a command
+-- ---- what is arranged after a command
 
 module _ (arranged : Arranged) (schedule : Schedule) (old new : Counts) (is_arranged : IsArranged arranged old schedule)
     (old_as : FailedAsPlanned old schedule) (new_as : FailedAsPlanned new schedule) where
@@ -128,7 +128,8 @@ module _ (arranged : Arranged) (schedule : Schedule) (old new : Counts) (is_arra
   kept : (reply : Reply) (file : List ℕ) → new.calls < last_count → IsCounted reply old new →
       MayFail arranged (told reply file) × IsArranged (broken_off arranged (told reply file)) new schedule
   kept (replies.Refused Device) file within counted =
-      let grown : old.failed < new.failed = counted.cause refl within in
+      let one = (counted.cause refl).one within in
+      let grown : old.failed < new.failed = omega (arith, one) in
       (λ broken. device_fails arranged.cut arranged.fail refl refl grown, after_broken grown)
   kept reply file within counted = (λ broken. absurd (true≢false (sym broken)), after_went (counted.went (λ same. cc)))
 
@@ -139,7 +140,7 @@ unspent disk spent =
     let not_last = eqb-false disk.call_schedule.counts.calls last_count parts.1 in
     (disk.planned parts.0, omega (arith, disk.call_schedule.counts.fits))
 
--- the device failed only where that was arranged, and what is arranged behind the command is
+-- the device failed only if that was arranged, and the schedule after the command is what is arranged then
 pub moved : (arranged : Arranged) (command : Command) (reply : Reply) (file : List ℕ) (old new : Memory) → is_spent old ≡ false →
     is_spent new ≡ false → Moves command reply (memory_counts old) (memory_schedule old) (memory_counts new) (memory_schedule new) →
     IsArranged arranged (memory_counts old) (memory_schedule old) →

@@ -1,4 +1,4 @@
--- A ride over the memory disk: where it stands when a failure is arranged, and behind a power cut.
+-- A ride over the memory disk: its state in a history when a failure is arranged, and after a power cut.
 use Rattle.std.proofs.Common.{◌≡◌, true, false, ℕ, List, drop, sym, ap, subst, ◌∙◌}
 use Rattle.fit_disk.specs.declared.memory.Memory.{Memory}
 use Rattle.fit_disk.specs.Cycle.{cycled, left_by, taken_by}
@@ -13,7 +13,7 @@ use Rattle.fit_world.specs.Histories.Table.{History, Idle, Riding}
 use Rattle.fit_world.specs.Rides.Standing.{Rests, StandsIn}
 use Rattle.fit_world.proofs.Histories.Claims.{same_contents}
 
--- no content and no promise is another: it stands where it stood
+-- no content and no promise changed, so the ride is in the same state
 pub same_stands : (old new : Recorder Memory) → StandsAsBefore old new → (history : History) →
     StandsIn true memory_story (rides.Riding old) history → StandsIn true memory_story (rides.Riding new) history
 same_stands old new same (Idle claims begun) stands = stands
@@ -30,7 +30,7 @@ same_stands old new same (Riding list promise reopened false) stands = record {
 same_stands old new same (Riding list promise reopened true) stands =
     (same.failed ∙ stands.0, subst (λ story. Rests (Riding list promise reopened true) story) (sym same.story) stands.1)
 
--- Both files are at rest behind a power cut: what a crash leaves of them is what reads give, and that the cut left.
+-- Both files are at rest after a power cut: a crash leaves of them what reads give, and that is what the cut left.
 pub cut_rests : (P : Contents → Type 0) (choices : List ℕ) (old new : State) → new ≡ cycled choices old →
     BothLeft old (seen_in new) → LeavesOnly P old → LeavesOnly P new
 cut_rests P choices old new is left rests contents after =

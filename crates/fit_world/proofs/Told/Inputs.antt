@@ -1,4 +1,4 @@
--- What is told of an input that was read to its end: for `show_input` and `check_input`.
+-- The result for an input that was read to its end: for `show_input` and `check_input`.
 use Rattle.std.proofs.Common.{◌≡◌, ℕ, List, Bool, Option, Result, Ok, Err, subst}
 use Rattle.std.specs.Prelude.{IfErr}
 use Rattle.fit_grammar.specs.Calls.Output.{WritesText}
@@ -10,7 +10,7 @@ use Rattle.fit_world.specs.declared.reading.ReadFault.{ReadFault}
 use Rattle.fit_world.specs.Calls.Reading.{ReadsAll, TellsInput}
 use Rattle.fit_world.specs.Printed.Shown.{ShowsBytes, IsOutputFault}
 
--- a file is shown, or the output failed
+-- a file was shown, or the output failed
 pub shows_file : {T : Type 0} → (utc : Bool) (old new : Option (List ℕ)) (bytes : List ℕ) (v : FileValue) (result : Result T TellFault) → FileOf bytes v
     → WritesText old new result (text_of utc v) → IfErr result IsOutputFault → ShowsBytes utc old new bytes result
 shows_file utc old new bytes v (Ok done) file writes fault = (v, file, writes.all)
@@ -21,7 +21,7 @@ shows_file utc old new bytes v (Err (Input why)) file writes fault = absurd faul
 shows_file utc old new bytes v (Err (Plain why)) file writes fault = absurd fault
 
 module _ {T : Type 0} (IsTold : List ℕ → Result T TellFault → Type 0) (never : (bytes : List ℕ) (why : ReadFault) → IsTold bytes (Err (Input why)) → ⊥) where
-  -- what is told of its bytes is no fault of the input
+  -- a result for the bytes is not a fault of the input
   pub told_of : (most : ℕ) (from behind : Option (List ℕ)) (bytes : List ℕ) (result : Result T TellFault) → ReadsAll most from behind bytes → IsTold bytes result
       → TellsInput most from behind IsTold result
   told_of most from behind bytes (Ok done) all told = (bytes, all, told)

@@ -1,33 +1,58 @@
--- How many events were refused and which lines were put, one event further: for `playing`.
-use Rattle.std.proofs.Common.{◌≡◌, ◌<◌, ◌≤◌, ◌+◌, ℕ, Bool, true, false, List, [], ◌∷◌, ◌++◌, Ok, length, get_or, drop, refl, ◌∙◌, append-nil, append_assoc, subst, arith, codes, sym}
+-- How many replies were refusals and which lines were put, with one more event: for `playing`.
+use Rattle.std.proofs.Common.{◌≡◌, ◌<◌, ◌≤◌, ◌+◌, ℕ, Bool, true, false, List, [], ◌∷◌, ◌++◌, Option, Ok, length, get_or, drop, refl, ◌∙◌, ap, append-nil, append_assoc, length-append, subst, arith, codes, sym}
+use Rattle.std.proofs.KnownBytes.{Appends-trans}
+use Rattle.std.specs.Io.KnownBytes.{Appends}
 use Rattle.std.proofs.lemmas.List.{drop_more, drop_all}
+use Rattle.fit_disk.specs.Story.{Story}
+use Rattle.fit_grammar.specs.Calls.Output.{AppendsBeginning}
 use Rattle.fit_text.proofs.PenLemmas.{continues_none, continues_then, puts_written}
 use Rattle.fit_text.specs.Pen.{Written, Continues, Took}
 use Rattle.fit_world.specs.declared.event.Event.{Event}
 use Rattle.fit_world.specs.declared.reply.Reply.{Reply}
 use Rattle.fit_world.specs.Rides.Replies.{is_ok, MayReply, rides_on, MayReplyAll, refusals}
 use Rattle.fit_world.specs.Printed.ReplyLines.{line_text, lines_text, AreTold}
+use Rattle.fit_world.specs.Rides.Played.{LeavesBehind, BreaksOff}
 
--- these may be replied to all events, so many of them are refusals, and this is their text
+-- these replies may come to all events, so many of them are refusals, and this is their text
 pub record Counted (events : List Event) (replies : List Reply) (refused : ℕ) (text : List ℕ) : Type 0 where
   pub may : MayReplyAll false events replies
   pub counted : refused ≡ refusals replies
   pub lines : text ≡ lines_text events replies
 
--- These were replied before the events that are left, so many are refusals, and a pen was put their lines: with any replies to the
--- events that are left it is known of all.
+-- These were the replies before the remaining events, so many are refusals, and their lines were put into a pen. With any replies that
+-- may come to further events, `Counted` holds of all of them.
 pub record LeadsTo (events : List Event) (riding : Bool) (left : List Event) (said : List Reply) (refused : ℕ) (old new : Written) : Type 0 where
+  pub played : List Event
+  pub begins : events ≡ played ++ left
+  pub each : length played ≡ length said
   pub text : List ℕ
+  pub lines : text ≡ lines_text played said
   pub put : Took old text new
-  pub leads : (rest : List Reply) → MayReplyAll riding left rest → Counted events (said ++ rest) (refused + refusals rest) (text ++ lines_text left rest)
+  pub leads : (more : List Event) (rest : List Reply) → MayReplyAll riding more rest →
+      Counted (played ++ more) (said ++ rest) (refused + refusals rest) (text ++ lines_text more rest)
 
 -- before the first event
 pub none_yet : (events : List Event) (pen : Written) → LeadsTo events false events [] 0 pen pen
 none_yet events pen = record {
+  played = [];
+  begins = refl;
+  each = refl;
   text = [];
+  lines = refl;
   put = (refl, continues_none pen);
-  leads = λ rest all. record { may = all; counted = omega arith; lines = refl };
+  leads = λ more rest all. record { may = all; counted = omega arith; lines = refl };
 }
+
+-- one more line
+lines_more : (played : List Event) (said : List Reply) (event : Event) (reply : Reply) → length played ≡ length said →
+    lines_text (played ++ event ∷ []) (said ++ reply ∷ []) ≡ lines_text played said ++ (line_text event reply ++ codes "\n")
+lines_more [] [] event reply each = append-nil (line_text event reply ++ codes "\n")
+lines_more [] (first ∷ said) event reply each = absurd (omega arith)
+lines_more (first ∷ played) [] event reply each = absurd (omega arith)
+lines_more (first ∷ played) (before ∷ said) event reply each =
+    let line : List ℕ = line_text first before ++ codes "\n" in
+    ap (λ text. line ++ text) (lines_more played said event reply (omega arith))
+    ∙ sym (append_assoc line (lines_text played said) (line_text event reply ++ codes "\n"))
 
 behind : (events left : List Event) (riding next : Bool) (event : Event) (said : List Reply) (reply : Reply) (refused now : ℕ) (o m n : Written) →
     LeadsTo events riding (event ∷ left) said refused o m → MayReply riding event.command reply → next ≡ rides_on riding event.command reply →
@@ -36,21 +61,28 @@ behind : (events left : List Event) (riding next : Bool) (event : Event) (said :
 behind events left riding next event said reply refused now o m n known may is counts put =
     let line : List ℕ = line_text event reply ++ codes "\n" in
     record {
+      played = known.played ++ event ∷ [];
+      begins = known.begins ∙ sym (append_assoc known.played (event ∷ []) left);
+      each = simp length-append (omega (arith, known.each));
       text = known.text ++ line;
+      lines = ap (λ text. text ++ line) known.lines ∙ sym (lines_more known.played said event reply known.each);
       put = (put.0 ∙ known.put.0, continues_then o m n known.text line known.put.1 put.1);
-      leads = λ rest all.
-          let one_more : said ++ reply ∷ rest ≡ (said ++ reply ∷ []) ++ rest = sym (append_assoc said (reply ∷ []) rest) in
+      leads = λ more rest all.
+          let text : List ℕ = known.text ++ lines_text (event ∷ more) (reply ∷ rest) in
+          let one_reply : said ++ reply ∷ rest ≡ (said ++ reply ∷ []) ++ rest = sym (append_assoc said (reply ∷ []) rest) in
+          let one_event : known.played ++ event ∷ more ≡ (known.played ++ event ∷ []) ++ more = sym (append_assoc known.played (event ∷ []) more) in
           let told =
-          subst (λ replies. Counted events replies (refused + refusals (reply ∷ rest)) (known.text ++ lines_text (event ∷ left) (reply ∷ rest)))
-          one_more (known.leads (reply ∷ rest) (may, rw is at all)) in
+          subst (λ events. Counted events ((said ++ reply ∷ []) ++ rest) (refused + refusals (reply ∷ rest)) text) one_event
+          (subst (λ replies. Counted (known.played ++ event ∷ more) replies (refused + refusals (reply ∷ rest)) text) one_reply
+          (known.leads (event ∷ more) (reply ∷ rest) (may, rw is at all))) in
           record {
             may = told.may;
             counted = counts rest ∙ told.counted;
-            lines = append_assoc known.text line (lines_text left rest) ∙ told.lines;
+            lines = append_assoc known.text line (lines_text more rest) ∙ told.lines;
           };
     }
 
--- one event more
+-- one more event
 pub one_ok : (events : List Event) (i : ℕ) (d : Event) (riding next : Bool) (said : List Reply) (reply : Reply) (refused : ℕ) (o m n : Written) →
     i < length events → LeadsTo events riding (drop i events) said refused o m → MayReply riding (get_or events i d).command reply →
     next ≡ rides_on riding (get_or events i d).command reply → is_ok reply ≡ true →
@@ -67,13 +99,15 @@ one_refused events i d riding next said reply refused o m n within known may is 
     behind events (drop (i + 1) events) riding next (get_or events i d) said reply refused (refused + 1) o m n
     (subst (λ left. LeadsTo events riding left said refused o m) (drop_more events i d within) known) may is (λ rest. rw not_ok (omega arith)) put
 
--- behind the last event, where nothing waits
+-- after the last event, if nothing waits
 pub at_the_end : (events : List Event) (i : ℕ) (riding : Bool) (said : List Reply) (refused : ℕ) (o n : Written) (Known : List Reply → Type 0) →
     length events ≤ i → o.waiting ≡ [] → n.waiting ≡ [] → LeadsTo events riding (drop i events) said refused o n → Known said →
     AreTold events Known refused o.held n.held
 at_the_end events i riding said refused o n Known past none_before none so_far known =
     let end = subst (λ left. LeadsTo events riding left said refused o n) (drop_all i events past) so_far in
-    let told = subst (λ replies. Counted events replies (refused + 0) (end.text ++ [])) (append-nil said) (end.leads [] tt) in
+    let told =
+    subst (λ events. Counted events said (refused + 0) (end.text ++ [])) (sym end.begins)
+    (subst (λ replies. Counted (end.played ++ []) replies (refused + 0) (end.text ++ [])) (append-nil said) (end.leads [] [] tt)) in
     let whole : end.text ≡ lines_text events said = sym (append-nil end.text) ∙ told.lines in
     record {
       replies = said;
@@ -83,4 +117,34 @@ at_the_end events i riding said refused o n Known past none_before none so_far k
       printed =
           (puts_written {E = ℕ} o n (Ok (tt {0})) (lines_text events said) none_before none
           (record { same = end.put.0; all = subst (Continues o n) whole end.put.1; beginning = tt })).all;
+    }
+
+-- if the line of an event is cut short
+pub cut_off : (honest : Bool) (old new : Story) (events : List Event) (i : ℕ) (d : Event) (riding : Bool) (said : List Reply) (reply : Reply)
+    (refused : ℕ) (o m : Written) (held : Option (List ℕ)) → i < length events → o.waiting ≡ [] → m.waiting ≡ [] →
+    LeadsTo events riding (drop i events) said refused o m → MayReply riding (get_or events i d).command reply →
+    AppendsBeginning m.held held (m.waiting ++ (line_text (get_or events i d) reply ++ codes "\n")) →
+    ((played : List Event) → events ≡ played ++ drop (i + 1) events → LeavesBehind honest old new played (said ++ reply ∷ [])) →
+    BreaksOff honest old new events o.held held
+cut_off honest old new events i d riding said reply refused o m held within none_before none known may cut leaves =
+    let last = get_or events i d in
+    let line : List ℕ = line_text last reply ++ codes "\n" in
+    let begins : events ≡ known.played ++ last ∷ drop (i + 1) events =
+    known.begins ∙ ap (λ left. known.played ++ left) (drop_more events i d within) in
+    let lines : Appends o.held m.held (lines_text known.played said) =
+    (puts_written {E = ℕ} o m (Ok (tt {0})) (lines_text known.played said) none_before none
+    (record { same = known.put.0; all = subst (Continues o m) known.lines known.put.1; beginning = tt })).all in
+    record {
+      played = known.played;
+      last = last;
+      left = drop (i + 1) events;
+      begins = begins;
+      replies = said;
+      reply = reply;
+      may = (known.leads (last ∷ []) (reply ∷ []) (may, tt)).may;
+      leaves = leaves (known.played ++ last ∷ []) (begins ∙ sym (append_assoc known.played (last ∷ []) (drop (i + 1) events)));
+      part = cut.part;
+      rest = cut.rest;
+      cut_short = ap (λ waiting. waiting ++ line) (sym none) ∙ cut.split;
+      printed = Appends-trans o.held m.held held (lines_text known.played said) cut.part lines cut.appended;
     }

@@ -1,4 +1,4 @@
--- What a recording answers is what its recorder answered: for the calls of a ride.
+-- The reply of a ride is the answer of its recorder: for the calls of a ride.
 use Rattle.std.proofs.Common.{◌≡◌, ◌∙◌, ap, sym, true≢false, ℕ, Result, Ok, Err, OnOk}
 use Rattle.std.specs.Prelude.{IfErr, IsErrOf}
 use Rattle.fit_activity.specs.declared.activity.Summary.{Summary}
@@ -18,13 +18,13 @@ pub replies_of_call : (known : Result (Unit {0}) RecFault → Type 0) (done : Re
 replies_of_call known (Ok unit) reply is holds = rw is holds
 replies_of_call known (Err fault) reply is holds = rw is holds
 
--- what a call says of its reply Ok holds where the recording answered ok
+-- what a call promises for Ok holds if the ride replied `Done`
 pub done_of_call : (done : Result (Unit {0}) RecFault) (reply : Reply) (A : Type 0) → reply ≡ reply_of done →
     OnOk done A → reply ≡ Done → A
 done_of_call (Ok unit) reply A is holds ok = holds
 done_of_call (Err fault) reply A is holds ok = absurd (true≢false (sym (ap is_ok ok) ∙ ap is_ok is))
 
--- to a recovery no other fault is replied than it has
+-- the fault replied to a recovery is one that a recovery has
 pub replies_recovery : (done : Result Summary RecFault) → IfErr done IsRecoveryFault → RepliesRecovery (recovered_of done)
 replies_recovery (Ok summary) known = tt
 replies_recovery (Err Device) known = tt
@@ -36,12 +36,12 @@ replies_recovery (Err Full) known = known
 replies_recovery (Err JournalFull) known = known
 replies_recovery (Err Failed) known = known
 
--- a reply that the device failed is told only of a call that failed by it
+-- `Device` is replied only if the call's fault is `Device`
 device_told : (result : Result (Unit {0}) RecFault) → reply_of result ≡ replies.Refused Device → IsErrOf result Device
 device_told (Ok done) is = absurd cc
 device_told (Err fault) is = cc
 
--- and counted as the call was
+-- and the reply is counted as the call was
 pub counted_by : {most : ℕ} (result : Result (Unit {0}) RecFault) (reply : Reply) (old new : Log) → reply ≡ reply_of result → Ran most (IsErrOf result Device) old new
     → IsCounted reply old.counts new.counts
 counted_by result reply old new is run = record {

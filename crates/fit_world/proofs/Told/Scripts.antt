@@ -1,4 +1,4 @@
--- Settings and events of a script, one more at a time: for `script/sample` and `script/parse`.
+-- The settings and events of a script with one more word or line: for `script/sample` and `script/parse`.
 use Rattle.std.proofs.Common.{Bor, ◌≡◌, ◌<◌, ◌+◌, ℕ, Bool, true, false, not, ◌&&◌, ◌||◌, List, [], ◌∷◌, ◌++◌, map, Option, Some, None, refl, ap, add-zero, arith, ◌∙◌, length, take, drop, get_or, append_assoc, subst}
 use Rattle.std.proofs.lemmas.Bool.{and_from, and_left, and_right}
 use Rattle.std.proofs.lemmas.List.{get_or-map, length-map, map-append, append-nil, take_more, take-append-drop}
@@ -7,12 +7,13 @@ use Rattle.std.proofs.lemmas.Grind.{common_steps}
 use Rattle.std.specs.List.{cons_option, list_all, list_any}
 use Rattle.std.specs.Option.{option_or}
 use Rattle.std.specs.Str.{bytes_eq}
+use Rattle.fit_activity.specs.Rides.Table.{FieldRow}
 use Rattle.fit_world.specs.Scripts.Script.{event_of, events_of}
-use Rattle.fit_world.specs.Scripts.Sample.{key_in, value_in, is_setting, is_new_setting, has_no_repeat, are_settings, said, sample_at, stands_in, with_setting, lat_of, long_of, altitude_of, heart_rate_of, cadence_of, distance_of, speed_of, power_of, temperature_of, enhanced_speed_of, enhanced_altitude_of}
+use Rattle.fit_world.specs.Scripts.Sample.{key_in, value_in, is_setting, is_new_setting, has_no_repeat, are_settings, said, said_by, number_by, stands_in, with_setting}
 
 -- ---- references
 
--- what they point to, at a place within
+-- the value of the reference at a place of the list
 pub now_at : (items : List (Bor (List ℕ))) (i : ℕ) (d : Bor (List ℕ)) → i < length items →
     get_or (map (λ item. item.now) items) i [] ≡ (get_or items i d).now
 now_at items i d within = get_or-map (λ (item : Bor (List ℕ)). item.now) items i d [] within
@@ -35,7 +36,7 @@ no_repeat_more (other ∷ keys) key =
     rw (list_any-append (bytes_eq other) keys (key ∷ []), no_repeat_more keys key)
     (parted (list_any (bytes_eq other) keys) (bytes_eq other key) (has_no_repeat keys) (list_any (λ other. bytes_eq other key) keys))
 
--- a test of what is read from each
+-- a test of the value of each item
 pub any_map : {X Y : Type 0} (p : Y → Bool) (f : X → Y) (xs : List X) → list_any p (map f xs) ≡ list_any (λ x. p (f x)) xs
 any_map p f [] = refl
 any_map p f (x ∷ xs) = ap (λ b. p (f x) || b) (any_map p f xs)
@@ -46,7 +47,7 @@ regrouped true true false t = refl
 regrouped true false false t = refl
 regrouped false r s t = refl
 
--- a word more is a setting with a key of its own, or they are none
+-- with one more word they are settings if and only if it is a setting with a new key
 are_settings_more : (words : List (List ℕ)) (word : List ℕ) →
     are_settings (words ++ word ∷ []) ≡ (are_settings words && (is_setting word && not (stands_in (key_in word) words)))
 are_settings_more words word =
@@ -58,7 +59,7 @@ are_settings_more words word =
     )
     (regrouped (list_all is_setting words) (has_no_repeat (map key_in words)) (is_setting word) (stands_in (key_in word) words))
 
--- words that are none stay none whatever follows
+-- words that are no settings stay so whatever follows
 broken_stays : (words more : List (List ℕ)) → are_settings words ≡ false → are_settings (words ++ more) ≡ false
 broken_stays words [] bad = rw (append-nil words) bad
 broken_stays words (word ∷ more) bad =
@@ -92,27 +93,16 @@ said_more of (other ∷ words) word =
     ap (λ o. option_or o (of (key_in other) (value_in other))) (said_more of words word)
     ∙ or_assoc (of (key_in word) (value_in word)) (said of words) (of (key_in other) (value_in other))
 
--- the sample has the number of a word more
-sample_more : (time : ℕ) (words : List (List ℕ)) (word : List ℕ) →
-    sample_at time (words ++ word ∷ []) ≡ with_setting (sample_at time words) (key_in word) (value_in word)
-sample_more time words word =
-    rw (
-      said_more lat_of words word,
-      said_more long_of words word,
-      said_more altitude_of words word,
-      said_more heart_rate_of words word,
-      said_more cadence_of words word,
-      said_more distance_of words word,
-      said_more speed_of words word,
-      said_more power_of words word,
-      said_more temperature_of words word,
-      said_more enhanced_speed_of words word,
-      said_more enhanced_altitude_of words word,
-    ) refl
+-- the numbers of words with one more word
+said_by_more : (rows : List FieldRow) (words : List (List ℕ)) (word : List ℕ) →
+    said_by rows (words ++ word ∷ []) ≡ with_setting rows (said_by rows words) (key_in word) (value_in word)
+said_by_more [] words word = refl
+said_by_more (row ∷ rows) words word =
+    rw (said_more (number_by row) words word, said_by_more rows words word) refl
 
-pub sample_next : (time : ℕ) (words : List (List ℕ)) (i : ℕ) → i < length words →
-    sample_at time (take (i + 1) words) ≡ with_setting (sample_at time (take i words)) (key_in (get_or words i [])) (value_in (get_or words i []))
-sample_next time words i within = rw (take_more words i [] within) (sample_more time (take i words) (get_or words i []))
+pub said_next : (rows : List FieldRow) (words : List (List ℕ)) (i : ℕ) → i < length words →
+    said_by rows (take (i + 1) words) ≡ with_setting rows (said_by rows (take i words)) (key_in (get_or words i [])) (value_in (get_or words i []))
+said_next rows words i within = rw (take_more words i [] within) (said_by_more rows (take i words) (get_or words i []))
 
 -- ---- events
 
@@ -127,7 +117,7 @@ events_more number (first ∷ lines) line last is =
     ap (cons_option (event_of number first)) (events_more (number + 1) lines line last (omega (arith, is)))
     ∙ cons_append (event_of number first) (events_of (number + 1) lines) (cons_option (event_of last line) [])
 
--- the events with those of a line more
+-- the events of lines with one more line
 pub events_next : (lines : List (List ℕ)) (i : ℕ) → i < length lines →
     events_of 1 (take (i + 1) lines) ≡ events_of 1 (take i lines) ++ cons_option (event_of (i + 1) (get_or lines i [])) []
 events_next lines i within =

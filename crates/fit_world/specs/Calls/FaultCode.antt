@@ -6,8 +6,6 @@ use Rattle.fit_world.specs.declared.reading.ReadFault.{ReadFault}
 use Rattle.fit_world.specs.declared.reading.ReadFault.TheVariants.{Failed, TooLarge, NoMemory}
 use Rattle.fit_world.specs.declared.repairing.RepairFault.{RepairFault}
 use Rattle.fit_world.specs.declared.repairing.RepairFault.TheVariants as repairs
-use Rattle.fit_world.specs.declared.salvaging.SalvageFault.{SalvageFault}
-use Rattle.fit_world.specs.declared.salvaging.SalvageFault.TheVariants as salvages
 use Rattle.fit_world.specs.declared.script.fault.ReplayFault.{ReplayFault}
 use Rattle.fit_world.specs.declared.script.fault.ReplayFault.TheVariants.{NoText, Script, OnlySimulate}
 use Rattle.fit_world.specs.declared.script.fault.ScriptFaultKind.{ScriptFaultKind}
@@ -15,7 +13,7 @@ use Rattle.fit_world.specs.declared.script.fault.ScriptFaultKind.TheVariants.{Un
 use Rattle.fit_world.specs.declared.simulating.SimulateFault.{SimulateFault}
 use Rattle.fit_world.specs.declared.simulating.SimulateFault.TheVariants as simulations
 
--- of what is wrong with a line of a script
+-- of a fault of a line of a script
 abbrev pub script_code : ScriptFaultKind → ℕ
 script_code UnknownWord = 1
 script_code MissingWord = 2
@@ -25,26 +23,26 @@ script_code UnknownKey = 5
 script_code RepeatedKey = 6
 script_code Memory = 7
 
--- of why bytes are no script that is replayed
+-- of a fault of bytes that cannot be replayed
 abbrev pub replay_code : ReplayFault → ℕ
 replay_code NoText = 1
 replay_code (Script fault) = 2
 replay_code (OnlySimulate line) = 3
 
--- of why a script is not simulated
+-- of a fault of a simulation
 abbrev pub simulate_code : SimulateFault → ℕ
 simulate_code simulations.NoText = 1
 simulate_code (simulations.Script fault) = 2
 simulate_code simulations.NoMemory = 3
 simulate_code simulations.Output = 4
 
--- of why an input was not read
+-- of a fault of reading an input
 abbrev pub read_code : ReadFault → ℕ
 read_code Failed = 1
 read_code TooLarge = 2
 read_code NoMemory = 3
 
--- of why something is not told, or not to its end
+-- of a fault of reading, checking, printing or making a file plain
 abbrev pub tell_code : TellFault → ℕ
 tell_code (File fault) = 1
 tell_code (Activity fault) = 2
@@ -52,12 +50,7 @@ tell_code Output = 3
 tell_code (Input why) = 4
 tell_code (Plain fault) = 5
 
--- of why a recording is not made whole again, or not told
+-- of a fault of a repair
 abbrev pub repair_code : RepairFault → ℕ
 repair_code (repairs.Recorder fault) = 1
 repair_code repairs.Output = 2
-
--- of why nothing is salvaged, or not all of it written
-abbrev pub salvage_code : SalvageFault → ℕ
-salvage_code (salvages.File fault) = 1
-salvage_code salvages.Output = 2

@@ -3,16 +3,17 @@ use Rattle.std.specs.Prelude.{◌≢◌, ℕ, ◌<◌, ◌≤◌, List, length, 
 use Rattle.std.specs.Io.KnownBytes.{Consumes, IsAtEnd}
 use Rattle.fit_grammar.specs.Format.File.{FileValue, FileOf}
 use Rattle.fit_grammar.specs.Format.Refusal.{IsFaultOf}
+use Rattle.fit_grammar.specs.Calls.Places.{ArePlaces}
 use Rattle.fit_world.specs.declared.fault.TellFault.{TellFault}
 use Rattle.fit_world.specs.declared.fault.TellFault.TheVariants.{File, Input}
 use Rattle.fit_world.specs.declared.reading.ReadFault.{ReadFault}
 use Rattle.fit_world.specs.declared.reading.ReadFault.TheVariants.{TooLarge, NoMemory}
 
--- all that was left of an input was taken, and it is no more than the most
+-- all that was left of an input was taken, at most so many bytes
 abbrev pub ReadsAll : ℕ → Option (List ℕ) → Option (List ℕ) → List ℕ → Type 0
 ReadsAll most old new bytes = Consumes old new bytes × IsAtEnd new × (length bytes ≤ most)
 
--- an input is too large where more than the most was taken from it, and refused for another reason before that
+-- an input is too large if more than so many bytes were taken from it; it is refused for another reason before that
 abbrev pub IsEnough : ℕ → ReadFault → ℕ → Type 0
 IsEnough most TooLarge count = most < count
 IsEnough most _ count = count ≤ most
@@ -21,13 +22,19 @@ IsEnough most _ count = count ≤ most
 abbrev pub Refuses : ℕ → Option (List ℕ) → Option (List ℕ) → ReadFault → Type 0
 Refuses most old new fault = (taken : List ℕ) × Consumes old new taken × IsEnough most fault (length taken)
 
--- an input is read to its end, and what is told is so of its bytes; or it fails, or is too large
+-- an input was read to its end, and `IsTold` holds of its bytes and the result; or it failed, or is too large
 abbrev pub TellsInput : {T : Type 0} → ℕ → Option (List ℕ) → Option (List ℕ) → (List ℕ → Result T TellFault → Type 0) → Result T TellFault → Type 0
 TellsInput most old new IsTold (Err (Input why)) = (why ≢ NoMemory) × Refuses most old new why
 TellsInput most old new IsTold result = (bytes : List ℕ) × ReadsAll most old new bytes × IsTold bytes result
 
--- the file that bytes are, or why they are none
+-- the file that bytes are, or why they are not a file
 abbrev pub DecodesTo : List ℕ → Result FileValue TellFault → Type 0
 DecodesTo bytes (Ok file) = FileOf bytes file
 DecodesTo bytes (Err (File fault)) = IsFaultOf bytes fault
 DecodesTo bytes (Err fault) = ⊥
+
+-- the same, with the places of its items in the bytes
+abbrev pub DecodesWith : List ℕ → Result (FileValue × List ℕ) TellFault → Type 0
+DecodesWith bytes (Ok read) = FileOf bytes read.0 × ArePlaces bytes read.1
+DecodesWith bytes (Err (File fault)) = IsFaultOf bytes fault
+DecodesWith bytes (Err fault) = ⊥

@@ -3,7 +3,7 @@ use Rattle.std.specs.Prelude.{◌≡◌, ◌⊎◌, ◌||◌, ℕ, ◌≤◌, Bo
 use Rattle.fit_activity.specs.declared.recording.start.Start.{Start}
 use Rattle.fit_activity.specs.Rides.Recording.{Recorded, Started}
 
--- the entries of a list may be recorded, and at least the first so many are
+-- one possibility: a prefix of this list is recorded, and it has at least so many entries
 pub record Claim : Type 0 where
   pub list : List Recorded
   pub promise : ℕ
@@ -11,7 +11,7 @@ pub record Claim : Type 0 where
 abbrev pub claim_of : List Recorded → ℕ → Claim
 claim_of list promise = record { list = list; promise = promise }
 
--- the empty claim: nothing may be recorded
+-- the empty claim: nothing is recorded
 abbrev pub no_claim : Claim
 no_claim = claim_of [] 0
 
@@ -27,17 +27,17 @@ abbrev pub has_none : List Claim → Bool
 has_none [] = false
 has_none (claim ∷ claims) = is_none claim || has_none claims
 
--- a list is a beginning of the claim's, and at least as long as it promises
+-- a list is a prefix of the claim's, and at least as long as the claim promises
 pub record Begins (claim : Claim) (list : List Recorded) : Type 0 where
   pub rest : List Recorded
   pub begins : claim.list ≡ list ++ rest
   pub least : claim.promise ≤ length list
 
--- a list is such a beginning of one of the claims
+-- a list is such a prefix for one of the claims
 abbrev pub MayBe : List Claim → List Recorded → Type 0
 MayBe [] list = ⊥
 MayBe (claim ∷ claims) list = Begins claim list ⊎ MayBe claims list
 
--- the claims behind a start that a call of the device broke off: it may be recorded, where nothing could be
+-- the claims after a start that the device broke off: the start may be recorded if the empty claim was among them
 abbrev pub with_start : Start → List Claim → List Claim
 with_start start claims = if has_none claims then whole (Started start ∷ []) ∷ claims else claims

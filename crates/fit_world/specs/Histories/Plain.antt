@@ -1,4 +1,4 @@
--- A law of the table: a ride in which no failure is arranged goes well.
+-- A law of the table: a ride goes well if no failure is arranged and there is room.
 use Rattle.std.specs.Prelude.{◌≡◌, Bool, true, false, List, [], ◌∷◌, ◌++◌, map, None}
 use Rattle.std.specs.List.{AllByRecursion}
 use Rattle.fit_activity.specs.declared.recording.entry.Entry.TheVariants.{Stop}
@@ -6,14 +6,13 @@ use Rattle.fit_activity.specs.declared.recording.start.Start.{Start}
 use Rattle.fit_activity.specs.Rides.Recording.{Recorded, Started, Added}
 use Rattle.fit_activity.specs.Rides.Refusal.{refusal_of, start_refusal}
 use Rattle.fit_recorder.specs.declared.fault.RecFault.TheVariants.{Full}
-use Rattle.fit_world.specs.declared.answer.Answer.{Answer}
 use Rattle.fit_world.specs.declared.command.Command.{Command}
 use Rattle.fit_world.specs.declared.command.Command.TheVariants as commands
 use Rattle.fit_world.specs.declared.event.Event.{Event}
-use Rattle.fit_world.specs.Histories.Runs.{told_in, IsHistory}
+use Rattle.fit_world.specs.Histories.Runs.{IsHistory}
 use Rattle.fit_world.specs.Histories.Table.{Told, Done, Stopped, Fault, IsFileOf}
 
--- behind the list, these hand in entries that are not refused, and commit, and stop at the end
+-- after the list, these commands hand in entries that are not refused, commit, and stop at the end
 abbrev pub IsRide : List Recorded → List Command → Type 0
 IsRide list [] = ⊥
 IsRide list (commands.Commit ∷ rest) = IsRide list rest
@@ -21,7 +20,7 @@ IsRide list (commands.Entry (Stop time) ∷ rest) = (refusal_of list (Stop time)
 IsRide list (commands.Entry entry ∷ rest) = (refusal_of list entry ≡ None) × IsRide (list ++ Added entry ∷ []) rest
 IsRide list (command ∷ rest) = ⊥
 
--- each of them was done, and the stop tells a valid file of the whole list and the messages that close it
+-- each of them was done, and the stop reports a valid file of the whole list and the messages that close it
 abbrev pub RodeWell : List Recorded → List Command → List Told → Type 0
 RodeWell list (commands.Commit ∷ rest) (Done ∷ tolds) = RodeWell list rest tolds
 RodeWell list (commands.Entry (Stop time) ∷ rest) (Stopped file ∷ tolds) = IsFileOf file (list ++ Added (Stop time) ∷ []) × (tolds ≡ [])
@@ -33,15 +32,15 @@ abbrev pub is_full : Told → Bool
 is_full (Fault Full) = true
 is_full _ = false
 
-abbrev pub HadRoom : List Answer → Type 0
-HadRoom answers = AllByRecursion (λ answer. is_full (told_in answer) ≡ false) answers
+abbrev pub HadRoom : List Told → Type 0
+HadRoom tolds = AllByRecursion (λ told. is_full told ≡ false) tolds
 
 abbrev pub command_of : Event → Command
 command_of event = event.command
 
--- over two empty files, a ride in which no failure is arranged goes well
+-- over two empty files, a ride goes well if no failure is arranged and there is room
 abbrev pub RidesGoWell : Type 0
 RidesGoWell =
-    (start : Start) (first : Event) (events : List Event) (answers : List Answer) → first.command ≡ commands.Start start → start_refusal start ≡ None
-    → IsRide (Started start ∷ []) (map command_of events) → IsHistory (first ∷ events) answers → HadRoom answers
-    → (tolds : List Told) × (map told_in answers ≡ Done ∷ tolds) × RodeWell (Started start ∷ []) (map command_of events) tolds
+    (start : Start) (first : Event) (events : List Event) (all : List Told) → first.command ≡ commands.Start start → start_refusal start ≡ None
+    → IsRide (Started start ∷ []) (map command_of events) → IsHistory (first ∷ events) all → HadRoom all
+    → (tolds : List Told) × (all ≡ Done ∷ tolds) × RodeWell (Started start ∷ []) (map command_of events) tolds

@@ -8,7 +8,7 @@ use Rattle.fit_world.specs.declared.event.Event.{Event}
 use Rattle.fit_world.specs.Histories.Arranged.{Arranged, nothing_arranged, MayFail, arranged_after}
 use Rattle.fit_world.specs.Histories.Table.{History, at_first, Step, Told, Done, Stopped, Recovered, Fault, NoRecorder}
 
--- what an answer tells
+-- what an answer reports
 abbrev pub told_in : Answer → Told
 told_in answers.Done = Done
 told_in (answers.Stopped file) = Stopped file.items
@@ -16,19 +16,19 @@ told_in (answers.Recovered summary file) = Recovered summary file.items
 told_in (answers.Refused fault) = Fault fault
 told_in answers.NoRecorder = NoRecorder
 
--- From before, these answers may come to these events, one step after another; and the device failed only where a failure or a
--- power cut was arranged.
-abbrev pub Runs : History → Arranged → List Event → List Answer → Type 0
+-- From `before`, these answers may come to these events, one step after another. The device failed only if a failure or a power cut
+-- was arranged.
+abbrev pub Runs : History → Arranged → List Event → List Told → Type 0
 Runs before arranged [] [] = Unit {0}
-Runs before arranged (event ∷ events) (answer ∷ answers) =
-    (after : History) × Step before event.command (told_in answer) after × MayFail arranged (told_in answer)
-    × Runs after (arranged_after arranged event.command (told_in answer)) events answers
-Runs before arranged [] (answer ∷ answers) = ⊥
+Runs before arranged (event ∷ events) (told ∷ tolds) =
+    (after : History) × Step before event.command told after × MayFail arranged told
+    × Runs after (arranged_after arranged event.command told) events tolds
+Runs before arranged [] (told ∷ tolds) = ⊥
 Runs before arranged (event ∷ events) [] = ⊥
 
 -- these answers may come to these events over two empty files
-abbrev pub IsHistory : List Event → List Answer → Type 0
-IsHistory events answers = Runs at_first nothing_arranged events answers
+abbrev pub IsHistory : List Event → List Told → Type 0
+IsHistory events tolds = Runs at_first nothing_arranged events tolds
 
 -- calls of the device are counted from 1
 abbrev pub CanRun : Command → Type 0

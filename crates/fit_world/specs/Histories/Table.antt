@@ -1,4 +1,4 @@
--- The table of histories: where a recording stands, and what may be answered then to each command.
+-- The table of histories: the states of a recording, and what may be answered to each command in each state.
 use Rattle.std.specs.Prelude.{◌≡◌, ◌≢◌, ℕ, Bool, true, false, IsTrue, List, [], ◌∷◌, ◌++◌, length, Some, None}
 use Rattle.fit_grammar.specs.Format.File.{File}
 use Rattle.fit_activity.specs.declared.activity.Summary.{Summary}
@@ -16,7 +16,7 @@ use Rattle.fit_world.specs.declared.command.Command.{Command}
 use Rattle.fit_world.specs.declared.command.Command.TheVariants as commands
 use Rattle.fit_world.specs.Histories.Claims.{Claim, claim_of, no_claim, whole, has_none, MayBe, with_start}
 
--- what is answered to a command: a stop that is done and a recovery tell the file that the data file holds then
+-- the answer to a command: a stop that is done and a recovery report the content of the data file at that moment
 pub data Told : Type 0 where
   Done : Told
   Stopped : List ℕ → Told
@@ -24,14 +24,14 @@ pub data Told : Type 0 where
   Fault : RecFault → Told
   NoRecorder : Told
 
--- Where a history stands: no recorder runs, these claims may be recorded, and whether a start was begun since the last
--- erasing; or one runs that was handed this list, of which so many entries are promised, whether it was reopened, and whether
--- the device failed in it.
+-- The state of a history. `Idle`: no recorder runs; the claims, and whether a start was begun since the last erasing. `Riding`: a
+-- recorder runs; the list that was handed in, how many of its entries are promised, whether it was reopened, and whether the device
+-- failed in it.
 pub data History : Type 0 where
   Idle : List Claim → Bool → History
   Riding : List Recorded → ℕ → Bool → Bool → History
 
--- nothing was done yet
+-- the state before the first command
 abbrev pub at_first : History
 at_first = Idle (no_claim ∷ []) false
 
@@ -47,11 +47,11 @@ was_begun (Riding list promise reopened failed) = true
 abbrev pub ended : History → History
 ended history = Idle (claims_of history) (was_begun history)
 
--- these bytes are a valid file of what the list says and the messages that close it
+-- these bytes are a valid file of the messages of the list and those that close it
 abbrev pub IsFileOf : List ℕ → List Recorded → Type 0
 IsFileOf file list = File file (spoken list ++ closing list)
 
--- ---- from before, this may be answered, and then the history stands there
+-- ---- the steps: from `before` this may be answered, and `after` is the state then
 
 abbrev pub StartStep : History → Start → Told → History → Type 0
 StartStep before start Done after =
@@ -61,7 +61,7 @@ StartStep before start (Fault NotEmpty) after = (start_refusal start ≡ None) �
 StartStep before start (Fault Device) after = (start_refusal start ≡ None) × (after ≡ Idle (with_start start (claims_of before)) true)
 StartStep before start _ after = ⊥
 
--- to an entry that is no stop
+-- to an entry that is not a stop
 abbrev pub HandStep : History → Entry → Told → History → Type 0
 HandStep (Idle claims begun) entry NoRecorder after = after ≡ Idle claims begun
 HandStep (Riding list promise reopened false) entry Done after =
@@ -75,7 +75,7 @@ HandStep (Riding list promise reopened false) entry (Fault Device) after =
 HandStep (Riding list promise reopened true) entry (Fault Failed) after = after ≡ Riding list promise reopened true
 HandStep before entry _ after = ⊥
 
--- only a ride that was reopened has a journal that fills, where an older program began it
+-- the journal can fill only in a ride that was reopened, because an older program may have begun it
 abbrev pub CommitStep : History → Told → History → Type 0
 CommitStep (Idle claims begun) NoRecorder after = after ≡ Idle claims begun
 CommitStep (Riding list promise reopened false) Done after = after ≡ Riding list (length list) reopened false
@@ -96,7 +96,7 @@ StopStep (Riding list promise reopened false) time (Fault Device) after =
 StopStep (Riding list promise reopened true) time (Fault Failed) after = after ≡ Riding list promise reopened true
 StopStep before time _ after = ⊥
 
--- a recovery found this list, with its summary, and the file is its
+-- a recovery found this list; the summary and the file are those of the list
 pub record Recovers (before : History) (summary : Summary) (file : List ℕ) (after : History) : Type 0 where
   pub list : List Recorded
   pub may_be : MayBe (claims_of before) list

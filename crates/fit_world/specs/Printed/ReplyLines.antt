@@ -1,4 +1,4 @@
--- The lines that say what is replied to events.
+-- The lines with the replies to events.
 use Rattle.std.specs.Prelude.{◌≡◌, ℕ, false, List, [], ◌∷◌, ◌++◌, Option, codes, decimal}
 use Rattle.std.specs.Io.KnownBytes.{Appends}
 use Rattle.fit_world.specs.declared.event.Event.{Event}
@@ -26,8 +26,8 @@ lines_text [] replies = []
 lines_text (event ∷ events) [] = []
 lines_text (event ∷ events) (reply ∷ replies) = (line_text event reply ++ codes "\n") ++ lines_text events replies
 
--- Replies that may come to these events, where no recorder runs before them, and of which this is known, were printed, a line for
--- each event; and so many of them are refusals.
+-- Replies that may come to these events if no recorder runs before them, and for which `Known` holds, were printed, a line for each
+-- event. So many of them are refusals.
 pub record AreTold (events : List Event) (Known : List Reply → Type 0) (refused : ℕ) (old new : Option (List ℕ)) : Type 0 where
   pub replies : List Reply
   pub may : MayReplyAll false events replies

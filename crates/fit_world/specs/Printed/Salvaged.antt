@@ -1,51 +1,84 @@
--- What can be saved of a file that has no journal, and what is printed of it.
-use Rattle.std.specs.Prelude.{◌≡◌, ℕ, List, ◌++◌, length, take, drop, Option, Result, Ok, Err, ◌==◌, if◌then◌else◌, codes, decimal}
-use Rattle.std.specs.Io.KnownBytes.{Appends}
+-- The readable part of a file that has no journal, and what is printed of it.
+use Rattle.std.specs.Prelude.{◌≡◌, ℕ, ◌+◌, ◌-◌, Bool, ◌||◌, List, ◌++◌, length, take, drop, Result, Err, ◌==◌, if◌then◌else◌, codes, decimal}
 use Rattle.fit_grammar.specs.declared.file.frame.Frame.{Frame}
+use Rattle.fit_grammar.specs.declared.file.fault.FaultKind.TheVariants.{Memory}
 use Rattle.fit_grammar.specs.declared.file.fault.FileFault.{FileFault}
+use Rattle.fit_grammar.specs.Format.File.{FileValue}
 use Rattle.fit_grammar.specs.Format.Item.{Item}
-use Rattle.fit_grammar.specs.Format.File.{FileOf}
+use Rattle.fit_grammar.specs.Format.Records.{Records}
 use Rattle.fit_grammar.specs.Format.Refusal.{Refusal}
 use Rattle.fit_grammar.specs.Calls.BeginningHeader.{BeginsWithHeader}
 use Rattle.fit_grammar.specs.Calls.Framed.{framed}
 use Rattle.fit_grammar.specs.Calls.LongestFront.{IsLongestFront}
-use Rattle.fit_grammar.specs.Calls.Output.{AppendsBeginning}
-use Rattle.fit_world.specs.declared.salvaging.SalvageFault.{SalvageFault}
-use Rattle.fit_world.specs.declared.salvaging.SalvageFault.TheVariants as faults
-use Rattle.fit_world.specs.declared.salvaging.Salvaged.{Salvaged}
+use Rattle.fit_world.specs.declared.fault.TellFault.{TellFault}
+use Rattle.fit_world.specs.declared.fault.TellFault.TheVariants.{File, Input, Plain}
+use Rattle.fit_world.specs.declared.reading.ReadFault.TheVariants.{NoMemory}
+use Rattle.fit_world.specs.declared.salvage.Salvage.{Salvage}
+use Rattle.fit_world.specs.Calls.Reading.{DecodesWith}
+use Rattle.fit_world.specs.Printed.PlainFile.{PlainsTo}
 
--- the bytes behind a header that are looked at: the first ones, as many as it says (or as are there), where that is not 0, else all
-abbrev pub looked_at : ℕ → List ℕ → List ℕ
-looked_at size behind = if size == 0 then behind else take size behind
+-- the bytes after a header that are looked at: all of them if `all` is set or the header gives the size 0, otherwise the first ones,
+-- as many as the header gives, or as exist
+abbrev pub looked_at : Bool → ℕ → List ℕ → List ℕ
+looked_at all size after = if all || (size == 0) then after else take size after
 
--- the header of the file that is written: the same, of 14 bytes
+-- the number of bytes after those and the two of a checksum
+abbrev pub not_looked_at : Bool → ℕ → List ℕ → ℕ
+not_looked_at all size after = length after - (length (looked_at all size after) + 2)
+
+-- the header of the file that is written: the same, with 14 bytes
 abbrev pub salvaged_frame : Frame → Frame
 salvaged_frame frame = record frame { header_size = 14 }
 
--- the bytes begin with a header, whatever its checksum is, and so many of those that are looked at are the longest row of whole
--- items; that row, as it stands, is in a file of its own, which is a file of these items
-pub record IsSalvaged (bytes written : List ℕ) (salvaged : Salvaged) : Type 0 where
+-- what was found in these bytes: they begin with a header, whatever its checksum is, and the row is the longest prefix of the bytes
+-- looked at that is a row of whole items
+pub record IsSalvage (all : Bool) (bytes : List ℕ) (salvage : Salvage) : Type 0 where
   pub frame : Frame
   pub size : ℕ
   pub items : List Item
   pub header : BeginsWithHeader bytes frame size
-  pub looked_is : salvaged.looked_at ≡ length (looked_at size (drop frame.header_size bytes))
-  pub longest : IsLongestFront (looked_at size (drop frame.header_size bytes)) salvaged.kept
-  pub written_is : written ≡ framed (salvaged_frame frame) (take salvaged.kept (looked_at size (drop frame.header_size bytes)))
-  pub is_file : FileOf written (record { frame = salvaged_frame frame; items = items })
+  pub frame_is : salvage.frame ≡ salvaged_frame frame
+  pub looked_is : salvage.looked_at ≡ length (looked_at all size (drop frame.header_size bytes))
+  pub left_is : salvage.not_looked_at ≡ not_looked_at all size (drop frame.header_size bytes)
+  pub longest : IsLongestFront (looked_at all size (drop frame.header_size bytes)) (length salvage.row.now)
+  pub row_is : salvage.row.now ≡ take (length salvage.row.now) (looked_at all size (drop frame.header_size bytes))
+  pub are_records : Records salvage.row.now items
 
--- the bytes begin with no header, and have this refusal
+-- the bytes do not begin with a header, and this is their refusal as a file
 pub record IsNotSalvaged (bytes : List ℕ) (fault : FileFault) : Type 0 where
   pub none : (frame : Frame) (size : ℕ) → BeginsWithHeader bytes frame size → ⊥
   pub refusal : Refusal bytes fault.kind fault.place
 
--- all of the file was written, or a beginning of it and the output failed; or there is none, and nothing was written
-abbrev pub SalvagesBytes : Option (List ℕ) → Option (List ℕ) → List ℕ → Result Salvaged SalvageFault → Type 0
-SalvagesBytes old new bytes (Ok salvaged) = (written : List ℕ) × IsSalvaged bytes written salvaged × Appends old new written
-SalvagesBytes old new bytes (Err (faults.File fault)) = IsNotSalvaged bytes fault × (new ≡ old)
-SalvagesBytes old new bytes (Err faults.Output) =
-    (written : List ℕ) × (salvaged : Salvaged) × IsSalvaged bytes written salvaged × AppendsBeginning old new written
+-- the file that is written
+abbrev pub saved_file : Salvage → List ℕ
+saved_file salvage = framed salvage.frame salvage.row.now
 
--- how many bytes were kept of how many
-abbrev pub kept_text : Salvaged → List ℕ
-kept_text salvaged = codes "kept " ++ decimal salvaged.kept ++ codes " of " ++ decimal salvaged.looked_at
+-- that file and the places of its items in it; or memory was refused
+abbrev pub DecodesSalvage : Salvage → Result (FileValue × List ℕ) TellFault → Type 0
+DecodesSalvage salvage (Err (Input NoMemory)) = Unit {0}
+DecodesSalvage salvage result = DecodesWith (saved_file salvage) result
+
+-- the plain form of that file, or why there is none
+abbrev pub PlainsSalvage : Salvage → Result FileValue TellFault → Type 0
+PlainsSalvage salvage (Err (Input NoMemory)) = Unit {0}
+PlainsSalvage salvage result = PlainsTo (saved_file salvage) result
+
+-- the plain form would be too long, or memory was refused
+abbrev pub IsNoForm : TellFault → Type 0
+IsNoForm (File fault) = fault.kind ≡ Memory
+IsNoForm (Plain fault) = Unit {0}
+IsNoForm (Input NoMemory) = Unit {0}
+IsNoForm _ = ⊥
+
+-- the line with how many of the bytes looked at were kept
+abbrev pub kept_text : Salvage → List ℕ
+kept_text salvage = codes "kept " ++ decimal (length salvage.row.now) ++ codes " of " ++ decimal salvage.looked_at
+
+-- the line with how many bytes after the end that a header gives were not looked at
+abbrev pub count_left : ℕ → List ℕ
+count_left count =
+    codes "fitrec: " ++ decimal count
+    ++ codes " bytes after the end that the header gives were not read; salvage --all reads them"
+
+abbrev pub left_text : Salvage → List ℕ
+left_text salvage = count_left salvage.not_looked_at

@@ -1,4 +1,4 @@
--- What becomes of bytes that are to be shown.
+-- The result of showing bytes.
 use Rattle.std.specs.Prelude.{◌≡◌, ℕ, Bool, List, Option, Result, Ok, Err}
 use Rattle.std.specs.Io.KnownBytes.{Appends}
 use Rattle.fit_grammar.specs.Calls.Output.{AppendsBeginning}
@@ -8,13 +8,13 @@ use Rattle.fit_world.specs.declared.fault.TellFault.{TellFault}
 use Rattle.fit_world.specs.declared.fault.TellFault.TheVariants as faults
 use Rattle.fit_text.specs.Text.{text_of}
 
--- what a file meets on its way out: an output that fails
+-- the one fault of an output
 abbrev pub IsOutputFault : TellFault → Type 0
 IsOutputFault faults.Output = Unit {0}
 IsOutputFault _ = ⊥
 
--- the bytes are a file, and all of its text was written, or a beginning of it and the output failed; or they are none, and
--- nothing was written
+-- the bytes are a file, and all of its text was written, or a prefix of it and the output failed; or they are not a file, and nothing
+-- was written
 abbrev pub ShowsBytes : {T : Type 0} → Bool → Option (List ℕ) → Option (List ℕ) → List ℕ → Result T TellFault → Type 0
 ShowsBytes utc old new bytes (Ok done) = (v : FileValue) × FileOf bytes v × Appends old new (text_of utc v)
 ShowsBytes utc old new bytes (Err (faults.File fault)) = IsFaultOf bytes fault × (new ≡ old)

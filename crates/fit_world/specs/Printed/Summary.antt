@@ -1,4 +1,4 @@
--- The line that says what an activity holds.
+-- The line of the summary of an activity.
 use Rattle.std.specs.Prelude.{ℕ, List, ◌++◌, Option, Some, None, codes, decimal}
 use Rattle.fit_activity.specs.declared.activity.Summary.{Summary}
 
@@ -7,7 +7,7 @@ abbrev pub or_dash : Option ℕ → List ℕ
 or_dash None = codes "-"
 or_dash (Some number) = decimal number
 
--- what the first session says of the activity, behind how many records, laps and sessions there are
+-- the numbers of records, laps and sessions, and then the values of the first session
 abbrev pub summary_text : Summary → List ℕ
 summary_text s =
     codes "ok records=" ++ decimal s.records ++ codes " laps=" ++ decimal s.laps ++ codes " sessions=" ++ decimal s.sessions

@@ -1,4 +1,4 @@
--- What is replied to a command, and how many replies are refusals.
+-- The replies that may come to a command, and how many replies are refusals.
 use Rattle.std.specs.Prelude.{◌≡◌, ◌↔◌, ℕ, ◌+◌, Bool, true, false, List, [], ◌∷◌, None, Result, Ok, Err, if◌then◌else◌}
 use Rattle.fit_activity.specs.declared.activity.Summary.{Summary}
 use Rattle.fit_activity.specs.declared.recording.start.Start.{Start}
@@ -25,19 +25,19 @@ abbrev pub reply_of : {T : Type 0} → Result T RecFault → Reply
 reply_of (Ok done) = Done
 reply_of (Err fault) = Refused fault
 
--- and of a recovery
+-- the reply for the result of a recovery
 abbrev pub recovered_of : Result Summary RecFault → Reply
 recovered_of (Ok summary) = Recovered summary
 recovered_of (Err fault) = Refused fault
 
--- the reply of a call of which this is known
+-- the reply of a call whose result is known to be so
 abbrev pub Replies : (Result (Unit {0}) RecFault → Type 0) → Reply → Type 0
 Replies known Done = known (Ok tt)
 Replies known Stopped = known (Ok tt)
 Replies known (Refused fault) = known (Err fault)
 Replies known _ = ⊥
 
--- to a start: done only where the rules allow it
+-- to a start: done only if the rules allow it
 abbrev pub RepliesStart : Start → Reply → Type 0
 RepliesStart start Done = start_refusal start ≡ None
 RepliesStart start (Refused fault) = StartAnswers start fault
@@ -51,7 +51,7 @@ RepliesRecovery (Refused NothingRecorded) = Unit {0}
 RepliesRecovery (Refused Damaged) = Unit {0}
 RepliesRecovery _ = ⊥
 
--- to a ride that is to go on
+-- to a reopening
 abbrev pub RepliesReopening : Reply → Type 0
 RepliesReopening Done = Unit {0}
 RepliesReopening (Refused fault) = IsResumeFault fault
@@ -63,9 +63,9 @@ RepliesErasing Done = Unit {0}
 RepliesErasing (Refused Device) = Unit {0}
 RepliesErasing _ = ⊥
 
--- ---- a recording that is played
+-- ---- to any command
 
--- what may be replied to a command, where a recorder runs or none does; one that is only simulated has no reply
+-- what may be replied to a command, if a recorder runs or if none does; a command that only `simulate` runs has no reply
 abbrev pub MayReply : Bool → Command → Reply → Type 0
 MayReply riding (commands.Start start) reply = RepliesStart start reply
 MayReply riding (commands.Entry entry) reply = (reply ≡ NoRecorder) ↔ (riding ≡ false)
@@ -76,12 +76,12 @@ MayReply riding commands.Reopen reply = RepliesReopening reply
 MayReply riding commands.Erase reply = RepliesErasing reply
 MayReply riding _ reply = ⊥
 
--- whether a recorder runs behind the reply to a stop
+-- whether a recorder runs after the reply to a stop
 abbrev pub outlives_stop : Bool → Reply → Bool
 outlives_stop riding Stopped = false
 outlives_stop riding _ = riding
 
--- whether one runs behind the reply to a command
+-- whether one runs after the reply to a command
 abbrev pub rides_on : Bool → Command → Reply → Bool
 rides_on riding (commands.Start start) reply = is_ok reply
 rides_on riding (commands.Entry entry) reply = if is_stop (Added entry) then outlives_stop riding reply else riding
@@ -89,14 +89,14 @@ rides_on riding commands.Commit reply = riding
 rides_on riding commands.Reopen reply = is_ok reply
 rides_on riding _ reply = false
 
--- each of these may be replied to the event at its place, where a recorder runs before them or none does
+-- each reply may come to the event at its place, if a recorder runs before them or if none does
 abbrev pub MayReplyAll : Bool → List Event → List Reply → Type 0
 MayReplyAll riding [] [] = Unit {0}
 MayReplyAll riding (event ∷ events) (reply ∷ replies) =
     MayReply riding event.command reply × MayReplyAll (rides_on riding event.command reply) events replies
 MayReplyAll riding _ _ = ⊥
 
--- how many were not ok
+-- the number of replies that were not ok
 abbrev pub refusals : List Reply → ℕ
 refusals [] = 0
 refusals (reply ∷ replies) = if is_ok reply then refusals replies else refusals replies + 1

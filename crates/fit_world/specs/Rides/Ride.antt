@@ -1,4 +1,4 @@
--- What contracts see of a recording that is played.
+-- What contracts see of a ride.
 use Rattle.std.specs.Prelude.{◌≡◌, ℕ, Bool, true, false, Some, None, List, [], ◌∷◌, ◌++◌}
 use Rattle.fit_activity.specs.declared.recording.entry.Entry.TheVariants as entries
 use Rattle.fit_activity.specs.Rides.Recording.{Recorded, Started, Added, is_stop}
@@ -31,27 +31,27 @@ module _ {D : Type 0} where
   is_broken (Idle disk) = false
   is_broken (Riding recorder) = has_failed recorder
 
-  -- each call of the recorder that runs may be made
+  -- every call of the recorder that runs may be made
   abbrev pub CanGoOn : Bool → (D → Story) → Ride D → Type 0
   CanGoOn honest story (Idle disk) = Unit {0}
   CanGoOn honest story (Riding recorder) = GoesOn honest story recorder
 
-  -- a recorder runs, was handed this list, and no call failed in it
+  -- a recorder runs that was handed this list, and no call failed in it
   abbrev pub Handed : Ride D → List Recorded → Type 0
   Handed (Idle disk) list = ⊥
   Handed (Riding recorder) list = WasHanded recorder list × (has_failed recorder ≡ false)
 
-  -- the number of record bytes that its recorder said
+  -- the number of record bytes that its recorder encoded
   abbrev pub said_len : Ride D → ℕ
   said_len (Idle disk) = 0
   said_len (Riding recorder) = data_len recorder
 
-  -- what the slots of its journal say; where no recorder runs, nothing
+  -- the slots of its journal; if no recorder runs, empty ones
   abbrev pub slots_of : Ride D → Slots
   slots_of (Idle disk) = InTurns None None
   slots_of (Riding recorder) = journal_slots recorder
 
-  -- what may be replied to a command behind the list that was handed in
+  -- what may be replied to a command after this list was handed in
   abbrev pub MayReplyBehind : Ride D → List Recorded → Command → Reply → Type 0
   MayReplyBehind ride list (commands.Entry entry) reply =
       (is_stop (Added entry) ≡ false → Replies (HandAnswers list (said_len ride) entry) reply)
@@ -59,14 +59,14 @@ module _ {D : Type 0} where
   MayReplyBehind ride list commands.Commit reply = Replies (CommitAnswers list (slots_of ride)) reply
   MayReplyBehind ride list _ reply = Unit {0}
 
-  -- where that was ok: an entry stands behind the list, and a commit took one slot more
+  -- after a reply that is ok: an entry is at the end of the list, and a commit took one slot more
   abbrev pub RidesOnWith : Ride D → List Recorded → Command → Ride D → Type 0
   RidesOnWith ride list (commands.Entry entry) next = is_stop (Added entry) ≡ false → Handed next (list ++ Added entry ∷ [])
   RidesOnWith ride list commands.Commit next = Handed next list × (slots_of next ≡ committed_slots (slots_of ride) (said_len ride))
   RidesOnWith ride list _ next = Unit {0}
 
-  -- Where a start was ok: the recorder was handed the start alone, in the first of two slots that take turns; and where a ride
-  -- goes on: some list.
+  -- After a start that is ok the recorder was handed the start alone, in the first of two slots that take turns. After a reopening
+  -- that is ok it was handed some list.
   abbrev pub HasBegun : Command → Ride D → Type 0
   HasBegun (commands.Start start) next = Handed next (Started start ∷ []) × (slots_of next ≡ InTurns (Some (said_len next)) None)
   HasBegun commands.Reopen next = (list : List Recorded) × Handed next list

@@ -1,4 +1,4 @@
--- Where a ride stands in a history: what its disk may hold, and what a power cut may leave of it.
+-- The state of a ride in a history: what its disk may hold, and what a power cut may leave of it.
 use Rattle.std.specs.Prelude.{◌≡◌, ◌⊎◌, ℕ, Bool, true, false, IsTrue, List, [], ◌++◌, length, None}
 use Rattle.fit_activity.specs.Rides.Recording.{Recorded}
 use Rattle.fit_activity.specs.Rides.Refusal.{has_stopped}
@@ -20,7 +20,7 @@ use Rattle.fit_world.specs.declared.ride.Ride.TheVariants as rides
 use Rattle.fit_world.specs.Histories.Claims.{Claim, has_none, MayBe}
 use Rattle.fit_world.specs.Histories.Table.{History, Idle, Riding, Told, Done, Stopped, Recovered, Fault, NoRecorder, claims_of, was_begun, Step}
 
--- the reply, with what the data file holds
+-- the answer of a reply and the content of the data file
 abbrev pub told : Reply → List ℕ → Told
 told replies.Done file = Done
 told replies.Stopped file = Stopped file
@@ -28,13 +28,13 @@ told (replies.Recovered summary) file = Recovered summary file
 told (replies.Refused fault) file = Fault fault
 told replies.NoRecorder file = NoRecorder
 
--- the files stand for a list that may be recorded; or for none, where the empty claim is there
+-- the files stand for a list that may be recorded; or they hold nothing recorded, and the empty claim is present
 abbrev pub Keeps : List Claim → Contents → Type 0
 Keeps claims contents =
     ((list : List Recorded) × MayBe claims list × StandsFor list contents) ⊎ (IsTrue (has_none claims) × IsNothing contents)
 
--- The files are as the history allows: they keep one of its claims; and where no start was begun since the last erasing, the
--- data file is empty.
+-- The files are as the history allows: they keep one of its claims, and the data file is empty if no start was begun since the last
+-- erasing.
 pub record Fits (history : History) (contents : Contents) : Type 0 where
   pub keeps : Keeps (claims_of history) contents
   pub empty : was_begun history ≡ false → contents.in_data ≡ []
@@ -43,19 +43,19 @@ pub record Fits (history : History) (contents : Contents) : Type 0 where
 abbrev pub Rests : History → Story → Type 0
 Rests history story = LeavesOnly (Fits history) story.now
 
--- a device that failed is told only where it did, and then always
+-- `Device` is replied if and only if a call of the device failed in this command, and that call was the last
 pub record IsCounted (reply : Reply) (old new : Counts) : Type 0 where
   pub cause : reply ≡ replies.Refused Device → HasFailed old new
   pub went : (reply ≡ replies.Refused Device → ⊥) → new.failed ≡ old.failed
 
 module _ {D : Type 0} where
-  -- what reads give of the data file, where no recorder runs
+  -- what reads give of the data file if no recorder runs, and otherwise nothing
   abbrev pub content_of : (D → Story) → Ride D → List ℕ
   content_of story (rides.Idle disk) = seen_of Data (story disk)
   content_of story (rides.Riding recorder) = []
 
-  -- The recorder was handed this list, in which no stop is, and so many of its entries are committed; unless it was reopened, in
-  -- slots that take turns.
+  -- The recorder was handed this list, which has no stop, and so many of its entries are committed. Unless it was reopened, its
+  -- slots take turns.
   pub record RidesOn (honest : Bool) (story : D → Story) (recorder : Recorder D) (list : List Recorded) (promise : ℕ) (reopened : Bool) : Type 0 where
     pub committed : List Recorded
     pub rest : List Recorded
@@ -74,7 +74,7 @@ module _ {D : Type 0} where
   StandsIn honest story (rides.Idle disk) (Riding list promise reopened failed) = ⊥
   StandsIn honest story (rides.Riding recorder) (Idle claims begun) = ⊥
 
-  -- the reply is one that may come to the command, and the ride stands where the history does then
+  -- the reply may come to the command, and the ride is in the state of the history after it
   pub record GoesBy (honest : Bool) (story : D → Story) (before : History) (command : Command) (reply : Reply) (ride : Ride D) : Type 0 where
     pub after : History
     pub step : Step before command (told reply (content_of story ride)) after

@@ -1,4 +1,4 @@
--- Which events of a script are replayed, and why the bytes of a script are not.
+-- Which events of a script can be replayed, and the fault of bytes that cannot.
 use Rattle.std.specs.Prelude.{◌≡◌, ℕ, Bool, true, false, List, [], ◌∷◌, All, Option, Some, None, codes, if◌then◌else◌}
 use Rattle.std.specs.Str.{IsUtf8}
 use Rattle.std.specs.Str.Lines.{lines}
@@ -11,7 +11,7 @@ use Rattle.fit_world.specs.declared.script.fault.ReplayFault.{ReplayFault}
 use Rattle.fit_world.specs.declared.script.fault.ReplayFault.TheVariants as faults
 use Rattle.fit_world.specs.Scripts.Script.{IsLine, events_of, IsFaultOf}
 
--- it speaks of a disk whose failures are arranged
+-- it needs a disk whose failures are arranged
 abbrev pub is_simulated : Command → Bool
 is_simulated (Fail k) = true
 is_simulated (Cut k) = true
@@ -21,12 +21,12 @@ is_simulated _ = false
 abbrev pub IsReplayed : Event → Type 0
 IsReplayed event = is_simulated event.command ≡ false
 
--- the line of the first event that is only simulated
+-- the line of the first event that only `simulate` runs
 abbrev pub first_simulated : List Event → Option ℕ
 first_simulated [] = None
 first_simulated (event ∷ events) = if is_simulated event.command then Some event.line else first_simulated events
 
--- why the bytes of a script are not replayed: they are no text, a line is none, or an event is only simulated
+-- why bytes cannot be replayed: they are not UTF-8, a line is wrong or memory was refused, or only `simulate` runs an event
 abbrev pub IsReplayFault : List ℕ → ReplayFault → Type 0
 IsReplayFault bytes faults.NoText = ¬ (IsUtf8 bytes)
 IsReplayFault bytes (faults.Script fault) = IsFaultOf (lines bytes) fault

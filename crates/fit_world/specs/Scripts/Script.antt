@@ -1,4 +1,4 @@
--- Scripts: which lines there are, what each asks for, and the events of all of them.
+-- Scripts: their lines, the command of each line, and the events of all of them.
 use Rattle.std.specs.Prelude.{◌≡◌, ◌≢◌, ◌<◌, ◌⊎◌, ℕ, ◌+◌, Bool, true, List, [], ◌∷◌, length, take, codes, All, IsSome, Option, Some, None, option_map, ◌==◌, nat_lt, if◌then◌else◌, slice_index, slice_index_or}
 use Rattle.std.specs.List.{cons_option}
 use Rattle.std.specs.Option.{option_and_then, option_flatten}
@@ -33,12 +33,12 @@ sport_named word =
     else if bytes_eq word (codes "cycling") then Some Cycling
     else None
 
--- no word is left
+-- the command, if no word is left
 abbrev pub alone : Command → List (List ℕ) → Option Command
 alone command [] = Some command
 alone command _ = None
 
--- one word is left, and this is what it reads as
+-- what the only word left reads as
 abbrev pub only : (List ℕ → Option ℕ) → List (List ℕ) → Option ℕ
 only read (word ∷ []) = read word
 only read _ = None
@@ -60,34 +60,49 @@ sample_of (time ∷ settings) =
 abbrev pub entry_of : (ℕ → Entry) → List (List ℕ) → Option Command
 entry_of entry arguments = option_map (λ time. commands.Entry (entry time)) (only number32 arguments)
 
--- what the words of a line ask for
+-- a call that is to fail, or a power cut
+abbrev pub arranged_of : List ℕ → List (List ℕ) → Option Command
+arranged_of name arguments =
+    if bytes_eq name (codes "fail") then option_map (λ k. commands.Fail k) (only count arguments)
+    else if bytes_eq name (codes "cut") then option_map (λ k. commands.Cut k) (only count arguments)
+    else if bytes_eq name (codes "power") then alone commands.Power arguments
+    else None
+
+-- a call of the recorder, or one of the above
+abbrev pub called_of : List ℕ → List (List ℕ) → Option Command
+called_of name arguments =
+    if bytes_eq name (codes "commit") then alone commands.Commit arguments
+    else if bytes_eq name (codes "restart") then alone commands.Restart arguments
+    else if bytes_eq name (codes "recover") then alone commands.Recover arguments
+    else if bytes_eq name (codes "reopen") then alone commands.Reopen arguments
+    else if bytes_eq name (codes "erase") then alone commands.Erase arguments
+    else arranged_of name arguments
+
+-- an entry that is a time, or one of the above
+abbrev pub timed_of : List ℕ → List (List ℕ) → Option Command
+timed_of name arguments =
+    if bytes_eq name (codes "lap") then entry_of entries.Lap arguments
+    else if bytes_eq name (codes "pause") then entry_of entries.Pause arguments
+    else if bytes_eq name (codes "resume") then entry_of entries.Resume arguments
+    else if bytes_eq name (codes "stop") then entry_of entries.Stop arguments
+    else called_of name arguments
+
+-- the command that the words of a line state
 abbrev pub command_of : List (List ℕ) → Option Command
 command_of [] = None
 command_of (name ∷ arguments) =
     if bytes_eq name (codes "start") then option_map (λ start. commands.Start start) (start_of arguments)
     else if bytes_eq name (codes "sample") then option_map (λ sample. commands.Entry sample) (sample_of arguments)
-    else if bytes_eq name (codes "lap") then entry_of entries.Lap arguments
-    else if bytes_eq name (codes "pause") then entry_of entries.Pause arguments
-    else if bytes_eq name (codes "resume") then entry_of entries.Resume arguments
-    else if bytes_eq name (codes "stop") then entry_of entries.Stop arguments
-    else if bytes_eq name (codes "commit") then alone commands.Commit arguments
-    else if bytes_eq name (codes "restart") then alone commands.Restart arguments
-    else if bytes_eq name (codes "recover") then alone commands.Recover arguments
-    else if bytes_eq name (codes "reopen") then alone commands.Reopen arguments
-    else if bytes_eq name (codes "erase") then alone commands.Erase arguments
-    else if bytes_eq name (codes "fail") then option_map (λ k. commands.Fail k) (only count arguments)
-    else if bytes_eq name (codes "cut") then option_map (λ k. commands.Cut k) (only count arguments)
-    else if bytes_eq name (codes "power") then alone commands.Power arguments
-    else None
+    else timed_of name arguments
 
 -- ---- all lines
 
--- an empty line, and one whose first word begins with `#`
+-- a line without words, or whose first word begins with `#`
 abbrev pub is_silent : List (List ℕ) → Bool
 is_silent [] = true
 is_silent (word ∷ words) = slice_index word 0 == 35
 
--- what a line asks for: nothing or a command, and None where it is no line of a script
+-- what a line states: nothing or a command; None if it is not a line of a script
 abbrev pub meaning_of : List ℕ → Option (Option Command)
 meaning_of line =
     if is_silent (words line) then Some None else option_map (λ command. Some command) (command_of (words line))
@@ -95,7 +110,7 @@ meaning_of line =
 abbrev pub IsLine : List ℕ → Type 0
 IsLine line = IsSome (meaning_of line)
 
--- the event of the line with this number, if it asks for one
+-- the event of the line with this number, if it states one
 abbrev pub event_of : ℕ → List ℕ → Option Event
 event_of number line = option_map (λ command. record { line = number; command = command }) (option_flatten (meaning_of line))
 
@@ -104,7 +119,7 @@ abbrev pub events_of : ℕ → List (List ℕ) → List Event
 events_of number [] = []
 events_of number (line ∷ lines) = cons_option (event_of number line) (events_of (number + 1) lines)
 
--- the line with this number, from 1, is the first that is none of a script
+-- the line with this number, counted from 1, is the first that is not a line of a script
 pub record IsFirstFault (lines : List (List ℕ)) (number : ℕ) : Type 0 where
   pub index : ℕ
   pub counted : number ≡ index + 1
@@ -112,14 +127,14 @@ pub record IsFirstFault (lines : List (List ℕ)) (number : ℕ) : Type 0 where
   pub before : All IsLine (take index lines)
   pub fault : meaning_of (slice_index_or lines index []) ≡ None
 
--- the line with this number, from 1, is the first, or it is there; and each before it is one of a script
+-- the line with this number, counted from 1, exists or is the first, and each line before it is one of a script
 pub record IsReached (lines : List (List ℕ)) (number : ℕ) : Type 0 where
   pub index : ℕ
   pub counted : number ≡ index + 1
   pub within : (index ≡ 0) ⊎ (index < length lines)
   pub before : All IsLine (take index lines)
 
--- why lines are no script: memory was refused at one that was reached, or the first that is none is told
+-- the fault of lines that are not a script: memory was refused at a line that was reached, or this is the first wrong line
 abbrev pub IsFaultOf : List (List ℕ) → ScriptFault → Type 0
 IsFaultOf lines fault =
     (fault.kind ≡ kinds.Memory → IsReached lines fault.line) × (fault.kind ≢ kinds.Memory → IsFirstFault lines fault.line)

@@ -1,13 +1,13 @@
--- Bytes that a word spells.
+-- The bytes that a word spells.
 use Rattle.std.specs.Prelude.{ℕ, ◌*◌, ◌+◌, List, [], ◌∷◌, Option, Some, None}
 use Rattle.hex.specs.Hex.{hex_digit_value}
 
--- a byte of two digits, before the bytes of the others, if all of them are digits
+-- the byte of two digits, before the bytes of the other digits, if all of them are digits
 abbrev pub byte_before : Option ℕ → Option ℕ → Option (List ℕ) → Option (List ℕ)
 byte_before (Some high) (Some low) (Some bytes) = Some ((high * 16 + low) ∷ bytes)
 byte_before high low bytes = None
 
--- hexadecimal digits of either case, two a byte
+-- hexadecimal digits of either case, two for each byte
 abbrev pub bytes_of : List ℕ → Option (List ℕ)
 bytes_of [] = Some []
 bytes_of (digit ∷ []) = None

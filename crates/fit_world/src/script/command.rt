@@ -1,8 +1,8 @@
-// What the words of a line ask for.
+// The command that the words of a line state.
 
 ghost use Rattle.std.specs.Prelude.{◌≡◌, map, option_map, if◌then◌else◌};
 ghost use Rattle.std.specs.Result.{result_ok};
-ghost use Rattle.fit_world.specs.Scripts.Script.{number32, count, sport_named, alone, only, start_of, sample_of, entry_of, command_of};
+ghost use Rattle.fit_world.specs.Scripts.Script.{number32, count, sport_named, alone, only, start_of, sample_of, entry_of, arranged_of, called_of, timed_of, command_of};
 ghost use Rattle.fit_world.specs.declared.command.Command.TheVariants as commands;
 
 use crate::command::Command;
@@ -11,7 +11,7 @@ use crate::script::number::number;
 use crate::script::sample::sample_at;
 use fit_activity::{Entry, Sport, Start};
 
-/// What the words of a line ask for. They are judged one by one, and then whether one is missing.
+/// The command that the words of a line state. Words are judged from left to right, and the first fault is reported.
 pub fn command_of(words: &[&[u8]]) -> Result<Command, ScriptFaultKind>
     ensures { result_ok result ≡ command_of (map (λ word. word.now) words.now) }
 {
@@ -22,29 +22,56 @@ pub fn command_of(words: &[&[u8]]) -> Result<Command, ScriptFaultKind>
         Ok(Command::Start(start_of(arguments)?))
     } else if *name == b"sample".as_slice() {
         Ok(Command::Entry(sample_of(arguments)?))
-    } else if *name == b"lap".as_slice() {
+    } else {
+        timed_of(name, arguments)
+    }
+}
+
+// An entry that is a time, or one of the commands below.
+fn timed_of(name: &[u8], arguments: &[&[u8]]) -> Result<Command, ScriptFaultKind>
+    ensures { result_ok result ≡ timed_of name.now (map (λ word. word.now) arguments.now) }
+{
+    if name == b"lap".as_slice() {
         Ok(Command::Entry(Entry::Lap(only_number(arguments)?)))
-    } else if *name == b"pause".as_slice() {
+    } else if name == b"pause".as_slice() {
         Ok(Command::Entry(Entry::Pause(only_number(arguments)?)))
-    } else if *name == b"resume".as_slice() {
+    } else if name == b"resume".as_slice() {
         Ok(Command::Entry(Entry::Resume(only_number(arguments)?)))
-    } else if *name == b"stop".as_slice() {
+    } else if name == b"stop".as_slice() {
         Ok(Command::Entry(Entry::Stop(only_number(arguments)?)))
-    } else if *name == b"commit".as_slice() {
+    } else {
+        called_of(name, arguments)
+    }
+}
+
+// A call of the recorder, or one of the commands below.
+fn called_of(name: &[u8], arguments: &[&[u8]]) -> Result<Command, ScriptFaultKind>
+    ensures { result_ok result ≡ called_of name.now (map (λ word. word.now) arguments.now) }
+{
+    if name == b"commit".as_slice() {
         alone(Command::Commit, arguments)
-    } else if *name == b"restart".as_slice() {
+    } else if name == b"restart".as_slice() {
         alone(Command::Restart, arguments)
-    } else if *name == b"recover".as_slice() {
+    } else if name == b"recover".as_slice() {
         alone(Command::Recover, arguments)
-    } else if *name == b"reopen".as_slice() {
+    } else if name == b"reopen".as_slice() {
         alone(Command::Reopen, arguments)
-    } else if *name == b"erase".as_slice() {
+    } else if name == b"erase".as_slice() {
         alone(Command::Erase, arguments)
-    } else if *name == b"fail".as_slice() {
+    } else {
+        arranged_of(name, arguments)
+    }
+}
+
+// A call that is to fail, or a power cut.
+fn arranged_of(name: &[u8], arguments: &[&[u8]]) -> Result<Command, ScriptFaultKind>
+    ensures { result_ok result ≡ arranged_of name.now (map (λ word. word.now) arguments.now) }
+{
+    if name == b"fail".as_slice() {
         Ok(Command::Fail(only_count(arguments)?))
-    } else if *name == b"cut".as_slice() {
+    } else if name == b"cut".as_slice() {
         Ok(Command::Cut(only_count(arguments)?))
-    } else if *name == b"power".as_slice() {
+    } else if name == b"power".as_slice() {
         alone(Command::Power, arguments)
     } else {
         Err(ScriptFaultKind::UnknownWord)
@@ -102,7 +129,7 @@ fn sample_of(arguments: &[&[u8]]) -> Result<Entry, ScriptFaultKind>
     Ok(Entry::Sample(sample_at(time, settings)?))
 }
 
-// A command without further words.
+// A command that takes no further words.
 fn alone(command: Command, arguments: &[&[u8]]) -> Result<Command, ScriptFaultKind>
     ensures { result_ok result ≡ alone command (map (λ word. word.now) arguments.now) }
 {

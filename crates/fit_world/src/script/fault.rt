@@ -1,23 +1,23 @@
-// What is wrong with a script.
+// Faults of scripts.
 
 ghost use Rattle.std.specs.Prelude.{◌≡◌};
 
-/// What is wrong with a line of a script. Its words are judged from the left, and the first fault is told.
+/// What is wrong with a line of a script. Its words are judged from left to right, and the first fault is reported.
 #[derive(Clone, Copy, Debug, PartialEq, Eq)]
 pub enum ScriptFaultKind {
-    /// A word that is no command, or no sport.
+    /// A word is not a command, or not a sport.
     UnknownWord,
-    /// The line ends where a word is missing.
+    /// The line ends before a word that it needs.
     MissingWord,
-    /// A word follows where none belongs.
+    /// A word follows the last one that belongs there.
     ExtraWord,
-    /// A word or a value that is no number, or one that its field does not hold.
+    /// A word or a value is not a number, or is out of range.
     BadNumber,
-    /// A word that does not begin with a key and `=`.
+    /// A word does not begin with a key and `=`.
     UnknownKey,
-    /// A key that stood before.
+    /// A key appears twice.
     RepeatedKey,
-    /// A growth was refused.
+    /// Memory was refused.
     Memory,
 }
 
@@ -40,29 +40,29 @@ impl ScriptFaultKind {
     }
 }
 
-/// Why a text is no script: what is wrong, and the number of the line, from 1. Where not even the list of lines finds
-/// memory, it is 1.
+/// Why a text is not a script: what is wrong, and the number of the line, counted from 1. The number is 1 if there is no memory
+/// for the list of lines.
 #[derive(Clone, Copy, Debug, PartialEq, Eq)]
 pub struct ScriptFault {
     pub kind: ScriptFaultKind,
     pub line: usize,
 }
 
-/// Why bytes are no script that is replayed.
+/// Why bytes are not a script that can be replayed.
 #[derive(Clone, Copy, Debug, PartialEq, Eq)]
 pub enum ReplayFault {
     /// They are not UTF-8.
     NoText,
-    /// A line is none of a script.
+    /// A line is not one of a script, or memory was refused.
     Script(ScriptFault),
-    /// The event of this line is only simulated.
+    /// Only `simulate` runs the event of this line.
     OnlySimulate(usize),
 }
 
 impl ReplayFault {
     ghost use Rattle.fit_world.specs.Calls.FaultCode.{replay_code};
 
-    /// The number of the fault, 1 to 3: the first that holds is answered.
+    /// The number of the fault, 1 to 3. The first one that holds is reported.
     pub fn code(&self) -> u8
         ensures { result ≡ replay_code self.now }
     {

@@ -2,11 +2,12 @@
 
 ghost use Rattle.std.specs.Prelude.{◌≡◌, ◌≤◌, ◌<◌, ◌+◌, ◌^◌, ◌≤ℤ◌, pos, neg_ℤ, IfOk};
 ghost use Rattle.std.specs.Result.{result_ok};
-ghost use Rattle.fit_world.specs.Scripts.Words.{number, signed_number};
+ghost use Rattle.fit_world.specs.Scripts.Words.{number, signed_number, number_as};
 
 use crate::script::fault::ScriptFaultKind;
+use fit_base::BaseType;
 
-/// A number without a sign that is at most so great.
+/// An unsigned decimal number of at most `most`.
 pub fn number(word: &[u8], most: u32) -> Result<u32, ScriptFaultKind>
     ensures value { result_ok result ≡ number most word.now }
     ensures most { IfOk result (λ n. n ≤ most) }
@@ -27,7 +28,7 @@ pub fn number(word: &[u8], most: u32) -> Result<u32, ScriptFaultKind>
     Ok(value as u32)
 }
 
-/// A number that may have a `-` in front, from one less than the negative of the greatest on.
+/// A decimal number from -(`most` + 1) to `most`. It may have a `-` in front.
 pub fn signed_number(word: &[u8], most: u32) -> Result<i32, ScriptFaultKind>
     requires { most < 2 ^ 31 }
     ensures value { result_ok result ≡ signed_number most word.now }
@@ -40,5 +41,23 @@ pub fn signed_number(word: &[u8], most: u32) -> Result<i32, ScriptFaultKind>
             Ok((-i64::from(size)) as i32)
         }
         _ => Ok(number(word, most)? as i32),
+    }
+}
+
+/// Reads a word as a number in the range of an integer base type of 1, 2 or 4 bytes. Returns the unsigned number of its bytes, or
+/// `None` if the word is no such number or the base type is another.
+pub fn number_as(base: BaseType, word: &[u8]) -> Option<u32>
+    ensures { result ≡ number_as base word.now }
+{
+    match base {
+        BaseType::Sint8 => Some(u32::from((signed_number(word, 127).ok()? as i8).cast_unsigned())),
+        BaseType::Uint8 => number(word, 255).ok(),
+        BaseType::Sint16 => Some(u32::from(
+            (signed_number(word, 32_767).ok()? as i16).cast_unsigned(),
+        )),
+        BaseType::Uint16 => number(word, 65_535).ok(),
+        BaseType::Sint32 => Some(signed_number(word, 2_147_483_647).ok()?.cast_unsigned()),
+        BaseType::Uint32 => number(word, 4_294_967_295).ok(),
+        _ => None,
     }
 }

@@ -1,6 +1,7 @@
-// A script as a whole.
+// Reads a whole script.
 
-ghost use Rattle.std.specs.Prelude.{◌≡◌, ◌≢◌, All, map, IfOk, IfErr};
+ghost use Rattle.std.specs.Prelude.{◌≡◌, ◌≢◌, ◌++◌, [], All, map, IfOk, OnOk, IfErr};
+ghost use Rattle.std.specs.List.{cons_option};
 ghost use Rattle.std.specs.Str.Lines.{lines};
 ghost use Rattle.fit_world.specs.Scripts.Script.{IsLine, is_silent, meaning_of, event_of, events_of, IsFaultOf};
 ghost use Rattle.fit_world.specs.Histories.Runs.{CanRun};
@@ -12,8 +13,8 @@ use crate::script::fault::{ScriptFault, ScriptFaultKind};
 use crate::script::words::{lines_of, words_of};
 use std::alloc::Global;
 
-/// The events of a script, each with the number of its line, from 1. An empty line is no event, and neither is one whose
-/// first word begins with `#`. A fault is that of the first line that is none of a script, or want of memory at a line that was
+/// The events of a script, each with the number of its line, counted from 1. A line without words is no event, nor is one whose
+/// first word begins with `#`. The fault is that of the first line that is not one of a script, or `Memory` at a line that was
 /// reached.
 pub fn parse_script(alloc: Global, text: &str) -> Result<Vec<Event>, ScriptFault>
     ensures lines { IfOk result (λ _. All IsLine (lines text.now)) }
@@ -26,17 +27,35 @@ pub fn parse_script(alloc: Global, text: &str) -> Result<Vec<Event>, ScriptFault
     };
     let mut events = Vec::new(alloc);
     for (index, line) in lines.iter().enumerate() {
-        let found = event_at(alloc, index + 1, line)?;
-        if let Some(event) = found {
-            if events.push(event).is_err() {
-                return Err(out_of_memory(index + 1));
-            }
-        }
+        add_event(alloc, &mut events, index + 1, line)?;
     }
     Ok(events)
 }
 
-// The event of a line, if it is one of a script.
+// Adds the event of a line, if it states one.
+fn add_event(
+    alloc: Global,
+    events: &mut Vec<Event>,
+    number: usize,
+    line: &str,
+) -> Result<(), ScriptFault>
+    ensures line { OnOk result (IsLine line.now) }
+    ensures events { OnOk result
+        (events.new.items ≡ events.old.items ++ cons_option (event_of number line.now) []) }
+    ensures number { IfErr result (λ fault. fault.line ≡ number) }
+    ensures fault { IfErr result (λ fault. fault.kind ≢ kinds.Memory → meaning_of line.now ≡ None) }
+{
+    match event_at(alloc, number, line) {
+        Ok(Some(event)) => match events.push(event) {
+            Ok(()) => Ok(()),
+            Err(_) => Err(out_of_memory(number)),
+        },
+        Ok(None) => Ok(()),
+        Err(fault) => Err(fault),
+    }
+}
+
+// The event of a line, if it states one.
 fn event_at(alloc: Global, number: usize, line: &str) -> Result<Option<Event>, ScriptFault>
     ensures line { IfOk result (λ _. IsLine line.now) }
     ensures event { IfOk result (λ event. event ≡ event_of number line.now) }

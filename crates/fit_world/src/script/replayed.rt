@@ -1,4 +1,4 @@
-// The script that bytes are, where it can be replayed.
+// Reads a script that can be replayed.
 
 ghost use Rattle.std.specs.Prelude.{◌≡◌, All, IfOk, IfErr, IfNone};
 ghost use Rattle.std.specs.Str.Lines.{lines};
@@ -11,7 +11,7 @@ use crate::script::parse::parse_script;
 use std::alloc::Global;
 use std::str;
 
-/// The events of the script that these bytes are, all of which can be replayed.
+/// Reads the events of a script. All of them can be replayed.
 pub fn read_script(alloc: Global, bytes: &[u8]) -> Result<Vec<Event>, ReplayFault>
     ensures events { IfOk result (λ events. events.items ≡ events_of 1 (lines bytes.now)) }
     ensures replayed { IfOk result (λ events. All IsReplayed events.items) }
@@ -30,7 +30,7 @@ pub fn read_script(alloc: Global, bytes: &[u8]) -> Result<Vec<Event>, ReplayFaul
     }
 }
 
-// The line of the first event that is only simulated.
+// The line of the first event that only `simulate` runs.
 fn first_simulated(events: &[Event]) -> Option<usize>
     ensures line { result ≡ first_simulated events.now }
     ensures none { IfNone result (All IsReplayed events.now) }

@@ -1,37 +1,46 @@
-// The words of a sample behind its time, as `hr=100`.
+// The settings of a sample: the words after its time, such as `hr=100`.
 
 ghost use Rattle.std.specs.Prelude.{◌≡◌, ◌==◌, ◌≤◌, length, Some, None, [], map, if◌then◌else◌, IfOk, IfErr};
 ghost use Rattle.std.specs.List.{list_any, position, position_or_len};
 ghost use Rattle.std.specs.Result.{result_ok};
 ghost use Rattle.std.specs.Str.{bytes_eq};
-ghost use Rattle.fit_world.specs.Scripts.Sample.{key_in, value_in, has_number, is_new_setting, are_settings, sample_at, with_setting};
+ghost use Rattle.std.specs.Option.{is_some, option_or};
+ghost use Rattle.fit_activity.specs.Rides.Table.{sample_rows, rows_of, ValuesFit};
+ghost use Rattle.fit_world.specs.Scripts.Sample.{key_in, value_in, has_number, is_new_setting, are_settings, sample_at, with_setting, number_for};
 
 use crate::script::fault::ScriptFaultKind;
-use crate::script::number::{number, signed_number};
-use fit_activity::Sample;
+use crate::script::number::number_as;
+use fit_activity::{FIELDS, FieldRow, SAMPLE_FIELDS, Sample};
+use fit_base::BaseType;
 
-/// The sample at a time with these settings.
+/// The sample at a time, in seconds since 1989-12-31T00:00:00Z, with these settings.
 pub fn sample_at(time: u32, settings: &[&[u8]]) -> Result<Sample, ScriptFaultKind>
     ensures { result_ok result ≡ (if are_settings (map (λ word. word.now) settings.now)
         then Some (sample_at time (map (λ word. word.now) settings.now)) else None) }
 {
-    let mut sample = Sample::new(time);
+    let mut values = [None; FIELDS];
     for (index, setting) in settings.iter().enumerate() {
-        sample = with_next(sample, &settings[..index], setting)?;
+        values = with_next(values, &settings[..index], setting)?;
     }
-    Ok(sample)
+    Ok(Sample::of_raw(time, values))
 }
 
-// A sample with the number of one setting more, behind these.
-fn with_next(sample: Sample, earlier: &[&[u8]], setting: &[u8]) -> Result<Sample, ScriptFaultKind>
-    ensures { result_ok result ≡ (if is_new_setting (map (λ word. word.now) earlier.now) setting.now
-        then Some (with_setting sample (key_in setting.now) (value_in setting.now)) else None) }
+// These values, with the number of the setting after `earlier`.
+fn with_next(
+    values: [Option<u32>; FIELDS],
+    earlier: &[&[u8]],
+    setting: &[u8],
+) -> Result<[Option<u32>; FIELDS], ScriptFaultKind>
+    requires { ValuesFit sample_rows values }
+    ensures value { result_ok result ≡ (if is_new_setting (map (λ word. word.now) earlier.now) setting.now
+        then Some (with_setting sample_rows values (key_in setting.now) (value_in setting.now)) else None) }
+    ensures fit { IfOk result (λ more. ValuesFit sample_rows more) }
 {
     let (key, value) = cut(setting)?;
     if stands_in(key, earlier) {
         return Err(ScriptFaultKind::RepeatedKey);
     }
-    with_setting(sample, key, value)
+    with_setting(values, key, value)
 }
 
 // The key of a setting and its value.
@@ -47,7 +56,7 @@ fn cut<'a>(setting: &'a [u8]) -> Result<(&'a [u8], &'a [u8]), ScriptFaultKind>
     Ok((&setting[..at], &setting[at + 1..]))
 }
 
-// How many bytes stand before the first `=`.
+// The number of bytes before the first `=`, or of all bytes if there is none.
 fn key_len(setting: &[u8]) -> usize
     ensures value { result ≡ position_or_len (λ byte. byte == 61) setting.now }
     ensures within { result ≤ length setting.now }
@@ -73,57 +82,76 @@ fn stands_in(key: &[u8], settings: &[&[u8]]) -> bool
         .any(|setting| &setting[..key_len(setting)] == key)
 }
 
-// A sample with the number of this key.
-fn with_setting(sample: Sample, key: &[u8], value: &[u8]) -> Result<Sample, ScriptFaultKind>
-    ensures { result_ok result
-        ≡ (if has_number key.now value.now then Some (with_setting sample key.now value.now) else None) }
+// These values, with the number of this key.
+fn with_setting(
+    values: [Option<u32>; FIELDS],
+    key: &[u8],
+    value: &[u8],
+) -> Result<[Option<u32>; FIELDS], ScriptFaultKind>
+    requires { ValuesFit sample_rows values }
+    ensures value { result_ok result
+        ≡ (if has_number key.now value.now then Some (with_setting sample_rows values key.now value.now) else None) }
+    ensures fit { IfOk result (λ more. ValuesFit sample_rows more) }
 {
-    if key == b"lat".as_slice() {
-        let lat = Some(signed_number(value, 2_147_483_647)?);
-        Ok(Sample { lat, ..sample })
-    } else if key == b"long".as_slice() {
-        let long = Some(signed_number(value, 2_147_483_647)?);
-        Ok(Sample { long, ..sample })
-    } else if key == b"alt".as_slice() {
-        let altitude = Some(number(value, 65_535)? as u16);
-        Ok(Sample { altitude, ..sample })
-    } else if key == b"hr".as_slice() {
-        let heart_rate = Some(number(value, 255)? as u8);
-        Ok(Sample {
-            heart_rate,
-            ..sample
-        })
-    } else if key == b"cad".as_slice() {
-        let cadence = Some(number(value, 255)? as u8);
-        Ok(Sample { cadence, ..sample })
-    } else if key == b"dist".as_slice() {
-        let distance = Some(number(value, 4_294_967_295)?);
-        Ok(Sample { distance, ..sample })
-    } else if key == b"speed".as_slice() {
-        let speed = Some(number(value, 65_535)? as u16);
-        Ok(Sample { speed, ..sample })
-    } else if key == b"power".as_slice() {
-        let power = Some(number(value, 65_535)? as u16);
-        Ok(Sample { power, ..sample })
-    } else if key == b"temp".as_slice() {
-        let temperature = Some(signed_number(value, 127)? as i8);
-        Ok(Sample {
-            temperature,
-            ..sample
-        })
-    } else if key == b"espeed".as_slice() {
-        let enhanced_speed = Some(number(value, 4_294_967_295)?);
-        Ok(Sample {
-            enhanced_speed,
-            ..sample
-        })
-    } else if key == b"ealt".as_slice() {
-        let enhanced_altitude = Some(number(value, 4_294_967_295)?);
-        Ok(Sample {
-            enhanced_altitude,
-            ..sample
-        })
+    if !has_number(&SAMPLE_FIELDS, key, value) {
+        return Err(fault_of(key));
+    }
+    let mut more = [None; FIELDS];
+    set_all(&SAMPLE_FIELDS, &values, key, value, &mut more);
+    Ok(more)
+}
+
+// Whether one of the rows has this key, and the value is a number in its range.
+fn has_number(rows: &[FieldRow], key: &[u8], value: &[u8]) -> bool
+    ensures { result ≡ list_any (λ row. is_some (number_for row.1 row.3.now key.now value.now)) rows.now }
+{
+    rows.iter()
+        .any(|row| number_for(row.1, row.3, key, value).is_some())
+}
+
+// The fault of a setting with this key, if its value is no number of that key.
+fn fault_of(key: &[u8]) -> ScriptFaultKind {
+    if SAMPLE_FIELDS.iter().any(|row| key == row.3.as_bytes()) {
+        ScriptFaultKind::BadNumber
     } else {
-        Err(ScriptFaultKind::UnknownKey)
+        ScriptFaultKind::UnknownKey
+    }
+}
+
+// Sets `more` to the values of these rows, with the number of this key.
+fn set_all(
+    rows: &[FieldRow],
+    values: &[Option<u32>],
+    key: &[u8],
+    value: &[u8],
+    more: &mut [Option<u32>],
+)
+    requires rows { length rows.now ≡ length more.old }
+    requires values { length values.now ≡ length more.old }
+    ensures { more.new ≡ with_setting (rows_of rows.now) values.now key.now value.now }
+{
+    for at in 0..more.len() {
+        let (_, base, _, name) = rows[at];
+        more[at] = number_or(number_for(base, name, key, value), values[at]);
+    }
+}
+
+fn number_or(number: Option<u32>, other: Option<u32>) -> Option<u32>
+    ensures { result ≡ option_or number other }
+{
+    match number {
+        Some(number) => Some(number),
+        None => other,
+    }
+}
+
+// The number that the value states, if the key is this name.
+fn number_for(base: BaseType, name: &str, key: &[u8], value: &[u8]) -> Option<u32>
+    ensures { result ≡ number_for base name.now key.now value.now }
+{
+    if key == name.as_bytes() {
+        number_as(base, value)
+    } else {
+        None
     }
 }

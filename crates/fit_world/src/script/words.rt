@@ -1,4 +1,4 @@
-// How a script is cut into lines, and a line into words.
+// Splits a script into lines, and a line into words.
 
 ghost use Rattle.std.specs.Prelude.{◌≡◌, map, IfOk};
 ghost use Rattle.std.specs.Str.Lines.{lines};
@@ -13,7 +13,7 @@ pub fn lines_of<'a>(alloc: Global, text: &'a str) -> Result<Vec<&'a str>, AllocE
     text.lines().collect(alloc)
 }
 
-/// The words of a line, which stand between spaces and tabs.
+/// The words of a line, separated by spaces and tabs.
 pub fn words_of<'a>(alloc: Global, line: &'a [u8]) -> Result<Vec<&'a [u8]>, AllocError>
     ensures { IfOk result (λ found. map (λ word. word.now) found.items ≡ words line.now) }
 {

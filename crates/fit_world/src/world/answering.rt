@@ -1,4 +1,4 @@
-// The answer that a reply is, with the file where one was finished.
+// Makes the answer of a reply, with the file if one was finished.
 
 ghost use Rattle.std.specs.Prelude.{◌≡◌, IfOk};
 ghost use Rattle.fit_world.specs.Histories.Runs.{told_in};
@@ -9,7 +9,7 @@ use crate::answer::Answer;
 use crate::reply::Reply;
 use std::alloc::Global;
 
-// The answer that tells the reply, and of a finished recording the data file.
+// The answer with this reply, and with a copy of the data file if the recording was finished.
 pub fn answer_of(alloc: Global, reply: Reply, file: &[u8]) -> Result<Answer, NoMemory>
     ensures { IfOk result (λ answer. told_in answer ≡ told reply file.now) }
 {

@@ -1,4 +1,4 @@
-// A ride over the memory disk, whose failures and power cuts can be arranged.
+// A ride over the memory disk. Failures and power cuts can be arranged.
 
 ghost use Rattle.std.specs.Prelude.{◌≡◌, ◌≤◌, true, false, min, length};
 ghost use Rattle.fit_world.specs.declared.command.Command.TheVariants as commands;
@@ -15,7 +15,7 @@ impl Ride<Memory> {
     ghost use Rattle.fit_world.specs.Rides.Ride.{CanGoOn, disk_in, is_riding};
     ghost use Rattle.fit_world.specs.Rides.Standing.{StandsIn, GoesBy, content_of};
 
-    /// Lets the k-th call of the disk from now fail, from 1 on. The ride stands where it stood.
+    /// Makes the k-th call of the disk from now on fail, counted from 1. The ride stays as it is.
     pub(crate) fn fail_at(&mut self, k: u32)
         requires { 1 ≤ k }
         ensures goes_on { CanGoOn true memory_story self.old → CanGoOn true memory_story self.new }
@@ -31,7 +31,7 @@ impl Ride<Memory> {
         }
     }
 
-    /// Lets the power go at the k-th call of the disk from now, from 1 on. The ride stands where it stood.
+    /// Cuts the power at the k-th call of the disk from now on, counted from 1. The ride stays as it is.
     pub(crate) fn cut_at(&mut self, k: u32)
         requires { 1 ≤ k }
         ensures goes_on { CanGoOn true memory_story self.old → CanGoOn true memory_story self.new }
@@ -47,8 +47,8 @@ impl Ride<Memory> {
         }
     }
 
-    /// Ends the recorder that runs, lets the power go, and brings it back. What is left of both files is what the choice bytes
-    /// say; it answers how many of them were taken.
+    /// Ends the recorder that runs, if one does, cuts the power, and brings it back. The choice bytes decide what is left of both
+    /// files. Returns how many of them were taken.
     pub(crate) fn power(self, choices: &[u8]) -> (Ride<Memory>, usize)
         ensures ended { is_riding result.0 ≡ false }
         ensures step { (before : History) → StandsIn true memory_story self before
@@ -65,7 +65,7 @@ impl Ride<Memory> {
         (Ride::Idle(disk), taken)
     }
 
-    /// Whether memory was refused in its disk so far, or the disk's counts of calls are at their last value.
+    /// Whether the disk was refused memory so far, or its counts of calls are at their greatest value.
     pub(crate) fn spent(&self) -> bool
         ensures { result ≡ is_spent (disk_in self.now) }
     {
@@ -75,7 +75,7 @@ impl Ride<Memory> {
         }
     }
 
-    /// The data file, where no recorder runs; nothing where one does.
+    /// The content of the data file if no recorder runs, and otherwise no bytes.
     pub(crate) fn file(&self) -> &[u8]
         ensures { result.now ≡ content_of memory_story self.now }
     {

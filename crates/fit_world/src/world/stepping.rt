@@ -1,4 +1,4 @@
-// One event of a ride over the memory disk.
+// Runs one event of a ride over the memory disk.
 
 ghost use Rattle.std.specs.Prelude.{◌≡◌, ◌≤◌, true, length};
 ghost use Rattle.fit_disk.specs.Memory.{memory_story, memory_counts, memory_schedule};
@@ -14,7 +14,7 @@ use crate::reply::Reply;
 use crate::ride::Ride;
 use fit_disk::Memory;
 
-// Does what a command asks for. It answers the reply, and how many of the choice bytes were taken.
+// Runs a command. Returns the ride after it, the reply, and the number of choice bytes taken.
 pub fn step(
     mut ride: Ride<Memory>,
     command: &Command,

@@ -1,8 +1,8 @@
-// Lists of what is recorded: which entry may stand behind one, and what one adds up to. Each is said over the whole list.
+// Lists of what is recorded: which entry may come after a list, and what a list adds up to. Each rule is stated over the whole list.
 
-use fit_activity::{Entry, Refusal, Sample, Start, Summary};
+use fit_activity::{Entry, Refusal, SAMPLE_FIELDS, Sample, Start, Summary};
 
-/// The start of a recording, or an entry behind it.
+/// The start of a recording, or an entry after it.
 #[derive(Clone, Copy, Debug, PartialEq, Eq)]
 pub enum Recorded {
     Started(Start),
@@ -18,12 +18,12 @@ impl Recorded {
     }
 }
 
-/// Whether a recording may start so: from the first calendar time on.
+/// Whether a recording may start at this time: the first calendar time or later, and not the invalid value.
 pub fn start_fits(start: &Start) -> bool {
     start.time >= 0x1000_0000 && start.time != u32::MAX
 }
 
-// The time of the start, and of the last one.
+// The time of the start, and of the last entry.
 fn start_time(list: &[Recorded]) -> u32 {
     list.first().map_or(0, |one| one.time())
 }
@@ -37,7 +37,7 @@ pub fn has_stopped(list: &[Recorded]) -> bool {
     matches!(list.last(), Some(Recorded::Added(Entry::Stop(_))))
 }
 
-// Whether the timer runs behind a list that ends so, where it ran before or not.
+// Whether the timer runs after this entry, if it ran before it or not.
 fn runs_behind(ran: bool, one: &Recorded) -> bool {
     match one {
         Recorded::Started(_) | Recorded::Added(Entry::Resume(_)) => true,
@@ -54,7 +54,7 @@ fn runs(list: &[Recorded]) -> bool {
     running
 }
 
-// The last distance that a sample knew.
+// The distance of the last sample that has one.
 fn known_distance(list: &[Recorded]) -> Option<u32> {
     let mut known = None;
     for one in list {
@@ -67,30 +67,17 @@ fn known_distance(list: &[Recorded]) -> Option<u32> {
     known
 }
 
-// The number of the first field that holds the value of its type which says nothing.
+// The number of the first field that holds the invalid value of its type.
 fn invalid_field(sample: &Sample) -> Option<u8> {
-    let fields = [
-        (0, sample.lat == Some(i32::MAX)),
-        (1, sample.long == Some(i32::MAX)),
-        (2, sample.altitude == Some(u16::MAX)),
-        (3, sample.heart_rate == Some(u8::MAX)),
-        (4, sample.cadence == Some(u8::MAX)),
-        (5, sample.distance == Some(u32::MAX)),
-        (6, sample.speed == Some(u16::MAX)),
-        (7, sample.power == Some(u16::MAX)),
-        (13, sample.temperature == Some(i8::MAX)),
-        (73, sample.enhanced_speed == Some(u32::MAX)),
-        (78, sample.enhanced_altitude == Some(u32::MAX)),
-    ];
-    for (number, is_invalid) in fields {
-        if is_invalid {
-            return Some(number);
+    for (row, value) in SAMPLE_FIELDS.iter().zip(sample.raw_values()) {
+        if value.map(u64::from) == Some(row.1.invalid()) {
+            return Some(row.0);
         }
     }
     None
 }
 
-// Why a sample is refused for what it holds.
+// Why a sample is refused for its values.
 fn refusal_of_values(list: &[Recorded], sample: &Sample) -> Option<Refusal> {
     if let Some(number) = invalid_field(sample) {
         return Some(Refusal::Value(number));
@@ -101,7 +88,7 @@ fn refusal_of_values(list: &[Recorded], sample: &Sample) -> Option<Refusal> {
     }
 }
 
-/// Why the entry may not stand behind the list. No list here has 999 laps.
+/// Why the entry may not come after the list, if so. No list here has 999 laps.
 pub fn refusal_of(list: &[Recorded], entry: &Entry) -> Option<Refusal> {
     let time = entry.time();
     if has_stopped(list) {
@@ -121,7 +108,7 @@ pub fn refusal_of(list: &[Recorded], entry: &Entry) -> Option<Refusal> {
     }
 }
 
-// For how many seconds the timer ran: a second counts where it runs behind all that stands at that second or before.
+// For how many seconds the timer ran. A second counts if the timer runs after all that is recorded at that second or before.
 fn timer(list: &[Recorded]) -> u32 {
     let mut seconds: u32 = 0;
     let mut since = start_time(list);
@@ -136,7 +123,7 @@ fn timer(list: &[Recorded]) -> u32 {
     seconds
 }
 
-/// What the finished file of the list says of itself.
+/// The summary of the finished file of the list.
 pub fn sums_of(list: &[Recorded]) -> Summary {
     let mut records: u32 = 0;
     let mut laps: u32 = 1;

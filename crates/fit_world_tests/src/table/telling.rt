@@ -1,11 +1,11 @@
-// What the messages of a file tell, one after another, and what those of the finished file of a list have to tell.
+// What the messages of a file encode, in their order, and what those of the finished file of a list have to encode.
 
 use super::list::{Recorded, end_time, has_stopped, sums_of};
 use fit_activity::{Entry, Sport, Summary, check_activity, entry_of, file_id_of, sport_of};
 use fit_grammar::{Message, decode_file};
 use std::alloc::{AllocError, Global};
 
-/// What one message tells. Of those that close a file only the global number is looked at here.
+/// What one message encodes. For a message that closes a file this is only its global number.
 #[derive(Clone, Copy, Debug, PartialEq, Eq)]
 pub enum Telling {
     FileId(u32, u32),
@@ -14,7 +14,7 @@ pub enum Telling {
     Other(u16),
 }
 
-/// What a file tells.
+/// What a file encodes.
 #[derive(Debug, Drop, PartialEq, Eq)]
 pub struct Told {
     pub summary: Summary,
@@ -34,7 +34,7 @@ fn telling_of(message: &Message) -> Telling {
     }
 }
 
-/// What the bytes tell, where they are a valid file and an activity.
+/// What the bytes encode. None if they are not a valid file, or not an activity.
 pub fn told_by(alloc: Global, bytes: &[u8]) -> Result<Option<Told>, AllocError> {
     let Ok(file) = decode_file(alloc, bytes) else {
         return Ok(None);
@@ -49,7 +49,7 @@ pub fn told_by(alloc: Global, bytes: &[u8]) -> Result<Option<Told>, AllocError> 
     Ok(Some(Told { summary, messages }))
 }
 
-/// What the finished file of the list tells: its messages, an end where it has no stop, the last lap, the session and the activity.
+/// What the finished file of the list encodes: its messages, a stop if it has none, the last lap, the session and the activity.
 pub fn told_of(alloc: Global, list: &[Recorded]) -> Result<Told, AllocError> {
     let mut messages = Vec::new(alloc);
     for one in list {

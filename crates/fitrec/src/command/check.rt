@@ -1,4 +1,8 @@
-// The subcommand `check`: whether a file is an activity, and what it says of itself.
+// The subcommand `check`: whether a file is an activity, and its summary.
+
+ghost use Rattle.fit_world.specs.Printed.Checked.{ChecksBytes};
+ghost use Rattle.fitrec.specs.Faults.{IsTellFault};
+ghost use Rattle.fitrec.specs.Told.{Tells};
 
 use crate::command::input::{MOST_BYTES, fault_of_told, open_file};
 use crate::fault::Fault;
@@ -6,12 +10,15 @@ use fit_world::check_input;
 use std::io::Write;
 use std::rt::Files;
 
-/// Checks the file of this name, and prints what its first session says.
+/// Checks that the file of this name is an activity, and prints its summary.
 pub fn check_file<'a, R: Files + AllocGlobal, O: Write>(
     rt: &R,
     name: &'a str,
     out: &mut O,
-) -> Result<(), Fault<'a>> {
+) -> Result<(), Fault<'a>>
+    ensures { Tells name.entry (O.contents out.old) (O.contents out.new) (IsTellFault name.entry)
+        (ChecksBytes (O.contents out.old) (O.contents out.new)) result }
+{
     let mut file = open_file(rt, name)?;
     match check_input(rt.alloc(), &mut file, MOST_BYTES, out) {
         Ok(()) => Ok(()),

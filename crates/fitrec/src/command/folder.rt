@@ -1,34 +1,70 @@
-// The folder of a recording.
+// Opens and reads the files in the folder of a recording.
 
-ghost use Rattle.std.specs.Prelude.{◌≡◌, IfErr};
+ghost use Rattle.std.specs.Prelude.{◌≡◌, IfErr, IfOk, IfSome};
+ghost use Rattle.fit_disk.specs.Files.{witness_of};
 ghost use Rattle.fit_disk.specs.declared.files.OpenFault.{OpenFault as WhyNotOpen};
-ghost use Rattle.fitrec.specs.Faults.{fault_of_open};
+ghost use Rattle.fitrec.specs.Faults.{fault_of_open, IsRecordingSaid};
 
+use crate::command::input::read_input;
 use crate::fault::Fault;
-use fit_disk::{Files, OpenFault};
+use fit_disk::{DATA_NAME, Files, JOURNAL_NAME, OpenFault, Witness, is_one_missing, open_to_read};
+use fit_recorder::RecFault;
+use std::fs::File;
 
-/// The files of this folder, made where they are missing.
-pub fn open_folder<'a>(rt: &HostRuntime, name: &'a str) -> Result<Files, Fault<'a>>
-    ensures { IfErr result (λ fault. (why : WhyNotOpen) × (fault ≡ fault_of_open name.entry why)) }
+/// Opens the files of this folder under a witness, and creates those that are missing.
+pub fn open_folder<'a, W: Witness>(
+    rt: &HostRuntime,
+    name: &'a str,
+    witness: W,
+) -> Result<Files<W>, Fault<'a>>
+    ensures witness { IfOk result (λ files. witness_of files ≡ witness) }
+    ensures fault { IfErr result (λ fault. (why : WhyNotOpen) × (fault ≡ fault_of_open name.entry why)) }
 {
-    match Files::open(rt, name) {
+    match Files::open(rt, name, witness) {
         Ok(files) => Ok(files),
         Err(fault) => Err(fault_of(name, fault)),
     }
 }
 
-/// The files of this folder, or nothing where one of them is missing.
-pub fn open_recorded<'a>(rt: &HostRuntime, name: &'a str) -> Result<Option<Files>, Fault<'a>>
-    ensures { IfErr result (λ fault. (why : WhyNotOpen) × (fault ≡ fault_of_open name.entry why)) }
+/// Opens the files of this folder under a witness. Returns `None` if one of them is missing.
+pub fn open_recorded<'a, W: Witness>(
+    rt: &HostRuntime,
+    name: &'a str,
+    witness: W,
+) -> Result<Option<Files<W>>, Fault<'a>>
+    ensures witness { IfOk result (λ files. IfSome files (λ files. witness_of files ≡ witness)) }
+    ensures fault { IfErr result (λ fault. (why : WhyNotOpen) × (fault ≡ fault_of_open name.entry why)) }
 {
-    match Files::is_one_missing(rt, name) {
+    match is_one_missing(rt, name) {
         Ok(true) => Ok(None),
-        Ok(false) => Ok(Some(open_folder(rt, name)?)),
+        Ok(false) => Ok(Some(open_folder(rt, name, witness)?)),
         Err(fault) => Err(fault_of(name, fault)),
     }
 }
 
-// What the program says of a folder of this name that is not opened.
+/// Reads the data file and the journal of this folder. Nothing is written. If one is missing, the fault is `NothingRecorded`.
+pub fn read_recorded<'a>(rt: &HostRuntime, name: &'a str) -> Result<(Vec<u8>, Vec<u8>), Fault<'a>>
+    ensures { IfErr result (IsRecordingSaid name.entry) }
+{
+    let Some((mut data_file, mut journal_file)) = open_to_save(rt, name)? else {
+        return Err(Fault::Recorder(RecFault::NothingRecorded));
+    };
+    let data_bytes = read_input(rt.alloc(), DATA_NAME, &mut data_file)?;
+    let journal_bytes = read_input(rt.alloc(), JOURNAL_NAME, &mut journal_file)?;
+    Ok((data_bytes, journal_bytes))
+}
+
+// Opens the files of this folder for reading only. Returns `None` if one of them is missing.
+fn open_to_save<'a>(rt: &HostRuntime, name: &'a str) -> Result<Option<(File, File)>, Fault<'a>>
+    ensures { IfErr result (λ fault. (why : WhyNotOpen) × (fault ≡ fault_of_open name.entry why)) }
+{
+    match open_to_read(rt, name) {
+        Ok(files) => Ok(files),
+        Err(fault) => Err(fault_of(name, fault)),
+    }
+}
+
+// The program's fault for a folder of this name that was not opened.
 fn fault_of<'a>(name: &'a str, fault: OpenFault) -> Fault<'a>
     ensures { result ≡ fault_of_open name.entry fault }
 {

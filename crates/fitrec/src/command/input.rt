@@ -1,4 +1,4 @@
-// The file that a subcommand reads.
+// Opens and reads the file of a subcommand.
 
 ghost use Rattle.std.specs.Prelude.{◌≡◌, ◌<◌, ◌≤◌, ◌↔◌, vec_len, IsTrue, IfOk, IfErr};
 ghost use Rattle.fit_world.specs.Calls.Reading.{ReadsAll};
@@ -12,7 +12,7 @@ use std::fs::{self, OpenFile};
 use std::io::Read;
 use std::rt::Files;
 
-/// The most bytes of a file that are read.
+/// The greatest size of a file that is read: 256 MiB, in bytes.
 pub const MOST_BYTES: usize = 268_435_456;
 
 /// Opens the file of this name, unless it is known to be too large.
@@ -29,7 +29,7 @@ pub fn open_file<'a, R: Files>(rt: &R, name: &'a str) -> Result<R::File, Fault<'
     Ok(file)
 }
 
-/// All bytes of the file of this name.
+/// Reads all bytes of the file of this name.
 pub fn read_file<'a, R: Files + AllocGlobal>(rt: &R, name: &'a str) -> Result<Vec<u8>, Fault<'a>>
     ensures fault { IfErr result (IsFileFault name.entry) }
     ensures most { IfOk result (λ bytes. vec_len bytes ≤ 268435456) }
@@ -46,8 +46,12 @@ fn is_too_large(size: u64) -> bool
     size > MOST_BYTES as u64
 }
 
-// All bytes of the input of this name.
-fn read_input<'a, T: Read>(alloc: Global, name: &'a str, from: &mut T) -> Result<Vec<u8>, Fault<'a>>
+/// Reads all bytes of the input of this name.
+pub fn read_input<'a, T: Read>(
+    alloc: Global,
+    name: &'a str,
+    from: &mut T,
+) -> Result<Vec<u8>, Fault<'a>>
     ensures all { IfOk result
         (λ bytes. ReadsAll 268435456 (T.remaining from.old) (T.remaining from.new) bytes.items) }
     ensures refused { IfErr result
@@ -59,7 +63,7 @@ fn read_input<'a, T: Read>(alloc: Global, name: &'a str, from: &mut T) -> Result
     }
 }
 
-/// What the program says of an input of this name that is not told, or not to its end.
+/// The program's fault for an input of this name that was not read, checked, printed or made plain.
 pub fn fault_of_told<'a>(name: &'a str, fault: TellFault) -> Fault<'a>
     ensures { IsTellFault name.entry fault result }
 {
@@ -72,7 +76,7 @@ pub fn fault_of_told<'a>(name: &'a str, fault: TellFault) -> Fault<'a>
     }
 }
 
-// What the program says of an input of this name that was not read.
+// The program's fault for an input of this name that was not read.
 fn fault_of<'a>(name: &'a str, fault: ReadFault) -> Fault<'a>
     ensures { result ≡ fault_of_read name.entry fault }
 {

@@ -1,55 +1,45 @@
-// The subcommand `plain`: the same file, with the time of every message written out.
+// The subcommand `plain`: a file with the same messages, and each compressed timestamp written out.
 
-ghost use Rattle.std.specs.Prelude.{IfErr};
-ghost use Rattle.fitrec.specs.Faults.{IsPlainSaid};
+ghost use Rattle.std.specs.Prelude.{IfOk, IfErr, OnOk};
+ghost use Rattle.fitrec.specs.Faults.{IsPlainSaid, IsFormSaid};
+ghost use Rattle.fitrec.specs.Told.{IsFormOfFile, PlainsFile, PrintsNothing};
 
-use crate::command::beside::{fault_of, make_beside, move_to, remove};
+use crate::command::beside::write_whole;
 use crate::command::input::{MOST_BYTES, fault_of_told, open_file};
 use crate::fault::Fault;
-use fit_world::{TellFault, plain_input, print_messages};
-use std::fs::File;
+use fit_grammar::File;
+use fit_world::{count_messages, plain_input, print_messages};
 use std::io::Write;
+use std::rt::Files;
 
-/// Makes the file of the second name, or replaces it, by the plain form of the first, and prints how many messages that has. Both may
-/// be one file.
+/// Writes the plain form of the file `name` to the file `to`, which may exist, and prints the number of its messages. Both may be one
+/// file.
 pub fn make_plain<'a, O: Write>(
     rt: &HostRuntime,
     name: &'a str,
     to: &'a str,
     out: &mut O,
 ) -> Result<(), Fault<'a>>
-    ensures { IfErr result (IsPlainSaid name.entry to.entry) }
+    ensures said { IfErr result (IsPlainSaid name.entry to.entry) }
+    ensures made { OnOk result (PlainsFile (O.contents out.old) (O.contents out.new)) }
+    ensures quiet { IfErr result (PrintsNothing (O.contents out.old) (O.contents out.new)) }
 {
-    let mut file = open_file(rt, name)?;
-    let count = replace(rt, &mut file, name, to)?;
-    match print_messages(count, out) {
+    let plain = plain_of(rt, name)?;
+    write_whole(rt, to, &plain)?;
+    match print_messages(count_messages(&plain), out) {
         Ok(()) => Ok(()),
         Err(fault) => Err(fault_of_told(name, fault)),
     }
 }
 
-// Writes the plain form of the file of the first name beside that of the second, and moves it to its place. Where that fails, what has
-// that name is as it was, and nothing is beside it.
-fn replace<'a>(
-    rt: &HostRuntime,
-    from: &mut File,
-    name: &'a str,
-    to: &'a str,
-) -> Result<usize, Fault<'a>>
-    ensures { IfErr result (IsPlainSaid name.entry to.entry) }
+// The plain form of the file of this name.
+fn plain_of<'a, R: Files + AllocGlobal>(rt: &R, name: &'a str) -> Result<File, Fault<'a>>
+    ensures form { IfOk result IsFormOfFile }
+    ensures said { IfErr result (IsFormSaid name.entry) }
 {
-    let (other, mut file) = match make_beside(rt, to) {
-        Ok(made) => made,
-        Err(error) => return Err(fault_of(to, error)),
-    };
-    let fault = match plain_input(rt.alloc(), from, MOST_BYTES, &mut file) {
-        Ok(count) => match move_to(rt, file, other.as_str(), to) {
-            Ok(()) => return Ok(count),
-            Err(error) => fault_of(to, error),
-        },
-        Err(TellFault::Output) => Fault::Write(to),
-        Err(fault) => fault_of_told(name, fault),
-    };
-    remove(rt, other.as_str());
-    Err(fault)
+    let mut file = open_file(rt, name)?;
+    match plain_input(rt.alloc(), &mut file, MOST_BYTES) {
+        Ok(plain) => Ok(plain),
+        Err(fault) => Err(fault_of_told(name, fault)),
+    }
 }

@@ -1,31 +1,39 @@
-// The subcommand `replay`: the events of a script, over the files of a folder.
+// The subcommand `replay`: runs the events of a script over the files of a folder.
 
-ghost use Rattle.std.specs.Prelude.{◌≡◌, IfErr};
-ghost use Rattle.fitrec.specs.Faults.{fault_of_replay, IsReplaySaid};
+ghost use Rattle.std.specs.Prelude.{◌≡◌, ℕ, All, Err, IfOk, IfErr, OnOk};
+ghost use Rattle.fit_disk.specs.declared.files.OpenFault.{OpenFault as WhyNotOpen};
+ghost use Rattle.fit_world.specs.Printed.ReplyLines.{AreTold};
+ghost use Rattle.fit_world.specs.Printed.Shown.{IsOutputFault};
+ghost use Rattle.fit_world.specs.Rides.Played.{LeavesBehind, BreaksOff};
+ghost use Rattle.fit_world.specs.Scripts.Replayed.{IsReplayed};
+ghost use Rattle.fitrec.specs.declared.fault.Fault.TheVariants.{Refused};
+ghost use Rattle.fitrec.specs.Faults.{fault_of_open, fault_of_replay, IsScriptSaid, IsReplaySaid};
+ghost use Rattle.fitrec.specs.Told.{IsScriptOf, Replays, PrintsNoLine};
 
 use crate::command::folder::open_folder;
 use crate::command::input::{fault_of_told, read_file};
 use crate::fault::Fault;
-use fit_world::{ReplayFault, play, read_script};
+use fit_disk::{Trusting, Witness};
+use fit_world::{Event, ReplayFault, TellFault, play, read_script};
 use std::io::Write;
+use std::rt::Files;
 
-/// Runs the script of this name over the files of a folder, and prints a line for each event. Nothing is opened where
-/// the script is none, or has an event that is only simulated.
+/// Runs the script of this name over the files of a folder, and prints a line for each event. If a line is wrong, or has an event
+/// that only `simulate` runs, no file of the folder is opened. If replies were not ok, the fault is `Refused` with their number.
 pub fn replay_script<'a, O: Write>(
     rt: &HostRuntime,
     script: &'a str,
     folder: &'a str,
     out: &mut O,
 ) -> Result<(), Fault<'a>>
-    ensures { IfErr result (IsReplaySaid script.entry folder.entry) }
+    ensures said { IfErr result (IsReplaySaid script.entry folder.entry) }
+    ensures done { OnOk result (Replays (O.contents out.old) (O.contents out.new) 0) }
+    ensures refused { (count : ℕ) → result ≡ Err (Refused count)
+        → Replays (O.contents out.old) (O.contents out.new) count }
+    ensures quiet { IfErr result (PrintsNoLine (O.contents out.old) (O.contents out.new)) }
 {
-    let bytes = read_file(rt, script)?;
-    let events = match read_script(rt.alloc(), bytes.as_slice()) {
-        Ok(events) => events,
-        Err(fault) => return Err(fault_of(script, fault)),
-    };
-    let files = open_folder(rt, folder)?;
-    let (_, played) = play(files, events.as_slice(), out);
+    let events = events_of(rt, script)?;
+    let (_, played) = replay_files(rt, folder, Trusting, events.as_slice(), out)?;
     match played {
         Ok(0) => Ok(()),
         Ok(refused) => Err(Fault::Refused(refused)),
@@ -33,7 +41,45 @@ pub fn replay_script<'a, O: Write>(
     }
 }
 
-// What the program says of a script of this name that is not replayed.
+/// Runs the events over the files of this folder under any witness. Returns the witness, and the number of replies that were not ok.
+/// Under an honest witness the files are those of its story, before and after.
+pub fn replay_files<'a, W: Witness, O: Write>(
+    rt: &HostRuntime,
+    folder: &'a str,
+    witness: W,
+    events: &[Event],
+    out: &mut O,
+) -> Result<(W, Result<usize, TellFault>), Fault<'a>>
+    requires { All IsReplayed events.now }
+    ensures told { IfOk result (λ done. IfOk done.1 (λ refused.
+        AreTold events.now (LeavesBehind W.honest (W.story witness) (W.story done.0) events.now) refused
+        (O.contents out.old) (O.contents out.new))) }
+    ensures broken_off { IfOk result (λ done. IfErr done.1 (λ _.
+        BreaksOff W.honest (W.story witness) (W.story done.0) events.now (O.contents out.old)
+        (O.contents out.new))) }
+    ensures fault { IfOk result (λ done. IfErr done.1 IsOutputFault) }
+    ensures said { IfErr result (λ said. (why : WhyNotOpen) × (said ≡ fault_of_open folder.entry why)) }
+    ensures quiet { IfErr result (λ _. O.contents out.new ≡ O.contents out.old) }
+{
+    let files = open_folder(rt, folder, witness)?;
+    let (files, played) = play(files, events, out);
+    Ok((files.into_witness(), played))
+}
+
+// Reads the events of the script of this name. All of them can be replayed.
+fn events_of<'a, R: Files + AllocGlobal>(rt: &R, name: &'a str) -> Result<Vec<Event>, Fault<'a>>
+    ensures script { IfOk result (λ events. IsScriptOf events.items) }
+    ensures replayed { IfOk result (λ events. All IsReplayed events.items) }
+    ensures said { IfErr result (IsScriptSaid name.entry) }
+{
+    let bytes = read_file(rt, name)?;
+    match read_script(rt.alloc(), bytes.as_slice()) {
+        Ok(events) => Ok(events),
+        Err(fault) => Err(fault_of(name, fault)),
+    }
+}
+
+// The program's fault for a script of this name that cannot be replayed.
 fn fault_of<'a>(name: &'a str, fault: ReplayFault) -> Fault<'a>
     ensures { result ≡ fault_of_replay name.entry fault }
 {

@@ -1,53 +1,60 @@
-// The subcommand `salvage`: of a file that has no journal, what is readable becomes a file of its own.
+// The subcommand `salvage`: writes the readable part of a file that has no journal to a file of its own.
 
-ghost use Rattle.std.specs.Prelude.{◌<◌, ◌^◌, IfErr, length};
-ghost use Rattle.fitrec.specs.Faults.{IsNotWritten, IsSalvageSaid};
+ghost use Rattle.std.specs.Prelude.{◌≡◌, IfErr, OnOk, true};
+ghost use Rattle.fitrec.specs.Faults.{IsNotMade, IsSalvageSaid};
+ghost use Rattle.fitrec.specs.Told.{HasPlainForm, SavesFile, PrintsNothing};
 
-use crate::command::beside::{fault_of, make_beside, move_to, remove};
+use crate::command::beside::write_whole;
 use crate::command::input::{fault_of_told, read_file};
 use crate::fault::Fault;
-use fit_grammar::read_header_front;
-use fit_world::{SalvageFault, Salvaged, print_salvaged, salvage_bytes};
+use fit_world::{Salvage, salvage_bytes};
 use std::io::Write;
 
-/// Makes the file of the second name, or replaces it, by what is readable of the first, and prints how many bytes that is. Both may
-/// be one file. What begins with no header is refused before anything is made.
-pub fn salvage_file<'a, O: Write>(
+/// Writes the readable part of the file `name`, or with `plain` the plain form of that, to the file `to`, which may exist. Prints how
+/// many bytes were kept. If more bytes follow those looked at and the two of a checksum, a line on `err` gives their number. Both may
+/// be one file.
+pub fn salvage_file<'a, O: Write, E: Write>(
     rt: &HostRuntime,
     name: &'a str,
     to: &'a str,
+    all: bool,
+    plain: bool,
     out: &mut O,
+    err: &mut E,
 ) -> Result<(), Fault<'a>>
-    ensures { IfErr result (IsSalvageSaid name.entry to.entry) }
+    ensures said { IfErr result (IsSalvageSaid plain name.entry to.entry) }
+    ensures saved { OnOk result (SavesFile all plain (O.contents out.old) (O.contents out.new)) }
+    ensures quiet { IfErr result (PrintsNothing (O.contents out.old) (O.contents out.new)) }
 {
     let bytes = read_file(rt, name)?;
-    match read_header_front(bytes.as_slice()) {
-        Ok(_) => match print_salvaged(replace(rt, to, bytes.as_slice())?, out) {
-            Ok(()) => Ok(()),
-            Err(fault) => Err(fault_of_told(name, fault)),
-        },
-        Err(fault) => Err(Fault::File(fault)),
+    let salvage = match salvage_bytes(bytes.as_slice(), all) {
+        Ok(salvage) => salvage,
+        Err(fault) => return Err(Fault::File(fault)),
+    };
+    write_salvage(rt, name, to, plain, &salvage)?;
+    let _ = salvage.print_left(err);
+    match salvage.print(out) {
+        Ok(()) => Ok(()),
+        Err(fault) => Err(fault_of_told(name, fault)),
     }
 }
 
-// Writes what is readable of the bytes beside the file of this name, and moves it to its place. Where that fails, the file of this
-// name is as it was, and nothing is beside it.
-fn replace<'a>(rt: &HostRuntime, name: &'a str, bytes: &[u8]) -> Result<Salvaged, Fault<'a>>
-    requires { length bytes.now < 2 ^ 32 }
-    ensures { IfErr result (IsNotWritten name.entry) }
+// Writes the readable part of the file `name`, or its plain form, to the file `to`.
+fn write_salvage<'a>(
+    rt: &HostRuntime,
+    name: &'a str,
+    to: &'a str,
+    plain: bool,
+    salvage: &Salvage<'_>,
+) -> Result<(), Fault<'a>>
+    ensures said { IfErr result (IsNotMade plain to.entry) }
+    ensures form { OnOk result (plain ≡ true → HasPlainForm salvage.now) }
 {
-    let (other, mut file) = match make_beside(rt, name) {
-        Ok(made) => made,
-        Err(error) => return Err(fault_of(name, error)),
-    };
-    let done = match salvage_bytes(bytes, &mut file) {
-        Ok(salvaged) => match move_to(rt, file, other.as_str(), name) {
-            Ok(()) => return Ok(salvaged),
-            Err(error) => fault_of(name, error),
-        },
-        Err(SalvageFault::File(fault)) => Fault::File(fault),
-        Err(SalvageFault::Output) => Fault::Write(name),
-    };
-    remove(rt, other.as_str());
-    Err(done)
+    if !plain {
+        return write_whole(rt, to, salvage);
+    }
+    match salvage.plain(rt.alloc()) {
+        Ok(file) => write_whole(rt, to, &file),
+        Err(fault) => Err(fault_of_told(name, fault)),
+    }
 }

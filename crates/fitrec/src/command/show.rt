@@ -1,4 +1,8 @@
-// The subcommand `show`: the text of a file.
+// The subcommand `show`: prints the text of a file.
+
+ghost use Rattle.fit_world.specs.Printed.Shown.{ShowsBytes};
+ghost use Rattle.fitrec.specs.Faults.{IsTellFault};
+ghost use Rattle.fitrec.specs.Told.{Tells};
 
 use crate::command::input::{MOST_BYTES, fault_of_told, open_file};
 use crate::fault::Fault;
@@ -6,13 +10,16 @@ use fit_world::show_input;
 use std::io::Write;
 use std::rt::Files;
 
-/// Shows the file of this name, under `utc` with times as dates.
+/// Prints the text of the file of this name. With `utc`, times are dates.
 pub fn show_file<'a, R: Files + AllocGlobal, O: Write>(
     rt: &R,
     name: &'a str,
     utc: bool,
     out: &mut O,
-) -> Result<(), Fault<'a>> {
+) -> Result<(), Fault<'a>>
+    ensures { Tells name.entry (O.contents out.old) (O.contents out.new) (IsTellFault name.entry)
+        (ShowsBytes utc (O.contents out.old) (O.contents out.new)) result }
+{
     let mut file = open_file(rt, name)?;
     match show_input(rt.alloc(), &mut file, MOST_BYTES, utc, out) {
         Ok(()) => Ok(()),

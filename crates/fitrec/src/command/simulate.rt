@@ -1,6 +1,8 @@
-// The subcommand `simulate`: the events of a script, over a disk in memory.
+// The subcommand `simulate`: runs the events of a script over a disk in memory.
 
+ghost use Rattle.fit_world.specs.Printed.Simulation.{Simulates};
 ghost use Rattle.fitrec.specs.Faults.{IsSimulateFault};
+ghost use Rattle.fitrec.specs.Told.{Tells};
 
 use crate::command::input::read_file;
 use crate::fault::Fault;
@@ -8,14 +10,17 @@ use fit_world::{SimulateFault, simulate};
 use std::io::Write;
 use std::rt::Files;
 
-/// Runs the script of this name over a disk in memory, of which a power cut leaves what the choice bytes say, and prints a line
-/// for each event.
+/// Runs the script of this name over a disk in memory, and prints a line for each event. The choice bytes decide what a power cut
+/// leaves.
 pub fn simulate_script<'a, R: Files + AllocGlobal, O: Write>(
     rt: &R,
     name: &'a str,
     choices: &[u8],
     out: &mut O,
-) -> Result<(), Fault<'a>> {
+) -> Result<(), Fault<'a>>
+    ensures { Tells name.entry (O.contents out.old) (O.contents out.new) (IsSimulateFault name.entry)
+        (Simulates (O.contents out.old) (O.contents out.new)) result }
+{
     let bytes = read_file(rt, name)?;
     match simulate(rt.alloc(), bytes.as_slice(), choices, out) {
         Ok(()) => Ok(()),
@@ -23,7 +28,7 @@ pub fn simulate_script<'a, R: Files + AllocGlobal, O: Write>(
     }
 }
 
-// What the program says of a script of this name that is not simulated, or not to the end of its lines.
+// The program's fault for a script of this name that was not simulated, or not all its lines were printed.
 fn fault_of<'a>(name: &'a str, fault: SimulateFault) -> Fault<'a>
     ensures { IsSimulateFault name.entry fault result }
 {

@@ -15,7 +15,7 @@ add-requires g c =
       omega (arith, so_far.2, c.loop-entry-test.true, c.requires),
     )
 
--- the list with an entry more
+-- the list with one more entry
 more : (totals : TotalsState) (list : List Recorded) (e : Entry) (n : ℕ) → AreTotals totals (list ++ Added e ∷ []) → length list ≤ n + 1
     → (x : List Recorded) × AreTotals totals x × (length x ≤ n + 1 + 1)
 more totals list e n are few = (list ++ Added e ∷ [], are, omega (arith, few, length_push list (Added e)))

@@ -1,4 +1,4 @@
-// Developer fields of a definition and of its messages, at every window.
+// The developer fields of a definition and of its messages, in every window.
 
 use super::RECORD;
 use crate::equality::equal;
@@ -30,7 +30,7 @@ fn they_stand_behind_the_fields(rt: HostRuntime) {
     assert_developer(&rt, &message, &[(0, 0, &[0xAB, 0xCD])]);
 }
 
-// Under both bits that are reserved elsewhere, and the high byte first.
+// The definition has both bits that are reserved in other headers, and the high byte first.
 #[test]
 fn some_have_no_byte(rt: HostRuntime) {
     let mut table = Table::new();
@@ -95,7 +95,7 @@ fn a_later_definition_has_none(rt: HostRuntime) {
     assert_developer(&rt, &message, &[]);
 }
 
-// Six bytes until the number of fields is there, then one of the number of developer fields, then all.
+// Six bytes until the number of fields is known, then the bytes up to the number of developer fields, then all.
 #[test]
 fn as_long_as_the_bytes_say(rt: HostRuntime) {
     let mut table = Table::new();
@@ -112,6 +112,6 @@ fn as_long_as_the_bytes_say(rt: HostRuntime) {
         assert_eq!(rt; told, Some(least), "{len}");
     }
     define(&rt, &definition, &mut table);
-    // Its first byte, a field of one byte, and developer fields of two and one.
+    // Its first byte, a field of one byte, and developer fields of two bytes and one.
     equal(&rt, least_length(&[0x00], &table).ok(), Some(5));
 }

@@ -1,4 +1,4 @@
-// Definitions and messages with developer fields that are cut short, or pass the end of the data.
+// Definitions and messages with developer fields that are cut short or pass the end of the data.
 
 use super::{FILE, RECORD};
 use crate::equality::equal;
@@ -8,8 +8,8 @@ use fit_grammar::FaultKind;
 use std::alloc::AllocError;
 use std::test::*;
 
-// How many bytes of a definition of sixteen show that it passes the end of data of this size: its first, those up to the number of
-// its fields, those up to that of its developer fields.
+// How many bytes of a definition of sixteen show that it passes the end of data of this size: its first byte, the bytes up to the
+// number of its fields, or those up to the number of its developer fields. 17 if it fits.
 fn shown_by(size: u8) -> usize {
     if size < 6 {
         1
@@ -56,7 +56,7 @@ fn refused_with_the_byte_that_shows_it(rt: HostRuntime) -> Result<(), AllocError
     Ok(())
 }
 
-// A message of four bytes behind its definition: the data has room for three of them.
+// A message of four bytes after its definition. The data has room for three of them.
 #[test]
 fn a_message_passes_the_end(rt: HostRuntime) -> Result<(), AllocError> {
     let mut records = RECORD.to_vec(rt.alloc())?;

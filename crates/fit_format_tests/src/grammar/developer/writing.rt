@@ -1,4 +1,4 @@
-// Definitions and files with developer fields, as they are written.
+// How definitions and files with developer fields are written.
 
 ghost use Rattle.std.specs.Prelude.{◌≡◌};
 
@@ -13,7 +13,7 @@ use fit_grammar::{
 };
 use std::test::Fail;
 
-// A definition that announces developer fields and has none, and its message; and the same file as it is written.
+// A definition that announces developer fields and has none, with its message; and the same file as it is written again.
 const ANNOUNCED: [u8; 28] = [
     0x0E, 0x10, 0x64, 0x00, 0x0C, 0x00, 0x00, 0x00, 0x2E, 0x46, 0x49, 0x54, 0x21, 0xBB, 0x60, 0x00,
     0x00, 0x14, 0x00, 0x01, 0x03, 0x01, 0x02, 0x00, 0x00, 0x64, 0x52, 0xE0,
@@ -24,7 +24,7 @@ const UNANNOUNCED: [u8; 27] = [
     0x00, 0x14, 0x00, 0x01, 0x03, 0x01, 0x02, 0x00, 0x64, 0xB1, 0x38,
 ];
 
-// A record with a field of one byte, and these developer fields.
+// A definition of a record with a field of one byte and these developer fields.
 fn record(developer: ArrayVec<DeveloperFieldDefinition, 255>) -> Definition
     ensures local { result.local ≡ 0 }
     ensures developer { result.developer ≡ developer }
@@ -44,7 +44,7 @@ fn record(developer: ArrayVec<DeveloperFieldDefinition, 255>) -> Definition
     }
 }
 
-// One of two bytes, of number 0 and index 0.
+// One developer field of two bytes, with number 0 and index 0.
 fn one() -> ArrayVec<DeveloperFieldDefinition, 255> {
     let mut developer = ArrayVec::new();
     developer.push(DeveloperFieldDefinition {
@@ -55,7 +55,7 @@ fn one() -> ArrayVec<DeveloperFieldDefinition, 255> {
     developer
 }
 
-// Nine bytes for the definition and its field, and four more where there is a developer field.
+// Nine bytes for the definition and its field, and four more if it has a developer field.
 #[test]
 fn a_definition_is_written(rt: HostRuntime) {
     let definition = record(one());
@@ -75,7 +75,7 @@ fn a_definition_is_written(rt: HostRuntime) {
 fn a_file_is_built(rt: HostRuntime) -> Result<(), Fail> {
     let mut file = empty_file(rt.alloc());
     file.define(&record(one()))?;
-    // The bytes of the field alone, too few, and too many.
+    // The bytes of the field alone, one byte too few, and one too many.
     for content in [
         [0x64].as_slice(),
         [0x64, 0xAB].as_slice(),
@@ -96,7 +96,7 @@ fn without_one_nothing_is_announced(rt: HostRuntime) -> Result<(), Fail> {
     file.data(0, None, &[0x64])?;
     let bytes = written(rt.alloc(), &file)?;
     equal(&rt, bytes.as_slice(), UNANNOUNCED.as_slice());
-    // Nor where it was.
+    // Nor if the file that was read announced them.
     let read = decode_file(rt.alloc(), &ANNOUNCED)?;
     equal(&rt, read.data_size(), 11);
     let bytes = written(rt.alloc(), &read)?;

@@ -4,4 +4,4 @@ use Rattle.fit_grammar.proofs.item.least_length.Goals as goal
 
 pub returns-clause-holds : goal.returns-clause-holds
 returns-clause-holds c i rest =
-    answer_holds (definition_in c.args.table.now) i c.args.window.now rest c.length_at.result c.length_at.ensures
+    answer_holds (definition_in c.args.table.now) i c.args.window.now rest c.length_at.result c.length_at.ensures.answer

@@ -5,7 +5,7 @@ pub returns-then-window-used : goal.returns-then-window-used
 returns-then-window-used c = λ f.
     record {
       says = begun_definition f c.args.window.now c.requires.head.0 c.args.announced c.requires.begun c.requires.head.1
-          (rw (← c.definition_length-used.ensures) c.if-window-used.true);
+          (rw (← c.definition_length-used.ensures.length) c.if-window-used.true);
       lent = tt;
       local = tt;
     }
@@ -13,4 +13,4 @@ returns-then-window-used c = λ f.
 pub returns : goal.returns
 returns c = λ f.
     next_is f c.args.window.now c.requires.head.0 c.definition_length-used.result c.args.announced c.new-message.result
-    c.requires.head.1 c.requires.begun c.definition_length-used.ensures c.if-window-used.false c.new-message.ensures
+    c.requires.head.1 c.requires.begun c.definition_length-used.ensures.length c.if-window-used.false c.new-message.ensures

@@ -1,6 +1,6 @@
 // The table of digits.
 
-// The three digits of each number below 1000, one after another. Three bytes more, so that four can be copied from any of them.
+// The three digits of each number below 1000, one after another, and three bytes more: four bytes can be copied from any place of a digit.
 pub(super) static DIGITS: [u8; 3003] = *b"\
     000001002003004005006007008009010011012013014015016017018019020021022023024025026027028029030031\
     032033034035036037038039040041042043044045046047048049050051052053054055056057058059060061062063\

@@ -1,8 +1,8 @@
-use Rattle.fit_world.proofs.Told.PlainFile.{tells_plain}
+use Rattle.fit_world.specs.Printed.PlainFile.{PlainsTo}
+use Rattle.fit_world.proofs.Told.Inputs.{told_of}
 use Rattle.fit_world.proofs.plain.plain_input.Goals as goal
 
-pub returns-in-Ok-clause-plain : goal.returns-in-Ok-clause-plain
-returns-in-Ok-clause-plain g c =
-    let read = c.in-Ok.ensures in
-    let wrote = c.write_counted.ensures in
-    tells_plain c.args.most _ _ _ _ c.in-Ok.plain c.write_counted.result read.0 read.1 read.2 wrote.file wrote.written wrote.fault wrote.count
+pub returns : goal.returns
+returns g c =
+    let read = c.in_ok-file.ensures in
+    told_of PlainsTo (λ bytes why told. told) c.args.most _ _ read.0 c.plain_of.result read.1 (c.plain_of.ensures read.0 read.2.0 read.2.1)

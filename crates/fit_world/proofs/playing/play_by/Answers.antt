@@ -1,6 +1,6 @@
 use Rattle.std.proofs.Common.{[], ◌∷◌, ◌++◌, ◌+◌, drop, sym, ◌∙◌, arith}
 use Rattle.fit_world.proofs.Histories.Played.{not_begun, rode_on, all_left, some_left}
-use Rattle.fit_world.proofs.Told.Replayed.{none_yet, one_ok, one_refused, at_the_end}
+use Rattle.fit_world.proofs.Told.Replayed.{none_yet, one_ok, one_refused, at_the_end, cut_off}
 use Rattle.fit_world.proofs.playing.play_by.Goals as goal
 use Rattle.fit_world.proofs.playing.play_by.Goals.{then-not-is_ok, else-not-is_ok}
 
@@ -17,7 +17,7 @@ pub loop-event-preserved : goal.loop-event-preserved
 loop-event-preserved g c =
     let known = c.loop-event.invariant in
     let ran = c.ask-next.ensures in
-    let line = c.in_default.ensures.line in
+    let put = c.in_default.ensures.line in
     let said = known.so_far.0 in
     let rode =
     rode_on g.D.Disk.honest g.D.Disk.story (g.D.Disk.story c.args.disk) c.args.events.now c.loop-event.event-index _ said c.loop-event.ride
@@ -29,7 +29,7 @@ loop-event-preserved g c =
         so_far = rw w.refused-is (
           said ++ c.ask-next.result.1 ∷ [],
           one_refused c.args.events.now c.loop-event.event-index _ _ _ said _ _ _ _ _ c.loop-event-test.true known.so_far.1 ran.reply ran.riding
-              (sym c.is_ok.ensures ∙ w.if-not-is_ok.true) line,
+              (sym c.is_ok.ensures ∙ w.if-not-is_ok.true) (put.same, put.all),
           rode,
         );
         waits = c.in_default.ensures.none;
@@ -40,15 +40,12 @@ loop-event-preserved g c =
         so_far = rw w.refused-is (
           said ++ c.ask-next.result.1 ∷ [],
           one_ok c.args.events.now c.loop-event.event-index _ _ _ said _ _ _ _ _ c.loop-event-test.true known.so_far.1 ran.reply ran.riding
-              (sym c.is_ok.ensures ∙ w.if-not-is_ok.false) line,
+              (sym c.is_ok.ensures ∙ w.if-not-is_ok.false) (put.same, put.all),
           rode,
         );
         waits = c.in_default.ensures.none;
       }
     ]
-
-pub returns-clause-same : goal.returns-clause-same
-returns-clause-same g c = c.loop-event.invariant.so_far.1.put.0
 
 pub returns-clause-told : goal.returns-clause-told
 returns-clause-told g c =
@@ -60,9 +57,15 @@ returns-clause-told g c =
 
 pub returns-in-Err-clause-broken_off : goal.returns-in-Err-clause-broken_off
 returns-in-Err-clause-broken_off g c =
+    let honest = g.D.Disk.honest in
+    let story = g.D.Disk.story in
+    let events = c.args.events.now in
+    let i = c.loop-event.event-index in
     let so_far = c.loop-event.invariant.so_far in
-    some_left g.D.Disk.honest g.D.Disk.story (g.D.Disk.story c.args.disk) _ c.args.events.now (drop (c.loop-event.event-index + 1) c.args.events.now)
-    (so_far.0 ++ c.ask-next.result.1 ∷ []) c.ask-next.result.0
-    (rode_on g.D.Disk.honest g.D.Disk.story (g.D.Disk.story c.args.disk) c.args.events.now c.loop-event.event-index _ so_far.0 c.loop-event.ride
-    c.ask-next.result.0 c.ask-next.result.1 c.loop-event-test.true so_far.2 c.ask-next.ensures.step)
-    c.into_disk.ensures.rests
+    let said = so_far.0 ++ c.ask-next.result.1 ∷ [] in
+    cut_off honest _ _ events i _ _ so_far.0 c.ask-next.result.1 _ _ _ _ c.loop-event-test.true c.requires.waits
+    c.loop-event.invariant.waits so_far.1 c.ask-next.ensures.reply c.in-Err.ensures.line.beginning
+    (some_left honest story (story c.args.disk) _ events (drop (i + 1) events) said c.ask-next.result.0
+    (rode_on honest story (story c.args.disk) events i _ so_far.0 c.loop-event.ride c.ask-next.result.0 c.ask-next.result.1
+    c.loop-event-test.true so_far.2 c.ask-next.ensures.step)
+    c.into_disk.ensures.rests)

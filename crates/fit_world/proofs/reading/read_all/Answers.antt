@@ -10,7 +10,7 @@ loop-taken-init g c =
 
 pub loop-taken-preserved : goal.loop-taken-preserved
 loop-taken-preserved g c =
-    let P : List ℕ → Type 0 = λ t. Consumes (g.T.Read.remaining c.args.from.now) (g.T.Read.remaining c.read.new.self) t in (
+    let P : List ℕ → Type 0 = λ t. Consumes (g.T.Read.remaining c.args.from.now) (g.T.Read.remaining c.read_piece.new.from) t in (
       subst P (sym c.in-Ok-extend_from_slice.ensures.items)
           (consumes_more _ _ _ _ _ c.loop-taken.invariant.0 c.in-Ok.ensures.bytes.0),
       omega (arith, c.in-Ok-extend_from_slice.ensures.len, c.len.ensures, length-take {A = ℕ}),

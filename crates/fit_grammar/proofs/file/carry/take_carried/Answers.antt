@@ -8,7 +8,7 @@ use Rattle.fit_grammar.specs.Calls.Pieces.{IsShownBy}
 use Rattle.fit_grammar.specs.Format.Records.{in_force}
 use Rattle.fit_grammar.specs.Private.Decoding.{IsItemFault}
 use Rattle.fit_grammar.specs.Private.Feeding.{CarriesOn, TakesBegun, fault_in}
-use Rattle.fit_grammar.proofs.Pieces.Standing.{stands_fits}
+use Rattle.fit_grammar.proofs.Pieces.Standing.{stands_fits, stands_noted}
 use Rattle.fit_grammar.proofs.Pieces.Carried.{Carries, carries_on, carried_fault, memory_shown}
 use Rattle.fit_grammar.proofs.file.carry.take_carried.Goals as goal
 
@@ -22,11 +22,12 @@ take_begun-requires c =
     record {
       fits = stands_fits c.requires.stands.0 (r.carry.items ++ c.args.bytes.now) r c.requires.stands.1;
       more = c.requires.more;
+      noted = stands_noted c.requires.stands.0 (r.carry.items ++ c.args.bytes.now) r c.requires.stands.1;
       had = omega (arith, had, ap length carried, length-append r.carry.items (take c.min-own.result c.args.bytes.now));
       begun = rw front c.requires.begun;
     }
 
--- the reading with what was added to its carry
+-- the reading with bytes added to its carry
 abbrev mid : goal.After-take_begun → Reading
 mid c = record c.args.reading.now { carry = c.keep_begun.new.carry }
 
@@ -36,7 +37,7 @@ carries c =
     let r = c.args.reading.now in
     let had : c.len-had.result ≡ length r.carry.items = omega (arith, c.len-had.ensures, r.carry.ok.0) in
     record {
-      stays = record { file = refl; at = refl; end = refl; checksum = refl };
+      stays = record { file = refl; places = refl; at = refl; end = refl; checksum = refl };
       adds = record {
         own_is = omega (arith, c.min-own.ensures, c.saturating_sub.ensures, had);
         added_is = c.in-Ok.ensures.ok;
@@ -73,4 +74,5 @@ pub returns-in-Err-clause-err : goal.returns-in-Err-clause-err
 returns-in-Err-clause-err c = λ b s.
     let old = c.args.reading.now in
     let new = record old { carry = c.keep_begun.new.carry } in
-    memory_shown b (old.carry.items ++ c.args.bytes.now) old new c.in-Err.kind s c.requires.more c.in-Err.ensures.err refl
+    memory_shown b (old.carry.items ++ c.args.bytes.now) old new c.in-Err.kind s c.requires.more
+    (omega (arith, c.requires.some, length-append old.carry.items c.args.bytes.now)) c.in-Err.ensures.err.0 refl

@@ -12,7 +12,7 @@ memory_by : (b : List ℕ) (v : FileValue) (fault : FileFault) → FileOf b v �
 memory_by b v fault file (inl refused) = absurd (file_not_refused b v fault.kind fault.place file refused.1)
 memory_by b v fault file (inr memory) = memory.0
 
--- of a file only want of memory is told
+-- for a file, only lack of memory is reported
 memory_alone : (b : List ℕ) (v : FileValue) (r : Result FileValue FileFault) → FileOf b v → IfErr r (IsFaultOf b)
     → IfErr r (λ fault. fault.kind ≡ Memory)
 memory_alone b v (Ok file) is h = tt

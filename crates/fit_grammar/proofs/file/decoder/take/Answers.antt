@@ -1,5 +1,9 @@
-use Rattle.std.proofs.Common.{◌++◌, List, ℕ, length, take, ap, subst, sym, ◌∙◌}
-use Rattle.fit_grammar.specs.Calls.Pieces.{IsShownBy}
+use Rattle.std.proofs.Common.{◌≡◌, ◌≤◌, ◌++◌, List, ℕ, length, take, ap, subst, sym, ◌∙◌}
+use Rattle.std.proofs.lemmas.Result.{IfErr-weaker}
+use Rattle.fit_grammar.specs.declared.file.fault.FaultKind.TheVariants.{Memory}
+use Rattle.fit_grammar.specs.Calls.Pieces.{IsShownBy, NoItemEndsPast}
+use Rattle.fit_grammar.specs.Private.Feeding.{ReadsOn}
+use Rattle.fit_grammar.proofs.Pieces.Asked.{no_item_past}
 use Rattle.fit_grammar.proofs.Decoding.Longer.{shown_longer}
 use Rattle.fit_grammar.proofs.file.decoder.take.Goals as goal
 
@@ -18,3 +22,10 @@ returns-in-Err-clause-refused c = λ fed was.
 pub returns-in-Refused-clause-refused : goal.returns-in-Refused-clause-refused
 returns-in-Refused-clause-refused c = λ fed was.
     shown_longer fed c.args.bytes.now c.in-Refused.fault (rw c.in-Refused.is at was)
+
+pub returns-in-Records-clause-asked : goal.returns-in-Records-clause-asked
+returns-in-Records-clause-asked c = λ fed was is.
+    let r = c.in-Records.reading in
+    let reads : ReadsOn fed r = rw c.in-Records.is at was in
+    IfErr-weaker c.read_on.result (λ fault. fault.kind ≡ Memory → r.at ≤ fault.place) (λ fault. fault.kind ≡ Memory → NoItemEndsPast fed fault.place)
+    (λ fault le memory. no_item_past fed r fault.place reads (le memory)) c.read_on.ensures.later

@@ -6,7 +6,7 @@ use Rattle.fit_grammar.proofs.Decoding.HeaderRefused.{Passes}
 use Rattle.fit_grammar.proofs.Decoding.HeaderRead.{empty_refused, first_refused, cut_refused, check_refused, header_byte, header_range, two_read, four_read, begins_first, begins_major, begins_long}
 use Rattle.fit_grammar.proofs.file.header.read_header_front.Goals as goal
 
--- what has passed up to this many bytes
+-- the checks that have passed with up to this many bytes
 passes_first : (b : List ℕ) (count : ℕ) → (slice_index b 0 ≡ 12) ⊎ (slice_index b 0 ≡ 14) → count ≤ 2 → Passes b count
 passes_first b count first le = record {
   first = first;
@@ -103,7 +103,7 @@ returns-then-not-is_marked-clause-none c = λ frame size h. false≢true (c.if-n
 pub returns-then-len-header_size-clause-none : goal.returns-then-len-header_size-clause-none
 returns-then-len-header_size-clause-none c = λ frame size h. omega (arith, c.if-len-header_size.true, h.within, h.header_size)
 
--- ---- and where each check passes, with one
+-- ---- and if each check passes, with one
 
 pub returns-clause-header : goal.returns-clause-header
 returns-clause-header c =

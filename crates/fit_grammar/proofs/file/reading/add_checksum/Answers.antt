@@ -11,4 +11,4 @@ returns-clause-stands c = λ fed reads.
     let had : c.len.result ≡ length old.carry.items = omega (arith, c.len.ensures, old.carry.ok.0) in
     let goes_on = c.add.ensures ∙ ap (λ (n : ℕ). crc_from old.checksum (take n bytes)) c.min.ensures in
     stands_longer fed (old.carry.items ++ old.closing.items) bytes old new c.saturating_sub-left.result reads.stands
-    (c.saturating_sub-left.ensures ∙ left_is fed old c.len.result reads had) refl refl refl goes_on
+    (c.saturating_sub-left.ensures ∙ left_is fed old c.len.result reads had) refl refl refl refl goes_on

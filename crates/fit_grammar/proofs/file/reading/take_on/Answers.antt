@@ -6,4 +6,4 @@ returns-in-Ok-None-clause-ok c = λ b s.
     let told = rw c.in-Ok-None.field-0-is at c.in-Ok-None.ensures in
     let carries = told.ok b s in
     carried_reads b c.take_carried.new.reading carries.0 carries.1 carries.2
-    (rw told.same.closing c.requires.closing)
+    (rw told.same.closing c.requires.closing) told.short

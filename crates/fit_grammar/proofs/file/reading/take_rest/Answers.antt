@@ -7,4 +7,5 @@ keep_rest-requires c =
     record {
       stands = (c.requires.stands.0, rw take_rest taken.1);
       none = rw c.in-Ok.ensures.same.1 c.requires.none;
+      short = rw take_rest c.in-Ok.ensures.short;
     }

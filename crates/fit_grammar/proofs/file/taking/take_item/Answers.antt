@@ -1,12 +1,16 @@
-use Rattle.std.proofs.Common.{◌-◌, take, drop, ◌∙◌, arith}
+use Rattle.std.proofs.Common.{rules, ◌≡◌, ℕ, ◌+◌, ◌-◌, List, length, take, drop, refl, ap, ◌∙◌, arith}
+use Rattle.std.proofs.lemmas.Bool.{eq-eqb}
 use Rattle.std.proofs.lemmas.List.{length-take-le, length-take}
-use Rattle.fit_grammar.specs.Format.Item.{Defines, SpellsDefinition}
+use Rattle.std.proofs.lemmas.Grind.{common_steps}
+use Rattle.fit_grammar.specs.Format.Item.{Defines, Data, SpellsDefinition}
 use Rattle.fit_grammar.specs.Format.Records.{in_force}
+use Rattle.fit_grammar.specs.Calls.Step.{ItemAtFront}
+use Rattle.fit_grammar.specs.Private.Feeding.{noted}
 use Rattle.fit_grammar.proofs.OneItem.Least.{definition_whole}
 use Rattle.fit_grammar.proofs.Decoding.Reached.{spelled_size}
 use Rattle.fit_grammar.proofs.file.taking.take_item.Goals as goal
 
-spelled : (c : goal.After-definition-1) → SpellsDefinition c.read-definition.result (take c.in_ok-used.used c.args.window.now)
+spelled : (c : goal.After-definition-in-Definition-1) → SpellsDefinition c.read-definition.result (take c.in_ok-used.used c.args.window.now)
 spelled c =
     let whole = c.in_ok-used.ensures.whole in
     definition_whole (in_force c.args.file.now.items) c.args.window.now c.in_ok-used.used c.in-Definition.field-0 c.in-Definition.field-1
@@ -33,14 +37,43 @@ pub returns-in_ok-push_definition-in-Definition-clause-taken : goal.returns-in_o
 returns-in_ok-push_definition-in-Definition-clause-taken c =
     let whole = c.in_ok-used.ensures.whole in
     record {
-      item = Defines c.read-definition.result;
-      at_front = record {
-        within = whole.there;
-        spelled = definition_whole (in_force c.args.file.now.items)
-            c.args.window.now c.in_ok-used.used c.in-Definition.field-0 c.in-Definition.field-1 c.read-definition.result whole.least
-            whole.there c.in-Definition.ensures (c.read-definition.ensures ∙ c.new.ensures);
-        defined = tt;
+      taken = record {
+        item = Defines c.read-definition.result;
+        at_front = record {
+          within = whole.there;
+          spelled = definition_whole (in_force c.args.file.now.items)
+              c.args.window.now c.in_ok-used.used c.in-Definition.field-0 c.in-Definition.field-1 c.read-definition.result whole.least
+              whole.there c.in-Definition.ensures (c.read-definition.ensures ∙ c.new.ensures);
+          defined = tt;
+        };
+        inside = whole.inside;
+        added = c.in_ok-push_definition-in-Definition.ensures.ok;
       };
-      inside = whole.inside;
-      added = c.in_ok-push_definition-in-Definition.ensures.ok;
+      noted_is = c.in_ok-note-in-Definition.ensures
+          ∙ ap (λ (n : ℕ). noted c.args.places.now c.args.at n c.in_ok-used.used) c.size.ensures.size;
+    }
+
+-- a data message had as many bytes as it is written in
+not_noted : (places : List ℕ) (at written used : ℕ) → used ≡ written → places ≡ noted places at written used
+not_noted places at written used same = rw (eq-eqb used written same) refl
+
+data_there : (c : goal.In_ok-push_data-in-Data) → ItemAtFront (in_force c.args.file.now.items) c.args.window.now
+    (Data c.in-Data.local c.in-Data.offset (take (c.in_ok-used.used - 1) (drop 1 c.args.window.now))) c.in_ok-used.used
+data_there c = first_of (search rules, grind (arith, common_steps))
+
+pub returns-in_ok-push_data-in-Data-clause-taken : goal.returns-in_ok-push_data-in-Data-clause-taken
+returns-in_ok-push_data-in-Data-clause-taken c =
+    let used = c.in_ok-used.used in
+    let content = take (used - 1) (drop 1 c.args.window.now) in
+    let there = data_there c in
+    let size : used ≡ 1 + length content =
+    omega (arith, there.within, length-take-le used c.args.window.now there.within, ap length there.spelled.laid_out) in
+    record {
+      taken = record {
+        item = Data c.in-Data.local c.in-Data.offset content;
+        at_front = there;
+        inside = c.in_ok-used.ensures.whole.inside;
+        added = c.in_ok-push_data-in-Data.ensures.ok;
+      };
+      noted_is = not_noted c.args.places.now c.args.at (1 + length content) used size;
     }

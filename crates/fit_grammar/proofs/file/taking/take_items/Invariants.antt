@@ -6,6 +6,7 @@ abbrev pub invariant-loop-reading : goal.invariant-loop-reading
 invariant-loop-reading l = record {
   same : GoesOnFrom l.initial.reading l.reading;
   carry : l.reading.carry ≡ l.initial.reading.carry;
+  later : l.initial.reading.at ≤ l.reading.at;
   within : l.used ≤ length l.bytes;
   closing : l.reading.at < l.reading.end → l.reading.closing.items ≡ [];
   stands : (b : List ℕ) → StandsBefore b l.initial.reading (l.initial.reading.closing.items ++ l.bytes)

@@ -5,7 +5,7 @@ use Rattle.fit_grammar.proofs.file.taking.whole_length.Goals as goal
 
 pub returns-then-least-window-clause-shown : goal.returns-then-least-window-clause-shown
 returns-then-least-window-clause-shown c =
-    let least = sym c.least_length.ensures ∙ c.in-Ok.is in (
+    let least = sym c.least_length.ensures.answer ∙ c.in-Ok.is in (
       c.in-Ok.least,
       least,
       c.if-least-left.false,

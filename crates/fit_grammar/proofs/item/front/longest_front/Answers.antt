@@ -43,7 +43,7 @@ at_front f window own rest item e spelled defined = record {
   defined = defined;
 }
 
--- so a row that goes on from the passed one has no item more
+-- so a row that continues the passed one has no more items
 no_further : (f : ℕ → Option Definition) (bytes : List ℕ) (front n : ℕ) (others more : List Item) (p : HasPassed f bytes front)
     → Ends f (drop front bytes) → n ≤ length bytes
     → GoesOn [] (take front bytes) p.items (drop front bytes) (take n bytes) others (drop n bytes) more → n ≤ front

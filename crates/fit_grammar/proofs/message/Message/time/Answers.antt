@@ -15,8 +15,8 @@ four_bytes (a ∷ b ∷ c ∷ d ∷ e ∷ bytes) long = absurd (omega arith)
 long_by : (time : Option (List ℕ)) (bytes : List ℕ) → time ≡ Some bytes → IfSome time (λ b. length b ≡ 4) → length bytes ≡ 4
 long_by time bytes is h = rw is at h
 
-pub returns-in-Some : goal.returns-in-Some
-returns-in-Some c =
+pub returns-in-Some-clause-time : goal.returns-in-Some-clause-time
+returns-in-Some-clause-time c =
     let long = long_by c.self.inside.time c.in-Some.bytes c.in-Some.is c.self.invariant.1 in
     let value : c.from_le_bytes.result ≡ low_first c.in-Some.bytes = c.from_le_bytes.ensures ∙ four_bytes c.in-Some.bytes long in
     rw (← c.self.view_is, c.in-Some.is, value) refl

@@ -3,6 +3,6 @@ use Rattle.fit_disk.specs.Memory.{memory_story}
 use Rattle.fit_recorder.specs.Calls.Recorder.{GoesOn}
 use Rattle.fit_ride_tests.proofs.recorder.paging.hand_until.Given as goal
 
--- the recorder goes on
+-- the recorder can continue
 abbrev pub invariant-loop-number : goal.invariant-loop-number
 invariant-loop-number l = GoesOn true memory_story l.recorder

@@ -16,7 +16,7 @@ none_at : (b : Bool) (n : ℕ) → (b ≡ true → ⊥) → None ≡ (if b then 
 none_at true n bad = absurd (bad refl)
 none_at false n bad = refl
 
--- a word of too great a number
+-- a word whose number is too great
 no_number : (most : ℕ) (word : List ℕ) → (digits_value 10 word ≤ most → ⊥) → None ≡ number most word
 no_number most word bad =
     none_at _ (digits_value 10 word) (λ e. bad (leb-true _ _ (and_parts (is_numeral word) _ e).1))
@@ -34,7 +34,7 @@ digits_more word i within digit digits =
 sub_back : (byte value : ℕ) → value + 48 ≡ byte → byte - 48 ≡ value
 sub_back byte value e = omega arith
 
--- what an ASCII digit stands for
+-- the value of an ASCII digit
 value_at : (byte : ℕ) → is_ascii_digit byte ≡ true → byte - 48 ≡ digit_value byte
 value_at byte digit =
     let range = and_parts (leb 48 byte) (leb byte 57) digit in

@@ -1,17 +1,13 @@
-use Rattle.std.proofs.Common.{◌≡◌, inr, ◌<◌, ◌+◌, ◌++◌, [], ℕ, All, List, map, take, length, get_or, Bor, Option, None, true, sym, ap, subst, ◌∙◌, arith}
-use Rattle.std.proofs.lemmas.Grind.{common_steps}
-use Rattle.std.proofs.lemmas.List.{append-nil}
+use Rattle.std.proofs.Common.{◌≡◌, inr, ◌<◌, ◌+◌, ◌++◌, [], ℕ, All, List, map, take, length, get_or, Bor, None, sym, ap, subst, ◌∙◌, arith}
 use Rattle.std.proofs.lemmas.List.Elements.{All-more}
 use Rattle.std.proofs.lemmas.Result.{err_from_is_err_and}
 use Rattle.std.specs.List.{cons_option}
-use Rattle.std.specs.Result.{is_ok}
 use Rattle.fit_world.specs.Scripts.Script.{IsLine, meaning_of, event_of, events_of, IsFirstFault, IsReached}
 use Rattle.fit_world.specs.declared.event.Event.{Event}
 use Rattle.fit_world.specs.Histories.Runs.{CanRun}
 use Rattle.fit_world.proofs.Simulation.CanRun.{events_can}
 use Rattle.fit_world.proofs.Told.Scripts.{now_at, within_now, events_next}
 use Rattle.fit_world.proofs.script.parse.parse_script.Goals as goal
-use Rattle.fit_world.proofs.script.parse.parse_script.Goals.{in-Some+else-is_err, in_default-found}
 
 abbrev texts_of : List (Bor (List ℕ)) → List (List ℕ)
 texts_of items = map (λ item. item.now) items
@@ -39,16 +35,16 @@ lines_more : (items : List (Bor (List ℕ))) (i : ℕ) (d : Bor (List ℕ)) → 
 lines_more items i d within before is =
     All-more IsLine (texts_of items) i [] (within_now items i within) before (rw (now_at items i d within) is)
 
-events_more : (items : List (Bor (List ℕ))) (i : ℕ) (d : Bor (List ℕ)) (found : Option Event) (old new : List Event) → i < length items →
-    old ≡ events_of 1 (take i (texts_of items)) → found ≡ event_of (i + 1) (get_or items i d).now → new ≡ old ++ cons_option found [] →
+events_more : (items : List (Bor (List ℕ))) (i : ℕ) (d : Bor (List ℕ)) (old new : List Event) → i < length items →
+    old ≡ events_of 1 (take i (texts_of items)) → new ≡ old ++ cons_option (event_of (i + 1) (get_or items i d).now) [] →
     new ≡ events_of 1 (take (i + 1) (texts_of items))
-events_more items i d found old new within before is more =
-    rw (events_next (texts_of items) i (within_now items i within), now_at items i d within, ← is, ← before) more
+events_more items i d old new within before more =
+    rw (events_next (texts_of items) i (within_now items i within), now_at items i d within, ← before) more
 
-pub returns-in_err-found-clause-fault : goal.returns-in_err-found-clause-fault
-returns-in_err-found-clause-fault c =
+pub returns-in_err-add_event-clause-fault : goal.returns-in_err-add_event-clause-fault
+returns-in_err-add_event-clause-fault c =
     let left = err_from_is_err_and c.from_residual.result c.from_residual.ensures.1 in
-    let known = c.in_err-found.ensures in
+    let known = c.in_err-add_event.ensures in
     let items = c.deref-line-items.result.now in
     let all = ap texts_of c.deref-line-items.ensures.value ∙ c.in-Ok.ensures in
     let number = ap (λ fault. fault.line) left.2 ∙ known.number in
@@ -64,17 +60,9 @@ loop-index-preserved c =
     let i = c.loop-index.index in
     let within : i < length items = omega arith in
     record {
-      lines = lines_more items i _ within c.loop-index.invariant.lines c.in_ok-found.ensures.line;
-      events = events_more items i _ c.in_ok-found.found c.loop-index.events.items c.match-found.events.items within
-          c.loop-index.invariant.events c.in_ok-found.ensures.event
-          (elim c.match-found.branch [
-            | in-Some+else-is_err w ↦
-                (let ok : is_ok w.push.result ≡ true = grind (arith, common_steps) in
-                let pushed = rw ok at w.push.ensures.items in
-                rw (w.in-Some.is, w.events-is) pushed)
-            | in_default-found w ↦
-                rw (w.in_default-found.is, w.events-is) (sym (append-nil c.loop-index.events.items))
-          ]);
+      lines = lines_more items i _ within c.loop-index.invariant.lines c.in_ok-add_event.ensures.line;
+      events = events_more items i _ c.loop-index.events.items c.add_event.new.events.items within
+          c.loop-index.invariant.events c.in_ok-add_event.ensures.events;
     }
 
 pub returns-clause-counts : goal.returns-clause-counts

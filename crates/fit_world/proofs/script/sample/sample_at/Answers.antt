@@ -1,60 +1,60 @@
-use Rattle.std.proofs.Common.{◌≡◌, ◌<◌, ◌+◌, ◌∙◌, ℕ, Bool, true, false, List, [], map, take, length, get_or, Bor, Some, None, Result, Ok, Err, IsErr, refl, arith, if◌then◌else◌}
+use Rattle.std.proofs.Common.{◌≡◌, ◌<◌, ◌+◌, ◌∙◌, ℕ, Bool, true, false, List, [], map, take, length, get_or, Bor, Option, Some, None, Result, Ok, Err, IsErr, refl, arith, if◌then◌else◌}
 use Rattle.std.specs.List.{take-map}
 use Rattle.std.specs.Result.{result_ok}
-use Rattle.fit_activity.specs.declared.recording.entry.Sample.{Sample}
-use Rattle.fit_world.specs.Scripts.Sample.{key_in, value_in, are_settings, is_new_setting, sample_at, with_setting}
-use Rattle.fit_world.proofs.Told.Scripts.{now_at, within_now, no_settings, settings_more, sample_next}
+use Rattle.fit_activity.specs.Rides.Table.{sample_rows}
+use Rattle.fit_world.specs.Scripts.Sample.{key_in, value_in, are_settings, is_new_setting, said_by, with_setting}
+use Rattle.fit_world.proofs.Told.Scripts.{now_at, within_now, no_settings, settings_more, said_next}
 use Rattle.fit_world.proofs.script.sample.sample_at.Goals as goal
 
-refused : {E : Type 0} (result : Result Sample E) → IsErr result → result_ok result ≡ None
+refused : {X E : Type 0} (result : Result X E) → IsErr result → result_ok result ≡ None
 refused (Ok sample) e = cc
 refused (Err fault) e = refl
 
-some_by : (b : Bool) (x y : Sample) → Some x ≡ (if b then Some y else None) → (b ≡ true) × (x ≡ y)
+some_by : (b : Bool) (x y : List (Option ℕ)) → Some x ≡ (if b then Some y else None) → (b ≡ true) × (x ≡ y)
 some_by true x y e = (refl, cc)
 some_by false x y e = cc
 
-none_by : (b : Bool) (y : Sample) → None ≡ (if b then Some y else None) → b ≡ false
+none_by : (b : Bool) (y : List (Option ℕ)) → None ≡ (if b then Some y else None) → b ≡ false
 none_by true y e = cc
 none_by false y e = refl
 
 abbrev words_of : List (Bor (List ℕ)) → List (List ℕ)
 words_of settings = map (λ word. word.now) settings
 
--- whether the next word is a setting, among the words
+-- whether the next word is a new setting among the words
 as_words : (settings : List (Bor (List ℕ))) (i : ℕ) (d : Bor (List ℕ)) (b : Bool) → i < length settings →
     is_new_setting (words_of (take i settings)) (get_or settings i d).now ≡ b →
     is_new_setting (take i (words_of settings)) (get_or (words_of settings) i []) ≡ b
 as_words settings i d b within e =
     rw (take-map (λ (word : Bor (List ℕ)). word.now) i settings, now_at settings i d within) e
 
-stopped : (settings : List (Bor (List ℕ))) (i : ℕ) (d : Bor (List ℕ)) (next : Sample) → i < length settings →
+stopped : (settings : List (Bor (List ℕ))) (i : ℕ) (d : Bor (List ℕ)) (next : List (Option ℕ)) → i < length settings →
     None ≡ (if is_new_setting (words_of (take i settings)) (get_or settings i d).now then Some next else None) →
     are_settings (words_of settings) ≡ false
 stopped settings i d next within e =
     no_settings (words_of settings) i (within_now settings i within)
     (as_words settings i d false within (none_by (is_new_setting (words_of (take i settings)) (get_or settings i d).now) next e))
 
-went_on : (settings : List (Bor (List ℕ))) (i : ℕ) (d : Bor (List ℕ)) (time : ℕ) (sample next : Sample) → i < length settings →
-    are_settings (take i (words_of settings)) ≡ true → sample ≡ sample_at time (take i (words_of settings)) →
+went_on : (settings : List (Bor (List ℕ))) (i : ℕ) (d : Bor (List ℕ)) (sample next : List (Option ℕ)) → i < length settings →
+    are_settings (take i (words_of settings)) ≡ true → sample ≡ said_by sample_rows (take i (words_of settings)) →
     Some next ≡ (if is_new_setting (words_of (take i settings)) (get_or settings i d).now
-    then Some (with_setting sample (key_in (get_or settings i d).now) (value_in (get_or settings i d).now)) else None) →
-    (are_settings (take (i + 1) (words_of settings)) ≡ true) × (next ≡ sample_at time (take (i + 1) (words_of settings)))
-went_on settings i d time sample next within all is e =
+    then Some (with_setting sample_rows sample (key_in (get_or settings i d).now) (value_in (get_or settings i d).now)) else None) →
+    (are_settings (take (i + 1) (words_of settings)) ≡ true) × (next ≡ said_by sample_rows (take (i + 1) (words_of settings)))
+went_on settings i d sample next within all is e =
     let parts = some_by (is_new_setting (words_of (take i settings)) (get_or settings i d).now) next
-    (with_setting sample (key_in (get_or settings i d).now) (value_in (get_or settings i d).now)) e in
+    (with_setting sample_rows sample (key_in (get_or settings i d).now) (value_in (get_or settings i d).now)) e in
     let short = within_now settings i within in (
       settings_more (words_of settings) i short all (as_words settings i d true within parts.0),
-      parts.1 ∙ rw (sample_next time (words_of settings) i short, now_at settings i d within, is) refl,
+      parts.1 ∙ rw (said_next sample_rows (words_of settings) i short, now_at settings i d within, is) refl,
     )
 
-pub returns-in_err-sample : goal.returns-in_err-sample
-returns-in_err-sample c =
-    let bad = stopped c.args.settings.now c.loop-index.index _ _ (omega arith) c.in_err-sample.ensures in
+pub returns-in_err-values : goal.returns-in_err-values
+returns-in_err-values c =
+    let bad = stopped c.args.settings.now c.loop-index.index _ _ (omega arith) c.in_err-values.ensures.value in
     refused _ c.from_residual.ensures.0 ∙ rw bad refl
 
 pub loop-index-preserved : goal.loop-index-preserved
 loop-index-preserved c =
-    let next = went_on c.args.settings.now c.loop-index.index _ c.args.time c.loop-index.sample c.in_ok-sample.sample (omega arith)
-    c.loop-index.invariant.settings c.loop-index.invariant.sample c.in_ok-sample.ensures in
-    record { settings = next.0; sample = next.1 }
+    let next = went_on c.args.settings.now c.loop-index.index _ c.loop-index.values c.in_ok-values.values (omega arith)
+    c.loop-index.invariant.settings c.loop-index.invariant.values c.in_ok-values.ensures.value in
+    record { settings = next.0; values = next.1; fit = c.in_ok-values.ensures.fit }

@@ -1,15 +1,13 @@
-use Rattle.std.proofs.Common.{subst}
-use Rattle.std.specs.List.{AllByRecursion}
-use Rattle.fit_activity.specs.Messages.ProfileField.{OptionFits}
 use Rattle.fit_activity.specs.Messages.ProfileMessage.{sample_options}
-use Rattle.fit_activity.proofs.Spelling.Fields.{present-fit, options-short}
+use Rattle.fit_activity.proofs.Spelling.Fields.{present-fit, sample-fit, options-fit, options-short}
 use Rattle.fit_activity.proofs.speaking.speech.Speech.say_sample.Goals as goal
 
+pub say_record-requires-clause-fit : goal.say_record-requires-clause-fit
+say_record-requires-clause-fit c = options-fit c.args.sample.now _ c.sample_fields.ensures.fields c.sample_fields.ensures.fits
+
 pub say_record-requires-clause-short : goal.say_record-requires-clause-short
-say_record-requires-clause-short c =
-    options-short c.args.sample.now _ c.sample_fields.ensures.fields
+say_record-requires-clause-short c = options-short c.args.sample.now _ c.sample_fields.ensures.fields
 
 pub returns-clause-fits : goal.returns-clause-fits
 returns-clause-fits c =
-    let fit = subst (AllByRecursion OptionFits) c.sample_fields.ensures.fields c.sample_fields.ensures.fit in
-    (c.say_record.ensures.fits, present-fit (sample_options c.args.sample.now) fit)
+    (c.say_record.ensures.fits, present-fit (sample_options c.args.sample.now) (sample-fit c.args.sample.now c.sample_fields.ensures.fits))

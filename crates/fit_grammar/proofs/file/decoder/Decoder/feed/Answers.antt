@@ -1,7 +1,7 @@
 use Rattle.std.proofs.Common.{◌++◌, subst, sym}
 use Rattle.std.proofs.lemmas.Result.{on_ok_weaker}
-use Rattle.fit_grammar.specs.Private.Feeding.{WasFed}
-use Rattle.fit_grammar.proofs.Pieces.Told.{open_quiet}
+use Rattle.fit_grammar.specs.Calls.Fed.{WasFed}
+use Rattle.fit_grammar.proofs.Pieces.Told.{open_quiet, carried_short}
 use Rattle.fit_grammar.proofs.file.decoder.Decoder.feed.Goals as goal
 
 pub invariant_of-self : goal.invariant_of-self
@@ -16,3 +16,8 @@ pub returns-clause-quiet : goal.returns-clause-quiet
 returns-clause-quiet c = λ fed was.
     let now = c.step.ensures.fed fed (subst (WasFed fed) (sym c.self.view_is) was) in
     on_ok_weaker c.step.result (λ is. open_quiet (fed ++ c.args.bytes.now) c.step.new.state is now) c.step.ensures.open
+
+pub returns-clause-short : goal.returns-clause-short
+returns-clause-short c =
+    let fed = c.self.invariant in
+    carried_short (fed.0 ++ c.args.bytes.now) c.step.new.state (c.step.ensures.fed fed.0 fed.1)

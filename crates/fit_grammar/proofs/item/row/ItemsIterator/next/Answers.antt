@@ -9,7 +9,7 @@ use Rattle.fit_grammar.specs.Private.ItemRow.{items_under, AreWritten, IsFirst}
 use Rattle.fit_grammar.proofs.KeptRow.Left.{latest_behind}
 use Rattle.fit_grammar.proofs.item.row.ItemsIterator.next.Goals as goal
 
--- the definitions behind the one that was taken
+-- the definitions after the one that was taken
 taken : (c : goal.After-take)
     → definition_in c.take.new.self ≡ behind (Defines c.in-Definition.definition) (definition_in c.self.inside.latest)
 taken c =

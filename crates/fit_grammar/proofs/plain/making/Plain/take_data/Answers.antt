@@ -3,8 +3,8 @@ use Rattle.std.specs.Prelude.{slice_set, is_some}
 use Rattle.fit_grammar.specs.Calls.PlainForm.{timed_definition}
 use Rattle.fit_grammar.specs.Format.Records.{in_force}
 use Rattle.fit_grammar.proofs.plain.making.Plain.take_data.Goals as goal
-use Rattle.fit_grammar.proofs.plain.making.Plain.take_data.Goals.{then-self-message+in-Some+in_ok-define, else-self-message}
-use Rattle.fit_grammar.proofs.PlainForm.Taken.{timed_local, defined_here, set_again, same_flag, on_ok}
+use Rattle.fit_grammar.proofs.plain.making.Plain.take_data.Goals.{In_ok-put, then-self-message+in-Some+in_ok-define, else-self-message+else-size-room}
+use Rattle.fit_grammar.proofs.PlainForm.Taken.{timed_local, defined_here, set_again, same_flag}
 
 pub define-requires : goal.define-requires
 define-requires c =
@@ -23,13 +23,13 @@ put-requires-clause-in_force c =
           ap (λ p. in_force p.file.items m.local) w.self-is
           ∙ defined_here c.args.self.now.file w.define.new.self.file d m.local w.in_ok-define.ensures.file local
           ∙ ap Some (is ∙ ap (λ (b : Bool). timed_definition b m.definition) c.is_some-timed.ensures)
-      | else-self-message w ↦
+      | else-self-message+else-size-room w ↦
           let flag = same_flag _ _ w.if-self-message.false in
           ap (λ p. in_force p.file.items m.local) w.self-is ∙ c.requires.2 (flag ∙ c.is_some-timed.ensures)
     ]
 
--- the flag behind the definition, if one is written
-flag : (c : goal.After-put) → c.if-self-message.self.timed ≡ slice_set c.args.self.now.timed c.args.message.now.local (is_some c.args.time)
+-- the flag after the definition, if one is written
+flag : (c : In_ok-put) → c.if-self-message.self.timed ≡ slice_set c.args.self.now.timed c.args.message.now.local (is_some c.args.time)
 flag c =
     let old = c.args.self.now.timed in
     let m = c.args.message.now in
@@ -41,9 +41,9 @@ flag c =
           ap (λ p. p.timed) w.self-is ∙ w.in_ok-define.ensures.timed
           ∙ ap (λ (l : ℕ). slice_set old l c.is_some-timed.result) local
           ∙ ap (λ (b : Bool). slice_set old m.local b) c.is_some-timed.ensures
-      | else-self-message w ↦ ap (λ p. p.timed) w.self-is
+      | else-self-message+else-size-room w ↦ ap (λ p. p.timed) w.self-is
           ∙ sym (set_again old m.local (is_some c.args.time) (same_flag _ _ w.if-self-message.false ∙ c.is_some-timed.ensures))
     ]
 
 pub returns-clause-timed : goal.returns-clause-timed
-returns-clause-timed c = on_ok _ c.put.result (c.put.ensures.timed ∙ flag c)
+returns-clause-timed c = c.put.ensures.timed ∙ flag c

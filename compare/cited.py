@@ -1,0 +1,48 @@
+"""Checks that each file and each name that README and docs/ cite in backquotes exists."""
+
+import pathlib
+import re
+
+PATH = re.compile(r"[\w.*-]+(?:/[\w.*-]+)+/?|[\w-]+\.(?:rt|antt|py|sh|md|edit|txt|c|h|fit|frj)")
+NAME = re.compile(r"\w+(?:(?:::|\.)\w+)*")
+# Names of other programs, of a user's files, and names with a part to fill in.
+OTHERS = {"activity.fit", "activity.frj", "message_N", "field_N", "developer_INDEX_NUMBER", "FRJ2"}
+
+
+def texts_of(root):
+    """The text of each file that may be cited, by its path."""
+    parts = ["crates", "compare", "bench", "examples", "docs", ".ci"]
+    files = [it for part in parts for it in (root / part).rglob("*") if it.is_file() and "out" not in it.relative_to(root).parts]
+    files += [root / it for it in ("crates.txt", "HANDLES", "fitrec", "build")]
+    return {it: it.read_text(errors="replace") for it in files}
+
+
+def is_there(root, files, cited):
+    """Whether a path leads to a file or folder: from the top, or as the end of a path below it, with or without its suffix."""
+    if cited in OTHERS or (root / cited).exists():
+        return True
+    wanted = re.compile(r"(?:.*/)?" + re.escape(cited.rstrip("/")).replace(r"\*", "[^/]*") + r"(?:\.(?:rt|antt|edit|py|sh))?(?:/.*)?")
+    return any(wanted.fullmatch(it) for it in files)
+
+
+def check(root):
+    texts = texts_of(root)
+    files = [str(it.relative_to(root)) for it in texts]
+    sources = [text for file, text in texts.items() if file.suffix != ".md"]
+    words = set(re.findall(r"\w+", "\n".join(sources))) | {it for file in files for it in re.split(r"[/.]", file)}
+    for page in [root / "README.md", *sorted((root / "docs").glob("*.md"))]:
+        # Blocks are examples, which documented.py runs.
+        prose = re.sub(r"(?m)^    .*$|^```.*?^```$", "", page.read_text(), flags=re.S | re.M)
+        lost = []
+        for cited in re.findall(r"`([^`\n]+)`", prose):
+            if PATH.fullmatch(cited):
+                if not is_there(root, files, cited):
+                    lost.append(cited)
+            elif NAME.fullmatch(cited) and cited not in OTHERS and not set(re.split(r"::|\.", cited)) <= words:
+                lost.append(cited)
+        yield "what %s cites is there" % page.name, (lost,) if lost else None
+
+
+if __name__ == "__main__":
+    for name, lost in check(pathlib.Path(__file__).resolve().parent.parent):
+        print(name, *(lost or ["ok"]))

@@ -1,0 +1,125 @@
+/* Calls the library fit_c for compare/library.py:
+
+     library repair SPARE DATA JOURNAL OUT   the data file goes to OUT; its buffer has SPARE bytes more than it
+     library salvage SPARE IN OUT ALL        the new file goes to OUT; its buffer has SPARE bytes more than IN
+     library lengths DATA JOURNAL            lengths that are greater than their buffers, and buffers of no bytes
+
+   It prints the answer and, if that is 0, a line on what was found. Each buffer is between two rows of known bytes, which no call
+   may change. */
+
+#include "fitrec.h"
+#include <stdio.h>
+#include <stdlib.h>
+#include <string.h>
+
+enum { GUARD = 4096, FILLED = 0xA5 };
+
+struct buffer {
+    uint8_t *all, *bytes;
+    size_t size;
+    uint64_t len;
+};
+
+static void fail(const char *why) {
+    printf("%s\n", why);
+    exit(2);
+}
+
+static struct buffer room(size_t size) {
+    struct buffer made = {malloc(size + 2 * GUARD), NULL, size, 0};
+    if (!made.all)
+        fail("no memory");
+    memset(made.all, FILLED, size + 2 * GUARD);
+    made.bytes = made.all + GUARD;
+    return made;
+}
+
+static struct buffer file_at(const char *path, size_t spare) {
+    FILE *file = fopen(path, "rb");
+    if (!file || fseek(file, 0, SEEK_END))
+        fail("cannot read a file");
+    struct buffer found = room((size_t)ftell(file) + spare);
+    rewind(file);
+    found.len = fread(found.bytes, 1, found.size, file);
+    fclose(file);
+    return found;
+}
+
+/* Checks that nothing was written outside the buffer. */
+static void look_at_guards(struct buffer it) {
+    for (size_t at = 0; at < GUARD; at++)
+        if (it.all[at] != FILLED || it.bytes[it.size + at] != FILLED)
+            fail("a byte outside a buffer was written");
+    free(it.all);
+}
+
+static void keep(struct buffer it, const char *path) {
+    FILE *file = fopen(path, "wb");
+    if (!file || fwrite(it.bytes, 1, it.len, file) != it.len || fclose(file))
+        fail("cannot write a file");
+}
+
+static void or_dash(const char *name, uint32_t number) {
+    if (number == FITREC_ABSENT)
+        printf(" %s=-", name);
+    else
+        printf(" %s=%u", name, number);
+}
+
+static void repair(char **words) {
+    struct buffer data = file_at(words[1], (size_t)atoi(words[0])), journal = file_at(words[2], 0);
+    struct fitrec_summary sum;
+    unsigned answer = fitrec_repair(data.bytes, data.size, &data.len, journal.bytes, journal.size, &journal.len, &sum);
+    printf("%u\n", answer);
+    if (answer == FITREC_REPAIRED) {
+        printf("ok records=%u laps=%u sessions=%u", sum.records, sum.laps, sum.sessions);
+        or_dash("start", sum.start);
+        or_dash("elapsed_ms", sum.elapsed_ms);
+        or_dash("timer_ms", sum.timer_ms);
+        or_dash("distance_cm", sum.distance_cm);
+        printf("\n");
+    }
+    keep(data, words[3]);
+    look_at_guards(data);
+    look_at_guards(journal);
+}
+
+static void salvage(char **words) {
+    struct buffer in = file_at(words[1], 0), out = room(in.size + (size_t)atoi(words[0]));
+    struct fitrec_salvage_counts counts;
+    unsigned answer = fitrec_salvage(in.bytes, in.size, words[3][0] == '1', out.bytes, out.size, &out.len, &counts);
+    printf("%u\n", answer);
+    if (answer == FITREC_SALVAGED) {
+        printf("kept %llu of %llu, %llu not looked at\n", (unsigned long long)counts.kept, (unsigned long long)counts.looked_at,
+               (unsigned long long)counts.not_looked_at);
+        keep(out, words[2]);
+    }
+    look_at_guards(in);
+    look_at_guards(out);
+}
+
+static void lengths(char **words) {
+    struct buffer data = file_at(words[0], FITREC_CLOSING_ROOM), journal = file_at(words[1], 0), nothing = room(0);
+    struct fitrec_summary sum;
+    uint64_t long_data = data.size + 1, long_journal = journal.size + 1, most = UINT64_MAX, none[2] = {0, 0};
+    printf("%u", fitrec_repair(data.bytes, data.size, &long_data, journal.bytes, journal.size, &journal.len, &sum));
+    printf(" %u", fitrec_repair(data.bytes, data.size, &data.len, journal.bytes, journal.size, &long_journal, &sum));
+    printf(" %u", fitrec_repair(data.bytes, data.size, &most, journal.bytes, journal.size, &journal.len, &sum));
+    printf(" %u", fitrec_repair(data.bytes, data.size, &none[0], nothing.bytes, nothing.size, &none[1], &sum));
+    look_at_guards(nothing);
+    look_at_guards(data);
+    look_at_guards(journal);
+    printf("\n");
+}
+
+int main(int count, char **words) {
+    if (count == 6 && !strcmp(words[1], "repair"))
+        repair(words + 2);
+    else if (count == 6 && !strcmp(words[1], "salvage"))
+        salvage(words + 2);
+    else if (count == 4 && !strcmp(words[1], "lengths"))
+        lengths(words + 2);
+    else
+        fail("no such words");
+    return 0;
+}

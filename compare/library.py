@@ -1,0 +1,138 @@
+"""Compares the library for C (fit_c, include/fitrec.h) with the program, byte for byte: over recordings whose power went, over damaged
+ones, and over files without a journal. The C program is compiled with all warnings as errors, without and with sanitizers."""
+
+import contextlib
+import pathlib
+import random
+import re
+import shutil
+import subprocess
+import tempfile
+
+import told
+from files import damaged as damaged_file, made
+from kit import load_rt
+from replacing import bytes_of
+from rides import differs, script_of
+from saves import NAMES, damaged
+from told import holds, room
+
+HERE = pathlib.Path(__file__).resolve().parent
+# The most bytes that a repair and a salvage may add.
+CLOSING, FRAME = 254, 16
+# The answer that each line of the program on standard error stands for.
+ANSWERS = {"NothingRecorded": 7, "Damaged": 8, "Truncated": 1, "HeaderSize": 2, "Magic": 3, "Protocol": 4}
+COMPILERS = {"as it is": ["-O2"], "under sanitizers": ["-g", "-fsanitize=address,undefined", "-fno-sanitize-recover=all"]}
+
+
+def run(*words):
+    """What a run prints, given words and numbers."""
+    return told.run(*[str(it) for it in words])
+
+
+def build(to):
+    """Proves fit_c over the libraries of the tree, and makes its static library."""
+    rt = load_rt()
+    crate = next(it for it in rt.rtlib.crates_below(str(HERE.parent)) if it.name == "fit_c")
+    words = [rt.rtlib.RATTLE, "build", *crate.words(["--jobs", "1"], keeps=True), "--toolchain", rt.KIT + "/toolchain", "-o", to]
+    built = subprocess.run(words, cwd=crate.folder, stdout=subprocess.PIPE, stderr=subprocess.STDOUT, text=True)
+    return None if built.returncode == 0 else built.stdout[-2000:]
+
+
+@contextlib.contextmanager
+def programs(archive):
+    """The C program, compiled in each way."""
+    with tempfile.TemporaryDirectory() as folder:
+        made = {}
+        for name, words in COMPILERS.items():
+            made[name] = "%s/%d" % (folder, len(made))
+            cc = ["cc", "-std=c99", "-pedantic", "-Wall", "-Wextra", "-Werror", "-I", HERE.parent / "include", *words]
+            subprocess.run([*cc, HERE / "library.c", archive, "-o", made[name]], check=True)
+        yield made
+
+
+def names_of(archive):
+    """The library calls only three functions of C, and exports exactly what the header declares."""
+    listed = subprocess.run(["nm", archive], capture_output=True, text=True, check=True).stdout
+    yield "what it calls", differs(set(re.findall(r" U (\w+)", listed)), {"memcpy", "memmove", "memset"})
+    declared = re.findall(r"^uint8_t (\w+)\(", (HERE.parent / "include/fitrec.h").read_text(), re.M)
+    yield "what it exports", differs(sorted(re.findall(r" T (\w+)", listed)), sorted(declared))
+
+
+def answer_of(said):
+    """The answer that corresponds to what the program prints."""
+    return 0 if said[0] == 0 else ANSWERS[re.match(r"fitrec: (\w+)", said[2])[1]]
+
+
+def repaired(fitrec, program, folder, spare=CLOSING):
+    """What differs between a repair by the library and one by the program."""
+    with tempfile.TemporaryDirectory() as scratch:
+        copy, out = scratch + "/copy", pathlib.Path(scratch, "out.fit")
+        shutil.copytree(folder, copy)
+        mine = run(program, "repair", spare, *[pathlib.Path(folder, name) for name in NAMES], out)
+        said = run(fitrec, "repair", copy)
+        want = 0, "%d\n%s" % (answer_of(said), said[1]), ""
+        return differs((mine, bytes_of(out)), (want, bytes_of(pathlib.Path(copy, "activity.fit"))))
+
+
+def of_recordings(fitrec, program, count, seed):
+    """A ride after each of its lines, stopped, repaired and resumed; and pairs of files that are damaged at random."""
+    pick = random.Random(seed)
+    with room() as (script, new):
+        lines = script_of(20, 4).splitlines()
+        for most in range(len(lines) + 1):
+            folder = new()
+            script.write_text("\n".join(lines[:most]))
+            run(fitrec, "replay", script, folder)
+            yield "a ride", repaired(fitrec, program, folder)
+        whole = holds(folder)
+        for _ in range(count):
+            for name, content in zip(NAMES, damaged(pick, whole)):
+                pathlib.Path(folder, name).write_bytes(content)
+            yield "a damaged pair", repaired(fitrec, program, folder)
+        for name, content in zip(NAMES, whole):
+            pathlib.Path(folder, name).write_bytes(content)
+        said = run(program, "repair", CLOSING - 1, *[pathlib.Path(folder, name) for name in NAMES], pathlib.Path(folder, "out.fit"))
+        yield "a buffer with too little room", differs((said, bytes_of(pathlib.Path(folder, "out.fit"))), ((0, "10\n", ""), whole[0]))
+        said = run(program, "lengths", *[pathlib.Path(folder, name) for name in NAMES])
+        yield "lengths that do not fit", differs(said, (0, "9 9 9 7\n", ""))
+
+
+def of_files(fitrec, program, count, seed):
+    """Files without a journal, whole and damaged."""
+    pick = random.Random(seed)
+    with tempfile.TemporaryDirectory() as folder:
+        source, mine, its = (pathlib.Path(folder, name) for name in ("in.fit", "mine.fit", "its.fit"))
+        for at in range(count):
+            source.write_bytes(damaged_file(pick, made(pick)) if at % 4 else made(pick))
+            for every in (False, True):
+                said = run(program, "salvage", FRAME, source, mine, int(every))
+                wanted = run(fitrec, "salvage", *["--all"] * every, source, its)
+                kept = re.match(r"\d+\n(kept \d+ of \d+), (\d+) not looked at\n$", said[1]) or ["", said[1], "0"]
+                left = re.match(r"fitrec: (\d+) bytes after", wanted[2]) if wanted[0] == 0 else None
+                found = said[1].split("\n")[0], kept[1] + "\n" if wanted[0] == 0 else "", int(kept[2]), bytes_of(mine)
+                want = str(answer_of(wanted)), wanted[1], int(left[1]) if left else 0, bytes_of(its)
+                yield "a salvage", differs(found, want)
+                mine.unlink(missing_ok=True)
+                its.unlink(missing_ok=True)
+        source.write_bytes(made(pick))
+        # The new header may have two bytes more.
+        said = run(program, "salvage", 2, source, mine, 0)
+        yield "a salvage of a whole file needs two bytes more", differs(said[1].split("\n")[0], "0")
+
+
+def check(fitrec, count, seed):
+    """Yields a name, and a difference or None, for each check."""
+    with tempfile.TemporaryDirectory() as folder:
+        archive = folder + "/libfit_c.a"
+        why = build(archive)
+        yield "library: proved and built", why and ("fit_c was not built", why)
+        if why:
+            return
+        for name, difference in names_of(archive):
+            yield "library: " + name, difference
+        with programs(archive) as made_so:
+            for how, program in made_so.items():
+                for part in (of_recordings(fitrec, program, count, seed), of_files(fitrec, program, count // 4, seed)):
+                    for name, difference in part:
+                        yield "library %s: %s" % (how, name), difference

@@ -1,0 +1,240 @@
+"""Checks `fitrec save`: OUT is what `repair` and then `plain` make of a copy of the folder, and nothing is written to the folder
+itself. It refuses what `repair` refuses."""
+
+import concurrent.futures
+import contextlib
+import itertools
+import os
+import pathlib
+import random
+import shutil
+import signal
+import subprocess
+import tempfile
+
+from replacing import bytes_of, recording
+from rides import differs, script_of
+from told import NOBODY, Told, library, room, run
+
+NAMES = ("activity.fit", "activity.frj")
+
+# Entries of each kind, pauses of more than 31 s, and a ride that is resumed, stopped, repaired, erased and begun anew.
+RIDE = """start 1000000000 7 running
+sample 1000000000 hr=100
+sample 1000000031 hr=101
+commit
+sample 1000000063 lat=500000000 long=100000000 hr=102
+lap 1000000064
+sample 1000000064 speed=3100
+commit
+pause 1000000070
+resume 1000000110
+sample 1000000110 hr=103
+commit
+reopen
+sample 1000000111 hr=104
+commit
+sample 1000000112 hr=105
+recover
+reopen
+lap 1000000113
+sample 1000000113 hr=106
+commit
+stop 1000000120
+recover
+erase
+start 1000000000 8 cycling
+commit
+"""
+
+
+def state(folder):
+    """The names in a folder; for each file its bytes and when it was written."""
+    files = [it for it in sorted(pathlib.Path(folder).iterdir()) if it.is_file()]
+    return sorted(os.listdir(folder)), [(it.read_bytes(), it.stat().st_mtime_ns, it.stat().st_ctime_ns) for it in files]
+
+
+def want(fitrec, folder):
+    """What a save has to print, and what OUT has to hold: from a repair of a copy, and the plain form of its result."""
+    with tempfile.TemporaryDirectory() as scratch:
+        copy, plain = scratch + "/copy", pathlib.Path(scratch, "plain.fit")
+        shutil.copytree(folder, copy)
+        os.chmod(copy, 0o755)
+        for name in os.listdir(copy):
+            os.chmod(pathlib.Path(copy, name), 0o644)
+        said = run(fitrec, "repair", copy)
+        if said[0] == 0:
+            run(fitrec, "plain", copy + "/activity.fit", plain)
+        return (said[0], said[1], said[2].replace(copy, str(folder))), bytes_of(plain)
+
+
+def judge(fitrec, folder, **how):
+    """None if a save prints and makes what it has to, and leaves the folder as it was."""
+    with tempfile.TemporaryDirectory() as scratch:
+        os.chmod(scratch, 0o777)
+        out = pathlib.Path(scratch, "out.fit")
+        wanted, before = want(fitrec, folder), state(folder)
+        said = run(fitrec, "save", folder, out, **how)
+        return differs((said, bytes_of(out), state(folder)), (*wanted, before))
+
+
+def judge_as_nobody(fitrec, folder):
+    """The same for a user who may read the folder and write nothing there."""
+    for path in (*pathlib.Path(folder).iterdir(), pathlib.Path(folder)):
+        path.chmod(0o555 if path.is_dir() else 0o444)
+    difference = judge(fitrec, folder, **{"user": NOBODY, "group": NOBODY, "extra_groups": []} if os.getuid() == 0 else {})
+    os.chmod(folder, 0o755)
+    return difference
+
+
+def killed_rides(told, script, new):
+    """The folders of a ride that is killed before each call that changes its files, and in the middle of each write."""
+    script.write_text(RIDE)
+    for how in ({"call": "cut"}, {"call": "write"}, {"call": "write", "most": 1}, {"call": "write", "most": 3}):
+        for number in itertools.count(1):
+            folder = new()
+            _, log = told.run("replay", script, folder, number=number, kills=1, **how)
+            if sum(line.startswith(how["call"]) for line in log) < number:
+                break
+            yield folder
+
+
+def of_killed_rides(fitrec, told):
+    with room() as (script, new), concurrent.futures.ThreadPoolExecutor(os.cpu_count()) as pool:
+        script.parent.chmod(0o755)
+        folders = list(killed_rides(told, script, new))
+        # A commit makes at least three writes.
+        yield "rides were killed", differs(len(folders) > 3 * 3 * RIDE.count("commit"), True)
+        for name, how in (("a ride that was killed", judge), ("by a user who may not write there", judge_as_nobody)):
+            for difference in pool.map(lambda folder: how(fitrec, folder), folders):
+                yield name, difference
+
+
+def of_rides(fitrec):
+    """A ride that was cut off, one that was repaired, resumed, or stopped; and OUT in the folder itself."""
+    with room(*RIDE.splitlines()[:12]) as (script, new):
+        folder = pathlib.Path(new())
+        run(fitrec, "replay", script, folder)
+        yield "a ride that was cut off", judge(fitrec, folder)
+        wanted, before = want(fitrec, folder), state(folder)
+        said = run(fitrec, "save", folder, folder / "saved.fit"), bytes_of(folder / "saved.fit")
+        (folder / "saved.fit").unlink()
+        yield "OUT in the folder", differs((said, state(folder)), (wanted, before))
+        said = run(fitrec, "save", ".", "saved.fit", cwd=folder), bytes_of(folder / "saved.fit")
+        (folder / "saved.fit").unlink()
+        yield "OUT in the folder that it runs in", differs((said, state(folder)), (wanted, before))
+        for name in NAMES:
+            said = run(fitrec, "save", folder, folder / name), state(folder)
+            yield "OUT at the name of a file of the folder", differs(said, ((1, "", "fitrec: cannot write %s\n" % (folder / name)), before))
+        run(fitrec, "repair", folder)
+        yield "a ride that was repaired", judge(fitrec, folder)
+        for part in ("reopen\nsample 1000000900 hr=90\nlap 1000000901\nsample 1000000940 hr=91\ncommit\nsample 1000000941 hr=92\n",
+                     "reopen\nstop 1000000950\n"):
+            script.write_text(part)
+            run(fitrec, "replay", script, folder)
+            yield "a ride that goes on, or is stopped", judge(fitrec, folder)
+
+
+def damaged(pick, pair):
+    """A pair of files, with a byte changed, cut off or added in one of them or in both."""
+    pair = [bytearray(it) for it in pair]
+    for _ in range(pick.choice([1, 1, 2, 5])):
+        file = pick.choice(pair)
+        kind = pick.random()
+        if kind < 0.6 and file:
+            file[pick.randrange(len(file))] = pick.choice([0, 0xA5, 0xFF, pick.randrange(256)])
+        elif kind < 0.85:
+            del file[pick.randrange(len(file) + 1):]
+        else:
+            file += pick.randbytes(pick.randrange(1, 40))
+    return pair
+
+
+def of_damaged_pairs(fitrec, count, seed):
+    """The same decisions as a repair, over pairs of files that are torn and damaged at random."""
+    pick = random.Random(seed)
+    whole = [recording(fitrec, *script_of(30, 5).splitlines())[name] for name in NAMES]
+
+    def judged(pair):
+        with tempfile.TemporaryDirectory() as folder:
+            for name, content in zip(NAMES, pair):
+                pathlib.Path(folder, name).write_bytes(content)
+            return judge(fitrec, folder)
+
+    with concurrent.futures.ThreadPoolExecutor(os.cpu_count()) as pool:
+        for difference in pool.map(judged, [damaged(pick, whole) for _ in range(count)]):
+            yield "a damaged pair", difference
+
+
+@contextlib.contextmanager
+def recorded(fitrec):
+    """A folder with a ride that was cut off, and a place for OUT."""
+    with room(*RIDE.splitlines()[:4]) as (script, new):
+        folder = new()
+        run(fitrec, "replay", script, folder)
+        yield pathlib.Path(folder), pathlib.Path(new(), "out.fit")
+
+
+def other_things(fitrec):
+    """A file that is missing, empty, a link, too large, or not a regular file; a folder that is not one."""
+    for name in NAMES:
+        for change in (lambda it: it.unlink(), lambda it: it.write_bytes(b""), lambda it: it.symlink_to(it.rename(it.parent.parent / "other"))):
+            with recorded(fitrec) as (folder, out):
+                change(folder / name)
+                yield "a file that is missing, empty or linked", judge(fitrec, folder)
+        for make in (os.mkfifo, os.mkdir, lambda it: os.symlink("missing", it), lambda it: os.symlink("/dev/null", it)):
+            with recorded(fitrec) as (folder, out):
+                (folder / name).unlink()
+                make(folder / name)
+                said = run(fitrec, "save", folder, out), out.exists()
+                yield "something else at the name of a file", differs(said, ((1, "", "fitrec: cannot open %s\n" % folder), False))
+        with recorded(fitrec) as (folder, out):
+            os.truncate(folder / name, 268435457)
+            said = run(fitrec, "save", folder, out), out.exists()
+            yield "a file over the limit", differs(said, ((1, "", "fitrec: TooLarge\n"), False))
+    with recorded(fitrec) as (folder, out):
+        for place in ("/nowhere", folder / "activity.fit"):
+            yield "no folder", differs((run(fitrec, "save", place, out), out.exists()), ((1, "", "fitrec: cannot open %s\n" % place), False))
+
+
+def on_a_read_only_card(fitrec):
+    """A folder that nobody may write, because it is mounted read-only."""
+    with recorded(fitrec) as (folder, out), tempfile.TemporaryDirectory() as card:
+        is_mounted = run("mount", "--bind", folder, card)[0] == 0
+        try:
+            if not is_mounted or run("mount", "-o", "remount,bind,ro", card)[0] != 0:
+                print("skipped: a read-only card, since none can be mounted here")
+                return
+            yield "a read-only card: repaired", differs(run(fitrec, "repair", card), (1, "", "fitrec: cannot open %s\n" % card))
+            yield "a read-only card: saved", judge(fitrec, card)
+        finally:
+            if is_mounted:
+                run("umount", card)
+
+
+def while_recording(fitrec):
+    """A folder that a recorder has open is not read, even while that recorder is paused. What it recorded is saved once it has ended."""
+    with room(*script_of(30000, 3).splitlines()) as (script, new):
+        folder, out = new(), new() + "/out.fit"
+        running = subprocess.Popen([fitrec, "replay", script, folder], stdout=subprocess.PIPE)
+        running.stdout.readline()
+        for what in (signal.SIGSTOP, signal.SIGCONT):
+            running.send_signal(what)
+            said = run(fitrec, "save", folder, out), os.path.exists(out)
+            yield "a folder that is recorded into", differs(said, ((1, "", "fitrec: cannot open %s\n" % folder), False))
+        running.kill()
+        running.communicate()
+        yield "a recorder that was killed", judge(fitrec, folder)
+
+
+def check(fitrec, count, seed):
+    """Yields a name, and a difference or None, for each check."""
+    with library() as made, tempfile.TemporaryDirectory() as folder:
+        # Another user may have no access to the folder of the program.
+        os.chmod(folder, 0o755)
+        own = shutil.copy(fitrec, folder)
+        os.chmod(own, 0o755)
+        for part in (of_killed_rides(own, Told(own, made)), of_rides(own), of_damaged_pairs(own, count, seed), other_things(own),
+                     on_a_read_only_card(own), while_recording(own)):
+            for name, difference in part:
+                yield "saves: " + name, difference

@@ -1,0 +1,3 @@
+pub mod Repaired
+pub mod Room
+pub mod Salvaged

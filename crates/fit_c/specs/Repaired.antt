@@ -1,0 +1,47 @@
+-- What a repair of two files in memory leaves and returns.
+use Rattle.std.specs.Prelude.{◌≡◌, ◌⊎◌, ℕ, ◌++◌, List, take, Option, Some, None, Ok}
+use Rattle.fit_activity.specs.declared.activity.Summary.{Summary}
+use Rattle.fit_activity.specs.Files.Activity.{activity_in}
+use Rattle.fit_activity.specs.Files.Finished.{summary_of_list}
+use Rattle.fit_activity.specs.Messages.RideMessages.{spoken, closing}
+use Rattle.fit_activity.specs.Rides.Recording.{Recorded}
+use Rattle.fit_disk.specs.State.{Contents}
+use Rattle.fit_grammar.specs.Format.File.{File}
+use Rattle.fit_recorder.specs.Files.Body.{StandsFor}
+use Rattle.fit_recorder.specs.Files.Finished.{finished}
+use Rattle.fit_c.specs.declared.repairing.RideSummary.{RideSummary}
+
+-- the files are the first bytes of the two buffers
+abbrev pub contents_in : List ℕ → ℕ → List ℕ → ℕ → Contents
+contents_in in_data data_len in_journal journal_len = record { in_data = take data_len in_data; in_journal = take journal_len in_journal }
+
+abbrev pub number_or : ℕ → Option ℕ → ℕ
+number_or other None = other
+number_or other (Some number) = number
+
+-- the numbers are those of the summary
+abbrev pub numbers_of : Summary → RideSummary
+numbers_of s = record {
+  records = s.records;
+  laps = s.laps;
+  sessions = s.sessions;
+  start = number_or 4294967295 s.start;
+  elapsed_ms = number_or 4294967295 s.elapsed_ms;
+  timer_ms = number_or 4294967295 s.timer_ms;
+  distance_cm = number_or 4294967295 s.distance_cm;
+}
+
+-- The data file is the finished file of the one list that the two files stood for, with the same body. It is a valid activity
+-- that states what the list adds up to, as the numbers do. The two files still stand for that list.
+pub record IsRepaired (before after : Contents) (numbers : RideSummary) : Type 0 where
+  pub list : List Recorded
+  pub stood : StandsFor list before
+  pub is : after.in_data ≡ finished stood.body list
+  pub valid : File after.in_data (spoken list ++ closing list)
+  pub activity : activity_in (spoken list ++ closing list) ≡ Ok (summary_of_list list)
+  pub stands : StandsFor list after
+  pub sums_up : numbers ≡ numbers_of (summary_of_list list)
+
+-- the codes that a repair returns
+abbrev pub IsRepairCode : ℕ → Type 0
+IsRepairCode code = (code ≡ 0) ⊎ (code ≡ 7) ⊎ (code ≡ 8) ⊎ (code ≡ 9) ⊎ (code ≡ 10)

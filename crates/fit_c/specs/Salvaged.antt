@@ -1,0 +1,15 @@
+-- What a salvage in memory leaves and returns.
+use Rattle.std.specs.Prelude.{◌≡◌, ℕ, Bool, List, length}
+use Rattle.fit_world.specs.Printed.Salvaged.{IsSalvage, saved_file}
+use Rattle.fit_world.specs.declared.salvage.Salvage.{Salvage}
+use Rattle.fit_c.specs.declared.salvaging.SalvageCounts.{SalvageCounts}
+
+abbrev pub counts_of : Salvage → SalvageCounts
+counts_of salvage = record { kept = length salvage.row.now; looked_at = salvage.looked_at; not_looked_at = salvage.not_looked_at }
+
+-- `file` is the file of what is readable of `bytes`, and the counts are those of its salvage
+pub record IsSalvaged (all : Bool) (bytes file : List ℕ) (counts : SalvageCounts) : Type 0 where
+  pub salvage : Salvage
+  pub found : IsSalvage all bytes salvage
+  pub is : file ≡ saved_file salvage
+  pub counted : counts ≡ counts_of salvage

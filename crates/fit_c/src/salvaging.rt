@@ -1,0 +1,76 @@
+// Recovers what is readable of a file that has no journal.
+
+ghost use Rattle.std.specs.Prelude.{◌≡◌, ◌<◌, ◌≤◌, ◌^◌, ◌⊎◌, length, take, IfOk};
+ghost use Rattle.fit_grammar.specs.Calls.FaultCode.{kind_code};
+ghost use Rattle.fit_grammar.specs.declared.file.fault.FileFault.{FileFault};
+ghost use Rattle.fit_world.specs.Printed.Salvaged.{IsNotSalvaged, saved_file};
+ghost use Rattle.fit_c.specs.Salvaged.{IsSalvaged};
+
+use crate::room::Room;
+use fit_grammar::EncodeFault;
+use fit_world::{Salvage, salvage_bytes};
+
+// The input has 4294967296 bytes or more.
+const TOO_LARGE: u8 = 22;
+
+// The buffer is too small for the file.
+const NO_ROOM: u8 = 20;
+
+/// How much of a file was kept, in bytes.
+#[repr(C)]
+#[derive(Clone, Copy)]
+pub struct SalvageCounts {
+    /// The number of bytes of records that were kept.
+    pub kept: u64,
+    /// The number of bytes after the header that were looked at.
+    pub looked_at: u64,
+    /// The number of bytes after those and the two of a checksum.
+    pub not_looked_at: u64,
+}
+
+/// Writes a new file into `out`: the longest row of whole items after the header of `bytes`, as `salvage_bytes` of `fit_world`
+/// finds it. Returns 0; 1 to 4 if `bytes` begins with no header (the code of the `FaultKind`); 20 if the file does not fit into
+/// `out`; 22 if `bytes` has 4294967296 bytes or more. An `out` that is 16 bytes longer than `bytes` is always large enough.
+#[unsafe(no_mangle)]
+pub extern "C" fn fitrec_salvage(
+    bytes: &[u8],
+    all: bool,
+    out: &mut [u8],
+    out_len: &mut u64,
+    counts: &mut SalvageCounts,
+) -> u8
+    ensures ok { result ≡ 0 → IsSalvaged all bytes.now (take out_len.new out.new) counts.new }
+    ensures refused { 1 ≤ result → result ≤ 10
+        → (fault : FileFault) × IsNotSalvaged bytes.now fault × (result ≡ kind_code fault.kind) }
+    ensures too_large { result ≡ 22 → 2 ^ 32 ≤ length bytes.now }
+{
+    if bytes.len() >= 1 << 32 {
+        return TOO_LARGE;
+    }
+    match salvage_bytes(bytes, all) {
+        Ok(salvage) => {
+            let mut room = Room { bytes: out, len: 0 };
+            let done = write_in(&salvage, &mut room);
+            *out_len = room.len as u64;
+            *counts = SalvageCounts {
+                kept: salvage.row.len() as u64,
+                looked_at: salvage.looked_at as u64,
+                not_looked_at: salvage.not_looked_at as u64,
+            };
+            match done {
+                Ok(()) => 0,
+                Err(_) => NO_ROOM,
+            }
+        }
+        Err(fault) => fault.kind.code(),
+    }
+}
+
+// Writes the file into the same buffer.
+fn write_in(salvage: &Salvage<'_>, room: &mut Room<'_>) -> Result<(), EncodeFault>
+    requires empty { room.old.len ≡ 0 }
+    ensures name { room.new.bytes.ghost_name ≡ room.old.bytes.ghost_name }
+    ensures file { IfOk result (λ _. take room.new.len room.new.bytes.now ≡ saved_file salvage.now) }
+{
+    salvage.write(room)
+}

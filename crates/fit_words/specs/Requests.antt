@@ -1,0 +1,33 @@
+-- The request that the words of a subcommand make.
+use Rattle.std.specs.Prelude.{◌≡◌, ℕ, Bool, true, false, List, [], Some, None, codes, unwrap_or}
+use Rattle.std.specs.Borrow.{Bor}
+use Rattle.clap.specs.declared.parser.matches.Found.{Found}
+use Rattle.clap.specs.Words.{first_value, one_text}
+use Rattle.fit_words.specs.declared.request.Request.{Request}
+use Rattle.fit_words.specs.declared.request.Request.TheVariants.{Show, Check, Replay, Save, Repair, Salvage, Plain, Simulate}
+
+-- this is the word found under a name
+abbrev pub IsWord : Found → List ℕ → Bor (List ℕ) → Type 0
+IsWord found name word = first_value found name ≡ Some word.now
+
+-- an option without a value is set if `true` was found under its name, and not set if nothing or `false` was found
+pub record IsFlag (found : Found) (name : List ℕ) (is_set : Bool) : Type 0 where
+  pub none : one_text found name ≡ None → is_set ≡ false
+  pub set : one_text found name ≡ Some (codes "true") → is_set ≡ true
+  pub not_set : one_text found name ≡ Some (codes "false") → is_set ≡ false
+
+-- the subcommand of this name makes this request, with these words
+abbrev pub IsAskedBy : List ℕ → Found → Request → Type 0
+IsAskedBy name found (Show file utc) = (name ≡ codes "show") × IsWord found (codes "FILE") file × IsFlag found (codes "utc") utc
+IsAskedBy name found (Check file) = (name ≡ codes "check") × IsWord found (codes "FILE") file
+IsAskedBy name found (Replay script folder) =
+    (name ≡ codes "replay") × IsWord found (codes "SCRIPT") script × IsWord found (codes "FOLDER") folder
+IsAskedBy name found (Save folder to) = (name ≡ codes "save") × IsWord found (codes "FOLDER") folder × IsWord found (codes "OUT") to
+IsAskedBy name found (Repair folder verify) =
+    (name ≡ codes "repair") × IsWord found (codes "FOLDER") folder × IsFlag found (codes "verify") verify
+IsAskedBy name found (Salvage file to all plain) =
+    (name ≡ codes "salvage") × IsWord found (codes "IN") file × IsWord found (codes "OUT") to
+    × IsFlag found (codes "all") all × IsFlag found (codes "plain") plain
+IsAskedBy name found (Plain file to) = (name ≡ codes "plain") × IsWord found (codes "IN") file × IsWord found (codes "OUT") to
+IsAskedBy name found (Simulate script choices) =
+    (name ≡ codes "simulate") × IsWord found (codes "SCRIPT") script × (choices.now ≡ unwrap_or (first_value found (codes "choices")) [])

@@ -1,0 +1,74 @@
+// The words of a subcommand, with their help.
+
+use clap::{Arg, ArgAction};
+use std::alloc::Global;
+
+pub(crate) fn utc_option<'a>(alloc: Global) -> Arg<'a> {
+    Arg::new(alloc, "utc")
+        .long("utc")
+        .help("Shows times as dates in UTC")
+        .action(ArgAction::SetTrue)
+}
+
+pub(crate) fn all_option<'a>(alloc: Global) -> Arg<'a> {
+    Arg::new(alloc, "all")
+        .long("all")
+        .help("Looks at every byte after the header, whatever size the header gives")
+        .action(ArgAction::SetTrue)
+}
+
+pub(crate) fn verify_option<'a>(alloc: Global) -> Arg<'a> {
+    Arg::new(alloc, "verify")
+        .long("verify")
+        .help(
+            "Checks each answer of the system against what both files must hold, for a card that is dying",
+        )
+        .action(ArgAction::SetTrue)
+}
+
+pub(crate) fn plain_option<'a>(alloc: Global) -> Arg<'a> {
+    Arg::new(alloc, "plain")
+        .long("plain")
+        .help("Writes the time of every message out, as the command plain does")
+        .action(ArgAction::SetTrue)
+}
+
+pub(crate) fn choices_option<'a>(alloc: Global) -> Arg<'a> {
+    Arg::new(alloc, "choices")
+        .long("choices")
+        .value_name("HEX")
+        .help("Says what a power cut leaves, two digits a byte; missing bytes are 00")
+        .action(ArgAction::Set)
+}
+
+pub(crate) fn file_argument<'a>(alloc: Global) -> Arg<'a> {
+    argument(alloc, "FILE", "The path of a FIT file")
+}
+
+pub(crate) fn script_argument<'a>(alloc: Global) -> Arg<'a> {
+    argument(alloc, "SCRIPT", "The path of a script")
+}
+
+pub(crate) fn folder_argument<'a>(alloc: Global) -> Arg<'a> {
+    argument(alloc, "FOLDER", "The path of the folder of a recording")
+}
+
+pub(crate) fn in_argument<'a>(alloc: Global, help: &'a str) -> Arg<'a> {
+    argument(alloc, "IN", help)
+}
+
+pub(crate) fn out_argument<'a>(alloc: Global) -> Arg<'a> {
+    argument(
+        alloc,
+        "OUT",
+        "The path of the file that is made or replaced",
+    )
+}
+
+// A required word.
+fn argument<'a>(alloc: Global, name: &'a str, help: &'a str) -> Arg<'a> {
+    Arg::new(alloc, name)
+        .required(true)
+        .help(help)
+        .action(ArgAction::Set)
+}

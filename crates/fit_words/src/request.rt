@@ -1,0 +1,93 @@
+// What a command line requests.
+
+ghost use Rattle.std.specs.Prelude.{IfSome};
+ghost use Rattle.clap.specs.Words.{found_of};
+ghost use Rattle.fit_words.specs.Requests.{IsAskedBy};
+
+use clap::ArgMatches;
+
+/// What a command line requests: a subcommand with its words.
+#[derive(Drop)]
+pub enum Request<'a> {
+    Show {
+        file: &'a str,
+        utc: bool,
+    },
+    Check {
+        file: &'a str,
+    },
+    Replay {
+        script: &'a str,
+        folder: &'a str,
+    },
+    Save {
+        folder: &'a str,
+        to: &'a str,
+    },
+    Repair {
+        folder: &'a str,
+        verify: bool,
+    },
+    Salvage {
+        file: &'a str,
+        to: &'a str,
+        all: bool,
+        plain: bool,
+    },
+    Plain {
+        file: &'a str,
+        to: &'a str,
+    },
+    Simulate {
+        script: &'a str,
+        choices: &'a str,
+    },
+}
+
+// The request that the words after the program's name make.
+pub(crate) fn request_in<'a>(matches: &ArgMatches<'a>) -> Option<Request<'a>> {
+    let (name, of_name) = matches.subcommand()?;
+    request_of(name, of_name)
+}
+
+// The request that the words of the subcommand with this name make.
+fn request_of<'a>(name: &str, matches: &ArgMatches<'a>) -> Option<Request<'a>>
+    ensures { IfSome result (IsAskedBy name.now (found_of matches.now)) }
+{
+    match name {
+        "show" => Some(Request::Show {
+            file: matches.get_str("FILE")?,
+            utc: matches.get_flag("utc"),
+        }),
+        "check" => Some(Request::Check {
+            file: matches.get_str("FILE")?,
+        }),
+        "replay" => Some(Request::Replay {
+            script: matches.get_str("SCRIPT")?,
+            folder: matches.get_str("FOLDER")?,
+        }),
+        "save" => Some(Request::Save {
+            folder: matches.get_str("FOLDER")?,
+            to: matches.get_str("OUT")?,
+        }),
+        "repair" => Some(Request::Repair {
+            folder: matches.get_str("FOLDER")?,
+            verify: matches.get_flag("verify"),
+        }),
+        "salvage" => Some(Request::Salvage {
+            file: matches.get_str("IN")?,
+            to: matches.get_str("OUT")?,
+            all: matches.get_flag("all"),
+            plain: matches.get_flag("plain"),
+        }),
+        "plain" => Some(Request::Plain {
+            file: matches.get_str("IN")?,
+            to: matches.get_str("OUT")?,
+        }),
+        "simulate" => Some(Request::Simulate {
+            script: matches.get_str("SCRIPT")?,
+            choices: matches.get_str("choices").unwrap_or(""),
+        }),
+        _ => None,
+    }
+}

@@ -1,0 +1,132 @@
+// The subcommands, and the words that each takes.
+
+use crate::arguments::{
+    all_option, choices_option, file_argument, folder_argument, in_argument, out_argument,
+    plain_option, script_argument, utc_option, verify_option,
+};
+use clap::{Command, Error};
+use std::alloc::Global;
+
+// The program's whole command line. Help lists the subcommands in this order.
+pub(crate) fn fitrec_command<'a>(alloc: Global) -> Result<Command<'a>, Error> {
+    let fitrec = Command::new(alloc, "fitrec")
+        .no_binary_name(true)
+        .bin_name("fitrec")?
+        .about(
+            "Records rides as FIT files, and reads the FIT files of sports watches and bicycle computers",
+        )
+        .subcommand_required(true);
+    let fitrec = with_reading(alloc, fitrec)?;
+    let fitrec = with_recording(alloc, fitrec)?;
+    with_making(alloc, fitrec)
+}
+
+// Adds the subcommands that read a file.
+fn with_reading<'a>(alloc: Global, fitrec: Command<'a>) -> Result<Command<'a>, Error> {
+    Ok(
+        fitrec
+            .subcommand(show_command(alloc)?)?
+            .subcommand(check_command(alloc)?)?,
+    )
+}
+
+// Adds the subcommands of a recording.
+fn with_recording<'a>(alloc: Global, fitrec: Command<'a>) -> Result<Command<'a>, Error> {
+    Ok(
+        fitrec
+            .subcommand(replay_command(alloc)?)?
+            .subcommand(save_command(alloc)?)?
+            .subcommand(repair_command(alloc)?)?,
+    )
+}
+
+// Adds the subcommands that make one file from another, and the one that makes no file.
+fn with_making<'a>(alloc: Global, fitrec: Command<'a>) -> Result<Command<'a>, Error> {
+    Ok(
+        fitrec
+            .subcommand(salvage_command(alloc)?)?
+            .subcommand(plain_command(alloc)?)?
+            .subcommand(simulate_command(alloc)?)?,
+    )
+}
+
+fn show_command<'a>(alloc: Global) -> Result<Command<'a>, Error> {
+    Ok(
+        Command::new(alloc, "show")
+            .about("Shows every message of a FIT file, a line each")
+            .arg(utc_option(alloc))?
+            .arg(file_argument(alloc))?,
+    )
+}
+
+fn check_command<'a>(alloc: Global) -> Result<Command<'a>, Error> {
+    Ok(
+        Command::new(alloc, "check")
+            .about("Says whether a FIT file is an activity, and sums it up in one line")
+            .arg(file_argument(alloc))?,
+    )
+}
+
+fn replay_command<'a>(alloc: Global) -> Result<Command<'a>, Error> {
+    Ok(
+        Command::new(alloc, "replay")
+            .about("Records a ride into a folder, as a script tells it")
+            .arg(script_argument(alloc))?
+            .arg(folder_argument(alloc))?,
+    )
+}
+
+fn save_command<'a>(alloc: Global) -> Result<Command<'a>, Error> {
+    Ok(
+        Command::new(alloc, "save")
+            .about(
+                "Saves the ride of a folder as a FIT file that every program reads, and writes nothing to the folder",
+            )
+            .arg(folder_argument(alloc))?
+            .arg(out_argument(alloc))?,
+    )
+}
+
+fn repair_command<'a>(alloc: Global) -> Result<Command<'a>, Error> {
+    Ok(
+        Command::new(alloc, "repair")
+            .about("Makes the recording of a folder whole again, and sums it up in one line")
+            .arg(verify_option(alloc))?
+            .arg(folder_argument(alloc))?,
+    )
+}
+
+fn salvage_command<'a>(alloc: Global) -> Result<Command<'a>, Error> {
+    Ok(
+        Command::new(alloc, "salvage")
+            .about(
+                "Makes a FIT file of what is readable of a damaged one that has no journal; show and check say what it holds",
+            )
+            .arg(all_option(alloc))?
+            .arg(plain_option(alloc))?
+            .arg(in_argument(alloc, "The path of the damaged file"))?
+            .arg(out_argument(alloc))?,
+    )
+}
+
+fn plain_command<'a>(alloc: Global) -> Result<Command<'a>, Error> {
+    Ok(
+        Command::new(alloc, "plain")
+            .about(
+                "Makes the same FIT file with the time of every message written out, for readers that take compressed ones wrong",
+            )
+            .arg(in_argument(alloc, "The path of a FIT file"))?
+            .arg(out_argument(alloc))?,
+    )
+}
+
+fn simulate_command<'a>(alloc: Global) -> Result<Command<'a>, Error> {
+    Ok(
+        Command::new(alloc, "simulate")
+            .about(
+                "Runs a script over a disk in memory, whose calls fail and whose power goes where it says so",
+            )
+            .arg(choices_option(alloc))?
+            .arg(script_argument(alloc))?,
+    )
+}

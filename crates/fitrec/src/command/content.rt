@@ -1,0 +1,34 @@
+// The content of a file to be written.
+
+ghost use Rattle.std.specs.Prelude.{ℕ, List};
+ghost use Rattle.fit_grammar.specs.Calls.Output.{WritesText};
+ghost use Rattle.fit_grammar.specs.Format.Encoding.{encoded};
+ghost use Rattle.fit_world.specs.Printed.Salvaged.{saved_file};
+
+use fit_grammar::{EncodeFault, File, encode_file};
+use fit_world::Salvage;
+use std::io::Write;
+
+/// The content of a file. Its bytes are known before any of them is written.
+pub trait Content {
+    ghost bytes: { Self → List ℕ };
+
+    fn write_to<W: Write>(&self, out: &mut W) -> Result<(), EncodeFault>
+        ensures { WritesText (W.contents out.old) (W.contents out.new) result (bytes self.now) };
+}
+
+impl Content for File {
+    ghost bytes = { λ file. encoded file };
+
+    fn write_to<W: Write>(&self, out: &mut W) -> Result<(), EncodeFault> {
+        encode_file(self, out)
+    }
+}
+
+impl Content for Salvage<'_> {
+    ghost bytes = { λ salvage. saved_file salvage };
+
+    fn write_to<W: Write>(&self, out: &mut W) -> Result<(), EncodeFault> {
+        self.write(out)
+    }
+}

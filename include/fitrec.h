@@ -1,0 +1,97 @@
+/* fitrec: rides of a dead device, saved in memory.
+
+   A recording is two files, activity.fit (the data file) and activity.frj (the journal). These calls work on their bytes in buffers of
+   the caller. The library is crates/fit_c of fitrec; its exports are proved to do what this header says of them, as long as the caller
+   keeps these rules:
+
+   - No pointer is NULL, and no two buffers or numbers of one call overlap.
+   - A buffer has as many bytes as its size argument says, and all of them may be read.
+
+   The library takes no memory, keeps none between calls, and calls nothing but memcpy, memmove and memset. So calls on different buffers
+   may run at the same time in any threads. On x86-64 a repair needs 40 KB of stack, a salvage 10 KB. */
+
+#ifndef FITREC_H
+#define FITREC_H
+
+#include <stdbool.h>
+#include <stddef.h>
+#include <stdint.h>
+
+#ifdef __cplusplus
+extern "C" {
+#endif
+
+/* A number of a summary that is not there. */
+#define FITREC_ABSENT UINT32_MAX
+
+/* How many bytes a repair may add to a data file. */
+#define FITREC_CLOSING_ROOM 254
+
+/* How many bytes a salvage may add to a file. */
+#define FITREC_FRAME_ROOM 16
+
+/* What a finished ride adds up to. */
+struct fitrec_summary {
+    uint32_t records;     /* samples */
+    uint32_t laps;
+    uint32_t sessions;
+    uint32_t start;       /* seconds since 1989-12-31 00:00 UTC */
+    uint32_t elapsed_ms;  /* from the start to the end, milliseconds */
+    uint32_t timer_ms;    /* without the pauses, milliseconds */
+    uint32_t distance_cm; /* centimetres, or FITREC_ABSENT */
+};
+
+/* Turns a data file into the finished file of everything that was committed: a valid FIT activity.
+
+   data          the data file, with room for FITREC_CLOSING_ROOM bytes more
+   data_size     how many bytes the buffer has
+   data_len      how many of them are the data file; after 0, how many are the finished file
+   journal       the journal, which may change too
+   journal_size, journal_len   as for the data file; no room is needed
+   summary       is filled after 0
+
+   Answers one of these. After every other answer than 0 the first *data_len and *journal_len bytes are as they were. */
+enum {
+    FITREC_REPAIRED = 0,
+    FITREC_NOTHING_RECORDED = 7, /* nothing was committed */
+    FITREC_DAMAGED = 8,          /* the two are not the files of one recording */
+    FITREC_BAD_LENGTH = 9,       /* a length is greater than its buffer */
+    FITREC_NO_CLOSING_ROOM = 10  /* the data file's buffer is too small */
+};
+uint8_t fitrec_repair(uint8_t *data, size_t data_size, uint64_t *data_len, uint8_t *journal, size_t journal_size,
+                      uint64_t *journal_len, struct fitrec_summary *summary);
+
+/* How much of a file a salvage kept, in bytes. */
+struct fitrec_salvage_counts {
+    uint64_t kept;          /* bytes of records in the new file */
+    uint64_t looked_at;     /* bytes of records that the old one has by its header, or all of them */
+    uint64_t not_looked_at; /* bytes after those and the two of a checksum */
+};
+
+/* Copies what is readable of a FIT file that has no journal into a valid file: its header, the longest prefix of whole messages, and a
+   checksum. Nothing is made up, so the summary of a ride that was cut off is missing.
+
+   bytes, size   the file; fewer than 4294967296 bytes
+   all           look at all bytes after the header, whatever size it gives
+   out, out_size the buffer of the new file; size + FITREC_FRAME_ROOM bytes are enough
+   out_len       how many bytes the new file has, after 0
+   counts        is filled after 0
+
+   Answers one of these. After every other answer than 0 the bytes of out may have changed. */
+enum {
+    FITREC_SALVAGED = 0,
+    FITREC_SALVAGE_TRUNCATED = 1,   /* the file ends in its header */
+    FITREC_SALVAGE_HEADER_SIZE = 2, /* byte 0 is not 12 or 14 */
+    FITREC_SALVAGE_MAGIC = 3,       /* bytes 8 to 11 are not ".FIT" */
+    FITREC_SALVAGE_PROTOCOL = 4,    /* the major version of the protocol is not 1 or 2 */
+    FITREC_SALVAGE_NO_ROOM = 20,    /* the new file has no room in out */
+    FITREC_SALVAGE_TOO_LARGE = 22   /* size is 4294967296 or more */
+};
+uint8_t fitrec_salvage(const uint8_t *bytes, size_t size, bool all, uint8_t *out, size_t out_size, uint64_t *out_len,
+                       struct fitrec_salvage_counts *counts);
+
+#ifdef __cplusplus
+}
+#endif
+
+#endif
