@@ -64,7 +64,7 @@ fn refusal(rt: &impl Abort, entries: &[Entry], entry: Entry) -> Option<Refusal>
 }
 
 // Makes the messages of this entry after a ride.
-fn say(rt: &impl Abort, entries: &[Entry], entry: Entry, speech: &mut Speech)
+fn spell(rt: &impl Abort, entries: &[Entry], entry: Entry, speech: &mut Speech)
     requires { length entries.now < 2 ^ 31 }
 {
     let totals = ride(rt, entries);
@@ -75,7 +75,7 @@ fn say(rt: &impl Abort, entries: &[Entry], entry: Entry, speech: &mut Speech)
 }
 
 // The same for a header that may have a compressed timestamp. Returns the time offset in that header.
-fn say_compressed(
+fn spell_compressed(
     rt: &impl Abort,
     entries: &[Entry],
     entry: Entry,

@@ -20,7 +20,7 @@ module _ (at len : ℕ) (bytes old : List ℕ) (fits : len ≤ length old) (with
     where
       by_place : (i < at) ⊎ (at ≤ i) → (i < at + length bytes) ⊎ (at + length bytes ≤ i) → get_or (over at bytes old) i 0 ≡ get_or (over at bytes (take len old)) i 0
       by_place (inl front) _ = over_before at bytes old i in_old front ∙ sym (over_before at bytes (take len old) i in_front front ∙ get_or-take len old i 0 (omega arith))
-      by_place (inr behind) (inl inside) =
+      by_place (inr after) (inl inside) =
           let here : at + (i - at) ≡ i = omega arith in
           let equal : get_or (over at bytes old) (at + (i - at)) 0 ≡ get_or (over at bytes (take len old)) (at + (i - at)) 0 = over_inside at bytes old (i - at) in_old (omega arith) ∙ sym (over_inside at bytes (take len old) (i - at) in_front (omega arith)) in
           rw (← here) equal

@@ -13,12 +13,12 @@ pub outside_is : (place : ℕ) (ranges : List (ℕ × ℕ)) → is_outside place
 outside_is place [] outside = tt
 outside_is place (range ∷ ranges) outside =
     let parts = and_parts _ _ outside in
-    (⊎_elim (λ front. inl (ltb-true place range.0 front)) (λ behind. inr (leb-true (range.0 + range.1) place behind)) (or_cases _ _ parts.0), outside_is place ranges parts.1)
+    (⊎_elim (λ front. inl (ltb-true place range.0 front)) (λ after. inr (leb-true (range.0 + range.1) place after)) (or_cases _ _ parts.0), outside_is place ranges parts.1)
 
 pub outside_from : (place : ℕ) (ranges : List (ℕ × ℕ)) → IsOutside place ranges → is_outside place ranges ≡ true
 outside_from place [] outside = refl
 outside_from place (range ∷ ranges) outside =
-    and_from _ _ (⊎_elim (λ front. or_left _ _ (lt-ltb place range.0 front)) (λ behind. or_right _ _ (le-leb (range.0 + range.1) place behind)) outside.0) (outside_from place ranges outside.1)
+    and_from _ _ (⊎_elim (λ front. or_left _ _ (lt-ltb place range.0 front)) (λ after. or_right _ _ (le-leb (range.0 + range.1) place after)) outside.0) (outside_from place ranges outside.1)
 
 pub kept_from : (least : ℕ) (written : List (ℕ × ℕ)) (place : ℕ) → place < least → IsOutside place written
     → is_kept least written place ≡ true

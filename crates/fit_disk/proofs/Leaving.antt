@@ -23,7 +23,7 @@ torn_left at count now file c d rests left_file =
       no_shorter = left.no_shorter;
       no_longer = left.no_longer;
       before = λ i low front. left.same i low (inl front, tt);
-      after = λ i low behind. left.same i low (inr behind, tt);
+      after = λ i low after. left.same i low (inr after, tt);
     }
 
 -- a cut of a file at rest leaves a partly cut content
@@ -56,7 +56,7 @@ over_inside at bytes old i within low =
 
 pub over_after : (at : ℕ) (bytes old : List ℕ) (i : ℕ) → at ≤ length old → at + length bytes ≤ i
     → get_or (over at bytes old) i 0 ≡ get_or old i 0
-over_after at bytes old i within behind =
+over_after at bytes old i within after =
     let size : length (take at old) ≡ at = omega (arith, length-take at old) in
     let place : at + length bytes + (i - at - length bytes) ≡ i = omega arith in
     get_or-append_right (take at old) (bytes ++ drop (at + length bytes) old) at i 0 size (omega arith)
@@ -70,7 +70,7 @@ over_torn at bytes old within = record {
   no_shorter = omega (arith, length-over at bytes old within);
   no_longer = omega (arith, length-over at bytes old within);
   before = λ i low front. over_before at bytes old i within front;
-  after = λ i low behind. over_after at bytes old i within behind;
+  after = λ i low after. over_after at bytes old i within after;
 }
 
 -- a whole cut is a partial one
@@ -87,7 +87,7 @@ over_bytes at bytes old within new_bytes old_bytes i = by_place (cases_lt i at) 
   where
     by_place : (i < at) ⊎ (at ≤ i) → (i < at + length bytes) ⊎ (at + length bytes ≤ i) → get_or (over at bytes old) i 0 < 256
     by_place (inl front) other = rw (over_before at bytes old i within front) (old_bytes i)
-    by_place (inr from) (inr behind) = rw (over_after at bytes old i within behind) (old_bytes i)
+    by_place (inr from) (inr after) = rw (over_after at bytes old i within after) (old_bytes i)
     by_place (inr from) (inl inside) =
         let place : at + (i - at) ≡ i = omega arith in
         let is : get_or (over at bytes old) (at + (i - at)) 0 ≡ get_or bytes (i - at) 0 = over_inside at bytes old (i - at) within (omega arith) in

@@ -6,5 +6,5 @@ pub mod Items
 pub mod Carried
 pub mod Ended
 pub mod Begun
-pub mod Told
+pub mod Reported
 pub mod Asked

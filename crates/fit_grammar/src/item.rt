@@ -5,7 +5,7 @@ ghost use Rattle.fit_grammar.specs.declared.definition.Definition.{Definition as
 ghost use Rattle.fit_grammar.specs.Format.Item.{Item as AnyItem, Spells, head_of, DefinitionHead, DataHead};
 ghost use Rattle.fit_grammar.specs.Format.Records.{IsDefinedBy};
 ghost use Rattle.fit_grammar.specs.Calls.Table.{definition_in};
-ghost use Rattle.fit_grammar.specs.Calls.Step.{IsLeastLength, IsStep, IsStepItem, ItemAtFront, ItemBegun, ShowsUndefined, least_length_of, behind_fields, definition_length_of};
+ghost use Rattle.fit_grammar.specs.Calls.Step.{IsLeastLength, IsStep, IsStepItem, ItemAtFront, ItemBegun, ShowsUndefined, least_length_of, after_fields, definition_length_of};
 ghost use Rattle.fit_grammar.specs.Private.FirstByte.{local_of};
 
 mod data_message;
@@ -124,7 +124,7 @@ fn definition_length(window: &[u8], announced: bool) -> usize
 // The number of developer fields at this place, or 0 if the window ends before it.
 fn developer_count(window: &[u8], at: usize) -> usize
     requires { at < 1000 }
-    ensures count { 1 + at + 3 * result ≡ behind_fields true at window.now }
+    ensures count { 1 + at + 3 * result ≡ after_fields true at window.now }
     ensures bound { result ≤ 255 }
 {
     match window.get(at) {

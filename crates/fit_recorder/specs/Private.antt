@@ -1,7 +1,7 @@
 -- Definitions for private functions and proofs.
 pub mod OneMessage
 pub mod Spelled
-pub mod Told
+pub mod Encoded
 pub mod State
 pub mod RecordingFiles
 pub mod ItemRead

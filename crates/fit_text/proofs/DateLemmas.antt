@@ -147,8 +147,8 @@ pub printed : (options : Bool × ℕ × Option ℕ) (shown : DateTime) (text : L
     civil_nanos shown ≡ pos (unix_second time * 1_000_000_000) → time < 4294967296 →
     text ≡ datetime_text options.0 options.1 options.2 shown ++ ((if options.0 then 122 else 90) ∷ []) → text ≡ date_text time
 unfolding date_text
-printed options shown text time plain is few said =
+printed options shown text time plain is few stated =
     let parts = same_parts shown (unix_second time) is in
     let day = same_day shown.date (unix_second time / 86400) parts.0 (omega arith) in
     let clock = same_clock shown.time (unix_second time % 86400) parts.1 in
-    said ∙ rw (plain, day.0, day.1, day.2, clock.0, clock.1, clock.2, clock.3) refl
+    stated ∙ rw (plain, day.0, day.1, day.2, clock.0, clock.1, clock.2, clock.3) refl

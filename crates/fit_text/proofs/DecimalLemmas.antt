@@ -35,13 +35,13 @@ table : DIGITS ≡ flat_map three (range_with_len 0 1000) ++ codes "000"
 table = refl
 
 -- the digits of the number at an index, and those after them
-drop-threes : (ns : List ℕ) (i : ℕ) (behind : List ℕ) → i < length ns →
-    (rest : List ℕ) × (drop (3 * i) (flat_map three ns ++ behind) ≡ three (get_or ns i 0) ++ rest)
-drop-threes [] i behind lt = absurd (omega arith)
-drop-threes (n ∷ ns) zero behind lt = (flat_map three ns ++ behind, refl)
-drop-threes (n ∷ ns) (suc i) behind lt =
+drop-threes : (ns : List ℕ) (i : ℕ) (after : List ℕ) → i < length ns →
+    (rest : List ℕ) × (drop (3 * i) (flat_map three ns ++ after) ≡ three (get_or ns i 0) ++ rest)
+drop-threes [] i after lt = absurd (omega arith)
+drop-threes (n ∷ ns) zero after lt = (flat_map three ns ++ after, refl)
+drop-threes (n ∷ ns) (suc i) after lt =
     let more : 3 * suc i ≡ suc (suc (suc (3 * i))) = omega arith in
-    rw more (drop-threes ns i behind (omega arith))
+    rw more (drop-threes ns i after (omega arith))
 
 pub digits_of : (n : ℕ) → n < 1000 → (rest : List ℕ) × (drop (3 * n) DIGITS ≡ three n ++ rest)
 digits_of n lt =

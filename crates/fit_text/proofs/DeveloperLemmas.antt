@@ -36,10 +36,10 @@ first_size (f ∷ fields) some =
     let rest : others (f ∷ fields) ≡ fields = take_all _ fields (omega arith) in
     rw rest (sum_by-cons (λ (f : DeveloperFieldDefinition). f.size) f fields)
 
-pub first_text : (fields : List DeveloperFieldDefinition) (content bytes behind : List ℕ) (n : ℕ) → 1 ≤ length fields →
-    bytes ≡ take n content → behind ≡ drop n content → n ≡ (first fields).size →
+pub first_text : (fields : List DeveloperFieldDefinition) (content bytes after : List ℕ) (n : ℕ) → 1 ≤ length fields →
+    bytes ≡ take n content → after ≡ drop n content → n ≡ (first fields).size →
     flat_map developer_text (developer_of fields content)
-    ≡ developer_text (field_from (first fields).index (first fields).number bytes) ++ flat_map developer_text (developer_of (others fields) behind)
-first_text [] content bytes behind n some front back size = absurd (omega arith)
-first_text (f ∷ fields) content bytes behind n some front back size =
+    ≡ developer_text (field_from (first fields).index (first fields).number bytes) ++ flat_map developer_text (developer_of (others fields) after)
+first_text [] content bytes after n some front back size = absurd (omega arith)
+first_text (f ∷ fields) content bytes after n some front back size =
     let rest : others (f ∷ fields) ≡ fields = take_all _ fields (omega arith) in rw (front, back, size, rest) refl

@@ -44,15 +44,15 @@ begins_more o n a b h = record {
   appended = h.appended;
 }
 
-puts_behind : {T E : Type 0} (o m n : Written) (r : Result T E) (a b : List ℕ) → m.name ≡ o.name → Continues o m a → Puts m n r b →
+puts_after : {T E : Type 0} (o m n : Written) (r : Result T E) (a b : List ℕ) → m.name ≡ o.name → Continues o m a → Puts m n r b →
     Puts o n r (a ++ b)
-puts_behind o m n (Ok x) a b e h k = record { same = k.same ∙ e; all = continues_then o m n a b h k.all; beginning = tt }
-puts_behind o m n (Err x) a b e h k = record { same = k.same ∙ e; all = tt; beginning = begins_then o m n a b h k.beginning }
+puts_after o m n (Ok x) a b e h k = record { same = k.same ∙ e; all = continues_then o m n a b h k.all; beginning = tt }
+puts_after o m n (Err x) a b e h k = record { same = k.same ∙ e; all = tt; beginning = begins_then o m n a b h k.beginning }
 
 -- one text was put, and then another one
 pub puts_then : {S T E F : Type 0} {o m n : Written} {x : S} {r : Result T E} {a b : List ℕ} →
     Puts {T = S} {E = F} o m (Ok x) a → Puts m n r b → Puts o n r (a ++ b)
-puts_then {o = o} {m = m} {n = n} {r = r} {a = a} {b = b} h k = puts_behind o m n r a b h.same h.all k
+puts_then {o = o} {m = m} {n = n} {r = r} {a = a} {b = b} h k = puts_after o m n r a b h.same h.all k
 
 puts_beginning : {T E : Type 0} (o n : Written) (r : Result T E) (text : List ℕ) → IsErr r → n.name ≡ o.name →
     AppendsBeginning o.held n.held (o.waiting ++ text) → Puts o n r text
@@ -163,7 +163,7 @@ pub leaves_off : {T S E F : Type 0} {o m n : Written} {e : E} {r : Result T F} {
     IsErr r → Leaves o m text rest → Puts {T = S} {E = E} m n (Err e) part → rest ≡ part ++ more → Puts o n r text
 leaves_off {o = o} {m = m} {n = n} {e = d} {r = r} {text = text} {part = part} more bad h k e =
     let split : h.done ++ (part ++ more) ≡ text = sym (h.split ∙ ap (λ t. h.done ++ t) e) in
-    puts_same (puts_behind o m n r h.done (part ++ more) h.same h.continued (puts_stop bad k more)) split
+    puts_same (puts_after o m n r h.done (part ++ more) h.same h.continued (puts_stop bad k more)) split
 
 -- ---- a loop that puts a text for each number of a list
 

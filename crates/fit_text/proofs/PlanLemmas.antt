@@ -5,7 +5,7 @@ use Rattle.arrayvec.specs.ArrayVec.{ArrayVec}
 use Rattle.std.specs.Prelude.{slice_range}
 use Rattle.std.proofs.lemmas.Bool.{cases_lt}
 use Rattle.fit_grammar.specs.Format.Item.{Defines}
-use Rattle.fit_grammar.specs.Calls.Table.{behind}
+use Rattle.fit_grammar.specs.Calls.Table.{in_force_after}
 use Rattle.std.proofs.Common.{set, eq-zero-or-pos, ◌⊎◌, ◌≡◌, ◌≢◌, ℕ, suc, ◌+◌, ◌-◌, ◌*◌, ◌/◌, ◌%◌, ◌^◌, ◌<◌, ◌≤◌, ◌==◌, Bool, true, false, List, [], ◌∷◌, ◌++◌, length, get_or, take, drop, sum_by, append_assoc, pos, ◌-ℤ◌, refl, sym, ap, ◌∙◌, inl, inr, append-nil, eq-eqb, nat_lt, ltb, codes, decimal, Option, Some, None, IfSome, IsSome, length-append, length-set, arith, rules, if◌then◌else◌}
 use Rattle.std.proofs.lemmas.Bool.{lt-ltb}
 use Rattle.std.proofs.lemmas.Grind.{flat_map-append}
@@ -262,25 +262,25 @@ other_kinds dates [] some h = absurd (omega arith)
 other_kinds dates (c ∷ columns) some h =
     let rest : others (c ∷ columns) ≡ columns = take_all _ columns (omega arith) in rw rest h.1
 
-pub first_text : (dates : List ℕ) (arch : Arch) (columns : List Column) (column : Column) (content bytes behind : List ℕ) (n : ℕ) →
-    1 ≤ length columns → column ≡ get_or columns 0 column → bytes ≡ take n content → behind ≡ drop n content → n ≡ column.size →
-    columns_text dates arch columns content ≡ column_text dates arch column bytes ++ columns_text dates arch (others columns) behind
-first_text dates arch [] column content bytes behind n some is front back size = absurd (omega arith)
-first_text dates arch (c ∷ columns) column content bytes behind n some is front back size =
+pub first_text : (dates : List ℕ) (arch : Arch) (columns : List Column) (column : Column) (content bytes in_force_after : List ℕ) (n : ℕ) →
+    1 ≤ length columns → column ≡ get_or columns 0 column → bytes ≡ take n content → in_force_after ≡ drop n content → n ≡ column.size →
+    columns_text dates arch columns content ≡ column_text dates arch column bytes ++ columns_text dates arch (others columns) in_force_after
+first_text dates arch [] column content bytes in_force_after n some is front back size = absurd (omega arith)
+first_text dates arch (c ∷ columns) column content bytes in_force_after n some is front back size =
     let rest : others (c ∷ columns) ≡ columns = take_all _ columns (omega arith) in rw (front, back, size, is, rest) refl
 
 -- the content after the first column, and after all of them
-pub first_behind : (columns : List Column) (column : Column) (content behind : List ℕ) (n : ℕ) → 1 ≤ length columns → column ≡ get_or columns 0 column →
-    behind ≡ drop n content → n ≡ column.size →
-    drop (sum_by (λ c. c.size) (others columns)) behind ≡ drop (sum_by (λ c. c.size) columns) content
-first_behind columns column content behind n some is back size =
+pub first_after : (columns : List Column) (column : Column) (content in_force_after : List ℕ) (n : ℕ) → 1 ≤ length columns → column ≡ get_or columns 0 column →
+    in_force_after ≡ drop n content → n ≡ column.size →
+    drop (sum_by (λ c. c.size) (others columns)) in_force_after ≡ drop (sum_by (λ c. c.size) columns) content
+first_after columns column content in_force_after n some is back size =
     ap (drop (sum_by (λ c. c.size) (others columns))) (back ∙ ap (λ k. drop k content) size)
     ∙ drop-drop (sum_by (λ c. c.size) (others columns)) column.size content
     ∙ ap (λ k. drop k content) (sym (first_size columns column some is))
 
-pub no_behind : (columns : List Column) (content : List ℕ) → length columns < 1 → drop (sum_by (λ c. c.size) columns) content ≡ content
-no_behind [] content none = refl
-no_behind (column ∷ columns) content none = absurd (omega arith)
+pub no_after : (columns : List Column) (content : List ℕ) → length columns < 1 → drop (sum_by (λ c. c.size) columns) content ≡ content
+no_after [] content none = refl
+no_after (column ∷ columns) content none = absurd (omega arith)
 
 pub no_column : (dates : List ℕ) (arch : Arch) (columns : List Column) (content : List ℕ) → length columns < 1 →
     columns_text dates arch columns content ≡ []
@@ -305,13 +305,13 @@ pub plan_text : (number : ℕ) (d : Definition) (time : Option ℕ) (content : L
     ≡ message_text plan.utc number (message_under d time content)
 plan_text number d time content plan columns developer dates is fits h =
     let size = columns_size (names_of_fields d.global) (dates_of plan.utc d.global) d.fields.items columns h.fields in
-    let behind = flat_map developer_text (developer_of d.developer.items (drop (fields_size d) content)) in
+    let in_force_after = flat_map developer_text (developer_of d.developer.items (drop (fields_size d) content)) in
     let names = names_of_fields d.global in
     let shown = dates_of plan.utc d.global in
     let texts = flat_map-append (field_text names shown) (time_fields time) (fields_of d.arch d.fields.items content) in
     rw (is, h.global, h.arch, h.name, time_shown names shown plan.time time fits h.time, columns_show names shown d.arch d.fields.items columns content h.fields, h.developer, size)
-    (line_parts (decimal number) (message_name d.global) _ _ behind
-    ∙ ap (λ t. decimal number ++ codes " " ++ message_name d.global ++ t ++ behind ++ codes "\n") (sym texts))
+    (line_parts (decimal number) (message_name d.global) _ _ in_force_after
+    ∙ ap (λ t. decimal number ++ codes " " ++ message_name d.global ++ t ++ in_force_after ++ codes "\n") (sym texts))
 
 pub plan_kinds : (d : Definition) (plan : Plan) (columns : List Column) (developer : List DeveloperFieldDefinition) (dates : List ℕ) →
     dates ≡ dates_of plan.utc plan.global → IsPlanOf d plan columns developer → HaveKinds dates columns
@@ -378,7 +378,7 @@ set_there slots k slot plan there =
 
 -- after a definition its local number has no plan
 pub plans_forget : (definition_for : ℕ → Option Definition) (d : Definition) (plans : Plans) (k : ℕ) → k ≡ d.local →
-    ArePlansFor definition_for plans → ArePlansFor (behind (Defines d) definition_for) (record plans { slots = set plans.slots k None })
+    ArePlansFor definition_for plans → ArePlansFor (in_force_after (Defines d) definition_for) (record plans { slots = set plans.slots k None })
 plans_forget definition_for d plans k place h local definition plan there has =
     elim (same_or_not local k) [
       | inl here ↦
@@ -397,7 +397,7 @@ pub plans_set : (definition_for : ℕ → Option Definition) (own : ℕ) (d : De
     k ≡ own → definition_for own ≡ Some d → IsPlanIn columns.items developer.items plans.utc d plan →
     columns.items ≡ plans.columns.items ++ more → developer.items ≡ plans.developer.items ++ fields → ArePlansFor definition_for plans →
     ArePlansFor definition_for (record plans { slots = set plans.slots k (Some plan); columns = columns; developer = developer })
-plans_set definition_for own d plans columns developer plan k more fields place found good row behind h local definition other there has =
+plans_set definition_for own d plans columns developer plan k more fields place found good row in_force_after h local definition other there has =
     elim (same_or_not local k) [
       | inl here ↦
           let one : Some plan ≡ Some other =
@@ -408,7 +408,7 @@ plans_set definition_for own d plans columns developer plan k more fields place 
           rw (← is_plan, ← is_definition) good
       | inr apart ↦
           let kept = sym (get_or-set_other plans.slots k local (Some plan) None apart) ∙ there in
-          rw (row, behind)
+          rw (row, in_force_after)
           (plan_in_more plans.columns.items more plans.developer.items fields plans.utc definition other (h local definition other kept has))
     ]
 

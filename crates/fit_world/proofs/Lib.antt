@@ -1,4 +1,4 @@
 -- A folder for each theorem. No crate above uses them.
 mod Histories
 mod Simulation
-mod Told
+mod Reported

@@ -22,12 +22,12 @@ pub enum Answer {
 }
 
 impl Answer {
-    ghost use Rattle.fit_world.specs.Histories.Runs.{told_in};
-    ghost use Rattle.fit_world.specs.Printed.Simulation.{reply_told};
+    ghost use Rattle.fit_world.specs.Histories.Runs.{outcome_in};
+    ghost use Rattle.fit_world.specs.Printed.Simulation.{reply_in};
 
     /// The answer without its file.
     pub fn reply(&self) -> Reply
-        ensures { result ≡ reply_told (told_in self.now) }
+        ensures { result ≡ reply_in (outcome_in self.now) }
     {
         match self {
             Answer::Done => Reply::Done,

@@ -14,7 +14,7 @@ impl<D: Disk> Ride<D> {
     ghost use Rattle.fit_world.specs.Histories.Table.{History};
     ghost use Rattle.fit_world.specs.Scripts.Replayed.{is_simulated};
     ghost use Rattle.fit_world.specs.Rides.Replies.{MayReply, rides_on};
-    ghost use Rattle.fit_world.specs.Rides.Ride.{HasBegun, CanGoOn, Handed, MayReplyBehind, RidesOnWith, disk_in, is_riding};
+    ghost use Rattle.fit_world.specs.Rides.Ride.{HasBegun, CanGoOn, Handed, MayReplyAfter, RidesOnWith, disk_in, is_riding};
     ghost use Rattle.fit_world.specs.Rides.Standing.{GoesBy, IsCounted, StandsIn};
 
     /// Runs a command, and returns the ride after it and the reply. The command may not be `Fail`, `Cut` or `Power`.
@@ -24,8 +24,8 @@ impl<D: Disk> Ride<D> {
         ensures goes_on { CanGoOn D.honest D.story result.0 }
         ensures reply { MayReply (is_riding self) command.now result.1 }
         ensures riding { is_riding result.0 ≡ rides_on (is_riding self) command.now result.1 }
-        ensures behind { (list : List Recorded) → Handed self list
-            → MayReplyBehind self list command.now result.1 }
+        ensures after { (list : List Recorded) → Handed self list
+            → MayReplyAfter self list command.now result.1 }
         ensures handed { (list : List Recorded) → Handed self list → result.1 ≡ Done
             → RidesOnWith self list command.now result.0 }
         ensures begun { result.1 ≡ Done → HasBegun command.now result.0 }

@@ -2,13 +2,13 @@
 
 ghost use Rattle.std.specs.Prelude.{◌≡◌, List, ℕ, Err};
 ghost use Rattle.fit_grammar.specs.Format.File.{FileOf};
-ghost use Rattle.fit_world.specs.declared.fault.TellFault.TheVariants.{Input};
+ghost use Rattle.fit_world.specs.declared.fault.ReportFault.TheVariants.{Input};
 ghost use Rattle.fit_world.specs.declared.reading.ReadFault.{ReadFault};
-ghost use Rattle.fit_world.specs.Calls.Reading.{TellsInput};
+ghost use Rattle.fit_world.specs.Calls.Reading.{ReportsInput};
 ghost use Rattle.fit_world.specs.Printed.Checked.{ChecksBytes};
 
 use crate::decoding::decode_input;
-use crate::fault::TellFault;
+use crate::fault::ReportFault;
 use crate::printing::print_summary;
 use fit_activity::check_activity;
 use fit_grammar::{File, decode_file};
@@ -22,8 +22,8 @@ pub fn check_input<T: Read, O: Write>(
     from: &mut T,
     most: usize,
     out: &mut O,
-) -> Result<(), TellFault>
-    ensures checked { TellsInput most (T.remaining from.old) (T.remaining from.new)
+) -> Result<(), ReportFault>
+    ensures checked { ReportsInput most (T.remaining from.old) (T.remaining from.new)
         (ChecksBytes (O.contents out.old) (O.contents out.new)) result }
     ensures quiet { (why : ReadFault) → result ≡ Err (Input why) → O.contents out.new ≡ O.contents out.old }
 {
@@ -34,21 +34,21 @@ pub fn check_input<T: Read, O: Write>(
 }
 
 /// Checks that these bytes are an activity file, and prints its summary. Otherwise nothing is written.
-pub fn check_bytes<O: Write>(alloc: Global, bytes: &[u8], out: &mut O) -> Result<(), TellFault>
+pub fn check_bytes<O: Write>(alloc: Global, bytes: &[u8], out: &mut O) -> Result<(), ReportFault>
     ensures { ChecksBytes (O.contents out.old) (O.contents out.new) bytes.now result }
 {
     match decode_file(alloc, bytes) {
         Ok(file) => check(&file, out),
-        Err(fault) => Err(TellFault::File(fault)),
+        Err(fault) => Err(ReportFault::File(fault)),
     }
 }
 
-fn check<O: Write>(file: &File, out: &mut O) -> Result<(), TellFault>
+fn check<O: Write>(file: &File, out: &mut O) -> Result<(), ReportFault>
     ensures { (bytes : List ℕ) → FileOf bytes file.now
         → ChecksBytes (O.contents out.old) (O.contents out.new) bytes result }
 {
     match check_activity(file) {
         Ok(summary) => print_summary(summary, out),
-        Err(fault) => Err(TellFault::Activity(fault)),
+        Err(fault) => Err(ReportFault::Activity(fault)),
     }
 }

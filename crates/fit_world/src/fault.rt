@@ -8,7 +8,7 @@ use fit_grammar::{FileFault, PlainFault};
 
 /// Why a file was not read, checked, printed or made plain.
 #[derive(Clone, Copy, Debug, PartialEq, Eq)]
-pub enum TellFault {
+pub enum ReportFault {
     /// The bytes are not a FIT file that this library reads, or memory was refused.
     File(FileFault),
     /// The file is not an activity.
@@ -21,19 +21,19 @@ pub enum TellFault {
     Plain(PlainFault),
 }
 
-impl TellFault {
-    ghost use Rattle.fit_world.specs.Calls.FaultCode.{tell_code};
+impl ReportFault {
+    ghost use Rattle.fit_world.specs.Calls.FaultCode.{fault_number};
 
     /// The number of the fault, 1 to 5.
     pub fn code(&self) -> u8
-        ensures { result ≡ tell_code self.now }
+        ensures { result ≡ fault_number self.now }
     {
         match self {
-            TellFault::File(_) => 1,
-            TellFault::Activity(_) => 2,
-            TellFault::Output => 3,
-            TellFault::Input(_) => 4,
-            TellFault::Plain(_) => 5,
+            ReportFault::File(_) => 1,
+            ReportFault::Activity(_) => 2,
+            ReportFault::Output => 3,
+            ReportFault::Input(_) => 4,
+            ReportFault::Plain(_) => 5,
         }
     }
 }

@@ -58,7 +58,7 @@ pub use checking::{check_bytes, check_input};
 pub use choices::read_choices;
 pub use command::Command;
 pub use event::Event;
-pub use fault::TellFault;
+pub use fault::ReportFault;
 pub use plain::{count_messages, plain_input, print_messages};
 pub use playing::play;
 pub use printing::print_summary;

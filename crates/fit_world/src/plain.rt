@@ -6,12 +6,12 @@ ghost use Rattle.fit_grammar.specs.Calls.Places.{ArePlaces};
 ghost use Rattle.fit_grammar.specs.Format.Encoding.{encoded};
 ghost use Rattle.fit_grammar.specs.Format.File.{FileOf};
 ghost use Rattle.fit_grammar.specs.Format.Message.{messages_of};
-ghost use Rattle.fit_world.specs.Calls.Reading.{TellsInput};
+ghost use Rattle.fit_world.specs.Calls.Reading.{ReportsInput};
 ghost use Rattle.fit_world.specs.Printed.PlainFile.{PlainsTo, messages_text};
 ghost use Rattle.fit_world.specs.Printed.Shown.{IsOutputFault};
 
 use crate::decoding::decode_with_places;
-use crate::fault::TellFault;
+use crate::fault::ReportFault;
 use crate::printing::print_line;
 use fit_grammar::{File, Places, plain_file};
 use std::alloc::Global;
@@ -20,20 +20,20 @@ use std::io::{Read, Write};
 
 /// Reads a file of at most `most` bytes from an input, and makes its plain form: the same frame (header size and versions) and
 /// messages, and no compressed timestamp.
-pub fn plain_input<T: Read>(alloc: Global, from: &mut T, most: usize) -> Result<File, TellFault>
-    ensures { TellsInput most (T.remaining from.old) (T.remaining from.new) PlainsTo result }
+pub fn plain_input<T: Read>(alloc: Global, from: &mut T, most: usize) -> Result<File, ReportFault>
+    ensures { ReportsInput most (T.remaining from.old) (T.remaining from.new) PlainsTo result }
 {
     let (file, places) = decode_with_places(alloc, from, most)?;
     plain_of(alloc, &file, &places)
 }
 
 // The plain form of a file. `places` has the places of its items in the bytes that it was read from.
-pub(crate) fn plain_of(alloc: Global, file: &File, places: &Places) -> Result<File, TellFault>
+pub(crate) fn plain_of(alloc: Global, file: &File, places: &Places) -> Result<File, ReportFault>
     ensures { (bytes : List ℕ) → FileOf bytes file.now → ArePlaces bytes places.now → PlainsTo bytes result }
 {
     match plain_file(alloc, file, places) {
         Ok(plain) => Ok(plain),
-        Err(fault) => Err(TellFault::Plain(fault)),
+        Err(fault) => Err(ReportFault::Plain(fault)),
     }
 }
 
@@ -68,7 +68,7 @@ impl fmt::Display for MessagesLine {
 }
 
 /// Prints the number of messages. If the output fails, a prefix of that line is written.
-pub fn print_messages<O: Write>(count: usize, out: &mut O) -> Result<(), TellFault>
+pub fn print_messages<O: Write>(count: usize, out: &mut O) -> Result<(), ReportFault>
     ensures fault { IfErr result IsOutputFault }
     ensures line { WritesText (O.contents out.old) (O.contents out.new) result (messages_text count ++ codes "\n") }
 {

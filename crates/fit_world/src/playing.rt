@@ -1,13 +1,13 @@
 // Runs the events of a script over a disk.
 
 ghost use Rattle.std.specs.Prelude.{◌≡◌, ◌≤◌, [], All, length, IfOk, IfErr};
-ghost use Rattle.fit_world.specs.Printed.ReplyLines.{AreTold};
+ghost use Rattle.fit_world.specs.Printed.ReplyLines.{AreReported};
 ghost use Rattle.fit_world.specs.Scripts.Replayed.{IsReplayed};
 ghost use Rattle.fit_world.specs.Printed.Shown.{IsOutputFault};
-ghost use Rattle.fit_world.specs.Rides.Played.{LeavesBehind, BreaksOff};
+ghost use Rattle.fit_world.specs.Rides.Played.{LeavesAfter, BreaksOff};
 
 use crate::event::Event;
-use crate::fault::TellFault;
+use crate::fault::ReportFault;
 use crate::printing::print;
 use crate::reply_line::ReplyLine;
 use crate::ride::Ride;
@@ -21,11 +21,11 @@ pub fn play<D: Disk, O: Write>(
     disk: D,
     events: &[Event],
     out: &mut O,
-) -> (D, Result<usize, TellFault>)
+) -> (D, Result<usize, ReportFault>)
     requires { All IsReplayed events.now }
     ensures most { IfOk result.1 (λ refused. refused ≤ length events.now) }
-    ensures told { IfOk result.1 (λ refused.
-        AreTold events.now (LeavesBehind D.honest (D.story disk) (D.story result.0) events.now) refused
+    ensures outcome { IfOk result.1 (λ refused.
+        AreReported events.now (LeavesAfter D.honest (D.story disk) (D.story result.0) events.now) refused
         (O.contents out.old) (O.contents out.new)) }
     ensures broken_off { IfErr result.1 (λ _.
         BreaksOff D.honest (D.story disk) (D.story result.0) events.now (O.contents out.old)
@@ -43,13 +43,13 @@ fn play_by<D: Disk, O: Write>(
     disk: D,
     events: &[Event],
     pen: &mut Pen<'_, O>,
-) -> (D, Result<usize, TellFault>)
+) -> (D, Result<usize, ReportFault>)
     requires replayed { All IsReplayed events.now }
     requires waits { pen.old.waiting ≡ [] }
     ensures most { IfOk result.1 (λ refused. refused ≤ length events.now) }
     ensures same { pen.new.name ≡ pen.old.name }
-    ensures told { IfOk result.1 (λ refused.
-        AreTold events.now (LeavesBehind D.honest (D.story disk) (D.story result.0) events.now) refused
+    ensures outcome { IfOk result.1 (λ refused.
+        AreReported events.now (LeavesAfter D.honest (D.story disk) (D.story result.0) events.now) refused
         pen.old.held pen.new.held) }
     ensures broken_off { IfErr result.1 (λ _.
         BreaksOff D.honest (D.story disk) (D.story result.0) events.now pen.old.held pen.new.held) }

@@ -6,7 +6,7 @@ ghost use Rattle.fit_text.specs.Pen.{Puts};
 ghost use Rattle.fit_world.specs.Printed.Shown.{IsOutputFault};
 ghost use Rattle.fit_world.specs.Printed.Summary.{summary_text};
 
-use crate::fault::TellFault;
+use crate::fault::ReportFault;
 use crate::summary::SummaryLine;
 use arrayvec::ArrayString;
 use fit_activity::Summary;
@@ -18,35 +18,35 @@ use std::io;
 const ROOM: usize = 512;
 
 /// Puts a line and its end into the pen.
-pub fn put_line<L: Display, O: io::Write>(line: &L, pen: &mut Pen<'_, O>) -> Result<(), TellFault>
+pub fn put_line<L: Display, O: io::Write>(line: &L, pen: &mut Pen<'_, O>) -> Result<(), ReportFault>
     ensures fault { IfErr result IsOutputFault }
     ensures same { pen.new.name ≡ pen.old.name }
     ensures line { IfSome (L.output line.now) (λ text. Puts pen.old pen.new result (text ++ codes "\n")) }
 {
     let mut text = ArrayString::<ROOM>::new();
     let Ok(()) = writeln!(text, "{line}") else {
-        return Err(TellFault::Output);
+        return Err(ReportFault::Output);
     };
     match pen.put(text.as_str().as_bytes()) {
         Ok(()) => Ok(()),
-        Err(_) => Err(TellFault::Output),
+        Err(_) => Err(ReportFault::Output),
     }
 }
 
 /// Hands all that was put to the writer, and flushes the writer.
-pub fn flush<O: io::Write>(pen: &mut Pen<'_, O>) -> Result<(), TellFault>
+pub fn flush<O: io::Write>(pen: &mut Pen<'_, O>) -> Result<(), ReportFault>
     ensures fault { IfErr result IsOutputFault }
     ensures none { OnOk result (pen.new.waiting ≡ []) }
     ensures all { Puts pen.old pen.new result [] }
 {
     match pen.flush() {
         Ok(()) => Ok(()),
-        Err(_) => Err(TellFault::Output),
+        Err(_) => Err(ReportFault::Output),
     }
 }
 
 /// Puts a line, hands all that was put to the writer, and flushes the writer.
-pub fn print<L: Display, O: io::Write>(line: &L, pen: &mut Pen<'_, O>) -> Result<(), TellFault>
+pub fn print<L: Display, O: io::Write>(line: &L, pen: &mut Pen<'_, O>) -> Result<(), ReportFault>
     ensures fault { IfErr result IsOutputFault }
     ensures same { pen.new.name ≡ pen.old.name }
     ensures none { OnOk result (pen.new.waiting ≡ []) }
@@ -59,7 +59,7 @@ pub fn print<L: Display, O: io::Write>(line: &L, pen: &mut Pen<'_, O>) -> Result
 /// Prints one line, to the last byte. If the output fails, a prefix of it is written.
 // Not inlined: its pen would take stack in every caller.
 #[inline(never)]
-pub fn print_line<L: Display, O: io::Write>(line: &L, out: &mut O) -> Result<(), TellFault>
+pub fn print_line<L: Display, O: io::Write>(line: &L, out: &mut O) -> Result<(), ReportFault>
     ensures fault { IfErr result IsOutputFault }
     ensures line { IfSome (L.output line.now)
         (λ text. WritesText (O.contents out.old) (O.contents out.new) result (text ++ codes "\n")) }
@@ -71,7 +71,7 @@ pub fn print_line<L: Display, O: io::Write>(line: &L, out: &mut O) -> Result<(),
 }
 
 /// Prints the line of a summary. If the output fails, a prefix of it is written.
-pub fn print_summary<O: io::Write>(summary: Summary, out: &mut O) -> Result<(), TellFault>
+pub fn print_summary<O: io::Write>(summary: Summary, out: &mut O) -> Result<(), ReportFault>
     ensures fault { IfErr result IsOutputFault }
     ensures line { WritesText (O.contents out.old) (O.contents out.new) result (summary_text summary ++ codes "\n") }
 {

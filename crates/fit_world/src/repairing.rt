@@ -9,7 +9,7 @@ ghost use Rattle.fit_disk.specs.State.{seen_in};
 ghost use Rattle.fit_recorder.specs.Calls.Recovery.{IsRecoveryFault, RecoveryAnswers, recovery_calls, most_body_reads};
 ghost use Rattle.fit_recorder.specs.declared.fault.RecFault.TheVariants as recording;
 ghost use Rattle.fit_recorder.specs.declared.fault.RecFault.{RecFault as AnyRecFault};
-ghost use Rattle.fit_world.specs.Printed.Repaired.{Repairs, TellsRecovered, IsRepairFault};
+ghost use Rattle.fit_world.specs.Printed.Repaired.{Repairs, ReportsRecovered, IsRepairFault};
 ghost use Rattle.fit_world.specs.Printed.Summary.{summary_text};
 ghost use Rattle.fit_world.specs.declared.repairing.RepairFault.TheVariants as faults;
 
@@ -52,14 +52,14 @@ pub fn repair<D: Disk, O: Write>(disk: &mut D, out: &mut O) -> Result<(), Repair
         (O.contents out.new) result }
     ensures fault { IfErr result IsRepairFault }
     // Over any disk.
-    ensures told { OnOk result ((summary : AnySummary)
+    ensures outcome { OnOk result ((summary : AnySummary)
         × Appends (O.contents out.old) (O.contents out.new) (summary_text summary ++ codes "\n")) }
     ensures quiet { (why : AnyRecFault) → result ≡ Err (faults.Recorder why)
         → O.contents out.new ≡ O.contents out.old }
     ensures ran { Ran (recovery_calls + most_body_reads)
         (IsErrOf result (faults.Recorder recording.Device)) (D.log disk.old) (D.log disk.new) }
 {
-    tell(recover(disk), out)
+    report(recover(disk), out)
 }
 
 /// The same, but both files are read again from start to end before anything is printed. A read that fails is `Device`. So what is
@@ -70,14 +70,14 @@ pub fn repair_and_read<D: Disk, O: Write>(disk: &mut D, out: &mut O) -> Result<(
         (O.contents out.new) result }
     ensures fault { IfErr result IsRepairFault }
     // Over any disk.
-    ensures told { OnOk result ((summary : AnySummary)
+    ensures outcome { OnOk result ((summary : AnySummary)
         × Appends (O.contents out.old) (O.contents out.new) (summary_text summary ++ codes "\n")) }
     ensures quiet { (why : AnyRecFault) → result ≡ Err (faults.Recorder why)
         → O.contents out.new ≡ O.contents out.old }
     ensures cause { IsErrOf result (faults.Recorder recording.Device)
         → HasFailed (D.log disk.old).counts (D.log disk.new).counts }
 {
-    tell(recover_and_read(disk), out)
+    report(recover_and_read(disk), out)
 }
 
 // Recovers the recording of a disk, and reads both files again.
@@ -113,8 +113,8 @@ fn read_through<D: Disk>(disk: &mut D, which: Which) -> Result<(), DeviceError>
 }
 
 // Prints the summary of a recovery, if that went well.
-fn tell<O: Write>(recovered: Result<Summary, RecFault>, out: &mut O) -> Result<(), RepairFault>
-    ensures { TellsRecovered recovered (O.contents out.old) (O.contents out.new) result }
+fn report<O: Write>(recovered: Result<Summary, RecFault>, out: &mut O) -> Result<(), RepairFault>
+    ensures { ReportsRecovered recovered (O.contents out.old) (O.contents out.new) result }
 {
     match recovered {
         Ok(summary) => match print_summary(summary, out) {

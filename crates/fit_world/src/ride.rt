@@ -33,7 +33,7 @@ impl<D: Disk> Ride<D> {
     ghost use Rattle.fit_world.specs.declared.reply.Reply.TheVariants.{Done, Stopped, Refused, NoRecorder};
     ghost use Rattle.fit_world.specs.Histories.Table.{History, ended};
     ghost use Rattle.fit_world.specs.Rides.Replies.{Replies, RepliesStart, RepliesRecovery, RepliesReopening, RepliesErasing, is_ok};
-    ghost use Rattle.fit_world.specs.Rides.Ride.{CanGoOn, Handed, disk_in, is_broken, is_riding, said_len, slots_of};
+    ghost use Rattle.fit_world.specs.Rides.Ride.{CanGoOn, Handed, disk_in, is_broken, is_riding, encoded_len, slots_of};
     ghost use Rattle.fit_world.specs.Rides.Standing.{StandsIn, GoesBy, IsCounted, Rests};
 
     /// Ends the recorder that runs, if one does, and begins a recording. If the reply is not `Done`, no recorder runs.
@@ -41,7 +41,7 @@ impl<D: Disk> Ride<D> {
         ensures goes_on { CanGoOn D.honest D.story result.0 }
         ensures replies { RepliesStart start result.1 }
         ensures handed { result.1 ≡ Done → Handed result.0 (Started start ∷ []) }
-        ensures made { result.1 ≡ Done → slots_of result.0 ≡ InTurns (Some (said_len result.0)) None }
+        ensures made { result.1 ≡ Done → slots_of result.0 ≡ InTurns (Some (encoded_len result.0)) None }
         ensures not_empty { IsTrue D.honest → result.1 ≡ Refused NotEmpty
             → seen_of Data (D.story (disk_in self)) ≢ [] }
         ensures riding { is_riding result.0 ≡ is_ok result.1 }
@@ -62,7 +62,7 @@ impl<D: Disk> Ride<D> {
         requires no_stop { is_stop (Added entry.now) ≡ false }
         ensures goes_on { CanGoOn D.honest D.story self.new }
         ensures replies { (list : List Recorded) → Handed self.old list
-            → Replies (HandAnswers list (said_len self.old) entry.now) result }
+            → Replies (HandAnswers list (encoded_len self.old) entry.now) result }
         ensures handed { (list : List Recorded) → Handed self.old list → result ≡ Done
             → Handed self.new (list ++ Added entry.now ∷ []) }
         ensures none { (result ≡ NoRecorder) ↔ (is_riding self.old ≡ false) }
@@ -90,7 +90,7 @@ impl<D: Disk> Ride<D> {
         ensures handed { (list : List Recorded) → Handed self.old list → result ≡ Done
             → Handed self.new list }
         ensures made { result ≡ Done
-            → slots_of self.new ≡ committed_slots (slots_of self.old) (said_len self.old) }
+            → slots_of self.new ≡ committed_slots (slots_of self.old) (encoded_len self.old) }
         ensures none { (result ≡ NoRecorder) ↔ (is_riding self.old ≡ false) }
         ensures riding { is_riding self.new ≡ is_riding self.old }
         ensures failed { is_broken self.old ≡ true → result ≡ Refused Failed }

@@ -3,7 +3,7 @@
 ghost use Rattle.std.specs.Prelude.{◌<◌, ◌^◌, length};
 
 use crate::decoding::decode_whole;
-use crate::fault::TellFault;
+use crate::fault::ReportFault;
 use crate::plain::plain_of;
 use crate::printing::print_line;
 use crate::reading::ReadFault;
@@ -43,7 +43,7 @@ impl Salvage<'_> {
     }
 
     /// The plain form of the file that `write` writes. The place of a fault is an offset in that file.
-    pub fn plain(&self, alloc: Global) -> Result<File, TellFault>
+    pub fn plain(&self, alloc: Global) -> Result<File, ReportFault>
         ensures form { PlainsSalvage self.now result }
         // What `salvage_bytes` found is a file, so no other fault occurs.
         ensures taken { (all : Bool) (bytes : List ℕ) → IsSalvage all bytes self.now → IfErr result IsNoForm }
@@ -55,20 +55,20 @@ impl Salvage<'_> {
     }
 
     // The file that `write` writes. No copy of its bytes is kept.
-    fn decoded(&self, alloc: Global) -> Result<(File, Places), TellFault>
+    fn decoded(&self, alloc: Global) -> Result<(File, Places), ReportFault>
         ensures decodes { DecodesSalvage self.now result }
         ensures file { (all : Bool) (bytes : List ℕ) (found : IsSalvage all bytes self.now)
             → FileOf (saved_file self.now) (record { frame = self.now.frame; items = found.items }) }
     {
         let mut bytes = Vec::new(alloc);
         let Ok(()) = self.write(&mut bytes) else {
-            return Err(TellFault::Input(ReadFault::NoMemory));
+            return Err(ReportFault::Input(ReadFault::NoMemory));
         };
         decode_whole(alloc, bytes.as_slice())
     }
 
     /// Prints how many of the bytes looked at were kept. If the output fails, a prefix of that line is written.
-    pub fn print<O: Write>(&self, out: &mut O) -> Result<(), TellFault>
+    pub fn print<O: Write>(&self, out: &mut O) -> Result<(), ReportFault>
         ensures fault { IfErr result IsOutputFault }
         ensures line { WritesText (O.contents out.old) (O.contents out.new) result (kept_text self.now ++ codes "\n") }
     {
@@ -76,7 +76,7 @@ impl Salvage<'_> {
     }
 
     /// Prints `not_looked_at`, unless it is 0. If the output fails, a prefix of that line is written.
-    pub fn print_left<O: Write>(&self, out: &mut O) -> Result<(), TellFault>
+    pub fn print_left<O: Write>(&self, out: &mut O) -> Result<(), ReportFault>
         ensures fault { IfErr result IsOutputFault }
         ensures none { self.now.not_looked_at ≡ 0 → O.contents out.new ≡ O.contents out.old }
         ensures line { 0 < self.now.not_looked_at

@@ -3,13 +3,13 @@
 ghost use Rattle.std.specs.Prelude.{◌≡◌, Err, IfErr};
 ghost use Rattle.fit_grammar.specs.Calls.Output.{WritesText};
 ghost use Rattle.fit_text.specs.Text.{text_of};
-ghost use Rattle.fit_world.specs.declared.fault.TellFault.TheVariants.{Input};
+ghost use Rattle.fit_world.specs.declared.fault.ReportFault.TheVariants.{Input};
 ghost use Rattle.fit_world.specs.declared.reading.ReadFault.{ReadFault};
-ghost use Rattle.fit_world.specs.Calls.Reading.{TellsInput};
+ghost use Rattle.fit_world.specs.Calls.Reading.{ReportsInput};
 ghost use Rattle.fit_world.specs.Printed.Shown.{ShowsBytes, IsOutputFault};
 
 use crate::decoding::decode_input;
-use crate::fault::TellFault;
+use crate::fault::ReportFault;
 use fit_grammar::{File, decode_file};
 use fit_text::show;
 use std::alloc::Global;
@@ -23,8 +23,8 @@ pub fn show_input<T: Read, O: Write>(
     most: usize,
     utc: bool,
     out: &mut O,
-) -> Result<(), TellFault>
-    ensures shown { TellsInput most (T.remaining from.old) (T.remaining from.new)
+) -> Result<(), ReportFault>
+    ensures shown { ReportsInput most (T.remaining from.old) (T.remaining from.new)
         (ShowsBytes utc (O.contents out.old) (O.contents out.new)) result }
     ensures quiet { (why : ReadFault) → result ≡ Err (Input why) → O.contents out.new ≡ O.contents out.old }
 {
@@ -40,25 +40,25 @@ pub fn show_bytes<O: Write>(
     bytes: &[u8],
     utc: bool,
     out: &mut O,
-) -> Result<(), TellFault>
+) -> Result<(), ReportFault>
     ensures { ShowsBytes utc (O.contents out.old) (O.contents out.new) bytes.now result }
 {
     match decode_file(alloc, bytes) {
         Ok(file) => show_flushed(&file, utc, out),
-        Err(fault) => Err(TellFault::File(fault)),
+        Err(fault) => Err(ReportFault::File(fault)),
     }
 }
 
 // Writes the text of a file, and flushes the output.
-fn show_flushed<O: Write>(file: &File, utc: bool, out: &mut O) -> Result<(), TellFault>
+fn show_flushed<O: Write>(file: &File, utc: bool, out: &mut O) -> Result<(), ReportFault>
     ensures text { WritesText (O.contents out.old) (O.contents out.new) result (text_of utc file.now) }
     ensures fault { IfErr result IsOutputFault }
 {
     let Ok(()) = show(file, utc, out) else {
-        return Err(TellFault::Output);
+        return Err(ReportFault::Output);
     };
     match out.flush() {
         Ok(()) => Ok(()),
-        Err(_) => Err(TellFault::Output),
+        Err(_) => Err(ReportFault::Output),
     }
 }

@@ -7,7 +7,7 @@ ghost use Rattle.fit_world.specs.Printed.ReplyLines.{lines_text};
 ghost use Rattle.fit_world.specs.Printed.Simulation.{Simulates};
 
 use crate::event::Event;
-use crate::fault::TellFault;
+use crate::fault::ReportFault;
 use crate::printing::{flush, put_line};
 use crate::reply::Reply;
 use crate::reply_line::ReplyLine;
@@ -80,7 +80,7 @@ fn print_replies<O: Write>(
     events: &[Event],
     replies: &[Reply],
     out: &mut O,
-) -> Result<(), TellFault>
+) -> Result<(), ReportFault>
     ensures lines { WritesText (O.contents out.old) (O.contents out.new) result (lines_text events.now replies.now) }
 {
     let mut pen = Pen::new(out);
@@ -94,7 +94,7 @@ fn put_replies<O: Write>(
     events: &[Event],
     replies: &[Reply],
     pen: &mut Pen<'_, O>,
-) -> Result<(), TellFault>
+) -> Result<(), ReportFault>
     ensures none { OnOk result (pen.new.waiting ≡ []) }
     ensures lines { Puts pen.old pen.new result (lines_text events.now replies.now) }
 {

@@ -1,9 +1,9 @@
 //! A recording over a disk in memory. Commands arrange which calls fail and when the power is cut.
 
 ghost use Rattle.std.specs.Prelude.{◌≡◌, [], List, All, map, IfOk, OnOk};
-ghost use Rattle.fit_world.specs.Histories.Runs.{CanRun, IsHistory, told_in};
-ghost use Rattle.fit_world.specs.Histories.Table.{Told};
-ghost use Rattle.fit_world.specs.Printed.Simulation.{reply_told};
+ghost use Rattle.fit_world.specs.Histories.Runs.{CanRun, IsHistory, outcome_in};
+ghost use Rattle.fit_world.specs.Histories.Table.{Outcome};
+ghost use Rattle.fit_world.specs.Printed.Simulation.{reply_in};
 
 mod answering;
 mod keeping;
@@ -27,7 +27,7 @@ pub struct NoMemory;
 /// files. Each power cut takes the bytes after those of the one before it. Missing bytes are 0.
 pub fn run(alloc: Global, events: &[Event], choices: &[u8]) -> Result<Vec<Answer>, NoMemory>
     requires { All (λ event. CanRun event.command) events.now }
-    ensures { IfOk result (λ answers. IsHistory events.now (map told_in answers.items)) }
+    ensures { IfOk result (λ answers. IsHistory events.now (map outcome_in answers.items)) }
 {
     let kept = Vec::new(alloc);
     let mut answers = Answers { alloc, kept };
@@ -42,8 +42,8 @@ pub fn run_for_replies(
     choices: &[u8],
 ) -> Result<Vec<Reply>, NoMemory>
     requires { All (λ event. CanRun event.command) events.now }
-    ensures { IfOk result (λ replies. (tolds : List Told) × IsHistory events.now tolds
-        × (replies.items ≡ map reply_told tolds)) }
+    ensures { IfOk result (λ replies. (outcomes : List Outcome) × IsHistory events.now outcomes
+        × (replies.items ≡ map reply_in outcomes)) }
 {
     let kept = Vec::new(alloc);
     let mut replies = Replies { kept };
@@ -59,8 +59,8 @@ fn run_for<K: Keeper>(
     keeper: &mut K,
 ) -> Result<(), NoMemory>
     requires can { All (λ event. CanRun event.command) events.now }
-    requires first { K.WasTold keeper.old [] }
-    ensures { OnOk result ((tolds : List Told) × IsHistory events.now tolds × K.WasTold keeper.new tolds) }
+    requires first { K.WasReported keeper.old [] }
+    ensures { OnOk result ((outcomes : List Outcome) × IsHistory events.now outcomes × K.WasReported keeper.new outcomes) }
 {
     let mut ride = Ride::Idle(Memory::new(alloc));
     for event in events {

@@ -86,7 +86,7 @@ fn a_start_that_lost_its_power_leaves_nothing(rt: HostRuntime) -> Result<(), All
 
 // The power goes at the write of a start's gate. The choice bytes decide whether the start is recovered.
 #[test]
-fn the_choices_say_what_a_power_cut_leaves(rt: HostRuntime) -> Result<(), AllocError> {
+fn the_choices_decide_what_a_power_cut_leaves(rt: HostRuntime) -> Result<(), AllocError> {
     let script = "cut 10\nstart 1000000000 7 running\npower\nrecover\n";
     let text = text_of(&rt, script, &[])?;
     equal(&rt, text.as_str(), "ok\nDevice\nok\nNothingRecorded\n");

@@ -5,7 +5,7 @@ use crate::failing::Failing;
 use crate::replays::stopped_ride;
 use fit_base::Crc;
 use fit_grammar::{FaultKind, FileFault};
-use fit_world::{TellFault, check_bytes, show_bytes};
+use fit_world::{ReportFault, check_bytes, show_bytes};
 use std::alloc::AllocError;
 use std::test::Fail;
 
@@ -48,30 +48,30 @@ fn long_file(rt: &HostRuntime) -> Result<(Vec<u8>, Vec<u8>), AllocError> {
 }
 
 // Whether the answer reports the output truly: Ok if all of the text was written, else a fault and a prefix of the text.
-fn is_told(done: Result<(), TellFault>, text: &[u8], out: &Failing) -> bool {
+fn is_reported(done: Result<(), ReportFault>, text: &[u8], out: &Failing) -> bool {
     match done {
         Ok(()) => out.held.as_slice() == text,
-        Err(fault) => fault == TellFault::Output && text.starts_with(&out.held),
+        Err(fault) => fault == ReportFault::Output && text.starts_with(&out.held),
     }
 }
 
 // Each call of the output fails in turn, for a text of one buffer and of several.
 #[test]
-fn says_where_output_fails(rt: HostRuntime) -> Result<(), AllocError> {
+fn states_where_output_fails(rt: HostRuntime) -> Result<(), AllocError> {
     let (bytes, text) = long_file(&rt)?;
     let one = (ONE_MESSAGE.as_slice(), ONE_MESSAGE_TEXT.as_bytes(), 10);
     for (bytes, text, step) in [one, (bytes.as_slice(), text.as_slice(), 5000)] {
         for calls in 0..20 {
             let mut out = Failing::new(rt.alloc(), step, calls);
             let done = show_bytes(rt.alloc(), bytes, false, &mut out);
-            assert!(rt; is_told(done, text, &out), "{calls}");
+            assert!(rt; is_reported(done, text, &out), "{calls}");
             let whole = out.held.as_slice() == text;
             assert!(rt; calls > 0 || out.held.is_empty(), "{calls}");
             assert!(rt; calls < 19 || whole, "{calls}");
             let mut out = Failing::new(rt.alloc(), step, calls);
             out.recovers = true;
             let done = show_bytes(rt.alloc(), bytes, false, &mut out);
-            assert!(rt; is_told(done, text, &out), "{calls}");
+            assert!(rt; is_reported(done, text, &out), "{calls}");
         }
     }
     Ok(())
@@ -79,21 +79,21 @@ fn says_where_output_fails(rt: HostRuntime) -> Result<(), AllocError> {
 
 // The output takes nothing; or it takes all and its flush fails; or it takes little at a time.
 #[test]
-fn says_what_output_does(rt: HostRuntime) -> Result<(), AllocError> {
+fn states_what_output_does(rt: HostRuntime) -> Result<(), AllocError> {
     let (bytes, text) = long_file(&rt)?;
     let (bytes, text) = (bytes.as_slice(), text.as_slice());
     let mut none = Failing::new(rt.alloc(), 0, usize::MAX);
     let done = show_bytes(rt.alloc(), bytes, false, &mut none);
-    assert!(rt; is_told(done, text, &none) && none.held.is_empty());
+    assert!(rt; is_reported(done, text, &none) && none.held.is_empty());
     let mut kept = Failing::new(rt.alloc(), usize::MAX, usize::MAX);
     kept.flushes = 0;
     let done = show_bytes(rt.alloc(), bytes, false, &mut kept);
-    equal(&rt, done, Err(TellFault::Output));
+    equal(&rt, done, Err(ReportFault::Output));
     equal(&rt, kept.held.as_slice(), text);
     for step in [1, 3, 8191, 8193] {
         let mut slow = Failing::new(rt.alloc(), step, usize::MAX);
         let done = show_bytes(rt.alloc(), bytes, false, &mut slow);
-        assert!(rt; is_told(done, text, &slow), "{step}");
+        assert!(rt; is_reported(done, text, &slow), "{step}");
         assert_eq!(rt; slow.held.as_slice(), text, "{step}");
     }
     Ok(())
@@ -101,7 +101,7 @@ fn says_what_output_does(rt: HostRuntime) -> Result<(), AllocError> {
 
 // Each call of the output fails in turn. What was written is a prefix of the summary line.
 #[test]
-fn a_check_says_where_its_output_fails(rt: HostRuntime) -> Result<(), Fail> {
+fn a_check_states_where_its_output_fails(rt: HostRuntime) -> Result<(), Fail> {
     let text =
         "ok records=0 laps=1 sessions=1 start=1000000000 elapsed_ms=1000 timer_ms=1000 distance_cm=-\n";
     let text = text.as_bytes();
@@ -109,26 +109,26 @@ fn a_check_says_where_its_output_fails(rt: HostRuntime) -> Result<(), Fail> {
     for calls in 0..12 {
         let mut out = Failing::new(rt.alloc(), 10, calls);
         let done = check_bytes(rt.alloc(), bytes.as_slice(), &mut out);
-        assert!(rt; is_told(done, text, &out), "{calls}");
+        assert!(rt; is_reported(done, text, &out), "{calls}");
         assert!(rt; calls > 0 || out.held.is_empty(), "{calls}");
         assert!(rt; calls < 11 || out.held.as_slice() == text, "{calls}");
     }
     let mut kept = Failing::new(rt.alloc(), usize::MAX, usize::MAX);
     kept.flushes = 0;
     let done = check_bytes(rt.alloc(), bytes.as_slice(), &mut kept);
-    assert!(rt; is_told(done, text, &kept));
+    assert!(rt; is_reported(done, text, &kept));
     Ok(())
 }
 
 // Run with each allocation refused in turn: nothing is shown, and want of memory is reported at an item.
 #[test]
-fn says_that_memory_is_refused(rt: HostRuntime) -> Result<(), AllocError> {
+fn states_that_memory_is_refused(rt: HostRuntime) -> Result<(), AllocError> {
     let mut out = Vec::with_capacity(rt.alloc(), 128)?;
     match show_bytes(rt.alloc(), &ONE_MESSAGE, false, &mut out) {
         Ok(()) => equal(&rt, out.as_slice(), ONE_MESSAGE_TEXT.as_bytes()),
         Err(fault) => {
             let at = |place| {
-                TellFault::File(FileFault {
+                ReportFault::File(FileFault {
                     kind: FaultKind::Memory,
                     place,
                 })

@@ -4,7 +4,7 @@ use crate::equality::equal;
 use crate::failing::Failing;
 use crate::output::ONE_MESSAGE;
 use fit_grammar::{EncodeFault, FaultKind, FileFault, PlainFault, PlainFaultKind, encode_file};
-use fit_world::{TellFault, count_messages, plain_input, print_messages};
+use fit_world::{ReportFault, count_messages, plain_input, print_messages};
 use std::test::Fail;
 
 // A message with a full time, and two messages of another local number with offsets 30 and 1.
@@ -48,18 +48,18 @@ fn what_is_no_file_is_not_made_plain(rt: HostRuntime) -> Result<(), Fail> {
         place: 40,
     };
     let done = plain_input(rt.alloc(), &mut from, 128).err();
-    equal(&rt, done, Some(TellFault::File(fault)));
+    equal(&rt, done, Some(ReportFault::File(fault)));
     let fault = PlainFault {
         kind: PlainFaultKind::Memory,
         place: 14,
     };
-    equal(&rt, TellFault::Plain(fault).code(), 5);
+    equal(&rt, ReportFault::Plain(fault).code(), 5);
     Ok(())
 }
 
 // Each call of the output fails in turn. What was written is a prefix of the file.
 #[test]
-fn an_output_of_a_plain_file_that_fails_is_told(rt: HostRuntime) -> Result<(), Fail> {
+fn an_output_of_a_plain_file_that_fails_is_reported(rt: HostRuntime) -> Result<(), Fail> {
     let mut from = COMPRESSED.as_slice();
     let plain = plain_input(rt.alloc(), &mut from, 128).expect(&rt, "a file");
     for calls in 0..12 {
@@ -72,7 +72,7 @@ fn an_output_of_a_plain_file_that_fails_is_told(rt: HostRuntime) -> Result<(), F
 }
 
 #[test]
-fn so_many_messages_are_told(rt: HostRuntime) -> Result<(), Fail> {
+fn so_many_messages_are_reported(rt: HostRuntime) -> Result<(), Fail> {
     let mut out = Vec::new(rt.alloc());
     assert!(rt; print_messages(41, &mut out).is_ok());
     equal(&rt, out.as_slice(), b"messages 41\n".as_slice());

@@ -402,7 +402,7 @@ fn try_replay(rt: &impl Abort, alloc: Global, script: &str) -> Result<(), Fail> 
 }
 
 #[test]
-fn random_replays_say_and_leave_what_a_run_does(rt: HostRuntime) -> Result<(), Fail> {
+fn random_replays_answer_and_leave_what_a_run_does(rt: HostRuntime) -> Result<(), Fail> {
     let mut noise = Noise {
         last: 0x9E37_79B9,
         start: 0,

@@ -3,7 +3,7 @@
 use crate::equality::equal;
 use crate::output::{ONE_MESSAGE, ONE_MESSAGE_TEXT};
 use fit_grammar::{FaultKind, FileFault};
-use fit_world::{ReadFault, TellFault, read_all, show_input};
+use fit_world::{ReadFault, ReportFault, read_all, show_input};
 use std::alloc::Global;
 use std::io::{self, Read};
 
@@ -61,7 +61,7 @@ fn reads_to_the_most(rt: HostRuntime) {
 
 // Nine bytes, three at a time, are four calls; the last gives no byte. With twelve bytes the fourth call is too much.
 #[test]
-fn tells_a_failed_read_from_too_much(rt: HostRuntime) {
+fn reports_a_failed_read_from_too_much(rt: HostRuntime) {
     for calls in 0..6 {
         let nine = outcome(rt.alloc(), 9, 3, calls);
         let twelve = outcome(rt.alloc(), 12, 3, calls);
@@ -77,7 +77,7 @@ fn tells_a_failed_read_from_too_much(rt: HostRuntime) {
 
 // Run with each allocation refused in turn: all is read, or want of memory is reported as such.
 #[test]
-fn tells_want_of_memory(rt: HostRuntime) {
+fn reports_want_of_memory(rt: HostRuntime) {
     let read = outcome(rt.alloc(), 10, 3, usize::MAX);
     if !is_all(&read, 10) {
         equal(&rt, read.err(), Some(ReadFault::NoMemory));
@@ -90,7 +90,7 @@ fn shown(
     rest: &[u8],
     step: usize,
     calls: usize,
-) -> (Result<(), TellFault>, Vec<u8>) {
+) -> (Result<(), ReportFault>, Vec<u8>) {
     let mut text = Vec::new(alloc);
     let done = show_input(
         alloc,
@@ -123,9 +123,9 @@ fn reads_what_is_no_file_to_its_end(rt: HostRuntime) {
         place: 0,
     };
     for (len, calls, fault) in [
-        (34, 35, TellFault::File(none)),
-        (34, 34, TellFault::Input(ReadFault::Failed)),
-        (35, 35, TellFault::Input(ReadFault::TooLarge)),
+        (34, 35, ReportFault::File(none)),
+        (34, 34, ReportFault::Input(ReadFault::Failed)),
+        (35, 35, ReportFault::Input(ReadFault::TooLarge)),
     ] {
         let (done, text) = shown(rt.alloc(), &bytes[..len], 1, calls);
         assert_eq!(rt; done, Err(fault), "{len} {calls}");

@@ -15,7 +15,7 @@ const GONE_ON: &str =
     "start 1000000000 7 running\nsample 1000000000 hr=100\ncommit\nsample 1000000001 hr=101\npower\nreopen\nsample 1000000002 hr=110\nstop 1000000002\n";
 
 // What is recorded after the bytes of the commit: a record under its own definition, and the stop under another one.
-const BEHIND: [u8; 33] = [
+const AFTER: [u8; 33] = [
     0x40, 0x00, 0x00, 0x14, 0x00, 0x01, 0x03, 0x01, 0x02, 0x82, 0x6E, 0x46, 0x00, 0x00, 0x15, 0x00,
     0x03, 0xFD, 0x04, 0x86, 0x00, 0x01, 0x00, 0x01, 0x01, 0x00, 0x06, 0x02, 0xCA, 0x9A, 0x3B, 0x00,
     0x04,
@@ -39,7 +39,7 @@ fn shown(alloc: Global, file: &[u8]) -> Result<Vec<u8>, Fail> {
 }
 
 #[test]
-fn a_ride_goes_on_behind_its_last_commit(rt: HostRuntime) -> Result<(), Fail> {
+fn a_ride_goes_on_after_its_last_commit(rt: HostRuntime) -> Result<(), Fail> {
     let text = text_of(&rt, GONE_ON, &[])?;
     equal(&rt, text.as_str(), "ok\nok\nok\nok\nok\nok\nok\nok\n");
     let Some(answers) = answers_to(&rt, GONE_ON, &[]) else {
@@ -48,7 +48,7 @@ fn a_ride_goes_on_behind_its_last_commit(rt: HostRuntime) -> Result<(), Fail> {
     let file = file_in(answers.last());
     assert!(rt;
         file.get(14 + 83..)
-            .is_some_and(|rest| rest.starts_with(&BEHIND))
+            .is_some_and(|rest| rest.starts_with(&AFTER))
     );
     assert!(rt;
         shown(rt.alloc(), file)?
@@ -155,11 +155,11 @@ fn the_table_allows_a_reopening_one_refusal(rt: HostRuntime) -> Result<(), Fail>
         (BROKEN, Some(RecFault::Device)),
         (NOTHING, Some(RecFault::NothingRecorded)),
     ];
-    for (script, told) in cases {
+    for (script, outcome) in cases {
         assert!(rt; may_come(&rt, script, None)?, "{script}");
         for fault in faults {
             let allowed = may_come(&rt, script, Some(Answer::Refused(fault)))?;
-            assert_eq!(rt; allowed, told == Some(fault), "{script}{fault:?}");
+            assert_eq!(rt; allowed, outcome == Some(fault), "{script}{fault:?}");
         }
     }
     Ok(())

@@ -4,7 +4,7 @@ use crate::equality::equal;
 use crate::failing::Failing;
 use fit_disk::{Memory, Which};
 use fit_recorder::recover;
-use fit_world::{ReplayFault, ScriptFaultKind, TellFault, check_bytes, play, read_script};
+use fit_world::{ReplayFault, ReportFault, ScriptFaultKind, check_bytes, play, read_script};
 use std::alloc::AllocError;
 use std::test::Fail;
 
@@ -58,13 +58,13 @@ fn keeps(rt: &HostRuntime, out: &mut Failing, records: u32) -> bool {
     };
     let (mut disk, played) = play(Memory::new(rt.alloc()), events.as_slice(), out);
     let text = TWO_COMMITS_ANSWERS.as_bytes();
-    let told = match played {
+    let outcome = match played {
         Ok(refused) => refused == 0 && out.held.as_slice() == text,
-        Err(fault) => fault == TellFault::Output && text.starts_with(&out.held),
+        Err(fault) => fault == ReportFault::Output && text.starts_with(&out.held),
     };
     disk.cycle(&[]);
     match recover(&mut disk) {
-        Ok(summary) => told && summary.records == records,
+        Ok(summary) => outcome && summary.records == records,
         Err(_) => false,
     }
 }
@@ -120,7 +120,7 @@ fn a_script_that_is_not_replayed(rt: HostRuntime) {
 
 // Run with each allocation refused in turn: want of memory is reported at a line, or the device of the disk failed.
 #[test]
-fn a_replay_says_that_memory_is_refused(rt: HostRuntime) -> Result<(), AllocError> {
+fn a_replay_states_that_memory_is_refused(rt: HostRuntime) -> Result<(), AllocError> {
     let mut out = Vec::with_capacity(rt.alloc(), 256)?;
     match read_script(rt.alloc(), TWO_COMMITS.as_bytes()) {
         Ok(events) => {

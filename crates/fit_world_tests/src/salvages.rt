@@ -137,7 +137,7 @@ fn what_begins_with_no_header_is_refused(rt: HostRuntime) -> Result<(), Fail> {
 
 // Each call of the output fails in turn. What was written is a prefix of the file.
 #[test]
-fn an_output_that_fails_is_told(rt: HostRuntime) -> Result<(), Fail> {
+fn an_output_that_fails_is_reported(rt: HostRuntime) -> Result<(), Fail> {
     let salvage = salvage_bytes(WHOLE.as_slice(), false).expect(&rt, "a header");
     for calls in 0..12 {
         let mut out = Failing::new(rt.alloc(), 3, calls);
@@ -152,7 +152,7 @@ fn an_output_that_fails_is_told(rt: HostRuntime) -> Result<(), Fail> {
 }
 
 #[test]
-fn so_many_bytes_are_told(rt: HostRuntime) -> Result<(), Fail> {
+fn so_many_bytes_are_reported(rt: HostRuntime) -> Result<(), Fail> {
     for (cut, size, kept, left) in [
         (31, 18, b"kept 12 of 17\n".as_slice(), b"".as_slice()),
         (

@@ -14,8 +14,8 @@ const RIDE: &[u8] =
 #[test]
 fn a_saved_ride_is_the_plain_form_of_a_repaired_one(rt: HostRuntime) -> Result<(), Fail> {
     let events = read_script(rt.alloc(), RIDE).expect(&rt, "a script");
-    let mut told = Vec::new(rt.alloc());
-    let (mut disk, _) = play(Memory::new(rt.alloc()), events.as_slice(), &mut told);
+    let mut outcome = Vec::new(rt.alloc());
+    let (mut disk, _) = play(Memory::new(rt.alloc()), events.as_slice(), &mut outcome);
     let data_bytes = disk.content(Which::Data).to_vec(rt.alloc())?;
     let journal_bytes = disk.content(Which::Journal).to_vec(rt.alloc())?;
     let saved = save_ride(rt.alloc(), data_bytes, journal_bytes).expect(&rt, "a ride");
@@ -23,8 +23,8 @@ fn a_saved_ride_is_the_plain_form_of_a_repaired_one(rt: HostRuntime) -> Result<(
     let mut made = Vec::new(rt.alloc());
     assert!(rt; encode_file(&saved.file, &mut made).is_ok());
 
-    told.clear();
-    assert!(rt; repair(&mut disk, &mut told).is_ok());
+    outcome.clear();
+    assert!(rt; repair(&mut disk, &mut outcome).is_ok());
     let mut from = disk.content(Which::Data);
     let plain = plain_input(rt.alloc(), &mut from, 4096).expect(&rt, "a file");
     let mut wanted = Vec::new(rt.alloc());

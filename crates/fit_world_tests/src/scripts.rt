@@ -276,7 +276,7 @@ fn numbers_of_faults(rt: HostRuntime) {
 
 // Run with each allocation refused in turn: all events are returned, or want of memory is reported at a line.
 #[test]
-fn a_script_tells_want_of_memory(rt: HostRuntime) {
+fn a_script_reports_want_of_memory(rt: HostRuntime) {
     let commit = |line| Event {
         line,
         command: Command::Commit,

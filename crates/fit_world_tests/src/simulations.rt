@@ -16,7 +16,7 @@ const CUT_OFF_ANSWERS: &str =
 const CHOICES: [u8; 9] = [0, 0, 0, 0, 0, 0, 0, 0, 0xA5];
 
 #[test]
-fn a_simulation_is_told(rt: HostRuntime) -> Result<(), Fail> {
+fn a_simulation_is_reported(rt: HostRuntime) -> Result<(), Fail> {
     let mut out = Vec::new(rt.alloc());
     simulate(rt.alloc(), CUT_OFF.as_bytes(), &CHOICES, &mut out)?;
     equal(&rt, out.as_slice(), CUT_OFF_ANSWERS.as_bytes());
@@ -25,7 +25,7 @@ fn a_simulation_is_told(rt: HostRuntime) -> Result<(), Fail> {
 
 // Each call of the output fails in turn. What was written is a prefix of the answers.
 #[test]
-fn a_simulation_says_where_its_output_fails(rt: HostRuntime) {
+fn a_simulation_states_where_its_output_fails(rt: HostRuntime) {
     let text = CUT_OFF_ANSWERS.as_bytes();
     for calls in 0..20 {
         let mut out = Failing::new(rt.alloc(), 10, calls);
@@ -63,7 +63,7 @@ fn a_script_that_is_not_simulated(rt: HostRuntime) {
 
 // Run with each allocation refused in turn: nothing is reported but the want of memory.
 #[test]
-fn a_simulation_says_that_memory_is_refused(rt: HostRuntime) -> Result<(), AllocError> {
+fn a_simulation_states_that_memory_is_refused(rt: HostRuntime) -> Result<(), AllocError> {
     let mut out = Vec::with_capacity(rt.alloc(), 256)?;
     match simulate(rt.alloc(), CUT_OFF.as_bytes(), &CHOICES, &mut out) {
         Ok(()) => equal(&rt, out.as_slice(), CUT_OFF_ANSWERS.as_bytes()),

@@ -61,8 +61,11 @@ fn answers_to(
     let (file, others) = direct::play(alloc, events.as_slice(), choices)?;
     assert!(rt; answers.as_slice() == others.as_slice(), "{script}");
     assert!(rt; is_history(alloc, &events, &answers)?, "{script}");
-    let told = file_in(answers.last());
-    assert!(rt; told.is_empty() || told == file.as_slice(), "{script}");
+    let outcome = file_in(answers.last());
+    assert!(rt;
+        outcome.is_empty() || outcome == file.as_slice(),
+        "{script}"
+    );
     Ok(answers)
 }
 

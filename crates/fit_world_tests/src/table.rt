@@ -2,15 +2,15 @@
 // what may be recorded, and how many of its entries are promised. Nothing here is taken from the code that is tested.
 
 pub mod list;
-pub mod telling;
+pub mod outcome_kind;
 
 use fit_activity::{Entry, Refusal, Start, Summary};
 use fit_recorder::RecFault;
 use fit_world::{Answer, Command, Event};
 use list::{Recorded, has_stopped, refusal_of, start_fits, sums_of};
+use outcome_kind::{outcome_by, outcome_of};
 use std::alloc::{AllocError, Global};
 use std::test::Fail;
-use telling::{told_by, told_of};
 
 // A prefix of the list may be recorded, no shorter than the promise.
 #[derive(Debug, Drop)]
@@ -158,7 +158,10 @@ impl Table {
                 self.keep_refusing(entry, None);
                 self.add(entry)?;
             }
-            Answer::Refused(RecFault::Refused(told)) => self.keep_refusing(entry, Some(*told)),
+            Answer::Refused(RecFault::Refused(outcome)) => self.keep_refusing(
+                entry,
+                Some(*outcome),
+            ),
             Answer::Refused(RecFault::Device) => {
                 self.keep_refusing(entry, None);
                 self.broken = true;
@@ -213,12 +216,15 @@ impl Table {
         }
         let stop = Entry::Stop(time);
         match answer {
-            Answer::Refused(RecFault::Refused(told)) => self.keep_refusing(&stop, Some(*told)),
+            Answer::Refused(RecFault::Refused(outcome)) => self.keep_refusing(
+                &stop,
+                Some(*outcome),
+            ),
             Answer::Stopped { file } => {
                 self.keep_refusing(&stop, None);
                 self.add(&stop)?;
                 self.promise_all();
-                self.keep_told(file)?;
+                self.keep_outcome(file)?;
                 self.end();
             }
             Answer::Refused(RecFault::Device) => {
@@ -232,11 +238,11 @@ impl Table {
     }
 
     // Keeps the lists whose finished file this is.
-    fn keep_told(&mut self, file: &[u8]) -> Result<(), AllocError> {
+    fn keep_outcome(&mut self, file: &[u8]) -> Result<(), AllocError> {
         let mut kept = Vec::new(self.alloc);
-        if let Some(told) = told_by(self.alloc, file)? {
+        if let Some(outcome) = outcome_by(self.alloc, file)? {
             for claim in &self.claims {
-                if told == told_of(self.alloc, &claim.list)? {
+                if outcome == outcome_of(self.alloc, &claim.list)? {
                     kept.push(whole(self.alloc, &claim.list)?)?;
                 }
             }
@@ -270,14 +276,16 @@ impl Table {
     // The file is that of a prefix of some claim, no shorter than it promises and not empty. Two prefixes may have the same file:
     // the longer one may end with a stop at the time of the entry before it.
     fn recovered(&mut self, summary: &Summary, file: &[u8]) -> Result<bool, AllocError> {
-        let Some(told) = told_by(self.alloc, file)? else {
+        let Some(outcome) = outcome_by(self.alloc, file)? else {
             return Ok(false);
         };
         let mut kept = Vec::new(self.alloc);
         for claim in &self.claims {
             for len in claim.promise.max(1)..claim.list.len().saturating_add(1) {
                 if let Some(beginning) = claim.list.as_slice().get(..len) {
-                    if sums_of(beginning) == *summary && told == told_of(self.alloc, beginning)? {
+                    if sums_of(beginning) == *summary
+                        && outcome == outcome_of(self.alloc, beginning)?
+                    {
                         kept.push(whole(self.alloc, beginning)?)?;
                     }
                 }

@@ -3,8 +3,8 @@ use Rattle.std.specs.Prelude.{◌≡◌, ◌⊎◌, ◌≤◌, ℕ, Bool, true, 
 use Rattle.std.specs.Borrow.{Bor}
 use Rattle.fit_disk.specs.declared.files.OpenFault.{OpenFault}
 use Rattle.fit_disk.specs.declared.files.OpenFault.TheVariants.{Open, Memory}
-use Rattle.fit_world.specs.declared.fault.TellFault.{TellFault}
-use Rattle.fit_world.specs.declared.fault.TellFault.TheVariants as tells
+use Rattle.fit_world.specs.declared.fault.ReportFault.{ReportFault}
+use Rattle.fit_world.specs.declared.fault.ReportFault.TheVariants as reports
 use Rattle.fit_recorder.specs.Calls.Recovery.{IsRecoveryFault}
 use Rattle.fit_recorder.specs.declared.fault.RecFault.TheVariants.{NothingRecorded, Damaged}
 use Rattle.fit_world.specs.declared.repairing.RepairFault.{RepairFault}
@@ -29,42 +29,42 @@ fault_of_replay name (replays.Script fault) = faults.Script fault
 fault_of_replay name (replays.OnlySimulate line) = faults.OnlySimulate line
 
 -- for an input of this name that was not read, checked, printed or made plain; the name of the output is `-`
-abbrev pub IsTellFault : Bor (List ℕ) → TellFault → Fault → Type 0
-IsTellFault name (tells.File fault) said = said ≡ faults.File fault
-IsTellFault name (tells.Activity fault) said = said ≡ faults.Activity fault
-IsTellFault name tells.Output (faults.Write out) = out.now ≡ codes "-"
-IsTellFault name tells.Output _ = ⊥
-IsTellFault name (tells.Input why) said = said ≡ fault_of_read name why
-IsTellFault name (tells.Plain fault) said = said ≡ faults.Plain fault
+abbrev pub IsReportFault : Bor (List ℕ) → ReportFault → Fault → Type 0
+IsReportFault name (reports.File fault) reported = reported ≡ faults.File fault
+IsReportFault name (reports.Activity fault) reported = reported ≡ faults.Activity fault
+IsReportFault name reports.Output (faults.Write out) = out.now ≡ codes "-"
+IsReportFault name reports.Output _ = ⊥
+IsReportFault name (reports.Input why) reported = reported ≡ fault_of_read name why
+IsReportFault name (reports.Plain fault) reported = reported ≡ faults.Plain fault
 
 -- for a recording that was not repaired, or whose summary was not printed
-abbrev pub IsRepairSaid : RepairFault → Fault → Type 0
-IsRepairSaid (repairs.Recorder fault) said = said ≡ faults.Recorder fault
-IsRepairSaid repairs.Output (faults.Write name) = name.now ≡ codes "-"
-IsRepairSaid repairs.Output _ = ⊥
+abbrev pub IsRepairReported : RepairFault → Fault → Type 0
+IsRepairReported (repairs.Recorder fault) reported = reported ≡ faults.Recorder fault
+IsRepairReported repairs.Output (faults.Write name) = name.now ≡ codes "-"
+IsRepairReported repairs.Output _ = ⊥
 
 -- the program's result for the result of a repair
-abbrev pub SaysRepair : Result (Unit {0}) RepairFault → Result (Unit {0}) Fault → Type 0
-SaysRepair (Ok done) (Ok said) = Unit {0}
-SaysRepair (Err why) (Err said) = IsRepairSaid why said
-SaysRepair _ _ = ⊥
+abbrev pub AnswersRepair : Result (Unit {0}) RepairFault → Result (Unit {0}) Fault → Type 0
+AnswersRepair (Ok done) (Ok reported) = Unit {0}
+AnswersRepair (Err why) (Err reported) = IsRepairReported why reported
+AnswersRepair _ _ = ⊥
 
 -- for a script of this name that was not simulated, or not all its lines were printed
 abbrev pub IsSimulateFault : Bor (List ℕ) → SimulateFault → Fault → Type 0
-IsSimulateFault name simulations.NoText said = said ≡ faults.Read name
-IsSimulateFault name (simulations.Script fault) said = said ≡ faults.Script fault
-IsSimulateFault name simulations.NoMemory said = said ≡ faults.NoMemory
+IsSimulateFault name simulations.NoText reported = reported ≡ faults.Read name
+IsSimulateFault name (simulations.Script fault) reported = reported ≡ faults.Script fault
+IsSimulateFault name simulations.NoMemory reported = reported ≡ faults.NoMemory
 IsSimulateFault name simulations.Output (faults.Write out) = out.now ≡ codes "-"
 IsSimulateFault name simulations.Output _ = ⊥
 
 -- ---- the faults that a part of a subcommand, or a whole one, may report
 
 -- of opening the files of a folder of this name
-abbrev pub IsOpenSaid : Bor (List ℕ) → Fault → Type 0
-IsOpenSaid folder (faults.Open name) = name ≡ folder
-IsOpenSaid folder faults.NoMemory = Unit {0}
-IsOpenSaid folder (faults.Recorder NothingRecorded) = Unit {0}
-IsOpenSaid folder _ = ⊥
+abbrev pub IsOpenReported : Bor (List ℕ) → Fault → Type 0
+IsOpenReported folder (faults.Open name) = name ≡ folder
+IsOpenReported folder faults.NoMemory = Unit {0}
+IsOpenReported folder (faults.Recorder NothingRecorded) = Unit {0}
+IsOpenReported folder _ = ⊥
 
 -- of repairing a folder of this name
 abbrev pub IsFolderFault : Bor (List ℕ) → Fault → Type 0
@@ -75,45 +75,45 @@ IsFolderFault folder (faults.Write name) = name.now ≡ codes "-"
 IsFolderFault folder _ = ⊥
 
 -- of reading the files of a folder of this name
-abbrev pub IsRecordingSaid : Bor (List ℕ) → Fault → Type 0
-IsRecordingSaid folder (faults.Open name) = name ≡ folder
-IsRecordingSaid folder (faults.Read name) = (name.now ≡ codes "activity.fit") ⊎ (name.now ≡ codes "activity.frj")
-IsRecordingSaid folder faults.TooLarge = Unit {0}
-IsRecordingSaid folder faults.NoMemory = Unit {0}
-IsRecordingSaid folder (faults.Recorder NothingRecorded) = Unit {0}
-IsRecordingSaid folder _ = ⊥
+abbrev pub IsRecordingReported : Bor (List ℕ) → Fault → Type 0
+IsRecordingReported folder (faults.Open name) = name ≡ folder
+IsRecordingReported folder (faults.Read name) = (name.now ≡ codes "activity.fit") ⊎ (name.now ≡ codes "activity.frj")
+IsRecordingReported folder faults.TooLarge = Unit {0}
+IsRecordingReported folder faults.NoMemory = Unit {0}
+IsRecordingReported folder (faults.Recorder NothingRecorded) = Unit {0}
+IsRecordingReported folder _ = ⊥
 
 -- of recovering the ride of a folder of this name in memory
-abbrev pub IsSavedSaid : Bor (List ℕ) → Fault → Type 0
-IsSavedSaid folder (faults.Recorder Damaged) = Unit {0}
-IsSavedSaid folder said = IsRecordingSaid folder said
+abbrev pub IsSavedReported : Bor (List ℕ) → Fault → Type 0
+IsSavedReported folder (faults.Recorder Damaged) = Unit {0}
+IsSavedReported folder reported = IsRecordingReported folder reported
 
 -- of saving the ride of a folder in a file of these names
-abbrev pub IsSaveSaid : Bor (List ℕ) → Bor (List ℕ) → Fault → Type 0
-IsSaveSaid folder out (faults.Write name) = (name ≡ out) ⊎ (name.now ≡ codes "-")
-IsSaveSaid folder out said = IsSavedSaid folder said
+abbrev pub IsSaveReported : Bor (List ℕ) → Bor (List ℕ) → Fault → Type 0
+IsSaveReported folder out (faults.Write name) = (name ≡ out) ⊎ (name.now ≡ codes "-")
+IsSaveReported folder out reported = IsSavedReported folder reported
 
 -- of a script of this name: it was not opened or read, or it has a line that cannot be replayed
-abbrev pub IsScriptSaid : Bor (List ℕ) → Fault → Type 0
-IsScriptSaid script (faults.Open name) = name ≡ script
-IsScriptSaid script (faults.Read name) = name ≡ script
-IsScriptSaid script faults.TooLarge = Unit {0}
-IsScriptSaid script faults.NoMemory = Unit {0}
-IsScriptSaid script (faults.Script fault) = Unit {0}
-IsScriptSaid script (faults.OnlySimulate line) = Unit {0}
-IsScriptSaid script _ = ⊥
+abbrev pub IsScriptReported : Bor (List ℕ) → Fault → Type 0
+IsScriptReported script (faults.Open name) = name ≡ script
+IsScriptReported script (faults.Read name) = name ≡ script
+IsScriptReported script faults.TooLarge = Unit {0}
+IsScriptReported script faults.NoMemory = Unit {0}
+IsScriptReported script (faults.Script fault) = Unit {0}
+IsScriptReported script (faults.OnlySimulate line) = Unit {0}
+IsScriptReported script _ = ⊥
 
 -- of replaying a script over a folder: one was not opened or read, a line cannot be replayed, a reply was not ok, or the output failed
-abbrev pub IsReplaySaid : Bor (List ℕ) → Bor (List ℕ) → Fault → Type 0
-IsReplaySaid script folder (faults.Open name) = (name ≡ script) ⊎ (name ≡ folder)
-IsReplaySaid script folder (faults.Read name) = name ≡ script
-IsReplaySaid script folder (faults.Write name) = name.now ≡ codes "-"
-IsReplaySaid script folder faults.TooLarge = Unit {0}
-IsReplaySaid script folder faults.NoMemory = Unit {0}
-IsReplaySaid script folder (faults.Script fault) = Unit {0}
-IsReplaySaid script folder (faults.OnlySimulate line) = Unit {0}
-IsReplaySaid script folder (faults.Refused count) = 1 ≤ count
-IsReplaySaid script folder _ = ⊥
+abbrev pub IsReplayReported : Bor (List ℕ) → Bor (List ℕ) → Fault → Type 0
+IsReplayReported script folder (faults.Open name) = (name ≡ script) ⊎ (name ≡ folder)
+IsReplayReported script folder (faults.Read name) = name ≡ script
+IsReplayReported script folder (faults.Write name) = name.now ≡ codes "-"
+IsReplayReported script folder faults.TooLarge = Unit {0}
+IsReplayReported script folder faults.NoMemory = Unit {0}
+IsReplayReported script folder (faults.Script fault) = Unit {0}
+IsReplayReported script folder (faults.OnlySimulate line) = Unit {0}
+IsReplayReported script folder (faults.Refused count) = 1 ≤ count
+IsReplayReported script folder _ = ⊥
 
 -- of writing a file of this name
 abbrev pub IsNotWritten : Bor (List ℕ) → Fault → Type 0
@@ -125,36 +125,36 @@ IsNotWritten out _ = ⊥
 abbrev pub IsNotMade : Bool → Bor (List ℕ) → Fault → Type 0
 IsNotMade plain out (faults.File fault) = plain ≡ true
 IsNotMade plain out (faults.Plain fault) = plain ≡ true
-IsNotMade plain out said = IsNotWritten out said
+IsNotMade plain out reported = IsNotWritten out reported
 
 -- of salvaging a file into another: one was not opened, read or written, the first is not a file, or the output failed
-abbrev pub IsSalvageSaid : Bool → Bor (List ℕ) → Bor (List ℕ) → Fault → Type 0
-IsSalvageSaid plain file out (faults.Open name) = name ≡ file
-IsSalvageSaid plain file out (faults.Read name) = name ≡ file
-IsSalvageSaid plain file out (faults.Write name) = (name ≡ out) ⊎ (name.now ≡ codes "-")
-IsSalvageSaid plain file out faults.TooLarge = Unit {0}
-IsSalvageSaid plain file out faults.NoMemory = Unit {0}
-IsSalvageSaid plain file out (faults.File fault) = Unit {0}
-IsSalvageSaid plain file out (faults.Plain fault) = plain ≡ true
-IsSalvageSaid plain file out _ = ⊥
+abbrev pub IsSalvageReported : Bool → Bor (List ℕ) → Bor (List ℕ) → Fault → Type 0
+IsSalvageReported plain file out (faults.Open name) = name ≡ file
+IsSalvageReported plain file out (faults.Read name) = name ≡ file
+IsSalvageReported plain file out (faults.Write name) = (name ≡ out) ⊎ (name.now ≡ codes "-")
+IsSalvageReported plain file out faults.TooLarge = Unit {0}
+IsSalvageReported plain file out faults.NoMemory = Unit {0}
+IsSalvageReported plain file out (faults.File fault) = Unit {0}
+IsSalvageReported plain file out (faults.Plain fault) = plain ≡ true
+IsSalvageReported plain file out _ = ⊥
 
 -- of making the plain form of a file: it was not opened or read, it is not a file, or its plain form was not made
-abbrev pub IsFormSaid : Bor (List ℕ) → Fault → Type 0
-IsFormSaid file (faults.Open name) = name ≡ file
-IsFormSaid file (faults.Read name) = name ≡ file
-IsFormSaid file faults.TooLarge = Unit {0}
-IsFormSaid file faults.NoMemory = Unit {0}
-IsFormSaid file (faults.File fault) = Unit {0}
-IsFormSaid file (faults.Plain fault) = Unit {0}
-IsFormSaid file _ = ⊥
+abbrev pub IsFormReported : Bor (List ℕ) → Fault → Type 0
+IsFormReported file (faults.Open name) = name ≡ file
+IsFormReported file (faults.Read name) = name ≡ file
+IsFormReported file faults.TooLarge = Unit {0}
+IsFormReported file faults.NoMemory = Unit {0}
+IsFormReported file (faults.File fault) = Unit {0}
+IsFormReported file (faults.Plain fault) = Unit {0}
+IsFormReported file _ = ⊥
 
 -- of writing the plain form of a file into another
-abbrev pub IsPlainSaid : Bor (List ℕ) → Bor (List ℕ) → Fault → Type 0
-IsPlainSaid file out (faults.Open name) = name ≡ file
-IsPlainSaid file out (faults.Read name) = name ≡ file
-IsPlainSaid file out (faults.Write name) = (name ≡ out) ⊎ (name.now ≡ codes "-")
-IsPlainSaid file out faults.TooLarge = Unit {0}
-IsPlainSaid file out faults.NoMemory = Unit {0}
-IsPlainSaid file out (faults.File fault) = Unit {0}
-IsPlainSaid file out (faults.Plain fault) = Unit {0}
-IsPlainSaid file out _ = ⊥
+abbrev pub IsPlainReported : Bor (List ℕ) → Bor (List ℕ) → Fault → Type 0
+IsPlainReported file out (faults.Open name) = name ≡ file
+IsPlainReported file out (faults.Read name) = name ≡ file
+IsPlainReported file out (faults.Write name) = (name ≡ out) ⊎ (name.now ≡ codes "-")
+IsPlainReported file out faults.TooLarge = Unit {0}
+IsPlainReported file out faults.NoMemory = Unit {0}
+IsPlainReported file out (faults.File fault) = Unit {0}
+IsPlainReported file out (faults.Plain fault) = Unit {0}
+IsPlainReported file out _ = ⊥

@@ -1,4 +1,4 @@
 pub mod Reading
 pub mod Faults
-pub mod Told
+pub mod Reported
 pub mod Places

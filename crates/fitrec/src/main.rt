@@ -12,7 +12,7 @@
 //!     messages 1
 //!
 //! (The stored run of this crate: `args`, `data` and `stdout`.) Contracts use the definitions of `specs/`: `Reading` has the faults of
-//! a file that is not read, `Faults` has those of each library call and subcommand, `Told` has what a subcommand prints, and `Places`
+//! a file that is not read, `Faults` has those of each library call and subcommand, `Reported` has what a subcommand prints, and `Places`
 //! has the names of a recording's files.
 #![tactic(auto)]
 

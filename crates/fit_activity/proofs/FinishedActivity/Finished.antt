@@ -19,12 +19,12 @@ use Rattle.fit_activity.specs.Rides.Stretch.{known_distance, end_time, session_o
 use Rattle.fit_activity.specs.Rides.Refusal.{has_stopped, Allowed}
 use Rattle.fit_activity.specs.Messages.ProfileField.{as_message}
 use Rattle.fit_activity.specs.Messages.ProfileMessage.{session_message}
-use Rattle.fit_activity.specs.Messages.RideMessages.{profile_messages_of, profile_messages_after, messages_spoken, spoken, closing_told, closing}
+use Rattle.fit_activity.specs.Messages.RideMessages.{profile_messages_of, profile_messages_after, messages_spoken, spoken, closing_messages_of, closing}
 use Rattle.fit_activity.specs.Files.Activity.{has_global, count_of, activity_in}
 use Rattle.fit_activity.specs.Private.Seen.{session_values, first_session_values, judged}
 use Rattle.fit_activity.specs.Files.Finished.{summary_of_list}
 use Rattle.fit_activity.proofs.FinishedActivity.Passed.{values_by, seen_from}
-use Rattle.fit_activity.proofs.OneList.Retold.{messages_after}
+use Rattle.fit_activity.proofs.OneList.Reheard.{messages_after}
 use Rattle.fit_activity.proofs.RunningTotals.Bounded.{IsValid, in-bounds, valid-start, timer-le}
 
 -- the messages of an element: a sample has a record, a lap has a lap, and none has a session or an activity
@@ -86,7 +86,7 @@ record Closes (messages : List Message) (session : SessionSummary) : Type 0 wher
   session' : find (has_global 18) messages ≡ Some (as_message (session_message session))
 
 closes : (stopped : Bool) (time : ℕ) (lap : LapSummary) (session : SessionSummary) (activity : ActivitySummary)
-    → Closes (map as_message (closing_told stopped time lap session activity)) session
+    → Closes (map as_message (closing_messages_of stopped time lap session activity)) session
 closes true time lap session activity = record { records = refl; laps = refl; sessions = refl; activities = refl; session' = refl }
 closes false time lap session activity = record { records = refl; laps = refl; sessions = refl; activities = refl; session' = refl }
 
@@ -137,24 +137,24 @@ judged-activity : (records laps : ℕ) (session : SessionValues)
 judged-activity records laps session =
     ap (λ b. cond b (Err NoLap) (Ok (summary_from records (laps + 1) session))) (ne_eqb (laps + 1) 0 (λ e. omega (arith, e)))
 
-counted : (global : ℕ) (said end : List Message) (a b : ℕ) → count_of global said ≡ a → count_of global end ≡ b → count_of global (said ++ end) ≡ a + b
-counted global said end a b before after = omega (arith, before, after, sum_by-append (λ m. cond (has_global global m) 1 0) said end)
+counted : (global : ℕ) (stated end : List Message) (a b : ℕ) → count_of global stated ≡ a → count_of global end ≡ b → count_of global (stated ++ end) ≡ a + b
+counted global stated end a b before after = omega (arith, before, after, sum_by-append (λ m. cond (has_global global m) 1 0) stated end)
 
 pub finished : (list : List Recorded) → Allowed list → activity_in (spoken list ++ closing list) ≡ Ok (summary_of_list list)
 finished [] allowed = absurd allowed
 finished (Added e ∷ list) allowed = absurd allowed
 finished (Started s ∷ list) allowed =
     let whole = Started s ∷ list in
-    let said = spoken whole in
-    let all = said ++ closing whole in
+    let stated = spoken whole in
+    let all = stated ++ closing whole in
     let end = closes (has_stopped whole) (end_time whole) (lap_of whole) (session_of whole) (activity_of whole) in
-    let records : count_of 20 all ≡ count_by is_sample whole = omega (arith, counted 20 said (closing whole) _ 0 (records-spoken whole) end.records) in
-    let laps = counted 19 said (closing whole) _ 1 (counts 19 is_lap (λ before r. (each-counts before r).laps) [] whole) end.laps in
+    let records : count_of 20 all ≡ count_by is_sample whole = omega (arith, counted 20 stated (closing whole) _ 0 (records-spoken whole) end.records) in
+    let laps = counted 19 stated (closing whole) _ 1 (counts 19 is_lap (λ before r. (each-counts before r).laps) [] whole) end.laps in
     let none = counts 18 (λ r. false) (λ before r. (each-counts before r).sessions) [] whole ∙ none-passes whole in
-    let sessions = counted 18 said (closing whole) 0 1 none end.sessions in
-    let activities = counted 34 said (closing whole) 0 1 (counts 34 (λ r. false) (λ before r. (each-counts before r).activities) [] whole ∙ none-passes whole) end.activities in
-    let session = find-append (has_global 18) said (closing whole)
-    ∙ ap (λ o. option_or o (find (has_global 18) (closing whole))) (not-found (has_global 18) said none) ∙ end.session' in
+    let sessions = counted 18 stated (closing whole) 0 1 none end.sessions in
+    let activities = counted 34 stated (closing whole) 0 1 (counts 34 (λ r. false) (λ before r. (each-counts before r).activities) [] whole ∙ none-passes whole) end.activities in
+    let session = find-append (has_global 18) stated (closing whole)
+    ∙ ap (λ o. option_or o (find (has_global 18) (closing whole))) (not-found (has_global 18) stated none) ∙ end.session' in
     let bounds = in-bounds s list allowed.2 in
     let values = ap values_by session
     ∙ session-read (session_of whole) (valid-start s allowed.0 allowed.1) (omega (arith, bounds.long))

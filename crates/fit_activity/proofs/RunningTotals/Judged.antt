@@ -47,7 +47,7 @@ is_err-none (Err e) = (λ is. absurd (true≢false is), λ is. absurd (none-some
 pub record Passes (list : List Recorded) (e : Entry) : Type 0 where
   pub runs : has_stopped list ≡ false
   pub later : end_time list ≤ entry_time e
-  pub told : (entry_time e == 0xFFFFFFFF) ≡ false
+  pub reported : (entry_time e == 0xFFFFFFFF) ≡ false
   pub in_time : entry_time e ≤ start_time list + 4000000
   pub valid : invalid_field e ≡ None
 
@@ -69,7 +69,7 @@ passes list e none =
     let few = cond-none (is_lap (Added e) && nat_le 999 (count_by is_lap list)) TooManyLaps _ standing.1 in record {
       runs = going.0;
       later = ltb-false (entry_time e) (end_time list) (or_parts _ _ timely.0).0;
-      told = (or_parts _ _ timely.0).1;
+      reported = (or_parts _ _ timely.0).1;
       in_time = ltb-false (start_time list + 4000000) (entry_time e) soon.0;
       valid = map-none Value (invalid_field e) _ few.1;
     }

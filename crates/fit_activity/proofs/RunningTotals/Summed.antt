@@ -15,7 +15,7 @@ use Rattle.fit_activity.specs.declared.totals.tally.Tally.{Tally}
 use Rattle.fit_activity.specs.declared.totals.sums.Sums.{Sums}
 use Rattle.fit_activity.specs.Rides.Recording.{Recorded, is_lap, start_time, sport_of}
 use Rattle.fit_activity.specs.Rides.Timer.{timer}
-use Rattle.fit_activity.specs.Rides.Stretch.{heart_rate_of, power_of, known_distance, end_time, greatest, average, told_speed, summary, open_stretch, open_from, before_open, lap_at, lap_of, session_of, activity_of}
+use Rattle.fit_activity.specs.Rides.Stretch.{heart_rate_of, power_of, known_distance, end_time, greatest, average, stated_speed, summary, open_stretch, open_from, before_open, lap_at, lap_of, session_of, activity_of}
 use Rattle.fit_activity.specs.Rides.RunningTotals.{TotalsState, KeepsTime, IsTally, AreSums, AreTotals}
 use Rattle.fit_activity.specs.Private.Step.{in_two_bytes, in_one_byte, average_of, stretch_by, clock_until, more_seconds, lap_by, session_by, activity_by}
 use Rattle.fit_activity.proofs.RunningTotals.Pushed.{sum-bounded, greatest-bounded}
@@ -56,7 +56,7 @@ stretch-kept sums list before inside from to are =
     let rates = filter_map heart_rate_of inside in
     let powers = filter_map power_of inside in
     let distance = ap (λ n. option_map (λ d. d - n) (known_distance list)) are.known in
-    let speed = ap told_speed are.speed in
+    let speed = ap stated_speed are.speed in
     let rate = ap in_one_byte (average-kept sums.heart_rate 255 rates (omega arith) are.heart_rate) ∙ in_one-small (average rates) (average-within 255 rates are.heart_rate.bounded) in
     let rate_most = ap in_one_byte are.heart_rate.most ∙ in_one-small (greatest rates) (most-within 255 rates are.heart_rate.bounded) in
     let power = average-kept sums.power 65535 powers (omega arith) are.power in

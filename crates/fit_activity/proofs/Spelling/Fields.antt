@@ -32,8 +32,8 @@ pub record IsPutting (old now : SpokenMessage) (fields rest : List ProfileField)
   pub content : now.content ++ flat_map field_content rest ≡ old.content ++ flat_map field_content fields
   pub can : CanPut now rest
 
-rest-behind : {X : Type 0} (x : X) (xs : List X) → take (length (x ∷ xs) - 1) (drop 1 (x ∷ xs)) ≡ xs
-rest-behind x xs =
+rest-after : {X : Type 0} (x : X) (xs : List X) → take (length (x ∷ xs) - 1) (drop 1 (x ∷ xs)) ≡ xs
+rest-after x xs =
     let e : length (x ∷ xs) - 1 ≡ length xs = omega arith in ap (λ n. take n xs) e ∙ take-length xs
 
 pub putting-none : (old : SpokenMessage) (fields : List ProfileField) → CanPut old fields → IsPutting old old fields fields
@@ -69,7 +69,7 @@ pub putting-next : (old now new : SpokenMessage) (fields rest : List ProfileFiel
     → IsPutting old now fields rest → IsPutting old new fields (take (length rest - 1) (drop 1 rest))
 putting-next old now new fields [] d some definition content is = absurd (omega arith)
 putting-next old now new fields (field ∷ rest) d some definition content is =
-    subst (IsPutting old new fields) (sym (rest-behind field rest)) (putting-one old now new fields rest field definition content is)
+    subst (IsPutting old new fields) (sym (rest-after field rest)) (putting-one old now new fields rest field definition content is)
 
 -- the next field has room
 pub putting-can : (old now : SpokenMessage) (fields rest : List ProfileField) (field : ProfileField) → IsPutting old now fields (field ∷ rest) → CanPut now (field ∷ [])
@@ -101,7 +101,7 @@ present-by o rest first is = ap (λ v. cons_option v (present rest)) is
 pub present-first : (rest : List (Option ProfileField)) (d first : Option ProfileField) → 1 ≤ length rest → get_or rest 0 d ≡ first
     → present rest ≡ cons_option first (present (take (length rest - 1) (drop 1 rest)))
 present-first [] d first some is = absurd (omega arith)
-present-first (o ∷ rest) d first some is = present-by o rest first is ∙ ap (λ xs. cons_option first (present xs)) (sym (rest-behind o rest))
+present-first (o ∷ rest) d first some is = present-by o rest first is ∙ ap (λ xs. cons_option first (present xs)) (sym (rest-after o rest))
 
 pub putting-end : (old now : SpokenMessage) (fields : List ProfileField) (rest : List (Option ProfileField)) → length rest < 1 → IsPutting old now fields (present rest) → HasPut old fields now
 putting-end old now fields (o ∷ rest) none is = absurd (omega arith)

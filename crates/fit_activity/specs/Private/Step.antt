@@ -16,7 +16,7 @@ use Rattle.fit_activity.specs.Rides.RunningTotals.{TotalsState}
 use Rattle.fit_activity.specs.declared.recording.refusal.Refusal.{Refusal}
 use Rattle.fit_activity.specs.declared.recording.refusal.Refusal.TheVariants.{Stopped, Time, TooLong, TimerStopped, TimerRunning, TooManyLaps, Value, Distance}
 use Rattle.fit_activity.specs.Rides.Recording.{Added, entry_time, is_lap}
-use Rattle.fit_activity.specs.Rides.Stretch.{greater_of, distance_of, told_speed, speed_over}
+use Rattle.fit_activity.specs.Rides.Stretch.{greater_of, distance_of, stated_speed, speed_over}
 use Rattle.fit_activity.specs.Rides.Refusal.{wants_timer, is_resume, is_less, invalid_field_of, invalid_field}
 
 -- the clock of a start; at a later time; with the timer running or stopped; and at the beginning of a lap
@@ -91,7 +91,7 @@ stretch_by sums from to secs known =
       timer = 1000 * secs;
       distance = distance;
       average_speed = speed_over distance secs;
-      greatest_speed = told_speed sums.speed;
+      greatest_speed = stated_speed sums.speed;
       average_heart_rate = in_one_byte (average_of sums.heart_rate);
       greatest_heart_rate = in_one_byte sums.heart_rate.greatest;
       average_power = average_of sums.power;

@@ -72,14 +72,14 @@ abbrev pub distance_between : Option ℕ → Option ℕ → Option ℕ
 distance_between at_begin at_end = option_map (λ d. d - unwrap_or at_begin 0) at_end
 
 -- a speed in a summary, in mm/s: none above 65534
-abbrev pub told_speed : Option ℕ → Option ℕ
-told_speed None = None
-told_speed (Some speed) = if nat_lt 65534 speed then None else Some speed
+abbrev pub stated_speed : Option ℕ → Option ℕ
+stated_speed None = None
+stated_speed (Some speed) = if nat_lt 65534 speed then None else Some speed
 
 -- mm/s from cm and seconds: none if there is no distance or the seconds are 0
 abbrev pub speed_over : Option ℕ → ℕ → Option ℕ
 speed_over None secs = None
-speed_over (Some distance) secs = if secs == 0 then None else told_speed (Some (10 * distance / secs))
+speed_over (Some distance) secs = if secs == 0 then None else stated_speed (Some (10 * distance / secs))
 
 -- the summary of the stretch of a list from one second to another, by the elements before it and in it
 abbrev pub summary : List Recorded → List Recorded → List Recorded → ℕ → ℕ → Stretch
@@ -92,7 +92,7 @@ summary list before inside from to =
       timer = 1000 * timer list from to;
       distance = distance;
       average_speed = speed_over distance (timer list from to);
-      greatest_speed = told_speed (greatest (filter_map speed_of inside));
+      greatest_speed = stated_speed (greatest (filter_map speed_of inside));
       average_heart_rate = average (filter_map heart_rate_of inside);
       greatest_heart_rate = greatest (filter_map heart_rate_of inside);
       average_power = average (filter_map power_of inside);

@@ -4,7 +4,7 @@ ghost use Rattle.std.specs.Prelude.{◌≡◌, ◌<◌, ◌^◌, IfSome};
 ghost use Rattle.fit_base.specs.declared.base.BaseType.TheVariants as types;
 ghost use Rattle.fit_base.specs.Base.{row_of};
 ghost use Rattle.fit_grammar.specs.Calls.LentField.{field_view};
-ghost use Rattle.fit_activity.specs.Files.Activity.{value_of as value_said, value_in as value_of_field};
+ghost use Rattle.fit_activity.specs.Files.Activity.{value_of as value_stated, value_in as value_of_field};
 
 use crate::hearing::one_value::one_value;
 use fit_base::BaseType;
@@ -12,7 +12,7 @@ use fit_grammar::{Field, Message};
 
 // The value of the first field of this number, if it is one valid uint32.
 pub(crate) fn uint32_of(message: &Message, number: u8) -> Option<u32>
-    ensures { result ≡ value_said types.Uint32 number message.now.message }
+    ensures { result ≡ value_stated types.Uint32 number message.now.message }
 {
     match value_of(message, number, BaseType::Uint32) {
         Some(value) => Some(value as u32),
@@ -22,7 +22,7 @@ pub(crate) fn uint32_of(message: &Message, number: u8) -> Option<u32>
 
 // The value of the first field of this number, if it has this type and is one valid value.
 pub(crate) fn value_of(message: &Message, number: u8, base: BaseType) -> Option<u64>
-    ensures value { result ≡ value_said base number message.now.message }
+    ensures value { result ≡ value_stated base number message.now.message }
     ensures fits { IfSome result (λ n. n < 256 ^ (row_of base).size) }
 {
     for field in message.fields() {

@@ -2,7 +2,7 @@
 
 ghost use Rattle.std.specs.Prelude.{◌≡◌, ◌↔◌, [], IsTrue, IfSome};
 ghost use Rattle.std.specs.List.{AllByRecursion};
-ghost use Rattle.fit_activity.specs.Messages.ProfileField.{profile_field as told_field, ProfileFieldFits};
+ghost use Rattle.fit_activity.specs.Messages.ProfileField.{profile_field as reported_field, ProfileFieldFits};
 ghost use Rattle.fit_activity.specs.Private.Reader.{Reads};
 
 use crate::speaking::profile_field::ProfileField;
@@ -48,7 +48,7 @@ impl<'a> Reader<'a> {
     // Takes the next field, if it has this number and type.
     pub(crate) fn next(&mut self, number: u8, base: BaseType) -> Option<u32>
         ensures read { Reads number base self.old result self.new }
-        ensures fits { IfSome result (λ value. ProfileFieldFits (told_field number base value)) }
+        ensures fits { IfSome result (λ value. ProfileFieldFits (reported_field number base value)) }
     {
         let [first, others @ ..] = self.rest else {
             return None;

@@ -60,7 +60,7 @@ impl Model for Speech {
 }
 
 impl SpokenMessage {
-    ghost use Rattle.fit_activity.specs.Messages.MessageBytes.{spelled, CanPut, HasPut, CanSay};
+    ghost use Rattle.fit_activity.specs.Messages.MessageBytes.{spelled, CanPut, HasPut, CanBeSpelled};
 
     /// The local message number.
     pub fn local(&self) -> u8
@@ -172,8 +172,8 @@ impl SpokenMessage {
     }
 
     // The message with these fields.
-    fn say(&mut self, local: u8, global: u16, fields: &[ProfileField])
-        requires { CanSay fields.now }
+    fn spell(&mut self, local: u8, global: u16, fields: &[ProfileField])
+        requires { CanBeSpelled fields.now }
         ensures { self.new ≡ spelled (record { local = local; global = global; fields = fields.now }) }
     {
         self.begin(local, global);
@@ -181,7 +181,7 @@ impl SpokenMessage {
     }
 
     // The record with this time and the fields that are present.
-    fn say_record(&mut self, time: u32, fields: &[Option<ProfileField>])
+    fn spell_record(&mut self, time: u32, fields: &[Option<ProfileField>])
         requires fit { AllByRecursion OptionFits fields.now }
         requires few { length fields.now ≤ 14 }
         requires short { content_length (present fields.now) ≤ 37 }
@@ -200,7 +200,7 @@ impl SpokenMessage {
     }
 
     // The record without its time.
-    fn say_untimed(&mut self, fields: &[Option<ProfileField>])
+    fn spell_untimed(&mut self, fields: &[Option<ProfileField>])
         requires fit { AllByRecursion OptionFits fields.now }
         requires few { length fields.now ≤ 14 }
         requires short { content_length (present fields.now) ≤ 37 }
@@ -213,7 +213,7 @@ impl SpokenMessage {
 }
 
 impl Speech {
-    ghost use Rattle.fit_activity.specs.Messages.MessageBytes.{spelled, CanSay};
+    ghost use Rattle.fit_activity.specs.Messages.MessageBytes.{spelled, CanBeSpelled};
 
     /// No messages.
     pub fn new() -> Speech
@@ -245,23 +245,23 @@ impl Speech {
     }
 
     // Adds a message.
-    pub(crate) fn say(&mut self, local: u8, global: u16, fields: &[ProfileField])
+    pub(crate) fn spell(&mut self, local: u8, global: u16, fields: &[ProfileField])
         requires room { length self.old < 4 }
-        requires fields { CanSay fields.now }
+        requires fields { CanBeSpelled fields.now }
         ensures { self.new ≡ self.old
             ++ spelled (record { local = local; global = global; fields = fields.now }) ∷ [] }
     {
-        self.slots[self.count].say(local, global, fields);
+        self.slots[self.count].spell(local, global, fields);
         self.count += 1;
     }
 
     // Adds a record.
-    pub(crate) fn say_record(&mut self, time: u32, fields: &[Option<ProfileField>])
+    pub(crate) fn spell_record(&mut self, time: u32, fields: &[Option<ProfileField>])
         requires room { length self.old < 4 }
         requires fit { AllByRecursion OptionFits fields.now }
         requires few { length fields.now ≤ 14 }
         requires short { content_length (present fields.now) ≤ 37 }
-        ensures said { self.new ≡ self.old
+        ensures stated { self.new ≡ self.old
             ++ spelled
             (record {
               local = 0;
@@ -272,12 +272,12 @@ impl Speech {
         // This follows from its type.
         ensures fits { ProfileFieldFits (profile_field 253 types.Uint32 time) }
     {
-        self.slots[self.count].say_record(time, fields);
+        self.slots[self.count].spell_record(time, fields);
         self.count += 1;
     }
 
     // Adds a record without its time.
-    pub(crate) fn say_untimed(&mut self, fields: &[Option<ProfileField>])
+    pub(crate) fn spell_untimed(&mut self, fields: &[Option<ProfileField>])
         requires room { length self.old < 4 }
         requires fit { AllByRecursion OptionFits fields.now }
         requires few { length fields.now ≤ 14 }
@@ -285,7 +285,7 @@ impl Speech {
         ensures { self.new ≡ self.old
             ++ spelled (record { local = 0; global = 20; fields = present fields.now }) ∷ [] }
     {
-        self.slots[self.count].say_untimed(fields);
+        self.slots[self.count].spell_untimed(fields);
         self.count += 1;
     }
 }

@@ -1,7 +1,7 @@
 // What the samples of a stretch add up to.
 
 ghost use Rattle.std.specs.Prelude.{◌≡◌, ◌+◌, ◌≤◌, ◌<◌, ◌^◌};
-ghost use Rattle.fit_activity.specs.Rides.Stretch.{greater_of, told_speed, speed_over};
+ghost use Rattle.fit_activity.specs.Rides.Stretch.{greater_of, stated_speed, speed_over};
 ghost use Rattle.fit_activity.specs.Private.Step.{sums_at, sums_with, SumsHaveRoom, stretch_by, in_one_byte as small};
 
 use crate::recording::entry::Sample;
@@ -57,7 +57,7 @@ impl Sums {
             timer: 1000 * timer,
             distance,
             average_speed: average_speed(distance, timer),
-            greatest_speed: told(self.speed.map(u64::from)),
+            greatest_speed: reported(self.speed.map(u64::from)),
             average_heart_rate: in_one_byte(self.heart_rate.average()),
             greatest_heart_rate: in_one_byte(self.heart_rate.greatest),
             average_power: self.power.average(),
@@ -85,8 +85,8 @@ fn greater(one: Option<u32>, other: Option<u32>) -> Option<u32>
 }
 
 // A speed in mm/s, if it is not above 65534.
-fn told(speed: Option<u64>) -> Option<u16>
-    ensures { result ≡ told_speed speed }
+fn reported(speed: Option<u64>) -> Option<u16>
+    ensures { result ≡ stated_speed speed }
 {
     let speed = speed?;
     if speed > 65534 {
@@ -110,5 +110,5 @@ fn average_speed(distance: Option<u32>, seconds: u32) -> Option<u16>
     if seconds == 0 {
         return None;
     }
-    told(Some(10 * u64::from(distance) / u64::from(seconds)))
+    reported(Some(10 * u64::from(distance) / u64::from(seconds)))
 }

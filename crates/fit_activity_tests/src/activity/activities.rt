@@ -52,7 +52,7 @@ fn accepts_a_short_ride(rt: HostRuntime) -> Result<(), PutFault> {
 }
 
 #[test]
-fn tells_what_is_missing(rt: HostRuntime) -> Result<(), Fail> {
+fn reports_what_is_missing(rt: HostRuntime) -> Result<(), Fail> {
     let fault = |left_out: &[u16]| -> Result<Option<ActivityFault>, Fail> {
         Ok(check_activity(&short_ride(&rt, rt.alloc(), left_out)?).err())
     };

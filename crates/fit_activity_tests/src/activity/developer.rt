@@ -67,17 +67,17 @@ const RIDE: [(u16, &[[u8; 3]], &[u8]); 4] = [
 ];
 
 // How many of the messages encode a part of a ride.
-fn told(file: &File) -> usize {
-    let mut told = 0usize;
+fn reported(file: &File) -> usize {
+    let mut reported = 0usize;
     for message in file.messages() {
         if file_id_of(&message).is_some()
             || sport_of(&message).is_some()
             || entry_of(&message).is_some()
         {
-            told = told.saturating_add(1);
+            reported = reported.saturating_add(1);
         }
     }
-    told
+    reported
 }
 
 // The message at this place has a developer field of this size, and the others have none. After the last place no message has one.
@@ -100,7 +100,11 @@ fn no_message_of_a_ride_has_one(rt: HostRuntime) -> Result<(), Fail> {
             }
             let is_ride = place == RIDE.len();
             assert_eq!(rt; replay(&file).is_some(), is_ride, "{size} {place}");
-            assert_eq!(rt; told(&file), if is_ride { 4 } else { 3 }, "{size} {place}");
+            assert_eq!(rt;
+                reported(&file),
+                if is_ride { 4 } else { 3 },
+                "{size} {place}"
+            );
         }
     }
     Ok(())

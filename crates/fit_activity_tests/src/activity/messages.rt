@@ -1,6 +1,6 @@
 // Rides as bytes, and as messages that are read again.
 
-use super::{START, T, ride, say, say_compressed, with_distance, with_heart_rate};
+use super::{START, T, ride, spell, spell_compressed, with_distance, with_heart_rate};
 use crate::equality::equal;
 use fit_activity::{
     Entry, Sample, Speech, SpokenMessage, Sport, Start, entry_of, file_id_of, speak_closing,
@@ -58,7 +58,7 @@ const NO_U32: u64 = 0xFFFF_FFFF;
 const AT: u64 = 1_000_000_000;
 
 #[test]
-fn says_a_start(rt: HostRuntime) -> Result<(), AllocError> {
+fn states_a_start(rt: HostRuntime) -> Result<(), AllocError> {
     let mut speech = Speech::new();
     speak_start(&START, &mut speech);
     equal(&rt, speech.messages().len(), 3);
@@ -104,7 +104,7 @@ fn says_a_start(rt: HostRuntime) -> Result<(), AllocError> {
 }
 
 #[test]
-fn says_a_lap_and_the_end(rt: HostRuntime) -> Result<(), PutFault> {
+fn states_a_lap_and_the_end(rt: HostRuntime) -> Result<(), PutFault> {
     let entries = [
         with_heart_rate(T, 100),
         with_heart_rate(T + 1, 101),
@@ -113,9 +113,9 @@ fn says_a_lap_and_the_end(rt: HostRuntime) -> Result<(), PutFault> {
     ];
     let mut file = empty_file(rt.alloc());
     let mut speech = Speech::new();
-    say(&rt, &entries[..2], entries[2], &mut speech);
+    spell(&rt, &entries[..2], entries[2], &mut speech);
     put(&mut file, &speech)?;
-    say(&rt, &entries[..3], entries[3], &mut speech);
+    spell(&rt, &entries[..3], entries[3], &mut speech);
     put(&mut file, &speech)?;
     speak_closing(&ride(&rt, &entries), &mut speech);
     put(&mut file, &speech)?;
@@ -198,7 +198,7 @@ fn says_a_lap_and_the_end(rt: HostRuntime) -> Result<(), PutFault> {
 
 // After a stop no event is added.
 #[test]
-fn says_the_end_behind_a_stop(rt: HostRuntime) -> Result<(), AllocError> {
+fn states_the_end_after_a_stop(rt: HostRuntime) -> Result<(), AllocError> {
     let mut speech = Speech::new();
     speak_closing(&ride(&rt, &[Entry::Stop(T + 3)]), &mut speech);
     let mut heads = Vec::new(rt.alloc());
@@ -215,7 +215,7 @@ fn says_the_end_behind_a_stop(rt: HostRuntime) -> Result<(), AllocError> {
 
 // A sample with all fields. A latitude and a temperature below zero are in two's complement.
 #[test]
-fn says_a_sample(rt: HostRuntime) -> Result<(), AllocError> {
+fn states_a_sample(rt: HostRuntime) -> Result<(), AllocError> {
     let full = Sample {
         lat: Some(-2),
         long: Some(1),
@@ -231,7 +231,7 @@ fn says_a_sample(rt: HostRuntime) -> Result<(), AllocError> {
         ..Sample::new(T)
     };
     let mut speech = Speech::new();
-    say(&rt, &[], Entry::Sample(full), &mut speech);
+    spell(&rt, &[], Entry::Sample(full), &mut speech);
     let mut bytes = Vec::new(rt.alloc());
     for message in speech.messages() {
         bytes.extend_from_slice(message.content())?;
@@ -258,7 +258,7 @@ fn says_a_sample(rt: HostRuntime) -> Result<(), AllocError> {
         [253, 0, 1, 2, 3, 4, 5, 6, 7, 13, 73, 78].as_slice(),
     );
 
-    say(&rt, &[], Entry::Sample(Sample::new(T)), &mut speech);
+    spell(&rt, &[], Entry::Sample(Sample::new(T)), &mut speech);
     equal(&rt, speech.messages().len(), 1);
     for message in speech.messages() {
         equal(&rt, message.local(), 0);
@@ -269,10 +269,10 @@ fn says_a_sample(rt: HostRuntime) -> Result<(), AllocError> {
 
 // A sample with a field leaves out its time up to 31 seconds after the last entry.
 #[test]
-fn says_a_close_sample_without_its_time(rt: HostRuntime) -> Result<(), Fail> {
+fn states_a_close_sample_without_its_time(rt: HostRuntime) -> Result<(), Fail> {
     let entries = [Entry::Lap(T + 1)];
     let mut speech = Speech::new();
-    let close = say_compressed(&rt, &entries, with_heart_rate(T + 32, 100), &mut speech);
+    let close = spell_compressed(&rt, &entries, with_heart_rate(T + 32, 100), &mut speech);
     equal(&rt, close, Some(0));
     equal(&rt, speech.messages().len(), 1);
     for message in speech.messages() {
@@ -284,7 +284,7 @@ fn says_a_close_sample_without_its_time(rt: HostRuntime) -> Result<(), Fail> {
         Entry::Sample(Sample::new(T + 1)),
         Entry::Pause(T + 1),
     ] {
-        equal(&rt, say_compressed(&rt, &entries, far, &mut speech), None);
+        equal(&rt, spell_compressed(&rt, &entries, far, &mut speech), None);
         equal(&rt, speech.messages().len(), 1);
         for message in speech.messages() {
             assert!(rt; message.content().len() >= 4);
@@ -340,12 +340,12 @@ fn reads_entries_again(rt: HostRuntime) -> Result<(), PutFault> {
     let mut speech = Speech::new();
     for entry in entries {
         let mut file = empty_file(rt.alloc());
-        say(&rt, &[], entry, &mut speech);
+        spell(&rt, &[], entry, &mut speech);
         put(&mut file, &speech)?;
         equal(&rt, entry_in(&file), Some(entry));
     }
     let mut file = empty_file(rt.alloc());
-    say(&rt, &[Entry::Pause(T)], Entry::Resume(T + 1), &mut speech);
+    spell(&rt, &[Entry::Pause(T)], Entry::Resume(T + 1), &mut speech);
     put(&mut file, &speech)?;
     equal(&rt, entry_in(&file), Some(Entry::Resume(T + 1)));
     Ok(())

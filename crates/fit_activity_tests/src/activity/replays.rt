@@ -3,7 +3,7 @@
 ghost use Rattle.std.specs.Prelude.{◌<◌, ◌^◌, length};
 
 use super::messages::{empty_file, put, put_messages};
-use super::{START, T, ride, say, with_distance, with_heart_rate};
+use super::{START, T, ride, spell, with_distance, with_heart_rate};
 use crate::equality::equal;
 use fit_activity::{
     Entry, Replay, Sample, Speech, SpokenMessage, Start, Summary, check_activity, speak_closing,
@@ -28,7 +28,7 @@ pub(super) fn replay(file: &File) -> Option<Replay> {
 }
 
 // The messages of a ride, without those that close it.
-fn told(rt: &impl Abort, alloc: Global, entries: &[Entry]) -> Result<File, PutFault>
+fn reported(rt: &impl Abort, alloc: Global, entries: &[Entry]) -> Result<File, PutFault>
     requires { length entries.now < 2 ^ 31 }
 {
     let mut file = empty_file(alloc);
@@ -36,7 +36,7 @@ fn told(rt: &impl Abort, alloc: Global, entries: &[Entry]) -> Result<File, PutFa
     speak_start(&START, &mut speech);
     put(&mut file, &speech)?;
     for i in 0..entries.len() {
-        say(rt, &entries[..i], entries[i], &mut speech);
+        spell(rt, &entries[..i], entries[i], &mut speech);
         put(&mut file, &speech)?;
     }
     Ok(file)
@@ -56,10 +56,10 @@ fn hears_a_ride_again(rt: HostRuntime) -> Result<(), PutFault> {
         Entry::Stop(T + 12),
     ];
     for count in 0..10 {
-        let replay = replay(&told(&rt, rt.alloc(), &entries[..count])?);
+        let replay = replay(&reported(&rt, rt.alloc(), &entries[..count])?);
         let replay = replay.expect(&rt, "each message is heard");
-        let told = replay.into_recording();
-        let (totals, _) = told.expect(&rt, "a start and entries");
+        let reported = replay.into_recording();
+        let (totals, _) = reported.expect(&rt, "a start and entries");
         let wanted = ride(&rt, &entries[..count]);
         equal(&rt, totals.session(), wanted.session());
         equal(&rt, totals.lap(), wanted.lap());
@@ -78,13 +78,13 @@ fn summaries(
 ) -> Result<(Option<Summary>, Option<Summary>), PutFault>
     requires { length entries.now < 2 ^ 31 }
 {
-    let mut file = told(rt, alloc, entries)?;
+    let mut file = reported(rt, alloc, entries)?;
     let replay = replay(&file).expect(rt, "each message is heard");
     let mut speech = Speech::new();
     speak_closing(&ride(rt, entries), &mut speech);
     put(&mut file, &speech)?;
-    let told = replay.into_recording().map(|(_, summary)| summary);
-    Ok((told, check_activity(&file).ok()))
+    let reported = replay.into_recording().map(|(_, summary)| summary);
+    Ok((reported, check_activity(&file).ok()))
 }
 
 #[test]
@@ -169,8 +169,8 @@ fn refuses_a_lap_with_another_value(rt: HostRuntime) -> Result<(), PutFault> {
     let entries = [with_heart_rate(T, 100), with_distance(T + 1, 700)];
     let mut speech = Speech::new();
     for place in 0..36 {
-        let mut file = told(&rt, rt.alloc(), &entries)?;
-        say(&rt, &entries, Entry::Lap(T + 2), &mut speech);
+        let mut file = reported(&rt, rt.alloc(), &entries)?;
+        spell(&rt, &entries, Entry::Lap(T + 2), &mut speech);
         for message in speech.messages() {
             put_changed(rt.alloc(), &mut file, message, place)?;
         }
@@ -218,24 +218,24 @@ fn hears_starts(rt: HostRuntime) -> Result<(), PutFault> {
 #[test]
 fn refuses_what_may_not_come_next(rt: HostRuntime) -> Result<(), PutFault> {
     let mut speech = Speech::new();
-    let mut file = told(&rt, rt.alloc(), &[])?;
+    let mut file = reported(&rt, rt.alloc(), &[])?;
     speak_start(&START, &mut speech);
     put(&mut file, &speech)?;
     assert!(rt; replay(&file).is_none());
 
-    let mut file = told(&rt, rt.alloc(), &[Entry::Pause(T + 5)])?;
-    say(&rt, &[], Entry::Pause(T + 6), &mut speech);
+    let mut file = reported(&rt, rt.alloc(), &[Entry::Pause(T + 5)])?;
+    spell(&rt, &[], Entry::Pause(T + 6), &mut speech);
     put(&mut file, &speech)?;
     assert!(rt; replay(&file).is_none());
 
-    let mut file = told(&rt, rt.alloc(), &[with_distance(T + 5, 100)])?;
-    say(&rt, &[], Entry::Sample(Sample::new(T + 4)), &mut speech);
+    let mut file = reported(&rt, rt.alloc(), &[with_distance(T + 5, 100)])?;
+    spell(&rt, &[], Entry::Sample(Sample::new(T + 4)), &mut speech);
     put(&mut file, &speech)?;
     assert!(rt; replay(&file).is_none());
 
     // The lap that closes a recording encodes no entry.
     let stopped = [Entry::Stop(T + 1)];
-    let mut file = told(&rt, rt.alloc(), &stopped)?;
+    let mut file = reported(&rt, rt.alloc(), &stopped)?;
     speak_closing(&ride(&rt, &stopped), &mut speech);
     put(&mut file, &speech)?;
     assert!(rt; replay(&file).is_none());

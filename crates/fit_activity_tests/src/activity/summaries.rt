@@ -240,7 +240,7 @@ fn takes_the_greater_speed(rt: HostRuntime) {
 
 // A lap whose greatest speed is more than its field holds, and a lap whose greatest speed is not.
 #[test]
-fn tells_no_greatest_speed_above_65534(rt: HostRuntime) {
+fn reports_no_greatest_speed_above_65534(rt: HostRuntime) {
     let entries = [
         with_speeds(T, Some(65_534), Some(65_535)),
         Entry::Lap(T + 1),

@@ -91,7 +91,7 @@ fn a_folder_that_cannot_be_written_is_refused(rt: HostRuntime) -> Result<(), Fai
 
 // Run with each allocation refused in turn: want of memory is reported as such, and the next call succeeds.
 #[test]
-fn want_of_memory_is_told(rt: HostRuntime) -> Result<(), Fail> {
+fn want_of_memory_is_reported(rt: HostRuntime) -> Result<(), Fail> {
     let folder = "fit_disk_test_memory";
     let _ = fs::remove_dir_all(&rt, folder);
     fs::create_dir(&rt, folder)?;

@@ -44,11 +44,7 @@ fn edited(alloc: Global, edits: &[(usize, u8)]) -> Result<Vec<u8>, AllocError> {
     Ok(bytes)
 }
 
-pub(crate) fn behind_header(
-    alloc: Global,
-    size: u8,
-    records: &[u8],
-) -> Result<Vec<u8>, AllocError> {
+pub(crate) fn after_header(alloc: Global, size: u8, records: &[u8]) -> Result<Vec<u8>, AllocError> {
     let mut bytes = [
         0x0C, 0x10, 0x64, 0x00, size, 0x00, 0x00, 0x00, 0x2E, 0x46, 0x49, 0x54,
     ]
@@ -167,7 +163,7 @@ fn refused_at_the_first_byte_that_shows_it(rt: HostRuntime) -> Result<(), AllocE
             18,
         ),
     ] {
-        let bytes = behind_header(alloc, size, records)?;
+        let bytes = after_header(alloc, size, records)?;
         equal(&rt, outcome(alloc, &bytes), Some((kind, place)));
     }
     Ok(())
@@ -176,7 +172,7 @@ fn refused_at_the_first_byte_that_shows_it(rt: HostRuntime) -> Result<(), AllocE
 // Run with each allocation refused in turn: the fault is at the item that needed it. A header that promises much
 // makes no request.
 #[test]
-fn tells_which_item_wants_memory(rt: HostRuntime) {
+fn reports_which_item_wants_memory(rt: HostRuntime) {
     for _ in 0..8 {
         match outcome(rt.alloc(), &FILE_ID) {
             None => {}

@@ -20,7 +20,7 @@ fn front_at(places: &[usize], size: usize) -> usize {
 }
 
 #[test]
-fn a_front_ends_behind_a_whole_item(rt: HostRuntime) -> Result<(), Fail> {
+fn a_front_ends_after_a_whole_item(rt: HostRuntime) -> Result<(), Fail> {
     for (file, size, places) in [
         // a definition of six bytes and two fields, and its message
         (FILE_ID.as_slice(), 18, [12, 18].as_slice()),
@@ -45,7 +45,7 @@ fn a_front_ends_behind_a_whole_item(rt: HostRuntime) -> Result<(), Fail> {
 #[test]
 fn a_front_ends_before_what_is_no_item(rt: HostRuntime) -> Result<(), AllocError> {
     let definition = [0x40, 0, 0, 20, 0, 1, 3, 1, 2];
-    for behind in [
+    for after in [
         [0x05, 0x64, 0, 0, 0, 0, 0, 0, 0].as_slice(),
         [0xA0].as_slice(),
         [0x60, 0, 0, 20, 0, 0].as_slice(),
@@ -55,7 +55,7 @@ fn a_front_ends_before_what_is_no_item(rt: HostRuntime) -> Result<(), AllocError
     ] {
         let mut bytes = definition.to_vec(rt.alloc())?;
         bytes.extend_from_slice(&[0x00, 0x64])?;
-        bytes.extend_from_slice(behind)?;
+        bytes.extend_from_slice(after)?;
         equal(&rt, longest_front(bytes.as_slice()), 11);
         // Without the definition the message is no item either.
         equal(&rt, longest_front(&bytes.as_slice()[9..]), 0);

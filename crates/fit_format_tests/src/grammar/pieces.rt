@@ -3,7 +3,7 @@
 ghost use Rattle.std.specs.Prelude.{◌<◌};
 
 use crate::equality::equal;
-use crate::grammar::decoding::behind_header;
+use crate::grammar::decoding::after_header;
 use crate::grammar::sizes::{content_of, definition_of};
 use crate::known_files::{FILE_ID, empty_file};
 use fit_grammar::{Decoder, EncodeFault, FaultKind, File, FileFault, encode_file};
@@ -118,7 +118,7 @@ fn refused_with_the_byte_that_shows_it(rt: HostRuntime) -> Result<(), AllocError
     unmarked.truncate(12);
     unmarked[9] = 0x00;
     check_shown_by_last(&rt, alloc, &unmarked, (FaultKind::Magic, 8));
-    let undefined = behind_header(alloc, 1, &[0x05])?;
+    let undefined = after_header(alloc, 1, &[0x05])?;
     let fault = (FaultKind::UndefinedLocal(5), 12);
     check_shown_by_last(&rt, alloc, &undefined, fault);
     bytes.truncate(14);
@@ -153,7 +153,7 @@ fn long_items_are_cut(rt: HostRuntime) -> Result<(), Fail> {
 
 // Run with each allocation refused in turn: the fault is at the item that needed it, and stays.
 #[test]
-fn tells_for_good_which_item_wants_memory(rt: HostRuntime) {
+fn reports_for_good_which_item_wants_memory(rt: HostRuntime) {
     for _ in 0..8 {
         let mut decoder = Decoder::new(rt.alloc());
         let mut fault = None;

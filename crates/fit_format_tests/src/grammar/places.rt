@@ -9,7 +9,7 @@ use std::test::*;
 // What an item encodes: its local number, the global number of its definition, the offset and the time of a compressed
 // timestamp, and its content.
 #[derive(Clone, Copy, Debug, PartialEq, Eq)]
-struct Told<'a> {
+struct Reported<'a> {
     local: u8,
     global: u16,
     offset: Option<u8>,
@@ -17,8 +17,8 @@ struct Told<'a> {
     content: Option<&'a [u8]>,
 }
 
-fn defined<'a>(local: u8, global: u16) -> Told<'a> {
-    Told {
+fn defined<'a>(local: u8, global: u16) -> Reported<'a> {
+    Reported {
         local,
         global,
         offset: None,
@@ -27,8 +27,8 @@ fn defined<'a>(local: u8, global: u16) -> Told<'a> {
     }
 }
 
-fn whole<'a>(local: u8, global: u16, content: &'a [u8]) -> Told<'a> {
-    Told {
+fn whole<'a>(local: u8, global: u16, content: &'a [u8]) -> Reported<'a> {
+    Reported {
         local,
         global,
         offset: None,
@@ -37,8 +37,8 @@ fn whole<'a>(local: u8, global: u16, content: &'a [u8]) -> Told<'a> {
     }
 }
 
-fn short<'a>(local: u8, global: u16, offset: u8, time: u32, content: &'a [u8]) -> Told<'a> {
-    Told {
+fn short<'a>(local: u8, global: u16, offset: u8, time: u32, content: &'a [u8]) -> Reported<'a> {
+    Reported {
         local,
         global,
         offset: Some(offset),
@@ -47,10 +47,10 @@ fn short<'a>(local: u8, global: u16, offset: u8, time: u32, content: &'a [u8]) -
     }
 }
 
-fn told_by<'a>(item: &FileItem<'a>) -> Told<'a> {
+fn reported_by<'a>(item: &FileItem<'a>) -> Reported<'a> {
     match item {
         FileItem::Definition(definition) => defined(definition.local(), definition.global()),
-        FileItem::Data(data, time) => Told {
+        FileItem::Data(data, time) => Reported {
             local: data.local,
             global: data.definition.global(),
             offset: data.offset,
@@ -61,13 +61,13 @@ fn told_by<'a>(item: &FileItem<'a>) -> Told<'a> {
 }
 
 // Whether these are the items of the bytes.
-fn are_items(alloc: Global, bytes: &[u8], wanted: &[Told<'_>]) -> bool {
+fn are_items(alloc: Global, bytes: &[u8], wanted: &[Reported<'_>]) -> bool {
     let Ok(file) = decode_file(alloc, bytes) else {
         return false;
     };
     let mut count = 0;
     for item in file.items() {
-        if wanted.get(count) != Some(&told_by(&item)) {
+        if wanted.get(count) != Some(&reported_by(&item)) {
             return false;
         }
         count += 1;

@@ -143,7 +143,7 @@ fn the_place_is_that_of_the_bytes_that_were_read(rt: HostRuntime) -> Result<(), 
         place: 792,
     };
     match made(rt.alloc(), &bytes) {
-        Some(Err(told)) => equal(&rt, told, fault),
+        Some(Err(reported)) => equal(&rt, reported, fault),
         _ => panic!(rt; "it is a file, and too long"),
     }
     Ok(())
@@ -151,7 +151,7 @@ fn the_place_is_that_of_the_bytes_that_were_read(rt: HostRuntime) -> Result<(), 
 
 // Run with each allocation refused in turn: the fault is at the item that needed it.
 #[test]
-fn tells_where_memory_is_refused(rt: HostRuntime) {
+fn reports_where_memory_is_refused(rt: HostRuntime) {
     for _ in 0..8 {
         if let Some(Err(fault)) = made(rt.alloc(), &COMPRESSED) {
             equal(&rt, fault.kind, PlainFaultKind::Memory);

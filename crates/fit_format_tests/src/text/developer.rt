@@ -45,7 +45,7 @@ fn definition(
 
 // A developer field is never shown as a date, whatever its number is. Its bytes are shown as they are.
 #[test]
-fn shows_them_behind_the_fields(rt: HostRuntime) -> Result<(), Fail> {
+fn shows_them_after_the_fields(rt: HostRuntime) -> Result<(), Fail> {
     let mut file = empty_file(rt.alloc());
     let fields = [(0, 2, 0), (7, 0, 250), (253, 4, 1)];
     file.define(&definition(0, &[(3, 1, 0x02)], &fields)?)?;

@@ -20,7 +20,7 @@ fn so_many_bytes_wait(rt: HostRuntime) {
 }
 
 // Puts this text, then some of each kind.
-fn put_behind<W: Write>(pen: &mut Pen<'_, W>, text: &[u8]) -> Result<(), WriteFailed> {
+fn put_after<W: Write>(pen: &mut Pen<'_, W>, text: &[u8]) -> Result<(), WriteFailed> {
     pen.put(text)?;
     pen.put(b" heart_rate=")?;
     pen.put_number(u64::MAX)?;
@@ -31,7 +31,7 @@ fn put_behind<W: Write>(pen: &mut Pen<'_, W>, text: &[u8]) -> Result<(), WriteFa
     pen.hand_over()
 }
 
-const BEHIND: &[u8] = b" heart_rate=18446744073709551615-922337203685477580807\n";
+const AFTER: &[u8] = b" heart_rate=18446744073709551615-922337203685477580807\n";
 
 // The text after the first one crosses the end of the buffer at each of its bytes. The writer takes no call, one, two or all.
 #[test]
@@ -40,11 +40,11 @@ fn text_crosses_the_end_of_the_buffer(rt: HostRuntime) -> Result<(), AllocError>
     for missing in 0..70 {
         let text = &front[missing..];
         let mut whole = Vec::from_slice(rt.alloc(), text)?;
-        whole.extend_from_slice(BEHIND)?;
+        whole.extend_from_slice(AFTER)?;
         for calls in 0..4 {
             let mut out = Slow::new(rt.alloc(), usize::MAX, calls);
             let mut pen = Pen::new(&mut out);
-            let done = put_behind(&mut pen, text).is_ok();
+            let done = put_after(&mut pen, text).is_ok();
             let _ = pen.into_writer();
             assert!(rt;
                 whole.as_slice().starts_with(out.written()),
@@ -68,11 +68,11 @@ fn long_text_is_whole(rt: HostRuntime) -> Result<(), Fail> {
     let long = [b'y'; SIZE + 1];
     let mut whole = Vec::from_slice(rt.alloc(), b"x")?;
     whole.extend_from_slice(&long)?;
-    whole.extend_from_slice(BEHIND)?;
+    whole.extend_from_slice(AFTER)?;
     let mut out = Vec::new(rt.alloc());
     let mut pen = Pen::new(&mut out);
     pen.put(b"x")?;
-    put_behind(&mut pen, &long)?;
+    put_after(&mut pen, &long)?;
     equal(&rt, out.as_slice(), whole.as_slice());
     Ok(())
 }

@@ -5,7 +5,7 @@ use Rattle.fit_grammar.specs.declared.file.frame.Frame.{Frame}
 use Rattle.fit_grammar.specs.declared.file.fault.FaultKind.{FaultKind}
 use Rattle.fit_grammar.specs.declared.file.fault.FaultKind.TheVariants.{Truncated, HeaderSize, Magic, Protocol, HeaderCrc, UndefinedLocal, SplitMessage, FileCrc, TrailingBytes, Memory}
 use Rattle.fit_grammar.specs.Format.Item.{Item}
-use Rattle.fit_grammar.specs.Format.Refusal.{Front, front_bytes, front_end, IsFront, TailShows, place_behind, ShowsBehind, Shows}
+use Rattle.fit_grammar.specs.Format.Refusal.{Front, front_bytes, front_end, IsFront, TailShows, place_after, ShowsAfter, Shows}
 use Rattle.fit_grammar.proofs.OneItem.Spelling.{spelling_not_empty}
 use Rattle.fit_grammar.proofs.Decoding.Headers.{header_quiet}
 use Rattle.fit_grammar.proofs.Decoding.Quiet.{ItemInside}
@@ -26,7 +26,7 @@ pub record ShowsHere (f : Front) (rest : List ℕ) (count : ℕ) (kind : FaultKi
   pub after : List ℕ
   pub rest_is : rest ≡ tail ++ after
   pub shown : TailShows kind f tail
-  pub there : place ≡ place_behind kind f
+  pub there : place ≡ place_after kind f
   pub count_is : count ≡ front_end f + length tail
 
 abbrev front_by : Frame → ℕ → List ℕ → List ℕ → List Item → Front
@@ -70,7 +70,7 @@ shows_right_here f rest count kind place s =
       after = s.after;
       rest_is = s.rest_is ∙ ap (λ (l : List ℕ). l ++ (s.tail ++ s.after)) none;
       shown = subst (λ (g : Front). TailShows kind g s.tail) same s.shown;
-      there = s.there ∙ ap (place_behind kind) same;
+      there = s.there ∙ ap (place_after kind) same;
       count_is = omega (arith, s.count_is, ap length none);
     }
 
@@ -89,10 +89,10 @@ tail_not_empty Truncated g tail sh = absurd sh
 tail_not_empty Memory g tail sh = absurd sh
 
 -- after a front the header shows no fault
-pub behind : (kind : FaultKind) (place n : ℕ) (b : List ℕ) (f : Front) (rest : List ℕ) → IsFront f
-    → b ≡ front_bytes f ++ rest → Shows kind place (take n b) → ShowsBehind kind place (take n b)
-behind kind place n b f rest p e (inr s) = s
-behind kind place n b f rest p e (inl s) =
+pub follows : (kind : FaultKind) (place n : ℕ) (b : List ℕ) (f : Front) (rest : List ℕ) → IsFront f
+    → b ≡ front_bytes f ++ rest → Shows kind place (take n b) → ShowsAfter kind place (take n b)
+follows kind place n b f rest p e (inr s) = s
+follows kind place n b f rest p e (inl s) =
     let joined : b ≡ f.header ++ (f.records ++ rest) = e ∙ append_assoc f.header f.records rest in
     absurd (header_quiet kind place n f.header f.frame f.size (f.records ++ rest) p.is_header (rw joined at s))
 
@@ -116,11 +116,11 @@ mute_here (item ∷ others) b f rest limit n kind place s blocked mute lt =
     item_blocked f rest (length (take n b)) kind place item others s (blocked more)
 
 -- no prefix that ends sooner than a tail after the front shows a fault
-pub quiet_behind : (b : List ℕ) (f : Front) (rest : List ℕ) (limit : ℕ) → IsFront f → b ≡ front_bytes f ++ rest
+pub quiet_after : (b : List ℕ) (f : Front) (rest : List ℕ) (limit : ℕ) → IsFront f → b ≡ front_bytes f ++ rest
     → (2 < limit → Blocked f rest) → Mute f rest limit → (n : ℕ) (kind : FaultKind) (place : ℕ)
     → n < front_end f + limit → Shows kind place (take n b) → ⊥
-quiet_behind b f rest limit p e blocked mute n kind place lt s =
-    let l = later kind place n b f rest p e (behind kind place n b f rest p e s) in
+quiet_after b f rest limit p e blocked mute n kind place lt s =
+    let l = later kind place n b f rest p e (follows kind place n b f rest p e s) in
     mute_here l.0 b f rest limit n kind place l.1 blocked mute lt
 
 -- a row that continues with an item: the item begins the rest, within the data

@@ -6,7 +6,7 @@ use Rattle.fit_grammar.specs.declared.file.fault.FaultKind.{FaultKind}
 use Rattle.fit_grammar.specs.Format.Item.{Item}
 use Rattle.fit_grammar.specs.Format.Records.{RecordsAfter}
 use Rattle.fit_grammar.specs.Format.File.{FileValue, FileOf}
-use Rattle.fit_grammar.specs.Format.Refusal.{Front, front_bytes, front_end, IsFront, TailShows, place_behind, ShowsBehind}
+use Rattle.fit_grammar.specs.Format.Refusal.{Front, front_bytes, front_end, IsFront, TailShows, place_after, ShowsAfter}
 use Rattle.fit_grammar.proofs.Decoding.Alignment.{Aligned, longer, shorter, aligned}
 use Rattle.fit_grammar.proofs.Decoding.Headers.{same_header}
 use Rattle.fit_grammar.proofs.Decoding.Quiet.{item_quiet}
@@ -59,11 +59,11 @@ pub record ShowsLater (f : Front) (rest : List ℕ) (count : ℕ) (kind : FaultK
   pub rest_is : rest ≡ bytes ++ (tail ++ after)
   pub goes_on : RecordsAfter f.items bytes more
   pub shown : TailShows kind front tail
-  pub there : place ≡ place_behind kind front
+  pub there : place ≡ place_after kind front
   pub count_is : count ≡ front_end f + length bytes + length tail
 
 pub later : (kind : FaultKind) (place m : ℕ) (b : List ℕ) (f : Front) (rest : List ℕ) → IsFront f
-    → b ≡ front_bytes f ++ rest → ShowsBehind kind place (take m b)
+    → b ≡ front_bytes f ++ rest → ShowsAfter kind place (take m b)
     → (more : List Item) × ShowsLater f rest (length (take m b)) kind place more
 later kind place m b f rest p e s =
     let same = same_fronts f s.front rest (s.tail ++ drop m b) p s.is_front (beginning_joined b m f s.front rest s.tail e s.joined) in

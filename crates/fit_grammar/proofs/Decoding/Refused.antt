@@ -6,12 +6,12 @@ use Rattle.fit_base.specs.Number.{low_first}
 use Rattle.fit_grammar.specs.declared.file.fault.FaultKind.{FaultKind}
 use Rattle.fit_grammar.specs.declared.file.fault.FaultKind.TheVariants.{Truncated, HeaderSize, Magic, Protocol, HeaderCrc, UndefinedLocal, SplitMessage, FileCrc, TrailingBytes, Memory}
 use Rattle.fit_grammar.specs.Format.File.{FileValue, FileOf, IsClosing}
-use Rattle.fit_grammar.specs.Format.Refusal.{Front, front_bytes, front_end, IsFront, TailShows, place_behind, Shows, Refusal}
+use Rattle.fit_grammar.specs.Format.Refusal.{Front, front_bytes, front_end, IsFront, TailShows, place_after, Shows, Refusal}
 use Rattle.fit_grammar.specs.Calls.Pieces.{ShowsNothing}
 use Rattle.fit_grammar.proofs.Decoding.Alignment.{longer, shorter}
 use Rattle.fit_grammar.proofs.OneItem.Spelling.{spelling_not_empty, bytes_one}
 use Rattle.fit_grammar.proofs.Decoding.Fronts.{same_fronts, file_front, file_is_front}
-use Rattle.fit_grammar.proofs.Decoding.Blocked.{Blocked, Mute, quiet_behind, blocked_row}
+use Rattle.fit_grammar.proofs.Decoding.Blocked.{Blocked, Mute, quiet_after, blocked_row}
 
 -- after all the records no item begins within the data
 pub closed_blocked : (f : Front) (rest : List ℕ) → length f.records ≡ f.size → Blocked f rest
@@ -42,7 +42,7 @@ pub record Stands (b : List ℕ) (f : Front) (rest : List ℕ) (limit : ℕ) : T
 
 pub quiet : (b : List ℕ) (f : Front) (rest : List ℕ) (limit : ℕ) → Stands b f rest limit
     → (n : ℕ) (kind : FaultKind) (place : ℕ) → n < front_end f + limit → Shows kind place (take n b) → ⊥
-quiet b f rest limit s n kind place lt h = quiet_behind b f rest limit s.is_front s.joined s.blocked s.mute n kind place lt h
+quiet b f rest limit s n kind place lt h = quiet_after b f rest limit s.is_front s.joined s.blocked s.mute n kind place lt h
 
 -- the prefix that ends with a tail after the front
 beginning : (b : List ℕ) (f : Front) (tail after : List ℕ) → b ≡ front_bytes f ++ (tail ++ after)
@@ -55,7 +55,7 @@ beginning b f tail after e =
 
 -- a tail that shows a fault
 pub refused : (kind : FaultKind) (b : List ℕ) (f : Front) (tail after : List ℕ)
-    → Stands b f (tail ++ after) (length tail) → TailShows kind f tail → Refusal b kind (place_behind kind f)
+    → Stands b f (tail ++ after) (length tail) → TailShows kind f tail → Refusal b kind (place_after kind f)
 refused kind b f tail after s h =
     inl (record {
       count = front_end f + length tail;
@@ -79,9 +79,9 @@ refused kind b f tail after s h =
     })
 
 -- the bytes are no file if they end too soon after a front
-no_file_behind : (b : List ℕ) (f : Front) (rest : List ℕ) → IsFront f → b ≡ front_bytes f ++ rest → Blocked f rest
+no_file_after : (b : List ℕ) (f : Front) (rest : List ℕ) → IsFront f → b ≡ front_bytes f ++ rest → Blocked f rest
     → (length f.records ≡ f.size → length rest < 2) → (v : FileValue) → FileOf b v → ⊥
-no_file_behind b f rest p e blocked unclosed v h =
+no_file_after b f rest p e blocked unclosed v h =
     let g = file_front b v h in
     let q = file_is_front b v h in
     let same = same_fronts f g rest h.closing p q (sym e ∙ h.joined) in
@@ -114,7 +114,7 @@ cut_short b f rest s blocked unclosed =
       at_end = refl;
       none_shown = λ n other at le shown. quiet b f rest (length rest + 1) s n other at
           (omega (arith, ap length s.joined, length-append (front_bytes f) rest, length-append f.header f.records)) shown;
-      no_file = no_file_behind b f rest s.is_front s.joined blocked unclosed;
+      no_file = no_file_after b f rest s.is_front s.joined blocked unclosed;
     })
 
 -- no prefix of a file shows a fault

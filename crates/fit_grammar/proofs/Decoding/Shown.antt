@@ -14,7 +14,7 @@ use Rattle.fit_grammar.specs.declared.file.fault.FileFault.{FileFault}
 use Rattle.fit_grammar.specs.declared.item.ItemFault.TheVariants as items
 use Rattle.fit_grammar.specs.Format.Item.{Spells, Head, DefinitionHead, DataHead, head_of, content_size, part_size}
 use Rattle.fit_grammar.specs.Format.Records.{in_force}
-use Rattle.fit_grammar.specs.Calls.Step.{behind_fields, definition_length_of, data_length_of, length_by, ItemBegun}
+use Rattle.fit_grammar.specs.Calls.Step.{after_fields, definition_length_of, data_length_of, length_by, ItemBegun}
 use Rattle.fit_grammar.specs.Format.File.{FileValue, IsClosing}
 use Rattle.fit_grammar.specs.Format.Refusal.{Front, front_bytes, front_end, IsFront, SplitsAtFirst, Refusal, IsFaultOf}
 use Rattle.fit_grammar.specs.Private.Decoding.{WindowShows, IsItemFault, EndShows, fault_of, Reached}
@@ -25,7 +25,7 @@ use Rattle.fit_grammar.proofs.Decoding.Closed.{closing_cut, closing_wrong, closi
 use Rattle.fit_grammar.proofs.OneItem.Steps.{item_not_begun}
 use Rattle.fit_grammar.proofs.Decoding.WantOfMemory.{front_before_refusal, item_begins}
 use Rattle.fit_grammar.proofs.Decoding.Quiet.{same_byte}
-use Rattle.fit_grammar.proofs.OneItem.DefinitionRead.{few_fields, all_fields, behind_least}
+use Rattle.fit_grammar.proofs.OneItem.DefinitionRead.{few_fields, all_fields, after_least}
 use Rattle.fit_grammar.proofs.OneItem.Least.{ok_is}
 use Rattle.fit_grammar.proofs.Decoding.Reached.{rest_there}
 
@@ -49,7 +49,7 @@ at_least_six : (announced : Bool) (window : List ℕ) → 6 ≤ definition_lengt
 at_least_six announced window =
     elim (cases_lt (length window) 6) [
       | inl lt ↦ omega (arith, few_fields announced window lt)
-      | inr le ↦ omega (arith, all_fields announced window le, behind_least announced (6 + 3 * slice_index window 5) window)
+      | inr le ↦ omega (arith, all_fields announced window le, after_least announced (6 + 3 * slice_index window 5) window)
     ]
 
 split_first : (b : List ℕ) (f : Front) (byte : ℕ) (after : List ℕ) → IsFront f → b ≡ front_bytes f ++ byte ∷ after
@@ -57,22 +57,22 @@ split_first : (b : List ℕ) (f : Front) (byte : ℕ) (after : List ℕ) → IsF
 split_first b f byte after p j lt h = refused SplitMessage b f (byte ∷ []) after (stands_one b f (byte ∷ after) p j) (lt, inl h)
 
 -- a definition that extends past the end of the data only by its developer fields
-split_behind : (b : List ℕ) (f : Front) (byte : ℕ) (after : List ℕ) (local : ℕ) (announced : Bool)
+split_after : (b : List ℕ) (f : Front) (byte : ℕ) (after : List ℕ) (local : ℕ) (announced : Bool)
     → head_of byte ≡ DefinitionHead local announced → IsFront f → b ≡ front_bytes f ++ byte ∷ after → length f.records < f.size
     → AcceptsHead f (head_of byte)
     → length f.records + (6 + 3 * slice_index (byte ∷ after) 5 + part_size announced 0) ≤ f.size
-    → f.size < length f.records + behind_fields announced (6 + 3 * slice_index (byte ∷ after) 5) (byte ∷ after)
+    → f.size < length f.records + after_fields announced (6 + 3 * slice_index (byte ∷ after) 5) (byte ∷ after)
     → Refusal b SplitMessage (front_end f)
-split_behind b f byte after local false e p j lt a fits past = absurd (omega (arith, fits, past))
-split_behind b f byte after local true e p j lt a fits past =
+split_after b f byte after local false e p j lt a fits past = absurd (omega (arith, fits, past))
+split_after b f byte after local true e p j lt a fits past =
     let window = byte ∷ after in
     let end = 6 + 3 * slice_index window 5 in
     elim (cases_lt end (length window)) [
       | inl there ↦
-          let all : behind_fields true end window ≡ end + part_size true (slice_index window end) = rw (lt-ltb _ _ there) refl in
+          let all : after_fields true end window ≡ end + part_size true (slice_index window end) = rw (lt-ltb _ _ there) refl in
           developer_count_refused b f byte after p j lt a local e there fits (omega (arith, past, all))
       | inr short ↦
-          let one : behind_fields true end window ≡ end + part_size true 0 = rw (le-ltb _ _ short) refl in
+          let one : after_fields true end window ≡ end + part_size true 0 = rw (le-ltb _ _ short) refl in
           absurd (omega (arith, fits, past, one))
     ]
 
@@ -90,7 +90,7 @@ split_definition b f byte after local n e p j lt past =
             let accepts = subst (AcceptsHead f) (sym e) more in
             elim (cases_lt f.size (length f.records + counted)) [
               | inl less ↦ count_refused b f byte after p j lt accepts local n e six less
-              | inr fits ↦ split_behind b f byte after local n e p j lt accepts fits (omega (arith, past, all_fields n window six))
+              | inr fits ↦ split_after b f byte after local n e p j lt accepts fits (omega (arith, past, all_fields n window six))
             ]
       ]
     ]
@@ -142,7 +142,7 @@ counts_within f window tail more l n e le j (inl (six, local, announced, head, p
     let same : DefinitionHead l n ≡ DefinitionHead local announced = sym e ∙ ap head_of first ∙ head in
     let is : announced ≡ n = cc in
     let part : part_size announced 0 ≡ part_size n 0 = ap (λ (x : Bool). part_size x 0) is in
-    omega (arith, past, part, fifth, all_fields n window long, behind_least n end window, le)
+    omega (arith, past, part, fifth, all_fields n window long, after_least n end window, le)
 counts_within f window tail more l n e le j (inr (count, local, head, past)) =
     let joined : window ++ [] ≡ tail ++ more = append-nil window ∙ j in
     let long : 6 ≤ length window = omega (arith, ap length j, length-append tail more, count) in
@@ -152,9 +152,9 @@ counts_within f window tail more l n e le j (inr (count, local, head, past)) =
     let same : DefinitionHead l n ≡ DefinitionHead local true = sym e ∙ ap head_of first ∙ head in
     let is : n ≡ true = cc in
     let there : end < length window = omega (arith, ap length j, length-append tail more, count, fifth) in
-    let all : behind_fields true end window ≡ end + part_size true (slice_index window end) = rw (lt-ltb _ _ there) refl in
-    let whole : definition_length_of n window ≡ behind_fields true end window =
-    all_fields n window long ∙ ap (λ (x : Bool). behind_fields x end window) is in
+    let all : after_fields true end window ≡ end + part_size true (slice_index window end) = rw (lt-ltb _ _ there) refl in
+    let whole : definition_length_of n window ≡ after_fields true end window =
+    all_fields n window long ∙ ap (λ (x : Bool). after_fields x end window) is in
     let last : slice_index window end ≡ slice_index tail (6 + 3 * slice_index tail 5) =
     same_byte window [] tail more end joined there (omega (arith, count, fifth))
     ∙ ap (λ (k : ℕ). slice_index tail (6 + 3 * k)) fifth in

@@ -3,11 +3,11 @@ use Rattle.std.proofs.Common.{◌≡◌, ℕ, ◌<◌, ◌≤◌, List, ◌++◌
 use Rattle.std.proofs.lemmas.List.{length-append}
 use Rattle.fit_grammar.specs.declared.file.fault.FaultKind.{FaultKind}
 use Rattle.fit_grammar.specs.declared.file.fault.FaultKind.TheVariants.{Truncated, HeaderSize, Magic, Protocol, HeaderCrc, UndefinedLocal, SplitMessage, FileCrc, TrailingBytes, Memory}
-use Rattle.fit_grammar.specs.Format.Refusal.{Front, front_bytes, front_end, IsFront, place_behind, Shows, Refusal, ItemBeginsAt}
+use Rattle.fit_grammar.specs.Format.Refusal.{Front, front_bytes, front_end, IsFront, place_after, Shows, Refusal, ItemBeginsAt}
 use Rattle.fit_grammar.proofs.Decoding.Fronts.{later}
-use Rattle.fit_grammar.proofs.Decoding.Blocked.{behind}
+use Rattle.fit_grammar.proofs.Decoding.Blocked.{follows}
 
-front_le_place : (kind : FaultKind) (f : Front) → front_end f ≤ place_behind kind f
+front_le_place : (kind : FaultKind) (f : Front) → front_end f ≤ place_after kind f
 front_le_place TrailingBytes f = omega arith
 front_le_place HeaderSize f = omega arith
 front_le_place Protocol f = omega arith
@@ -22,7 +22,7 @@ front_le_place Memory f = omega arith
 shown_after : (b : List ℕ) (f : Front) (rest : List ℕ) (n place : ℕ) (kind : FaultKind) → IsFront f
     → b ≡ front_bytes f ++ rest → Shows kind place (take n b) → front_end f ≤ place
 shown_after b f rest n place kind p e s =
-    let l = later kind place n b f rest p e (behind kind place n b f rest p e s) in
+    let l = later kind place n b f rest p e (follows kind place n b f rest p e s) in
     let le = front_le_place kind l.1.front in
     omega (arith, l.1.there, ap length l.1.header_is, ap length l.1.records_are, length-append f.records l.1.bytes)
 

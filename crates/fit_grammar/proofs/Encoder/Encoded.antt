@@ -59,10 +59,10 @@ pub four_again : (n : ℕ) → low_first (four_bytes n) ≡ n
 four_again n = omega arith
 
 -- twelve bytes, and after them nothing or their checksum
-header_by : (frame : Frame) (size : ℕ) (behind : List ℕ) → IsFrame frame → length behind + 12 ≡ frame.header_size
-    → (frame.header_size ≡ 14 → ChecksHeader (header_front frame size ++ behind))
-    → IsHeader (header_front frame size ++ behind) frame size
-header_by frame size behind is_frame whole checked =
+header_by : (frame : Frame) (size : ℕ) (after : List ℕ) → IsFrame frame → length after + 12 ≡ frame.header_size
+    → (frame.header_size ≡ 14 → ChecksHeader (header_front frame size ++ after))
+    → IsHeader (header_front frame size ++ after) frame size
+header_by frame size after is_frame whole checked =
     record {
       is_frame = is_frame;
       whole = omega (arith, whole);

@@ -67,8 +67,8 @@ given_small (Data local offset content) l d fits e = absurd (none-some d e)
 
 either_small : (item : Item) (l : ℕ) (d : Definition) (o : Option Definition) → HasEncoding item → ((c : Definition) → o ≡ Some c → l < 16)
     → option_or o (definition_by item l) ≡ Some d → l < 16
-either_small item l d None fits behind e = given_small item l d fits e
-either_small item l d (Some c) fits behind e = behind c refl
+either_small item l d None fits after e = given_small item l d fits e
+either_small item l d (Some c) fits after e = after c refl
 
 pub in_force_small : (before items : List Item) (l : ℕ) (d : Definition) → AllCanFollow before items → in_force items l ≡ Some d → l < 16
 in_force_small before [] l d a e = absurd (none-some d e)

@@ -9,10 +9,10 @@ use Rattle.fit_grammar.specs.Format.Item.{Item, Defines, Data, content_size}
 use Rattle.fit_grammar.specs.Format.Records.{in_force}
 use Rattle.fit_grammar.specs.Format.Encoding.{HasEncoding}
 use Rattle.fit_grammar.specs.Format.Message.{Message, message_under, compressed_time, time_given, messages_after}
-use Rattle.fit_grammar.specs.Calls.Table.{behind}
+use Rattle.fit_grammar.specs.Calls.Table.{in_force_after}
 use Rattle.fit_grammar.specs.Calls.LentItem.{LentItem, DataHere, data_under, item_lent, messages_in, lent_after, AllUnder}
 use Rattle.fit_grammar.specs.Calls.Possible.{AllCanFollow}
-use Rattle.fit_grammar.proofs.KeptRow.ByLookup.{behind-in_force}
+use Rattle.fit_grammar.proofs.KeptRow.ByLookup.{in_force_after-in_force}
 
 -- a data message before others, if this is the definition of its local number
 abbrev front : Option Definition → ℕ → Option ℕ → Option ℕ → List ℕ → List LentItem → List LentItem
@@ -71,7 +71,7 @@ lent_under before time [] a = tt
 lent_under before time (Defines d ∷ items) a = (
   a.0.encodable,
   subst (λ (f : ℕ → Option Definition). AllUnder f (lent_after (before ++ Defines d ∷ []) time items))
-      (sym (behind-in_force before (Defines d))) (lent_under (before ++ Defines d ∷ []) time items a.1),
+      (sym (in_force_after-in_force before (Defines d))) (lent_under (before ++ Defines d ∷ []) time items a.1),
 )
 lent_under before time (Data local offset content ∷ items) a =
     let item = Data local offset content in
@@ -79,12 +79,12 @@ lent_under before time (Data local offset content ∷ items) a =
     front_under (in_force before) (in_force before local) local offset (compressed_time time offset) content
     (lent_after (before ++ item ∷ []) after items) refl (small_local local offset content a.0.encodable)
     (subst (λ (f : ℕ → Option Definition). AllUnder f (lent_after (before ++ item ∷ []) after items))
-    (sym (behind-in_force before item)) (lent_under (before ++ item ∷ []) after items a.1))
+    (sym (in_force_after-in_force before item)) (lent_under (before ++ item ∷ []) after items a.1))
 
 -- the definition in force after a definition
-pub behind_defines : (d e : Definition) (f : ℕ → Option Definition) (local : ℕ) → behind (Defines d) f local ≡ Some e
+pub after_defines : (d e : Definition) (f : ℕ → Option Definition) (local : ℕ) → in_force_after (Defines d) f local ≡ Some e
     → ((local ≡ d.local) × (d ≡ e)) ⊎ ((local ≢ d.local) × (f local ≡ Some e))
-behind_defines d e f local is =
+after_defines d e f local is =
     elim (eqb_tells d.local local) [
       | inl same ↦ inl (sym same.1, same_Some d e (rw same.0 at is))
       | inr other ↦ inr ((λ e. other.1 (sym e)), rw other.0 at is)

@@ -8,7 +8,7 @@ use Rattle.fit_grammar.specs.Format.Records.{in_force, IsDefinedBy}
 use Rattle.fit_grammar.specs.Format.Encoding.{definition_byte, encoded_item, encoded_items, HasEncoding}
 use Rattle.fit_grammar.specs.Private.DefinitionBytes.{definition_at, AreDefinition}
 use Rattle.fit_grammar.specs.Calls.Step.{ItemAtFront, definition_length_of, length_by}
-use Rattle.fit_grammar.specs.Calls.Table.{behind}
+use Rattle.fit_grammar.specs.Calls.Table.{in_force_after}
 use Rattle.fit_grammar.specs.Private.ByLookup.{AllDefinedBy}
 use Rattle.fit_grammar.specs.Private.KeptDefinition.{IsWrittenAt}
 use Rattle.fit_grammar.specs.Calls.Possible.{AllCanFollow}
@@ -93,7 +93,7 @@ encoded_item-some (Defines d) = omega arith
 encoded_item-some (Data local offset content) = omega arith
 
 items_at-first : (n : ℕ) (f : ℕ → Option Definition) (bytes : List ℕ) → 1 ≤ length bytes
-    → items_at (suc n) f bytes ≡ item_at f bytes ∷ items_at n (behind (item_at f bytes) f) (drop (item_size (item_at f bytes)) bytes)
+    → items_at (suc n) f bytes ≡ item_at f bytes ∷ items_at n (in_force_after (item_at f bytes) f) (drop (item_size (item_at f bytes)) bytes)
 items_at-first n f [] some = absurd (omega arith)
 items_at-first n f (byte ∷ bytes) some = refl
 
@@ -110,10 +110,10 @@ items_at-encoded (suc n) f (item ∷ items) a le =
     let both = length-append own others in
     let some = encoded_item-some item in
     items_at-first n f (own ++ others) (omega arith)
-    ∙ ap (λ (i : Item). i ∷ items_at n (behind i f) (drop (item_size i) (own ++ others))) (item_at-encoded f item others a.0 a.1)
-    ∙ ap (λ (k : ℕ). item ∷ items_at n (behind item f) (drop k (own ++ others))) (sym (encoded_item-length item))
-    ∙ ap (λ (bytes : List ℕ). item ∷ items_at n (behind item f) bytes) (drop-append_seam own others)
-    ∙ ap (λ (l : List Item). item ∷ l) (items_at-encoded n (behind item f) items a.2 (omega arith))
+    ∙ ap (λ (i : Item). i ∷ items_at n (in_force_after i f) (drop (item_size i) (own ++ others))) (item_at-encoded f item others a.0 a.1)
+    ∙ ap (λ (k : ℕ). item ∷ items_at n (in_force_after item f) (drop k (own ++ others))) (sym (encoded_item-length item))
+    ∙ ap (λ (bytes : List ℕ). item ∷ items_at n (in_force_after item f) bytes) (drop-append_seam own others)
+    ∙ ap (λ (l : List Item). item ∷ l) (items_at-encoded n (in_force_after item f) items a.2 (omega arith))
 
 pub items_under-encoded : (f : ℕ → Option Definition) (items : List Item) → AllDefinedBy f items
     → items_under f (encoded_items items) ≡ items

@@ -14,7 +14,7 @@ use Rattle.fit_grammar.specs.declared.definition.Definition.{Definition}
 use Rattle.fit_grammar.specs.Format.Item.{Defines, Data, DefinitionHead, DataHead, head_of, arch_of, field_bytes, developer_bytes, developer_part, part_size, SpellsDefinition, content_size}
 use Rattle.fit_grammar.specs.declared.item.Item.TheVariants as items
 use Rattle.fit_grammar.specs.declared.item.Step.TheVariants as steps
-use Rattle.fit_grammar.specs.Calls.Step.{ItemBegun, IsStep, behind_fields, definition_length_of}
+use Rattle.fit_grammar.specs.Calls.Step.{ItemBegun, IsStep, after_fields, definition_length_of}
 use Rattle.fit_grammar.specs.Private.DefinitionBytes.{fields_in, as_developer, developer_in, definition_at, AreDefinition}
 
 head_by : (a b announced c : Bool) (k m l : ℕ) (o : Option ℕ)
@@ -124,9 +124,9 @@ rest_is true n rest fields whole =
     let count = slice_index rest (3 * n) in
     let developer = drop (3 * n + 1) rest in
     let three : length developer ≡ 3 * count = omega (arith, length-drop (3 * n + 1) rest) in
-    let behind : drop (3 * n) rest ≡ count ∷ developer = drop_more rest (3 * n) 0 (omega arith) in (
+    let after : drop (3 * n) rest ≡ count ∷ developer = drop_more rest (3 * n) 0 (omega arith) in (
       sym (take-append-drop (3 * n) rest) ∙ ap (λ (l : List ℕ). take (3 * n) rest ++ l)
-          (behind ∙ rw (developer_in-length count developer three, developer_in-bytes count developer three) refl),
+          (after ∙ rw (developer_in-length count developer three, developer_in-bytes count developer three) refl),
       λ bad. absurd cc,
     )
 
@@ -152,7 +152,7 @@ definition_spelled (a ∷ b ∷ c ∷ d ∷ e ∷ n ∷ rest) are =
     spelled_rest a b c d e n are.announced rest are.head (omega arith) (omega (arith, are.whole, count))
 
 -- the length of a definition that is there as a whole
-pub whole_length : (announced : Bool) (end used : ℕ) (window : List ℕ) → used ≡ behind_fields announced end window
+pub whole_length : (announced : Bool) (end used : ℕ) (window : List ℕ) → used ≡ after_fields announced end window
     → used ≤ length window
     → (end ≤ used) × (used ≡ end + part_size announced (slice_index (take used window) end))
 whole_length false end used window is le = (omega (arith, is), omega (arith, is))
@@ -168,27 +168,27 @@ whole_length true end used window is le =
     ]
 
 -- a definition has at least its fields and the number of its developer fields
-pub behind_least : (announced : Bool) (end : ℕ) (window : List ℕ) → end + part_size announced 0 ≤ behind_fields announced end window
-behind_least false end window = omega arith
-behind_least true end window =
+pub after_least : (announced : Bool) (end : ℕ) (window : List ℕ) → end + part_size announced 0 ≤ after_fields announced end window
+after_least false end window = omega arith
+after_least true end window =
     elim (cases_lt end (length window)) [
       | inl lt ↦
-          let all : behind_fields true end window ≡ end + part_size true (slice_index window end) = rw (lt-ltb _ _ lt) refl in
+          let all : after_fields true end window ≡ end + part_size true (slice_index window end) = rw (lt-ltb _ _ lt) refl in
           omega (arith, all)
       | inr ge ↦
-          let one : behind_fields true end window ≡ end + part_size true 0 = rw (le-ltb _ _ ge) refl in
+          let one : after_fields true end window ≡ end + part_size true 0 = rw (le-ltb _ _ ge) refl in
           omega (arith, one)
     ]
 
 -- the least length of a definition, by what is there of it
 pub few_fields : (announced : Bool) (window : List ℕ) → length window < 6 → definition_length_of announced window ≡ 6
 few_fields announced window lt =
-    ap (λ (t : Bool). cond t 6 (behind_fields announced (6 + 3 * slice_index window 5) window)) (lt-ltb (length window) 6 lt)
+    ap (λ (t : Bool). cond t 6 (after_fields announced (6 + 3 * slice_index window 5) window)) (lt-ltb (length window) 6 lt)
 
 pub all_fields : (announced : Bool) (window : List ℕ) → 6 ≤ length window
-    → definition_length_of announced window ≡ behind_fields announced (6 + 3 * slice_index window 5) window
+    → definition_length_of announced window ≡ after_fields announced (6 + 3 * slice_index window 5) window
 all_fields announced window le =
-    ap (λ (t : Bool). cond t 6 (behind_fields announced (6 + 3 * slice_index window 5) window)) (le-ltb (length window) 6 le)
+    ap (λ (t : Bool). cond t 6 (after_fields announced (6 + 3 * slice_index window 5) window)) (le-ltb (length window) 6 le)
 
 -- the front of a window, if it has as many bytes as its definition
 pub front_is : (window : List ℕ) (l used : ℕ) (announced : Bool) → head_of (slice_index window 0) ≡ DefinitionHead l announced
@@ -226,12 +226,12 @@ begun_empty f =
 
 -- so a window with no bytes needs more
 pub nothing_there : (f : ℕ → Option Definition) (window : List ℕ) → length window ≡ 0 → IsStep f window steps.NeedMore
-nothing_there f [] none = record { says = begun_empty f; lent = tt; local = tt }
+nothing_there f [] none = record { states = begun_empty f; lent = tt; local = tt }
 nothing_there f (byte ∷ window) none = absurd (omega arith)
 
 -- with zeros after them, the bytes after the first six of a definition are whole
 completed : (announced : Bool) (n : ℕ) (window rest : List ℕ) → length window ≡ 6 + length rest
-    → slice_index window (6 + 3 * n) ≡ slice_index rest (3 * n) → length window < behind_fields announced (6 + 3 * n) window
+    → slice_index window (6 + 3 * n) ≡ slice_index rest (3 * n) → length window < after_fields announced (6 + 3 * n) window
     → (count : ℕ) × (1 ≤ count) × (3 * n ≤ length rest + count)
     × (length rest + count ≡ 3 * n + part_size announced (slice_index (rest ++ replicate count 0) (3 * n)))
 completed false n window rest long same short = (3 * n - length rest, omega arith, omega arith, omega arith)
@@ -239,7 +239,7 @@ completed true n window rest long same short =
     elim (cases_lt (3 * n) (length rest)) [
       | inl lt ↦
           let test : nat_lt (6 + 3 * n) (length window) ≡ true = lt-ltb _ _ (omega arith) in
-          let all : behind_fields true (6 + 3 * n) window ≡ 6 + 3 * n + part_size true (slice_index window (6 + 3 * n)) = rw test refl in
+          let all : after_fields true (6 + 3 * n) window ≡ 6 + 3 * n + part_size true (slice_index window (6 + 3 * n)) = rw test refl in
           let missing = 3 * n + part_size true (slice_index rest (3 * n)) - length rest in
           let there : slice_index (rest ++ replicate missing 0) (3 * n) ≡ slice_index rest (3 * n) =
           get_or_append_left rest (replicate missing 0) 0 (3 * n) lt in
@@ -273,7 +273,7 @@ begun_definition f (a ∷ b ∷ c ∷ d ∷ e ∷ []) l n some head short =
     (bare a b c d e n (own_head a l n head))
 begun_definition f (a ∷ b ∷ c ∷ d ∷ e ∷ n ∷ rest) l announced some head short =
     let window : List ℕ = a ∷ b ∷ c ∷ d ∷ e ∷ n ∷ rest in
-    let long : definition_length_of announced window ≡ behind_fields announced (6 + 3 * n) window =
+    let long : definition_length_of announced window ≡ after_fields announced (6 + 3 * n) window =
     all_fields announced window (omega arith) in
     let done = completed announced n window rest (omega arith)
     (get_or-append-add (a ∷ b ∷ c ∷ d ∷ e ∷ n ∷ []) rest (3 * n) 0) (omega (arith, long, short)) in
@@ -309,7 +309,7 @@ next_is f window l used announced d head some length_is long value =
     let are = front_is window l used announced head some length_is long in
     let spelled : SpellsDefinition d (take used window) = rw value (definition_spelled (take used window) are) in
     record {
-      says = record { within = long; spelled = spelled; defined = tt };
+      states = record { within = long; spelled = spelled; defined = tt };
       lent = tt;
       local = local_below d (take used window) spelled;
     }

@@ -7,7 +7,7 @@ use Rattle.fit_grammar.specs.declared.definition.Definition.{Definition}
 use Rattle.fit_grammar.specs.declared.item.ItemFault.{ItemFault}
 use Rattle.fit_grammar.specs.Format.Item.{Item, Defines, Data, Head, Spells, SpellsDefinition, content_size, part_size}
 use Rattle.fit_grammar.specs.Format.Records.{IsDefinedBy}
-use Rattle.fit_grammar.specs.Calls.Step.{IsLeastLength, least_length_of, length_by, behind_fields, definition_length_of, data_length_of}
+use Rattle.fit_grammar.specs.Calls.Step.{IsLeastLength, least_length_of, length_by, after_fields, definition_length_of, data_length_of}
 use Rattle.fit_grammar.proofs.OneItem.Spelling.{spelling_not_empty, definition_length, definition_count, developer_count, data_length}
 use Rattle.fit_grammar.proofs.OneItem.DefinitionRead.{few_fields, all_fields}
 use Rattle.fit_grammar.proofs.OneItem.Steps.{item_head, spelling_head}
@@ -21,17 +21,17 @@ ok_one a b e = cc
 -- the least length after the fields, if the announced part has so many developer fields
 pub part_least : (announced : Bool) (end count whole : ℕ) (window : List ℕ) → whole ≡ end + part_size announced count
     → (announced ≡ true → end < length window → slice_index window end ≡ count)
-    → IsLeastLength (behind_fields announced end window) (length window) whole
+    → IsLeastLength (after_fields announced end window) (length window) whole
 part_least false end count whole window long there = record { least = omega (arith, long); exact = λ _. omega (arith, long) }
 part_least true end count whole window long there =
     elim (cases_lt end (length window)) [
       | inl lt ↦
-          let all : behind_fields true end window ≡ whole =
-          (let e : behind_fields true end window ≡ end + part_size true (slice_index window end) = rw (lt-ltb _ _ lt) refl in
+          let all : after_fields true end window ≡ whole =
+          (let e : after_fields true end window ≡ end + part_size true (slice_index window end) = rw (lt-ltb _ _ lt) refl in
           e ∙ ap (λ (n : ℕ). end + part_size true n) (there refl lt) ∙ sym long) in
           record { least = omega (arith, all); exact = λ _. all }
       | inr ge ↦
-          let one : behind_fields true end window ≡ end + part_size true 0 = rw (le-ltb _ _ ge) refl in
+          let one : after_fields true end window ≡ end + part_size true 0 = rw (le-ltb _ _ ge) refl in
           record { least = omega (arith, one, long); exact = λ le. absurd (omega (arith, one, le)) }
     ]
 

@@ -106,9 +106,9 @@ definition_one d c a x b y p q e =
     let c_fields = flat_map field_bytes c.fields.items in
     let d_part = developer_part p.announced d.developer.items in
     let c_part = developer_part q.announced c.developer.items in
-    let behind : (d_fields ++ d_part) ++ x ≡ (c_fields ++ c_part) ++ y = cc in
+    let after : (d_fields ++ d_part) ++ x ≡ (c_fields ++ c_part) ++ y = cc in
     let fields = fields_one d.fields.items c.fields.items (d_part ++ x) (c_part ++ y) count
-    (sym (append_assoc d_fields d_part x) ∙ behind ∙ append_assoc c_fields c_part y) in
+    (sym (append_assoc d_fields d_part x) ∙ after ∙ append_assoc c_fields c_part y) in
     let items : d.fields.items ≡ c.fields.items = fields.0 in
     let head : DefinitionHead d.local p.announced ≡ DefinitionHead c.local q.announced = sym p.head ∙ ap head_of first ∙ q.head in
     let announced : q.announced ≡ p.announced = cc in
@@ -189,9 +189,9 @@ pub developer_count : (d : Definition) (a : List ℕ) (p : SpellsDefinition d a)
     → slice_index a (6 + 3 * length d.fields.items) ≡ length d.developer.items
 developer_count d a p e =
     let fields = d.fields.items in
-    let behind = flat_map field_bytes fields ++ developer_part p.announced d.developer.items in
+    let after = flat_map field_bytes fields ++ developer_part p.announced d.developer.items in
     let six : List ℕ = p.first ∷ p.reserved ∷ p.architecture ∷ p.global_1 ∷ p.global_2 ∷ length fields ∷ [] in
-    rw p.laid_out (get_or-append-add six behind (3 * length fields) 0
+    rw p.laid_out (get_or-append-add six after (3 * length fields) 0
     ∙ developer_count_by p.announced (flat_map field_bytes fields) (3 * length fields) d.developer.items e (fields_length fields))
 
 -- a data message begins with its head and has one byte and its content

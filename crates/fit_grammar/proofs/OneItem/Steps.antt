@@ -8,7 +8,7 @@ use Rattle.fit_grammar.specs.declared.item.Step.{Step}
 use Rattle.fit_grammar.specs.declared.item.Step.TheVariants as steps
 use Rattle.fit_grammar.specs.Format.Item.{Item, Defines, Data, Head, DefinitionHead, DataHead, head_of, Spells, content_size}
 use Rattle.fit_grammar.specs.Format.Records.{IsDefinedBy}
-use Rattle.fit_grammar.specs.Calls.Step.{item_of, ItemAtFront, ItemBegun, ShowsUndefined, StepSays, IsStepItem}
+use Rattle.fit_grammar.specs.Calls.Step.{item_of, ItemAtFront, ItemBegun, ShowsUndefined, StepReports, IsStepItem}
 use Rattle.fit_grammar.proofs.OneItem.Spelling.{spelling_one}
 
 -- one item at the front
@@ -89,20 +89,20 @@ undefined_one f window l m p q =
     cc
 
 pub only_item : (f : ℕ → Option Definition) (window : List ℕ) (step : Step) (i : Item) (used : ℕ)
-    → StepSays f window step → ItemAtFront f window i used → IsStepItem step i used
-only_item f window (steps.Item j count) i used says p = items_one f window (item_of j) i count used says p
-only_item f window steps.NeedMore i used says p = absurd (item_not_begun f window i used p says)
-only_item f window (steps.Refused (UndefinedLocal l)) i used says p = absurd (item_not_undefined f window i used l p says)
+    → StepReports f window step → ItemAtFront f window i used → IsStepItem step i used
+only_item f window (steps.Item j count) i used states p = items_one f window (item_of j) i count used states p
+only_item f window steps.NeedMore i used states p = absurd (item_not_begun f window i used p states)
+only_item f window (steps.Refused (UndefinedLocal l)) i used states p = absurd (item_not_undefined f window i used l p states)
 
-pub only_more : (f : ℕ → Option Definition) (window : List ℕ) (step : Step) → StepSays f window step
+pub only_more : (f : ℕ → Option Definition) (window : List ℕ) (step : Step) → StepReports f window step
     → ItemBegun f window → step ≡ steps.NeedMore
-only_more f window (steps.Item j count) says p = absurd (item_not_begun f window (item_of j) count says p)
-only_more f window steps.NeedMore says p = refl
-only_more f window (steps.Refused (UndefinedLocal l)) says p = absurd (begun_not_undefined f window l p says)
+only_more f window (steps.Item j count) states p = absurd (item_not_begun f window (item_of j) count states p)
+only_more f window steps.NeedMore states p = refl
+only_more f window (steps.Refused (UndefinedLocal l)) states p = absurd (begun_not_undefined f window l p states)
 
-pub only_undefined : (f : ℕ → Option Definition) (window : List ℕ) (step : Step) (l : ℕ) → StepSays f window step
+pub only_undefined : (f : ℕ → Option Definition) (window : List ℕ) (step : Step) (l : ℕ) → StepReports f window step
     → ShowsUndefined f window l → step ≡ steps.Refused (UndefinedLocal l)
-only_undefined f window (steps.Item j count) l says p = absurd (item_not_undefined f window (item_of j) count l says p)
-only_undefined f window steps.NeedMore l says p = absurd (begun_not_undefined f window l says p)
-only_undefined f window (steps.Refused (UndefinedLocal m)) l says p =
-    ap (λ (k : ℕ). steps.Refused (UndefinedLocal k)) (undefined_one f window m l says p)
+only_undefined f window (steps.Item j count) l states p = absurd (item_not_undefined f window (item_of j) count l states p)
+only_undefined f window steps.NeedMore l states p = absurd (begun_not_undefined f window l states p)
+only_undefined f window (steps.Refused (UndefinedLocal m)) l states p =
+    ap (λ (k : ℕ). steps.Refused (UndefinedLocal k)) (undefined_one f window m l states p)

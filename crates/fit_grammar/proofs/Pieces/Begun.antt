@@ -103,7 +103,7 @@ begun_reads b h r p whole fits frame items none at end checksum carry closing =
     record {
       stands = subst (StandsBefore b r) (sym (ap (λ (l : List ℕ). l ++ r.closing.items) carry ∙ closing)) stands;
       within = λ _. (closing, rw carry (begun_empty f));
-      behind = λ _. carry;
+      after = λ _. carry;
       short = omega (arith, ap length carry);
       cut = λ _. elim (cases_lt r.at r.end) [
         | inl lt ↦ (item_waits b [] r stands lt (inr (1, refl, omega arith, begun_empty f))).cut

@@ -24,9 +24,9 @@ use Rattle.fit_grammar.proofs.Pieces.Standing.{StaysAt, stands_same}
 use Rattle.fit_grammar.proofs.Pieces.Items.{takes_longer, stands_item, item_shown, item_waits, begun_of}
 
 -- an item that is whole now and was not before has at least as many bytes as had come
-pub behind_begun : (f : ℕ → Option Definition) (window : List ℕ) (item : Item) (had used : ℕ) → had ≤ length window
+pub after_begun : (f : ℕ → Option Definition) (window : List ℕ) (item : Item) (had used : ℕ) → had ≤ length window
     → ItemAtFront f window item used → ItemBegun f (take had window) → had ≤ used
-behind_begun f window item had used le there begun =
+after_begun f window item had used le there begun =
     elim (cases_lt used had) [
       | inl lt ↦
           absurd (item_not_begun f (take had window) item used (record {

@@ -33,7 +33,7 @@ pub carried_reads : (b : List ℕ) (r : Reading) → StandsBefore b r r.carry.it
 carried_reads b r stands lt waits none short = record {
   stands = subst (StandsBefore b r) (sym (ap (λ (l : List ℕ). r.carry.items ++ l) none ∙ append-nil r.carry.items)) stands;
   within = λ _. (none, waits.begun);
-  behind = λ le. absurd (omega arith);
+  after = λ le. absurd (omega arith);
   short = short;
   cut = λ _. waits.cut;
   whole = λ two. absurd (omega (arith, ap length none));
@@ -89,7 +89,7 @@ closed_reads b rest old new t le stays carry none closing right most =
     sym closing ∙ ap (λ (l : List ℕ). l ++ new.closing.items) (sym empty) in
     let stands : StandsBefore b new (new.carry.items ++ new.closing.items) =
     stands_same b (new.carry.items ++ new.closing.items) old new (subst (StandsBefore b old) window t.stands) stays in
-    let behind : new.end ≤ new.at = omega (arith, stays.at, stays.end) in
+    let after : new.end ≤ new.at = omega (arith, stays.at, stays.end) in
     let within = stands_within b (new.carry.items ++ new.closing.items) new stands in
     let long : length b ≡ new.at + length new.closing.items = stands_length b (new.carry.items ++ new.closing.items) new stands
     ∙ ap (λ (l : List ℕ). new.at + length (l ++ new.closing.items)) empty in
@@ -97,11 +97,11 @@ closed_reads b rest old new t le stays carry none closing right most =
     record {
       stands = stands;
       within = λ more. absurd (omega arith);
-      behind = λ _. empty;
+      after = λ _. empty;
       short = omega (arith, ap length empty);
-      cut = λ short. end_cut b new.file new.at new.end stands.reached behind (omega arith);
+      cut = λ short. end_cut b new.file new.at new.end stands.reached after (omega arith);
       whole = λ two.
-          let file = closed_file b new.closing.items new.file new.at new.end stands.reached behind there (omega arith)
+          let file = closed_file b new.closing.items new.file new.at new.end stands.reached after there (omega arith)
           (right two ∙ sym stays.checksum ∙ stands.checked) in
           (file, file_shows_nothing b new.file file);
     }

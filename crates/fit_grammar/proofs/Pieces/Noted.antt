@@ -70,8 +70,8 @@ record HasIt (f g : Front) (own : List ℕ) (item : Item) : Type 0 where
 
 -- or it ends at or before the one without the item
 record HasNot (f g : Front) : Type 0 where
-  behind : List ℕ
-  joined : front_bytes f ≡ front_bytes g ++ behind
+  following : List ℕ
+  joined : front_bytes f ≡ front_bytes g ++ following
   written : written_end g ≤ written_end f
 
 written_with : (f g : Front) (items : List Item) → f.frame ≡ g.frame → g.items ≡ f.items ++ items
@@ -83,7 +83,7 @@ either : (f g : Front) (own rest : List ℕ) (item : Item) → Spells item own �
     → Aligned [] f.records f.items own g.records g.items rest → HasIt f g own item ⊎ HasNot f g
 either f g own rest item p d frame header (longer [] k) =
     inr (record {
-      behind = [];
+      following = [];
       joined = sym (append-nil (front_bytes g) ∙ ap (λ (h : List ℕ). h ++ g.records) (sym header)
           ∙ ap (λ (l : List ℕ). f.header ++ l) (k.bytes_are ∙ ap (λ (l : List ℕ). f.records ++ l) k.goes_on ∙ append-nil f.records));
       written = omega (arith, written_with f g [] frame k.items_are);
@@ -117,7 +117,7 @@ either f g own rest item p d frame header (longer (i ∷ more) k) =
     })
 either f g own rest item p d frame header (shorter i others k) =
     inr (record {
-      behind = k.bytes;
+      following = k.bytes;
       joined = ap (λ (h : List ℕ). h ++ f.records) header ∙ ap (λ (l : List ℕ). g.header ++ l) k.bytes_are
           ∙ sym (append_assoc g.header g.records k.bytes);
       written = omega (arith, written_with g f (i ∷ others) (sym frame) k.items_are);
@@ -145,7 +145,7 @@ same_long f own item places p s d n same = record {
           it.end,
           same,
         )
-        | inr not ↦ n.places g not.behind q not.joined
+        | inr not ↦ n.places g not.following q not.joined
       ];
   all = λ place le. n.all place (omega (arith, le));
 }
@@ -171,7 +171,7 @@ a_byte_longer f own item places p s d n more =
               it.end,
               more,
             )
-            | inr not ↦ before_it places at (written_end g) not.written ∙ n.places g not.behind q not.joined
+            | inr not ↦ before_it places at (written_end g) not.written ∙ n.places g not.following q not.joined
           ];
       all = λ place le. omega (
         arith,

@@ -14,12 +14,12 @@ use Rattle.fit_grammar.specs.Format.Item.{Item, Defines, Data, fields_size}
 use Rattle.fit_grammar.specs.Format.Records.{in_force}
 use Rattle.fit_grammar.specs.Format.Message.{Message, MessageField, fields_of, developer_of, time_field, message_under, messages_after, time_given}
 use Rattle.std.specs.Prelude.{option_map, option_to_list}
-use Rattle.fit_grammar.specs.Calls.Table.{behind}
+use Rattle.fit_grammar.specs.Calls.Table.{in_force_after}
 use Rattle.fit_grammar.specs.Calls.LentItem.{LentItem, DefinesHere, DataHere, LentData, messages_in, message_here, AllUnder}
 use Rattle.fit_grammar.specs.Calls.PlainForm.{time_definition, time_bytes, time_front, timed_definition, plain_definition, plain_content, plain_data, is_timed, definitions_before, plain_after, IsPlain}
 use Rattle.fit_grammar.specs.Private.PlainSoFar.{AreTimed}
 use Rattle.fit_grammar.proofs.Encoder.Encoded.{four_again}
-use Rattle.fit_grammar.proofs.PlainForm.Timed.{AreNamed, timed-definition, named_behind, timed-before, timed-data, here_timed}
+use Rattle.fit_grammar.proofs.PlainForm.Timed.{AreNamed, timed-definition, named_after, timed-before, timed-data, here_timed}
 
 -- ---- one message
 
@@ -55,12 +55,12 @@ message_again d (Some time) content =
 -- ---- all messages
 
 -- a definition before other items is no message
-behind_definitions : (before : List Item) (time : ℕ) (has needs : Bool) (d : Definition) (others : List Item)
+after_definitions : (before : List Item) (time : ℕ) (has needs : Bool) (d : Definition) (others : List Item)
     → messages_after before time (definitions_before has needs d ++ others) ≡ messages_after (before ++ definitions_before has needs d) time others
-behind_definitions before time true true d others = ap (λ (b : List Item). messages_after b time others) (sym (append-nil before))
-behind_definitions before time false false d others = ap (λ (b : List Item). messages_after b time others) (sym (append-nil before))
-behind_definitions before time true false d others = refl
-behind_definitions before time false true d others = refl
+after_definitions before time true true d others = ap (λ (b : List Item). messages_after b time others) (sym (append-nil before))
+after_definitions before time false false d others = ap (λ (b : List Item). messages_after b time others) (sym (append-nil before))
+after_definitions before time true false d others = refl
+after_definitions before time false true d others = refl
 
 -- the message of a data message whose definition is in force
 first_message : (before : List Item) (time : ℕ) (d : Definition) (local : ℕ) (content : List ℕ) (others : List Item)
@@ -76,8 +76,8 @@ pub same_messages : (f : ℕ → Option Definition) (timed : List Bool) (before 
     → AllUnder f items → length timed ≡ 16 → AreTimed f timed before → messages_after before time (plain_after timed items) ≡ messages_in items
 same_messages f timed before time [] named under count are = refl
 same_messages f timed before time (DefinesHere d ∷ items) named under count are =
-    same_messages (behind (Defines d) f) (slice_set timed d.local false) (before ++ Defines d ∷ []) time items
-    (named_behind f d named) under.1 (length-set timed d.local false ∙ count)
+    same_messages (in_force_after (Defines d) f) (slice_set timed d.local false) (before ++ Defines d ∷ []) time items
+    (named_after f d named) under.1 (length-set timed d.local false ∙ count)
     (timed-definition f timed before d (omega (arith, under.0, count)) are)
 same_messages f timed before time (DataHere m ∷ items) named under count are =
     let needs = is_some m.time in
@@ -93,7 +93,7 @@ same_messages f timed before time (DataHere m ∷ items) named under count are =
     let rest = same_messages f set ((before ++ front) ++ plain_data m ∷ []) after items named under.2 (length-set timed m.local needs ∙ count)
     (timed-data f set (before ++ front) m.local None (plain_content m) prepared) in
     ap (λ (is : List Item). messages_after before time is) (append_assoc front (plain_data m ∷ []) others)
-    ∙ behind_definitions before time (is_timed timed m.local) needs m.definition (plain_data m ∷ others)
+    ∙ after_definitions before time (is_timed timed m.local) needs m.definition (plain_data m ∷ others)
     ∙ first_message (before ++ front) time (plain_definition m) m.local (plain_content m) others here
     ∙ ap (λ (first : Message). first ∷ messages_after ((before ++ front) ++ plain_data m ∷ []) after others)
     (message_again m.definition m.time m.content)

@@ -14,15 +14,15 @@ use Rattle.fit_grammar.specs.Format.Records.{in_force, data_size}
 use Rattle.fit_grammar.specs.Format.File.{FileValue}
 use Rattle.fit_grammar.specs.Format.Message.{messages_of}
 use Rattle.fit_grammar.specs.Calls.Possible.{CanBeFile}
-use Rattle.fit_grammar.specs.Calls.Table.{behind}
+use Rattle.fit_grammar.specs.Calls.Table.{in_force_after}
 use Rattle.fit_grammar.specs.Calls.LentItem.{LentItem, DefinesHere, DataHere, item_lent, items_lent, AllUnder}
-use Rattle.fit_grammar.specs.Calls.PlainForm.{plain_item, plain_data, plain_content, definitions_before, is_timed, timed_behind, none_timed, plain_after, plain_items, IsPlain, is_too_long, too_long_after, too_long_at, IsItemPlace, IsRefusedAt}
+use Rattle.fit_grammar.specs.Calls.PlainForm.{plain_item, plain_data, plain_content, definitions_before, is_timed, timed_after, none_timed, plain_after, plain_items, IsPlain, is_too_long, too_long_after, too_long_at, IsItemPlace, IsRefusedAt}
 use Rattle.fit_grammar.specs.Private.PlainSoFar.{PlainSoFar, AreTimed, IsReady}
 use Rattle.fit_grammar.proofs.Decoding.Reached.{some_bytes}
 use Rattle.fit_grammar.proofs.KeptRow.Lent.{lent_messages, lent_under}
 use Rattle.fit_grammar.proofs.PlainForm.Messages.{same_messages}
 use Rattle.fit_grammar.proofs.PlainForm.Unchanged.{unchanged}
-use Rattle.fit_grammar.proofs.PlainForm.Timed.{AreNamed, timed-definition, named_behind, timed-before, timed-data, here_timed}
+use Rattle.fit_grammar.proofs.PlainForm.Timed.{AreNamed, timed-definition, named_after, timed-before, timed-data, here_timed}
 
 -- what is known of the definitions
 record Knows (items : List Item) (timed : List Bool) (left : List LentItem) : Type 0 where
@@ -33,11 +33,11 @@ record Knows (items : List Item) (timed : List Bool) (left : List LentItem) : Ty
   count : length timed ≡ 16
 
 knows_more : (items : List Item) (timed : List Bool) (item : LentItem) (left : List LentItem) → Knows items timed (item ∷ left)
-    → Knows (items ++ plain_item timed item) (timed_behind timed item) left
+    → Knows (items ++ plain_item timed item) (timed_after timed item) left
 knows_more items timed (DefinesHere d) left k = record {
-  definition_for = behind (Defines d) k.definition_for;
+  definition_for = in_force_after (Defines d) k.definition_for;
   under = k.under.1;
-  named = named_behind k.definition_for d k.named;
+  named = named_after k.definition_for d k.named;
   are_timed = timed-definition k.definition_for timed items d (omega (arith, k.under.0, k.count)) k.are_timed;
   count = length-set timed d.local false ∙ k.count;
 }
@@ -68,11 +68,11 @@ is_ready v items timed place (DataHere m) left p = (
 
 pub goes_on : (v : FileValue) (items : List Item) (timed : List Bool) (place : ℕ) (item : LentItem) (left : List LentItem)
     → PlainSoFar v items timed place (item ∷ left) → is_too_long (data_size items) (plain_item timed item) ≡ false
-    → PlainSoFar v (items ++ plain_item timed item) (timed_behind timed item) (place + item_size (item_lent item)) left
+    → PlainSoFar v (items ++ plain_item timed item) (timed_after timed item) (place + item_size (item_lent item)) left
 goes_on v items timed place item left p fits =
     let own = plain_item timed item in
-    let others = plain_after (timed_behind timed item) left in
-    let long : ℕ → Option ℕ = λ size. too_long_after (timed_behind timed item) size (place + item_size (item_lent item)) left in
+    let others = plain_after (timed_after timed item) left in
+    let long : ℕ → Option ℕ = λ size. too_long_after (timed_after timed item) size (place + item_size (item_lent item)) left in
     let k = knows_more items timed item left (record {
       definition_for = p.definition_for;
       under = p.under;
@@ -131,7 +131,7 @@ started v items timed place left none flags first all under same =
 -- after the next item
 pub went_on : (v : FileValue) (items new : List Item) (timed flags : List Bool) (place : ℕ) (item : LentItem) (left : List LentItem)
     → PlainSoFar v items timed place (item ∷ left) → is_too_long (data_size items) (plain_item timed item) ≡ false
-    → new ≡ items ++ plain_item timed item → flags ≡ timed_behind timed item
+    → new ≡ items ++ plain_item timed item → flags ≡ timed_after timed item
     → PlainSoFar v new flags (place + item_size (item_lent item)) left
 went_on v items new timed flags place item left p fits added set = rw (added, set) (goes_on v items timed place item left p fits)
 
@@ -141,7 +141,7 @@ stopped : (v : FileValue) (items : List Item) (timed : List Bool) (place : ℕ) 
     → too_long_at v ≡ Some place
 stopped v items timed place item left p long =
     sym p.long
-    ∙ ap (λ (b : Bool). if b then Some place else too_long_after (timed_behind timed item)
+    ∙ ap (λ (b : Bool). if b then Some place else too_long_after (timed_after timed item)
     (data_size items + data_size (plain_item timed item)) (place + item_size (item_lent item)) left) long
 
 -- its place
@@ -173,18 +173,18 @@ later timed size place [] at e = absurd (none-some at e)
 later timed size place (item ∷ items) at e =
     let own = plain_item timed item in
     let next = place + item_size (item_lent item) in
-    let others = too_long_after (timed_behind timed item) (size + data_size own) next items in
-    let behind : others ≡ Some at → next ≤ at = λ f. later (timed_behind timed item) (size + data_size own) next items at f in
+    let others = too_long_after (timed_after timed item) (size + data_size own) next items in
+    let in_force_after : others ≡ Some at → next ≤ at = λ f. later (timed_after timed item) (size + data_size own) next items at f in
     (elim (is_too_long size own) as (λ b. (if b then Some place else others) ≡ Some at → place ≤ at) [
       | true ↦ λ f. omega (arith, same_Some place at f)
-      | false ↦ λ f. omega (arith, behind f)
+      | false ↦ λ f. omega (arith, in_force_after f)
     ]) e
 
 before_long : (v : FileValue) (items : List Item) (timed : List Bool) (place : ℕ) (item : LentItem) (left : List LentItem)
     → PlainSoFar v items timed place (item ∷ left) → is_too_long (data_size items) (plain_item timed item) ≡ false
     → (at : ℕ) → too_long_at v ≡ Some at → place < at
 before_long v items timed place item left p fits at e =
-    let flags = timed_behind timed item in
+    let flags = timed_after timed item in
     let size = data_size items + data_size (plain_item timed item) in
     let next = place + item_size (item_lent item) in
     let here : too_long_after flags size next left ≡ Some at =
@@ -207,8 +207,8 @@ pub fitted : (v : FileValue) (items : List Item) (timed : List Bool) (place : �
 fitted v items timed place p = sym p.long
 
 -- so it encodes the messages, and is the file itself if nothing is compressed
-pub says : (v : FileValue) → CanBeFile v → messages_of (plain_items v.items) ≡ messages_of v.items
-says v can =
+pub states : (v : FileValue) → CanBeFile v → messages_of (plain_items v.items) ≡ messages_of v.items
+states v can =
     same_messages (in_force []) none_timed [] 0 (items_lent v.items) none_named (lent_under [] 0 v.items can.items_follow) refl (λ l. refl)
     ∙ lent_messages [] 0 v.items
 

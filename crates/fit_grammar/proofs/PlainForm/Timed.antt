@@ -7,11 +7,11 @@ use Rattle.std.proofs.lemmas.Bool.Decides.{eqb_tells}
 use Rattle.fit_grammar.specs.declared.definition.Definition.{Definition}
 use Rattle.fit_grammar.specs.Format.Item.{Item, Defines, Data}
 use Rattle.fit_grammar.specs.Format.Records.{in_force}
-use Rattle.fit_grammar.specs.Calls.Table.{behind}
+use Rattle.fit_grammar.specs.Calls.Table.{in_force_after}
 use Rattle.fit_grammar.specs.Calls.PlainForm.{timed_definition, is_timed, definitions_before}
 use Rattle.fit_grammar.specs.Private.PlainSoFar.{AreTimed}
 use Rattle.fit_grammar.proofs.KeptRow.InForce.{in_force-defines, in_force-others, in_force-data}
-use Rattle.fit_grammar.proofs.KeptRow.Lent.{behind_defines}
+use Rattle.fit_grammar.proofs.KeptRow.Lent.{after_defines}
 use Rattle.fit_grammar.proofs.PlainForm.Taken.{timed_local, set_again}
 
 -- after a definition that the lookup has
@@ -36,25 +36,25 @@ timed-defines f g timed items d needs small are here others l =
           ∙ ap (λ (b : Bool). option_map (timed_definition b) (g l)) (sym flag)
     ]
 
-here_behind : (d : Definition) (f : ℕ → Option Definition) → behind (Defines d) f d.local ≡ Some d
-here_behind d f = rw (eq-eqb d.local d.local refl) refl
+here_after : (d : Definition) (f : ℕ → Option Definition) → in_force_after (Defines d) f d.local ≡ Some d
+here_after d f = rw (eq-eqb d.local d.local refl) refl
 
-others_behind : (d : Definition) (f : ℕ → Option Definition) (l : ℕ) → l ≢ d.local → behind (Defines d) f l ≡ f l
-others_behind d f l other = rw (ne_eqb d.local l (λ e. other (sym e))) refl
+others_after : (d : Definition) (f : ℕ → Option Definition) (l : ℕ) → l ≢ d.local → in_force_after (Defines d) f l ≡ f l
+others_after d f l other = rw (ne_eqb d.local l (λ e. other (sym e))) refl
 
 -- after a definition of the file
 pub timed-definition : (f : ℕ → Option Definition) (timed : List Bool) (items : List Item) (d : Definition) → d.local < length timed
-    → AreTimed f timed items → AreTimed (behind (Defines d) f) (slice_set timed d.local false) (items ++ Defines d ∷ [])
+    → AreTimed f timed items → AreTimed (in_force_after (Defines d) f) (slice_set timed d.local false) (items ++ Defines d ∷ [])
 timed-definition f timed items d small are =
-    timed-defines f (behind (Defines d) f) timed items d false small are (here_behind d f) (λ l other. others_behind d f l other)
+    timed-defines f (in_force_after (Defines d) f) timed items d false small are (here_after d f) (λ l other. others_after d f l other)
 
 -- each definition has its local number
 abbrev pub AreNamed : (ℕ → Option Definition) → Type 0
 AreNamed f = (l : ℕ) (d : Definition) → f l ≡ Some d → d.local ≡ l
 
-pub named_behind : (f : ℕ → Option Definition) (d : Definition) → AreNamed f → AreNamed (behind (Defines d) f)
-named_behind f d named l e is =
-    elim (behind_defines d e f l is) [
+pub named_after : (f : ℕ → Option Definition) (d : Definition) → AreNamed f → AreNamed (in_force_after (Defines d) f)
+named_after f d named l e is =
+    elim (after_defines d e f l is) [
       | inl same ↦ ap (λ (x : Definition). x.local) (sym same.1) ∙ sym same.0
       | inr other ↦ named l e other.1
     ]

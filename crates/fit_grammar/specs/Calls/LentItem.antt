@@ -6,7 +6,7 @@ use Rattle.fit_grammar.specs.declared.item.row.FileItem.TheVariants as files
 use Rattle.fit_grammar.specs.Format.Item.{Item, Defines, Data}
 use Rattle.fit_grammar.specs.Format.Records.{in_force}
 use Rattle.fit_grammar.specs.Format.Message.{Message, message_under, compressed_time, time_given}
-use Rattle.fit_grammar.specs.Calls.Table.{behind}
+use Rattle.fit_grammar.specs.Calls.Table.{in_force_after}
 
 -- a data message with the definition in force of its local number, and the time of its compressed timestamp, if it has one
 pub record LentData : Type 0 where
@@ -65,6 +65,6 @@ items_lent items = lent_after [] 0 items
 -- if these definitions are in force before the items, each data message has the one of its local number
 abbrev pub AllUnder : (ℕ → Option Definition) → List LentItem → Type 0
 AllUnder definition_for [] = Unit {0}
-AllUnder definition_for (DefinesHere d ∷ items) = (d.local < 16) × AllUnder (behind (Defines d) definition_for) items
+AllUnder definition_for (DefinesHere d ∷ items) = (d.local < 16) × AllUnder (in_force_after (Defines d) definition_for) items
 AllUnder definition_for (DataHere m ∷ items) =
     (m.local < 16) × (definition_for m.local ≡ Some m.definition) × AllUnder definition_for items

@@ -71,13 +71,13 @@ plain_item timed (DataHere m) =
     definitions_before (is_timed timed m.local) (is_some m.time) m.definition ++ plain_data m ∷ []
 
 -- the flags of the local numbers after it
-abbrev pub timed_behind : List Bool → LentItem → List Bool
-timed_behind timed (DefinesHere d) = slice_set timed d.local false
-timed_behind timed (DataHere m) = slice_set timed m.local (is_some m.time)
+abbrev pub timed_after : List Bool → LentItem → List Bool
+timed_after timed (DefinesHere d) = slice_set timed d.local false
+timed_after timed (DataHere m) = slice_set timed m.local (is_some m.time)
 
 abbrev pub plain_after : List Bool → List LentItem → List Item
 plain_after timed [] = []
-plain_after timed (item ∷ items) = plain_item timed item ++ plain_after (timed_behind timed item) items
+plain_after timed (item ∷ items) = plain_item timed item ++ plain_after (timed_after timed item) items
 
 -- the plain form of a row of items
 abbrev pub plain_items : List Item → List Item
@@ -108,7 +108,7 @@ abbrev pub too_long_after : List Bool → ℕ → ℕ → List LentItem → Opti
 too_long_after timed size place [] = None
 too_long_after timed size place (item ∷ items) =
     if is_too_long size (plain_item timed item) then Some place
-    else too_long_after (timed_behind timed item) (size + data_size (plain_item timed item)) (place + item_size (item_lent item)) items
+    else too_long_after (timed_after timed item) (size + data_size (plain_item timed item)) (place + item_size (item_lent item)) items
 
 -- the same for a whole file; the place is an offset from its front
 abbrev pub too_long_at : FileValue → Option ℕ

@@ -17,15 +17,15 @@ item_of (items.Data m) = Data m.local m.offset m.content.now
 
 -- the least number of bytes of a definition, by its first bytes; its fields end at `end`, and developer fields are announced or
 -- not
-abbrev pub behind_fields : Bool → ℕ → List ℕ → ℕ
-behind_fields false end window = end
-behind_fields true end window =
+abbrev pub after_fields : Bool → ℕ → List ℕ → ℕ
+after_fields false end window = end
+after_fields true end window =
     if nat_lt end (length window) then end + part_size true (slice_index window end) else end + part_size true 0
 
 -- the same, by its first bytes alone
 abbrev pub definition_length_of : Bool → List ℕ → ℕ
 definition_length_of announced window =
-    if nat_lt (length window) 6 then 6 else behind_fields announced (6 + 3 * slice_index window 5) window
+    if nat_lt (length window) 6 then 6 else after_fields announced (6 + 3 * slice_index window 5) window
 
 -- how many bytes a data message has under a definition
 abbrev pub data_length_of : ℕ → Option Definition → Result ℕ ItemFault
@@ -70,10 +70,10 @@ pub record ShowsUndefined (definition_for : ℕ → Option Definition) (window :
   pub undefined : definition_for local ≡ None
 
 -- what a step states about the window
-abbrev pub StepSays : (ℕ → Option Definition) → List ℕ → Step → Type 0
-StepSays definition_for window (steps.Item item used) = ItemAtFront definition_for window (item_of item) used
-StepSays definition_for window steps.NeedMore = ItemBegun definition_for window
-StepSays definition_for window (steps.Refused (UndefinedLocal local)) = ShowsUndefined definition_for window local
+abbrev pub StepReports : (ℕ → Option Definition) → List ℕ → Step → Type 0
+StepReports definition_for window (steps.Item item used) = ItemAtFront definition_for window (item_of item) used
+StepReports definition_for window steps.NeedMore = ItemBegun definition_for window
+StepReports definition_for window (steps.Refused (UndefinedLocal local)) = ShowsUndefined definition_for window local
 
 -- the step found this item
 abbrev pub IsStepItem : Step → Item → ℕ → Type 0
@@ -92,6 +92,6 @@ DefinesBelow count _ = Unit {0}
 
 -- the step is right for the window under these definitions
 pub record IsStep (definition_for : ℕ → Option Definition) (window : List ℕ) (step : Step) : Type 0 where
-  pub says : StepSays definition_for window step
+  pub states : StepReports definition_for window step
   pub lent : LendsFrom definition_for step
   pub local : DefinesBelow 16 step

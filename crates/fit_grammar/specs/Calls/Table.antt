@@ -10,5 +10,5 @@ abbrev pub definition_in : List (Option Definition) → ℕ → Option Definitio
 definition_in table local = slice_index_or table local None
 
 -- the definitions in force after an item, given those in force before it
-abbrev pub behind : Item → (ℕ → Option Definition) → ℕ → Option Definition
-behind item definition_for local = option_or (definition_by item local) (definition_for local)
+abbrev pub in_force_after : Item → (ℕ → Option Definition) → ℕ → Option Definition
+in_force_after item definition_for local = option_or (definition_by item local) (definition_for local)

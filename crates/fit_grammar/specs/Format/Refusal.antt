@@ -80,22 +80,22 @@ TailShows TrailingBytes front tail =
 TailShows _ front tail = ⊥
 
 -- the place of a fault after a front: an item's first byte, the checksum, or the byte after it
-abbrev pub place_behind : FaultKind → Front → ℕ
-place_behind TrailingBytes front = front_end front + 2
-place_behind kind front = front_end front
+abbrev pub place_after : FaultKind → Front → ℕ
+place_after TrailingBytes front = front_end front + 2
+place_after kind front = front_end front
 
 -- the bytes are a front and a tail that shows a fault
-pub record ShowsBehind (kind : FaultKind) (place : ℕ) (bytes : List ℕ) : Type 0 where
+pub record ShowsAfter (kind : FaultKind) (place : ℕ) (bytes : List ℕ) : Type 0 where
   pub front : Front
   pub tail : List ℕ
   pub is_front : IsFront front
   pub joined : bytes ≡ front_bytes front ++ tail
   pub shown : TailShows kind front tail
-  pub there : place ≡ place_behind kind front
+  pub there : place ≡ place_after kind front
 
 -- the last of these bytes shows a fault
 abbrev pub Shows : FaultKind → ℕ → List ℕ → Type 0
-Shows kind place bytes = HeaderShows kind place bytes ⊎ ShowsBehind kind place bytes
+Shows kind place bytes = HeaderShows kind place bytes ⊎ ShowsAfter kind place bytes
 
 -- the shortest prefix of the bytes that shows a fault shows this one
 pub record IsShortestShown (bytes : List ℕ) (kind : FaultKind) (place : ℕ) : Type 0 where

@@ -4,7 +4,7 @@ use Rattle.fit_grammar.specs.declared.definition.Definition.{Definition}
 use Rattle.fit_grammar.specs.Format.Item.{Item, Defines, Data}
 use Rattle.fit_grammar.specs.Format.Records.{IsDefinedBy}
 use Rattle.fit_grammar.specs.Format.Encoding.{HasEncoding}
-use Rattle.fit_grammar.specs.Calls.Table.{behind}
+use Rattle.fit_grammar.specs.Calls.Table.{in_force_after}
 use Rattle.fit_grammar.specs.Calls.LentItem.{LentItem, DefinesHere, DataHere, data_under}
 use Rattle.fit_grammar.specs.Format.Message.{Message, message_under, compressed_time, next_time, time_stated}
 
@@ -32,10 +32,10 @@ abbrev pub lent_items_by : (ℕ → Option Definition) → ℕ → List Item →
 lent_items_by definition_for time [] = []
 lent_items_by definition_for time (item ∷ items) =
     option_to_list (lent_by definition_for time item)
-    ++ lent_items_by (behind item definition_for) (unwrap_or (time_by definition_for time item) time) items
+    ++ lent_items_by (in_force_after item definition_for) (unwrap_or (time_by definition_for time item) time) items
 
 -- each of the items has a spelling and is defined in its place
 abbrev pub AllDefinedBy : (ℕ → Option Definition) → List Item → Type 0
 AllDefinedBy definition_for [] = Unit {0}
 AllDefinedBy definition_for (item ∷ items) =
-    HasEncoding item × IsDefinedBy definition_for item × AllDefinedBy (behind item definition_for) items
+    HasEncoding item × IsDefinedBy definition_for item × AllDefinedBy (in_force_after item definition_for) items

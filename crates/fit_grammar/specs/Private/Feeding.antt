@@ -46,7 +46,7 @@ pub record Waits (bytes : List ℕ) (r : Reading) (carry : List ℕ) : Type 0 wh
 pub record ReadsOn (fed : List ℕ) (r : Reading) : Type 0 where
   pub stands : StandsBefore fed r (r.carry.items ++ r.closing.items)
   pub within : r.at < r.end → (r.closing.items ≡ []) × ItemBegun (in_force r.file.items) r.carry.items
-  pub behind : r.end ≤ r.at → r.carry.items ≡ []
+  pub after : r.end ≤ r.at → r.carry.items ≡ []
   pub short : length r.carry.items < 130051
   pub cut : length r.closing.items < 2 → IsCutShort fed Truncated (length fed)
   pub whole : 2 ≤ length r.closing.items → FileOf fed r.file × ShowsNothing fed

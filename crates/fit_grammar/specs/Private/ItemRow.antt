@@ -8,7 +8,7 @@ use Rattle.fit_grammar.specs.Format.Records.{in_force}
 use Rattle.fit_grammar.specs.Format.Encoding.{encoded_items}
 use Rattle.fit_grammar.specs.Private.DefinitionBytes.{definition_at}
 use Rattle.fit_grammar.specs.Calls.Step.{definition_length_of, item_of}
-use Rattle.fit_grammar.specs.Calls.Table.{behind}
+use Rattle.fit_grammar.specs.Calls.Table.{in_force_after}
 use Rattle.fit_grammar.specs.Private.ByLookup.{AllDefinedBy}
 
 -- the item that the bytes begin with, given their head
@@ -27,7 +27,7 @@ items_at zero definition_for bytes = []
 items_at (suc count) definition_for [] = []
 items_at (suc count) definition_for (byte ∷ bytes) =
     let item = item_at definition_for (byte ∷ bytes) in
-    item ∷ items_at count (behind item definition_for) (drop (item_size item) (byte ∷ bytes))
+    item ∷ items_at count (in_force_after item definition_for) (drop (item_size item) (byte ∷ bytes))
 
 -- all the items of a row of bytes, under these definitions
 abbrev pub items_under : (ℕ → Option Definition) → List ℕ → List Item
@@ -49,7 +49,7 @@ IsLentBy definition_for (items.Data m) = definition_for m.local ≡ Some m.defin
 
 -- the bytes are written as this item and others, and `others` are the bytes of those
 pub record IsFirst (definition_for : ℕ → Option Definition) (bytes : List ℕ) (item : ReadItem) (others : List ℕ) : Type 0 where
-  pub first : items_under definition_for bytes ≡ item_of item ∷ items_under (behind (item_of item) definition_for) others
-  pub written : AreWritten (behind (item_of item) definition_for) others
+  pub first : items_under definition_for bytes ≡ item_of item ∷ items_under (in_force_after (item_of item) definition_for) others
+  pub written : AreWritten (in_force_after (item_of item) definition_for) others
   pub fewer : length others < length bytes
   pub lent : IsLentBy definition_for item

@@ -43,8 +43,7 @@ impl<'a> DefinitionMessage<'a> {
         requires { AreDefinition bytes.now }
         ensures { result ≡ definition_at bytes.now }
     {
-        let content_size = sum_of_sizes(fields_behind(bytes))
-            + sum_of_sizes(developer_behind(bytes));
+        let content_size = sum_of_sizes(fields_after(bytes)) + sum_of_sizes(developer_after(bytes));
         DefinitionMessage::of(SizedBytes {
             bytes,
             content_size,
@@ -100,7 +99,7 @@ impl<'a> DefinitionMessage<'a> {
         ensures fields { fields_in result.now ≡ self.now.fields.items }
         ensures bound { length result.now ≤ 765 }
     {
-        fields_behind(self.sized.bytes)
+        fields_after(self.sized.bytes)
     }
 
     // The bytes of the developer fields, three for each.
@@ -108,7 +107,7 @@ impl<'a> DefinitionMessage<'a> {
         ensures fields { developer_in result.now ≡ self.now.developer.items }
         ensures bound { length result.now ≤ 765 }
     {
-        developer_behind(self.sized.bytes)
+        developer_after(self.sized.bytes)
     }
 
     // The size of the fields' content in bytes.
@@ -148,7 +147,7 @@ impl<'a> DefinitionMessage<'a> {
 }
 
 // The bytes of the fields, after the first six of a definition.
-fn fields_behind(bytes: &[u8]) -> &[u8]
+fn fields_after(bytes: &[u8]) -> &[u8]
     requires { AreDefinition bytes.now }
     ensures fields { fields_in result.now ≡ (definition_at bytes.now).fields.items }
     ensures bound { length result.now ≤ 765 }
@@ -158,7 +157,7 @@ fn fields_behind(bytes: &[u8]) -> &[u8]
 }
 
 // The bytes of the developer fields, after their number. There are none if the definition announces none.
-fn developer_behind(bytes: &[u8]) -> &[u8]
+fn developer_after(bytes: &[u8]) -> &[u8]
     requires { AreDefinition bytes.now }
     ensures fields { developer_in result.now ≡ (definition_at bytes.now).developer.items }
     ensures bound { length result.now ≤ 765 }

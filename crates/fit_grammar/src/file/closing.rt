@@ -19,7 +19,7 @@ pub(crate) fn take_closing(
     ensures within { OnOk result (length closing.new.items ≤ 2) }
     ensures shown { IfErr result (ClosingShows (closing.old.items ++ bytes.now) checksum) }
 {
-    let (own, behind) = bytes.split_at(closing.remaining_capacity().min(bytes.len()));
+    let (own, after) = bytes.split_at(closing.remaining_capacity().min(bytes.len()));
     closing.try_extend_from_slice(own).unwrap();
     if closing.len() < 2 {
         return Ok(());
@@ -27,7 +27,7 @@ pub(crate) fn take_closing(
     if LittleEndian::read_u16(closing) != checksum {
         return Err(FaultKind::FileCrc);
     }
-    if !behind.is_empty() {
+    if !after.is_empty() {
         return Err(FaultKind::TrailingBytes);
     }
     Ok(())

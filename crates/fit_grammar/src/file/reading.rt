@@ -91,7 +91,7 @@ fn take_bytes(reading: &mut Reading, bytes: &[u8]) -> Result<(), FaultKind>
     requires within { reading.old.at < reading.old.end
         → (reading.old.closing.items ≡ [])
         × ItemBegun (in_force reading.old.file.items) reading.old.carry.items }
-    requires behind { reading.old.end ≤ reading.old.at → reading.old.carry.items ≡ [] }
+    requires after { reading.old.end ≤ reading.old.at → reading.old.carry.items ≡ [] }
     requires short { length reading.old.carry.items < 130051 }
     ensures ok { (b : List ℕ)
         → StandsBefore b reading.old (reading.old.carry.items ++ reading.old.closing.items ++ bytes.now)

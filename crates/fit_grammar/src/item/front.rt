@@ -3,7 +3,7 @@
 ghost use Rattle.std.specs.Prelude.{◌≡◌};
 ghost use Rattle.fit_grammar.specs.Calls.LongestFront.{IsLongestFront};
 ghost use Rattle.fit_grammar.specs.Calls.Step.{DefinesBelow, IsStep, item_of};
-ghost use Rattle.fit_grammar.specs.Calls.Table.{behind, definition_in};
+ghost use Rattle.fit_grammar.specs.Calls.Table.{in_force_after, definition_in};
 
 use crate::definition::latest::Latest;
 use crate::item::first_byte::first_local;
@@ -16,7 +16,7 @@ pub fn longest_front(bytes: &[u8]) -> usize
 {
     let mut latest = Latest::new();
     let mut front = 0;
-    while let Step::Item(item, used) = step_behind(&bytes[front..], &latest) {
+    while let Step::Item(item, used) = step_after(&bytes[front..], &latest) {
         take_over(&mut latest, &item);
         front += used;
     }
@@ -24,7 +24,7 @@ pub fn longest_front(bytes: &[u8]) -> usize
 }
 
 // The step of a window after items with these latest definitions.
-fn step_behind<'a>(window: &'a [u8], latest: &Latest<'a>) -> Step<'a>
+fn step_after<'a>(window: &'a [u8], latest: &Latest<'a>) -> Step<'a>
     ensures { IsStep (definition_in latest.now) window.now result }
 {
     match window {
@@ -36,7 +36,7 @@ fn step_behind<'a>(window: &'a [u8], latest: &Latest<'a>) -> Step<'a>
 // If the item is a definition, makes it the latest of its local number.
 fn take_over<'a>(latest: &mut Latest<'a>, item: &Item<'a>)
     requires { DefinesBelow 16 (Step.Item item.now 0) }
-    ensures { definition_in latest.new ≡ behind (item_of item.now) (definition_in latest.old) }
+    ensures { definition_in latest.new ≡ in_force_after (item_of item.now) (definition_in latest.old) }
 {
     match item {
         Item::Definition(definition) => latest.take(definition),

@@ -22,7 +22,7 @@ pub fn write_definition(definition: &Definition, out: &mut [u8]) -> usize
     ensures fits { DefinitionFits definition.now }
 {
     let Definition { arch, global, .. } = *definition;
-    let (front, behind) = out.split_at_mut(6 + 3 * definition.fields.len());
+    let (front, after) = out.split_at_mut(6 + 3 * definition.fields.len());
     let used = write_front(
         first_byte(definition),
         arch,
@@ -30,7 +30,7 @@ pub fn write_definition(definition: &Definition, out: &mut [u8]) -> usize
         &definition.fields,
         front,
     );
-    used + write_developer_part(&definition.developer, behind)
+    used + write_developer_part(&definition.developer, after)
 }
 
 /// Writes a definition of these fields at the front of `out`, without developer fields, and leaves the bytes after it. Returns

@@ -6,7 +6,7 @@ ghost use Rattle.fit_grammar.specs.Format.Item.{Defines, item_size};
 ghost use Rattle.fit_grammar.specs.Format.Records.{in_force, data_size};
 ghost use Rattle.fit_grammar.specs.Calls.Adding.{with_item, IsTooLong};
 ghost use Rattle.fit_grammar.specs.Calls.LentItem.{lent_item, DataHere};
-ghost use Rattle.fit_grammar.specs.Calls.PlainForm.{none_timed, timed_behind, plain_item, plain_data, plain_definition, timed_definition, is_too_long, time_bytes as time_bytes_of};
+ghost use Rattle.fit_grammar.specs.Calls.PlainForm.{none_timed, timed_after, plain_item, plain_data, plain_definition, timed_definition, is_too_long, time_bytes as time_bytes_of};
 ghost use Rattle.fit_grammar.specs.Private.PlainSoFar.{IsReady, lent_data};
 
 use crate::definition::{Definition, DefinitionMessage, FieldDefinition};
@@ -50,7 +50,7 @@ impl Plain {
         ensures frame { OnOk result (self.new.file.frame ≡ self.old.file.frame) }
         ensures items { OnOk result (self.new.file.items
             ≡ self.old.file.items ++ plain_item self.old.timed (lent_item item.now)) }
-        ensures timed { OnOk result (self.new.timed ≡ timed_behind self.old.timed (lent_item item.now)) }
+        ensures timed { OnOk result (self.new.timed ≡ timed_after self.old.timed (lent_item item.now)) }
         ensures fits { OnOk result (is_too_long (data_size self.old.file.items)
             (plain_item self.old.timed (lent_item item.now)) ≡ false) }
         ensures too_long { IfErr result (λ kind. kind ≡ PlainFaultKind.TooLong

@@ -14,7 +14,7 @@ use Rattle.fit_recorder.proofs.Commit.Standing.{going_on}
 use Rattle.fit_disk.specs.Story.{Story}
 use Rattle.fit_recorder.specs.Private.State.{RecorderState, IsAt}
 use Rattle.fit_recorder.specs.declared.recorder.Recorder.{Recorder}
-use Rattle.fit_recorder.specs.Calls.Recorder.{Behind, has_failed}
+use Rattle.fit_recorder.specs.Calls.Recorder.{AfterCall, has_failed}
 use Rattle.fit_recorder.specs.Calls.Answers.{HandAnswers, CommitAnswers, StopAnswers}
 
 -- a recorder in which no call failed has ended or stands at some list
@@ -58,15 +58,15 @@ goes_by A P Q G (Ok x) ok err on_ok on_err = on_ok ok.1
 goes_by A P Q G (Err e) ok err on_ok on_err = on_err err
 
 -- what holds after a call that only the device can refuse
-pub behind_call : {D : Type 0} (old new : Recorder D) (result : Result (Unit {0}) RecFault) → has_failed old ≡ false → IfErr result (λ fault. fault ≡ Device)
-    → OnOk result (has_failed new ≡ false) → OnErr result (has_failed new ≡ true) → Behind result old new
-behind_call old new (Ok done) not device going gone = record {
+pub after_call : {D : Type 0} (old new : Recorder D) (result : Result (Unit {0}) RecFault) → has_failed old ≡ false → IfErr result (λ fault. fault ≡ Device)
+    → OnOk result (has_failed new ≡ false) → OnErr result (has_failed new ≡ true) → AfterCall result old new
+after_call old new (Ok done) not device going gone = record {
   failed = λ failed. (let clash : false ≡ true = sym not ∙ failed in absurd cc);
   going = going;
   gone = λ none. absurd cc;
   same = tt;
 }
-behind_call old new (Err fault) not device going gone = record {
+after_call old new (Err fault) not device going gone = record {
   failed = λ failed. (let clash : false ≡ true = sym not ∙ failed in absurd cc);
   going = going;
   gone = λ _. gone;

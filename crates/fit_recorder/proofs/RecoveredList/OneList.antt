@@ -5,7 +5,7 @@ use Rattle.fit_grammar.specs.Format.Message.{messages_of}
 use Rattle.fit_activity.specs.declared.activity.Summary.{Summary}
 use Rattle.fit_activity.specs.Files.Finished.{summary_of_list}
 use Rattle.fit_activity.specs.Rides.Recording.{Recorded}
-use Rattle.fit_activity.proofs.OneList.Retold.{one-list}
+use Rattle.fit_activity.proofs.OneList.Reheard.{one-list}
 use Rattle.fit_disk.specs.State.{Contents}
 use Rattle.fit_disk.specs.Story.{Story}
 use Rattle.fit_journal.specs.CommittedLength.{Nothing, Length}

@@ -3,7 +3,7 @@
 ghost use Rattle.std.specs.Prelude.{◌≤◌};
 
 use super::recovering::is_damaged;
-use super::{ALONE, START_RECORDS, TIME, entries_told, heart_rate, holding};
+use super::{ALONE, START_RECORDS, TIME, entries_reported, heart_rate, holding};
 use fit_activity::{Entry, Sample, Summary};
 use fit_disk::Which;
 use fit_grammar::decode_file;
@@ -31,9 +31,9 @@ const HIGH_FIRST: [u8; 14] = [
 ];
 
 // A body of two parts.
-pub(super) fn body_of(rt: &HostRuntime, beginning: &[u8], behind: &[u8]) -> Result<Vec<u8>, Fail> {
+pub(super) fn body_of(rt: &HostRuntime, beginning: &[u8], after: &[u8]) -> Result<Vec<u8>, Fail> {
     let mut body = beginning.to_vec(rt.alloc())?;
-    body.extend_from_slice(behind)?;
+    body.extend_from_slice(after)?;
     Ok(body)
 }
 
@@ -57,7 +57,7 @@ pub(super) fn finds(
     assert_eq!(rt; recover(&mut disk), Ok(summary), "of {len}");
     let file = decode_file(alloc, disk.content(Which::Data))?;
     assert_eq!(rt;
-        entries_told(&file, samples),
+        entries_reported(&file, samples),
         Some(samples.len()),
         "of {len}"
     );

@@ -7,7 +7,7 @@ ghost use Rattle.fit_disk.specs.Memory.{memory_story};
 ghost use Rattle.fit_recorder.specs.Calls.Recorder.{GoesOn};
 
 use super::stopping::{size_with_definition, some_fields};
-use super::{ALONE, RUN, TIME, begun, begun_on, entries_told, heart_rate, play};
+use super::{ALONE, RUN, TIME, begun, begun_on, entries_reported, heart_rate, play};
 use crate::equality::equal;
 use fit_activity::{Entry, Sample, Start, Summary};
 use fit_disk::{Memory, Which};
@@ -30,13 +30,13 @@ fn recorded(rt: &impl Abort, alloc: Global, entries: &[Entry]) -> Result<Vec<u8>
     let written = disk.content(Which::Data);
     assert!(rt; written.get(86..).unwrap_or(&[]).starts_with(&records));
     let file = decode_file(alloc, written)?;
-    equal(rt, entries_told(&file, entries), Some(entries.len()));
+    equal(rt, entries_reported(&file, entries), Some(entries.len()));
     Ok(records)
 }
 
 // Up to 31 seconds after the last entry, and 32.
 #[test]
-fn a_time_close_behind_is_compressed(rt: HostRuntime) -> Result<(), Fail> {
+fn a_time_soon_after_is_compressed(rt: HostRuntime) -> Result<(), Fail> {
     let entries = [
         heart_rate(TIME + 31, 100),
         heart_rate(TIME + 63, 101),
@@ -201,6 +201,6 @@ fn both_kinds_of_definitions_take_turns(rt: HostRuntime) -> Result<(), Fail> {
     assert!(rt; disk.content(Which::Data).ends_with(&last));
     recover(&mut disk)?;
     let file = decode_file(rt.alloc(), disk.content(Which::Data))?;
-    equal(&rt, entries_told(&file, &entries), Some(36));
+    equal(&rt, entries_reported(&file, &entries), Some(36));
     Ok(())
 }

@@ -31,7 +31,7 @@ fn is_refused(alloc: Global, disk: Memory) -> Result<bool, Fail> {
 // With one byte, with no byte, and under a compressed timestamp one second after the start.
 #[test]
 fn a_message_has_none(rt: HostRuntime) -> Result<(), Fail> {
-    for behind in [
+    for after in [
         [
             0x60, 0, 0, 0x14, 0, 2, 0xFD, 4, 0x86, 3, 1, 2, 1, 0, 1, 0, 0x00, 0x01, 0xCA, 0x9A,
             0x3B, 0x65, 0xAB,
@@ -47,7 +47,7 @@ fn a_message_has_none(rt: HostRuntime) -> Result<(), Fail> {
         ]
         .as_slice(),
     ] {
-        let body = body_of(&rt, &START_RECORDS, behind)?;
+        let body = body_of(&rt, &START_RECORDS, after)?;
         let len = u32::try_from(body.len())?;
         assert!(rt; is_damaged(&rt, &body, len)?, "of {len}");
         assert!(rt;

@@ -4,8 +4,8 @@ ghost use Rattle.std.specs.Prelude.{◌≤◌};
 
 use super::power_cuts::Trouble;
 use super::{
-    ALONE, SHORT_RIDE, TIME, begun_on, committed, copy_of, entries_told, heart_rate, play, ride,
-    short_ride, start_cut_at,
+    ALONE, SHORT_RIDE, TIME, begun_on, committed, copy_of, entries_reported, heart_rate, play,
+    ride, short_ride, start_cut_at,
 };
 use crate::equality::equal;
 use fit_activity::{Entry, Summary, check_activity};
@@ -41,7 +41,7 @@ fn rides_anew(rt: &impl Abort, alloc: Global, disk: Memory) -> Result<(), Fail> 
         ..ALONE
     };
     equal(rt, check_activity(&file), Ok(summary));
-    equal(rt, entries_told(&file, &entries), Some(2));
+    equal(rt, entries_reported(&file, &entries), Some(2));
     Ok(())
 }
 
@@ -137,8 +137,8 @@ fn finds_it_or_nothing(
     if is_left(attempt) {
         assert_eq!(rt; answer, Ok(SHORT_RIDE), "{attempt:?}");
         let file = decode_file(alloc, disk.content(Which::Data))?;
-        let told = entries_told(&file, &short_ride());
-        assert_eq!(rt; told, Some(4), "{attempt:?}");
+        let reported = entries_reported(&file, &short_ride());
+        assert_eq!(rt; reported, Some(4), "{attempt:?}");
     } else {
         assert_eq!(rt; answer, Err(RecFault::NothingRecorded), "{attempt:?}");
     }

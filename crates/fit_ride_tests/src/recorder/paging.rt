@@ -159,7 +159,7 @@ fn written_pages_without_a_commit_are_gone(rt: HostRuntime) -> Result<(), Fail> 
 
 // If a page cannot be written, the recorder does nothing more.
 #[test]
-fn a_page_that_is_not_written_is_told(rt: HostRuntime) -> Result<(), Fail> {
+fn a_page_that_is_not_written_is_reported(rt: HostRuntime) -> Result<(), Fail> {
     let mut recorder = begun(&rt)?;
     equal(&rt, hand_until(&mut recorder, 83), 83);
     recorder.fail_at(1);

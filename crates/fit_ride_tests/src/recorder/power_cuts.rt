@@ -6,7 +6,7 @@ ghost use Rattle.fit_disk.specs.Memory.{memory_story};
 ghost use Rattle.fit_recorder.specs.Calls.Recorder.{GoesOn};
 
 use super::stopping::full_sample;
-use super::{RUN, TIME, copy_of, entries_told, heart_rate, one};
+use super::{RUN, TIME, copy_of, entries_reported, heart_rate, one};
 use crate::equality::equal;
 use fit_activity::{Entry, Sample, Summary, check_activity};
 use fit_disk::{Memory, Which};
@@ -175,9 +175,9 @@ fn entries_in(
     for (entry, _) in ride {
         entries.push(*entry)?;
     }
-    let told = entries_told(&file, &entries);
-    assert!(rt; told.is_some());
-    Ok(told)
+    let reported = entries_reported(&file, &entries);
+    assert!(rt; reported.is_some());
+    Ok(reported)
 }
 
 // Cuts the power at the k-th call of the ride, or lets that call fail, and then does the same at each call of the recovery, with
@@ -197,8 +197,11 @@ fn recover_from(
     let data = disk.content(Which::Data).to_vec(alloc)?;
     let journal = disk.content(Which::Journal).to_vec(alloc)?;
     let answer = recover(&mut disk);
-    let told = entries_in(rt, alloc, ride, &disk, answer)?;
-    assert!(rt; told == way.committed || told == way.begun, "call {k}");
+    let reported = entries_in(rt, alloc, ride, &disk, answer)?;
+    assert!(rt;
+        reported == way.committed || reported == way.begun,
+        "call {k}"
+    );
     let whole = disk.content(Which::Data);
     for again in 1..=RECOVERY_CALLS {
         let mut copy = copy_of(alloc, &data, &journal)?;

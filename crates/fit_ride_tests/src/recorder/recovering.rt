@@ -4,7 +4,7 @@ ghost use Rattle.std.specs.Prelude.{◌≡◌, ◌<◌, ◌≤◌, ◌^◌, leng
 
 use super::stopping::full_sample;
 use super::{
-    ALONE, SHORT_RIDE, START_RECORDS, TIME, begun, begun_on, committed, copy_of, entries_told,
+    ALONE, SHORT_RIDE, START_RECORDS, TIME, begun, begun_on, committed, copy_of, entries_reported,
     heart_rate, holding, ride, short_ride, start_cut_at, value_in,
 };
 use crate::equality::equal;
@@ -17,26 +17,26 @@ use std::process::Abort;
 use std::test::Fail;
 
 // A field's number, and its value if it has exactly one and that is valid.
-pub(super) type Told = (u8, Option<u64>);
+pub(super) type Reported = (u8, Option<u64>);
 
 // The global number and the fields of the message at a place of a file.
-pub(super) fn told_at(
+pub(super) fn reported_at(
     rt: &HostRuntime,
     file: &File,
     place: usize,
-) -> Result<(Option<u16>, Vec<Told>), Fail> {
-    let mut told = Vec::new(rt.alloc());
+) -> Result<(Option<u16>, Vec<Reported>), Fail> {
+    let mut reported = Vec::new(rt.alloc());
     let mut left = place;
     for message in file.messages() {
         if left == 0 {
             for field in message.fields() {
-                told.push((field.number, value_in(&field)))?;
+                reported.push((field.number, value_in(&field)))?;
             }
-            return Ok((Some(message.global()), told));
+            return Ok((Some(message.global()), reported));
         }
         left -= 1;
     }
-    Ok((None, told))
+    Ok((None, reported))
 }
 
 #[test]
@@ -45,12 +45,12 @@ fn what_is_committed_is_recovered(rt: HostRuntime) -> Result<(), Fail> {
     equal(&rt, recover(&mut disk), Ok(SHORT_RIDE));
     let file = decode_file(rt.alloc(), disk.content(Which::Data))?;
     equal(&rt, check_activity(&file), Ok(SHORT_RIDE));
-    equal(&rt, entries_told(&file, &short_ride()), Some(4));
+    equal(&rt, entries_reported(&file, &short_ride()), Some(4));
     Ok(())
 }
 
 #[test]
-fn a_recovered_file_tells_what_it_adds_up_to(rt: HostRuntime) -> Result<(), Fail> {
+fn a_recovered_file_reports_what_it_adds_up_to(rt: HostRuntime) -> Result<(), Fail> {
     let mut disk = committed(&rt)?;
     recover(&mut disk)?;
     let file = decode_file(rt.alloc(), disk.content(Which::Data))?;
@@ -72,22 +72,26 @@ fn a_recovered_file_tells_what_it_adds_up_to(rt: HostRuntime) -> Result<(), Fail
         (20, None),
         (24, Some(0)),
     ];
-    let (global, told) = told_at(&rt, &file, 5)?;
+    let (global, reported) = reported_at(&rt, &file, 5)?;
     equal(
         &rt,
-        (global, told.as_slice()),
+        (global, reported.as_slice()),
         (Some(19), first_lap.as_slice()),
     );
     let last_record = [(253, end), (3, Some(110))];
-    let (global, told) = told_at(&rt, &file, 6)?;
+    let (global, reported) = reported_at(&rt, &file, 6)?;
     equal(
         &rt,
-        (global, told.as_slice()),
+        (global, reported.as_slice()),
         (Some(20), last_record.as_slice()),
     );
     let stop = [(253, end), (0, Some(0)), (1, Some(4))];
-    let (global, told) = told_at(&rt, &file, 7)?;
-    equal(&rt, (global, told.as_slice()), (Some(21), stop.as_slice()));
+    let (global, reported) = reported_at(&rt, &file, 7)?;
+    equal(
+        &rt,
+        (global, reported.as_slice()),
+        (Some(21), stop.as_slice()),
+    );
     let last_lap = [
         (254, Some(1)),
         (253, end),
@@ -105,10 +109,10 @@ fn a_recovered_file_tells_what_it_adds_up_to(rt: HostRuntime) -> Result<(), Fail
         (20, None),
         (24, Some(7)),
     ];
-    let (global, told) = told_at(&rt, &file, 8)?;
+    let (global, reported) = reported_at(&rt, &file, 8)?;
     equal(
         &rt,
-        (global, told.as_slice()),
+        (global, reported.as_slice()),
         (Some(19), last_lap.as_slice()),
     );
     let session = [
@@ -132,10 +136,10 @@ fn a_recovered_file_tells_what_it_adds_up_to(rt: HostRuntime) -> Result<(), Fail
         (26, Some(2)),
         (28, Some(0)),
     ];
-    let (global, told) = told_at(&rt, &file, 9)?;
+    let (global, reported) = reported_at(&rt, &file, 9)?;
     equal(
         &rt,
-        (global, told.as_slice()),
+        (global, reported.as_slice()),
         (Some(18), session.as_slice()),
     );
     let activity = [
@@ -146,10 +150,10 @@ fn a_recovered_file_tells_what_it_adds_up_to(rt: HostRuntime) -> Result<(), Fail
         (3, Some(26)),
         (4, Some(1)),
     ];
-    let (global, told) = told_at(&rt, &file, 10)?;
+    let (global, reported) = reported_at(&rt, &file, 10)?;
     equal(
         &rt,
-        (global, told.as_slice()),
+        (global, reported.as_slice()),
         (Some(34), activity.as_slice()),
     );
     Ok(())
@@ -173,7 +177,7 @@ pub(super) fn recovers_the_start(
     equal(rt, &written[14..86], START_RECORDS.as_slice());
     let file = decode_file(alloc, written)?;
     equal(rt, check_activity(&file), Ok(ALONE));
-    equal(rt, entries_told(&file, &[]), Some(0));
+    equal(rt, entries_reported(&file, &[]), Some(0));
     Ok(())
 }
 
@@ -210,8 +214,8 @@ fn keeps_the_start(rt: &impl Abort, alloc: Global, k: u32) -> Result<(), Fail>
     recorder.hand(&heart_rate(TIME, 100))?;
     recorder.fail_at(k);
     assert_eq!(rt; recorder.commit(), Err(RecFault::Device), "call {k}");
-    let behind = recorder.hand(&heart_rate(TIME, 100));
-    assert_eq!(rt; behind, Err(RecFault::Failed), "call {k}");
+    let after = recorder.hand(&heart_rate(TIME, 100));
+    assert_eq!(rt; after, Err(RecFault::Failed), "call {k}");
     recovers_the_start(rt, alloc, recorder.into_disk())
 }
 
@@ -273,7 +277,7 @@ fn a_stopped_recording_is_finished(rt: HostRuntime) -> Result<(), Fail> {
     recover(&mut disk)?;
     equal(&rt, disk.content(Which::Data), stopped.as_slice());
     let file = decode_file(rt.alloc(), &stopped)?;
-    equal(&rt, entries_told(&file, &entries), Some(5));
+    equal(&rt, entries_reported(&file, &entries), Some(5));
     Ok(())
 }
 
@@ -326,7 +330,7 @@ fn another_spelling_is_recovered_as_it_stands(rt: HostRuntime) -> Result<(), Fai
         Entry::Sample(Sample::new(TIME + 9)),
         Entry::Lap(TIME + 10),
     ];
-    equal(&rt, entries_told(&file, &entries), Some(5));
+    equal(&rt, entries_reported(&file, &entries), Some(5));
     Ok(())
 }
 
@@ -366,7 +370,7 @@ fn recovers_the_longest(
     equal(rt, recover(&mut disk), Ok(summary));
     let file = decode_file(alloc, disk.content(Which::Data))?;
     let sample = Entry::Sample(longest_sample(TIME + seconds));
-    equal(rt, entries_told(&file, &[sample]), Some(1));
+    equal(rt, entries_reported(&file, &[sample]), Some(1));
     Ok(())
 }
 
@@ -400,10 +404,10 @@ pub(super) fn is_damaged(rt: &HostRuntime, records: &[u8], len: u32) -> Result<b
     let mut disk = holding(rt.alloc(), records, len)?;
     let data = disk.content(Which::Data).to_vec(rt.alloc())?;
     let journal = disk.content(Which::Journal).to_vec(rt.alloc())?;
-    let is_told = recover(&mut disk) == Err(RecFault::Damaged);
+    let is_reported = recover(&mut disk) == Err(RecFault::Damaged);
     let is_same = disk.content(Which::Data) == data.as_slice()
         && disk.content(Which::Journal) == journal.as_slice();
-    Ok(is_told && is_same)
+    Ok(is_reported && is_same)
 }
 
 // The records of the short ride, and more after them.

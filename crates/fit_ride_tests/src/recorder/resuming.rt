@@ -5,10 +5,10 @@ ghost use Rattle.fit_activity.specs.Rides.Recording.{Added, is_stop};
 ghost use Rattle.fit_disk.specs.Memory.{memory_story};
 ghost use Rattle.fit_recorder.specs.Calls.Recorder.{GoesOn};
 
-use super::recovering::{OTHER_SPELLING, told_at};
+use super::recovering::{OTHER_SPELLING, reported_at};
 use super::{
-    ALONE, SHORT_RIDE, START_RECORDS, TIME, begun, committed, copy_of, entries_told, heart_rate,
-    holding, ride, short_ride,
+    ALONE, SHORT_RIDE, START_RECORDS, TIME, begun, committed, copy_of, entries_reported,
+    heart_rate, holding, ride, short_ride,
 };
 use crate::equality::equal;
 use fit_activity::{Entry, Refusal, Sample, Summary, check_activity};
@@ -57,7 +57,7 @@ const GONE_ON: [u8; 33] = [
 ];
 
 #[test]
-fn a_ride_goes_on_behind_what_was_committed(rt: HostRuntime) -> Result<(), Fail> {
+fn a_ride_goes_on_after_what_was_committed(rt: HostRuntime) -> Result<(), Fail> {
     let mut recorder = begun(&rt)?;
     recorder.hand(&heart_rate(TIME, 100))?;
     recorder.commit()?;
@@ -81,11 +81,11 @@ fn a_ride_goes_on_behind_what_was_committed(rt: HostRuntime) -> Result<(), Fail>
     };
     equal(&rt, check_activity(&file), Ok(summary));
     // Average and greatest heart rate of the session.
-    let (global, told) = told_at(&rt, &file, 7)?;
+    let (global, reported) = reported_at(&rt, &file, 7)?;
     equal(&rt, global, Some(18));
     equal(
         &rt,
-        told.get(12..14),
+        reported.get(12..14),
         Some([(16, Some(105)), (17, Some(110))].as_slice()),
     );
     let refusal = refusal_of(rt.alloc(), disk)?;
@@ -129,7 +129,7 @@ fn a_recovered_ride_goes_on(rt: HostRuntime) -> Result<(), Fail> {
         heart_rate(TIME + 3, 120),
         Entry::Stop(TIME + 3),
     ];
-    equal(&rt, entries_told(&file, &entries), Some(6));
+    equal(&rt, entries_reported(&file, &entries), Some(6));
     Ok(())
 }
 
@@ -242,7 +242,7 @@ fn commits_go_on_in_a_row_until_one_slot_is_left(rt: HostRuntime) -> Result<(), 
         heart_rate(TIME + 5, 120),
         Entry::Stop(TIME + 6),
     ];
-    equal(&rt, entries_told(&file, &entries), Some(8));
+    equal(&rt, entries_reported(&file, &entries), Some(8));
     equal(
         &rt,
         refusal_of(rt.alloc(), disk)?,
@@ -348,7 +348,7 @@ fn goes_on_until(mut disk: Memory, k: u32) -> (Memory, bool)
 }
 
 #[test]
-fn power_cuts_leave_what_was_committed_before_or_behind(rt: HostRuntime) -> Result<(), RecFault> {
+fn power_cuts_leave_what_was_committed_before_or_after(rt: HostRuntime) -> Result<(), RecFault> {
     let longer = Summary {
         records: 4,
         elapsed_ms: Some(3000),
@@ -416,6 +416,6 @@ fn a_ride_goes_on_ten_times(rt: HostRuntime) -> Result<(), Fail> {
     entries.push(Entry::Stop(TIME + 10))?;
     let disk = recorder.into_disk();
     let file = decode_file(rt.alloc(), disk.content(Which::Data))?;
-    equal(&rt, entries_told(&file, &entries), Some(11));
+    equal(&rt, entries_reported(&file, &entries), Some(11));
     Ok(())
 }

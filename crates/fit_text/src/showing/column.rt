@@ -26,16 +26,16 @@ pub fn put_columns<'c, W: Write>(
     requires kinds { HaveKinds dates.now columns.now }
     requires within { sum_by (λ column. column.size) columns.now ≤ length content.now }
     ensures text { Puts pen.old pen.new result (columns_text dates.now arch columns.now content.now) }
-    ensures behind { IfOk result
-        (λ behind. behind.now ≡ drop (sum_by (λ column. column.size) columns.now) content.now) }
+    ensures after { IfOk result
+        (λ after. after.now ≡ drop (sum_by (λ column. column.size) columns.now) content.now) }
 {
     let mut left = columns;
     let mut rest = content;
     while let [column, others @ ..] = left {
-        let (bytes, behind) = rest.split_at(usize::from(column.size));
+        let (bytes, after) = rest.split_at(usize::from(column.size));
         put_column(pen, dates, arch, column, bytes)?;
         left = others;
-        rest = behind;
+        rest = after;
     }
     Ok(rest)
 }

@@ -24,10 +24,10 @@ pub fn put_developer_fields<W: Write>(
     let mut left = fields;
     let mut rest = content;
     while let [field, others @ ..] = left {
-        let (bytes, behind) = rest.split_at(usize::from(field.size));
+        let (bytes, after) = rest.split_at(usize::from(field.size));
         put_developer_field(pen, field, bytes)?;
         left = others;
-        rest = behind;
+        rest = after;
     }
     Ok(())
 }

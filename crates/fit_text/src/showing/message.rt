@@ -35,8 +35,8 @@ pub fn put_message<W: Write>(
     pen.add_label(&plan.name);
     let dates = dates_of(plan.utc, plan.global);
     put_time(pen, dates, &plan.time, time)?;
-    let behind = put_columns(pen, dates, plan.arch, columns, message.content)?;
-    put_developer_fields(pen, developer, behind)?;
+    let after = put_columns(pen, dates, plan.arch, columns, message.content)?;
+    put_developer_fields(pen, developer, after)?;
     pen.put(b"\n")
 }
 

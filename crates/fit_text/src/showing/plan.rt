@@ -91,7 +91,7 @@ impl Plan {
         requires columns { length columns.old.items + length definition.now.fields.items ≤ COLUMNS }
         requires developer { length developer.old.items + length definition.now.developer.items ≤ COLUMNS }
         ensures plan { IsPlanIn columns.new.items developer.new.items utc definition.now result }
-        ensures behind { (own : List AnyColumn) × (columns.new.items ≡ columns.old.items ++ own) }
+        ensures after { (own : List AnyColumn) × (columns.new.items ≡ columns.old.items ++ own) }
         ensures developer { developer.new.items ≡ developer.old.items ++ definition.now.developer.items }
     {
         let global = definition.global;

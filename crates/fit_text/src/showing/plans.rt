@@ -3,7 +3,7 @@
 ghost use Rattle.std.specs.Prelude.{◌≡◌, ◌+◌, ◌<◌, ◌≤◌, ℕ, Option, None, Some, IsSome, length, slice_index_or, slice_range};
 ghost use Rattle.fit_grammar.specs.declared.definition.Definition.{Definition as AnyDefinition};
 ghost use Rattle.fit_grammar.specs.Format.Item.{Defines};
-ghost use Rattle.fit_grammar.specs.Calls.Table.{behind};
+ghost use Rattle.fit_grammar.specs.Calls.Table.{in_force_after};
 ghost use Rattle.fit_text.specs.declared.showing.plan.TheConstants.{COLUMNS};
 ghost use Rattle.fit_text.specs.Plan.{ArePlansFor, IsPlanAt};
 
@@ -43,7 +43,7 @@ impl Plans {
         requires { local < 16 }
         ensures utc { self.new.utc ≡ self.old.utc }
         ensures plans { (definition_for : ℕ → Option AnyDefinition) (d : AnyDefinition) → d.local ≡ local
-            → ArePlansFor definition_for self.old → ArePlansFor (behind (Defines d) definition_for) self.new }
+            → ArePlansFor definition_for self.old → ArePlansFor (in_force_after (Defines d) definition_for) self.new }
     {
         self.slots[usize::from(local)] = None;
     }

@@ -62,10 +62,10 @@ keeps_none claims contents nothing = inr (refl, nothing)
 -- what was kept, with one more claim
 pub keeps_more : (claim : Claim) (claims : List Claim) (contents : Contents) → Keeps claims contents → Keeps (claim ∷ claims) contents
 keeps_more claim claims contents (inl stood) = inl (stood.0, inr stood.1, stood.2)
-keeps_more claim claims contents (inr none) = inr (behind (has_none (claim ∷ [])) none.0, none.1)
+keeps_more claim claims contents (inr none) = inr (after (has_none (claim ∷ [])) none.0, none.1)
   where
-    behind : (b : Bool) → IsTrue (has_none claims) → IsTrue (has_none (claim ∷ claims))
-    behind b is = rw is (grind arith)
+    after : (b : Bool) → IsTrue (has_none claims) → IsTrue (has_none (claim ∷ claims))
+    after b is = rw is (grind arith)
 
 -- ---- a start that the device broke off
 

@@ -31,7 +31,7 @@ use Rattle.fit_recorder.proofs.RecoveredList.OneList.{not_nothing}
 use Rattle.fit_world.specs.Histories.Claims.{Claim, no_claim, whole, has_none, with_start}
 use Rattle.fit_world.specs.Histories.Table.{History, Idle, claims_of, was_begun, ended, IsFileOf, Fault, Finds, StartStep, RecoverStep, ReopenStep, EraseStep}
 use Rattle.fit_world.specs.Rides.Replies.{reply_of, recovered_of}
-use Rattle.fit_world.specs.Rides.Standing.{told, Keeps, Fits, Rests}
+use Rattle.fit_world.specs.Rides.Standing.{outcome, Keeps, Fits, Rests}
 use Rattle.fit_world.proofs.Histories.Claims.{same_contents, nothing_there, list_there, not_damaged, some_list, keeps_list, keeps_whole, keeps_none, keeps_more, keeps_before, keeps_started}
 
 -- `Next` holds of a state in which no recorder runs, and a power cut leaves only what that state allows
@@ -84,21 +84,21 @@ module _ (before : History) (old : Story) (rests : Rests (ended before) old) (so
 
   module _ (start : Start) (new : Story) (run : InStart start old new) where
     broken_start : Rests (Idle (with_start start (claims_of before)) true) new
-    broken_start contents left = record { keeps = ⊎_elim first behind run.behind; empty = λ unbegun. absurd (true≢false unbegun) }
+    broken_start contents left = record { keeps = ⊎_elim first after run.after; empty = λ unbegun. absurd (true≢false unbegun) }
       where
         first : new ≡ run.found → Keeps (with_start start (claims_of before)) contents
         first same =
             let left_before = at_end (BothLeft old.now) old run.found run.before contents (subst (λ story. BothLeft story.now contents) same left) in
             keeps_before start (claims_of before) contents (rests contents left_before).keeps
 
-        behind : (seen_of Data old ≡ []) × Throughout (λ contents. IsNothing contents ⊎ StandsFor (Started start ∷ []) contents) run.found new → Keeps (with_start start (claims_of before)) contents
-        behind second =
+        after : (seen_of Data old ≡ []) × Throughout (λ contents. IsNothing contents ⊎ StandsFor (Started start ∷ []) contents) run.found new → Keeps (with_start start (claims_of before)) contents
+        after second =
             keeps_started start (claims_of before) contents (empty_there second.0) (at_end (λ contents. IsNothing contents ⊎ StandsFor (Started start ∷ []) contents) run.found new second.1 contents left)
 
     not_started : (seen_of Data old ≡ [] → ⊥) → Rests (ended before) new
     not_started some = ⊎_elim
         (λ same. same_rests new (λ contents left. at_end (BothLeft old.now) old run.found run.before contents (subst (λ story. BothLeft story.now contents) same left)))
-        (λ second. absurd (some second.0)) run.behind
+        (λ second. absurd (some second.0)) run.after
 
     pub start_goes : (fault : RecFault) → StartAnswers start fault → ((refusal : Refusal) → fault ≡ Refused refusal → new ≡ old) → (fault ≡ NotEmpty → seen_of Data old ≡ [] → ⊥)
         → GoesIdle (StartStep before start (Fault fault)) new
@@ -145,11 +145,11 @@ module _ (before : History) (old : Story) (rests : Rests (ended before) old) (so
     broken_rests : InRecovery old new → Rests (ended before) new
     broken_rests run =
         let first = at_end (BothLeft old.now) old run.found run.before in
-        ⊎_elim (λ same. same_rests new (subst (λ story. LeavesOnly (BothLeft old.now) story.now) (sym same) first)) (λ behind. rebuilt_rests run.found first behind.1) run.behind
+        ⊎_elim (λ same. same_rests new (subst (λ story. LeavesOnly (BothLeft old.now) story.now) (sym same) first)) (λ after. rebuilt_rests run.found first after.1) run.after
 
     pub recover_goes : (file : List ℕ) (result : Result Summary RecFault) → file ≡ seen_of Data new → RecoveryAnswers (seen_in old.now) new result → InRecovery old new
         → IfErr result (λ fault. (fault ≡ Device) ⊎ IsSettled (seen_in old.now) new)
-        → GoesIdle (λ after. RecoverStep before (told (recovered_of result) file) after) new
+        → GoesIdle (λ after. RecoverStep before (outcome (recovered_of result) file) after) new
     recover_goes file (Ok summary) is answers run settled =
         let list = answers.list in
         record {
@@ -233,7 +233,7 @@ module _ (before : History) (old : Story) (rests : Rests (ended before) old) (so
         }
 
     pub erase_goes : (file : List ℕ) (result : Result (Unit {0}) RecFault) → OnOk result (new.now.data_file ≡ at_rest []) → IfErr result (λ fault. fault ≡ Device) → Throughout (LeftOrNothing old.now) old new
-        → (LeavesOnly IsEmpty old.now → Throughout IsEmpty old new) → GoesIdle (λ after. EraseStep before (told (reply_of result) file) after) new
+        → (LeavesOnly IsEmpty old.now → Throughout IsEmpty old new) → GoesIdle (λ after. EraseStep before (outcome (reply_of result) file) after) new
     erase_goes file (Ok done) empty device run stays = record { claims = no_claim ∷ []; begun = false; step = refl; rests = erase_done empty }
     erase_goes file (Err fault) empty device run stays =
         rw device record { claims = no_claim ∷ claims_of before; begun = was_begun before; step = refl; rests = erase_broken run stays }

@@ -30,9 +30,9 @@ use Rattle.fit_world.specs.declared.reply.Reply.{Reply}
 use Rattle.fit_world.specs.declared.reply.Reply.TheVariants as replies
 use Rattle.fit_world.specs.declared.ride.Ride.TheVariants as rides
 use Rattle.fit_world.specs.Histories.Claims.{has_none, whole}
-use Rattle.fit_world.specs.Histories.Table.{History, Idle, Riding, Told, Done, Fault, claims_of, ended, Step, HandStep, EntryStep}
+use Rattle.fit_world.specs.Histories.Table.{History, Idle, Riding, Outcome, Done, Fault, claims_of, ended, Step, HandStep, EntryStep}
 use Rattle.fit_world.specs.Rides.Replies.{reply_of}
-use Rattle.fit_world.specs.Rides.Standing.{told, Rests, RidesOn, StandsIn, GoesBy}
+use Rattle.fit_world.specs.Rides.Standing.{outcome, Rests, RidesOn, StandsIn, GoesBy}
 use Rattle.fit_world.proofs.Histories.Claims.{keeps_front}
 use Rattle.fit_world.proofs.Histories.Idle.{GoesIdle, file_seen, finished_rests, found}
 
@@ -55,7 +55,7 @@ either_rests list committed rest promise reopened failed story begins promised s
     }
 
 -- a step of an entry that is not a stop
-entry_step : (before after : History) (entry : Entry) (answer : Told) → is_stop (Added entry) ≡ false → HandStep before entry answer after → EntryStep before entry answer after
+entry_step : (before after : History) (entry : Entry) (answer : Outcome) → is_stop (Added entry) ≡ false → HandStep before entry answer after → EntryStep before entry answer after
 entry_step before after (Sample s) answer other step = step
 entry_step before after (Lap time) answer other step = step
 entry_step before after (Pause time) answer other step = step
@@ -70,7 +70,7 @@ never_full (InTurns first second) turns last = absurd last
 
 module _ {D : Type 0} (honest : Bool) (story : D → Story) where
   -- no recorder runs after the command
-  pub idle_goes : (before : History) (command : Command) (reply : Reply) (disk : D) → GoesIdle (λ after. Step before command (told reply (seen_of Data (story disk))) after) (story disk)
+  pub idle_goes : (before : History) (command : Command) (reply : Reply) (disk : D) → GoesIdle (λ after. Step before command (outcome reply (seen_of Data (story disk))) after) (story disk)
       → GoesBy honest story before command reply (rides.Idle disk)
   idle_goes before command reply disk goes = record { after = Idle goes.claims goes.begun; step = goes.step; stands = goes.rests }
 
@@ -133,9 +133,9 @@ module _ {D : Type 0} (honest : Bool) (story : D → Story) where
         by (Ok done) is = let clash : Ok done ≡ Err Failed = sym is ∙ failed broken.0 in absurd cc
         by (Err fault) is =
             let same_err : Err fault ≡ Err Failed = sym is ∙ failed broken.0 in
-            let told : fault ≡ Failed = cc in
+            let outcome : fault ≡ Failed = cc in
             let kept : new ≡ old = unchanged fault is (λ device. absurd cc) in
-            rw told record { after = Riding list promise reopened true; step = step (Riding list promise reopened true) refl; stands = subst (λ recorder. StandsIn honest story (rides.Riding recorder) (Riding list promise reopened true)) (sym kept) broken }
+            rw outcome record { after = Riding list promise reopened true; step = step (Riding list promise reopened true) refl; stands = subst (λ recorder. StandsIn honest story (rides.Riding recorder) (Riding list promise reopened true)) (sym kept) broken }
 
     -- a refusal that changes nothing
     kept_goes : (list : List Recorded) (promise : ℕ) (reopened : Bool) (command : Command) (fault : RecFault) → result ≡ Err fault → fault ≢ Device → RidesOn honest story old list promise reopened

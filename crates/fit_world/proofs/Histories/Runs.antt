@@ -14,19 +14,19 @@ use Rattle.fit_world.specs.declared.ride.Ride.TheVariants as rides
 use Rattle.fit_world.specs.Simulation.Arranging.{IsArranged, Moves}
 use Rattle.fit_world.specs.Histories.Arranged.{Arranged, nothing_arranged, MayFail, arranged_after}
 use Rattle.fit_world.specs.Histories.Runs.{Runs, IsHistory}
-use Rattle.fit_world.specs.Histories.Table.{History, Step, Told, at_first}
+use Rattle.fit_world.specs.Histories.Table.{History, Step, Outcome, at_first}
 use Rattle.fit_world.specs.Rides.Ride.{disk_in}
-use Rattle.fit_world.specs.Rides.Standing.{StandsIn, GoesBy, Rests, content_of, told}
+use Rattle.fit_world.specs.Rides.Standing.{StandsIn, GoesBy, Rests, content_of, outcome}
 use Rattle.fit_world.proofs.Simulation.Counts.{moved}
 
 -- The ride is in the state of a history after these answers. With any answers that may come from there to the remaining events, they
 -- are answers to all events.
-pub record Leads (events left : List Event) (tolds : List Told) (ride : Ride Memory) : Type 0 where
+pub record Leads (events left : List Event) (outcomes : List Outcome) (ride : Ride Memory) : Type 0 where
   pub history : History
   pub arranged : Arranged
   pub stands : StandsIn true memory_story ride history
   pub is_arranged : IsArranged arranged (memory_counts (disk_in ride)) (memory_schedule (disk_in ride))
-  pub leads : (rest : List Told) → Runs history arranged left rest → IsHistory events (tolds ++ rest)
+  pub leads : (rest : List Outcome) → Runs history arranged left rest → IsHistory events (outcomes ++ rest)
 
 empty_rests : (story : Story) → story ≡ fresh → Rests at_first story
 empty_rests story is contents left =
@@ -47,43 +47,43 @@ first_leads events disk story counts schedule = record {
   leads = λ rest runs. runs;
 }
 
-behind : (events left : List Event) (event : Event) (tolds : List Told) (ride next : Ride Memory) (reply : Reply) (file : List ℕ) →
-    is_spent (disk_in ride) ≡ false → is_spent (disk_in next) ≡ false → Leads events (event ∷ left) tolds ride →
+one_more : (events left : List Event) (event : Event) (outcomes : List Outcome) (ride next : Ride Memory) (reply : Reply) (file : List ℕ) →
+    is_spent (disk_in ride) ≡ false → is_spent (disk_in next) ≡ false → Leads events (event ∷ left) outcomes ride →
     ((before : History) → StandsIn true memory_story ride before → GoesBy true memory_story before event.command reply next) →
     Moves event.command reply (memory_counts (disk_in ride)) (memory_schedule (disk_in ride)) (memory_counts (disk_in next)) (memory_schedule (disk_in next)) →
-    file ≡ content_of memory_story next → Leads events left (tolds ++ told reply file ∷ []) next
-behind events left event tolds ride next reply file unspent next_unspent known step moves file_is =
+    file ≡ content_of memory_story next → Leads events left (outcomes ++ outcome reply file ∷ []) next
+one_more events left event outcomes ride next reply file unspent next_unspent known step moves file_is =
     let goes = step known.history known.stands in
-    let says : told reply file ≡ told reply (content_of memory_story next) = ap (told reply) file_is in
+    let states : outcome reply file ≡ outcome reply (content_of memory_story next) = ap (outcome reply) file_is in
     let may = moved known.arranged event.command reply (content_of memory_story next) (disk_in ride) (disk_in next) unspent next_unspent moves known.is_arranged in
     record {
       history = goes.after;
-      arranged = arranged_after known.arranged event.command (told reply (content_of memory_story next));
+      arranged = arranged_after known.arranged event.command (outcome reply (content_of memory_story next));
       stands = goes.stands;
       is_arranged = may.1;
       leads = λ rest runs.
           rw append_assoc
-          (known.leads (told reply file ∷ rest) (
+          (known.leads (outcome reply file ∷ rest) (
             goes.after,
-            subst (λ (t : Told). Step known.history event.command t goes.after) (sym says) goes.step,
-            subst (λ (t : Told). MayFail known.arranged t) (sym says) may.0,
-            subst (λ (t : Told). Runs goes.after (arranged_after known.arranged event.command t) left rest) (sym says) runs,
+            subst (λ (t : Outcome). Step known.history event.command t goes.after) (sym states) goes.step,
+            subst (λ (t : Outcome). MayFail known.arranged t) (sym states) may.0,
+            subst (λ (t : Outcome). Runs goes.after (arranged_after known.arranged event.command t) left rest) (sym states) runs,
           ));
     }
 
 -- one more event
-pub leads_on : (events : List Event) (i : ℕ) (d : Event) (tolds : List Told) (ride next : Ride Memory) (reply : Reply) (file : List ℕ) →
-    i < length events → is_spent (disk_in ride) ≡ false → is_spent (disk_in next) ≡ false → Leads events (drop i events) tolds ride →
+pub leads_on : (events : List Event) (i : ℕ) (d : Event) (outcomes : List Outcome) (ride next : Ride Memory) (reply : Reply) (file : List ℕ) →
+    i < length events → is_spent (disk_in ride) ≡ false → is_spent (disk_in next) ≡ false → Leads events (drop i events) outcomes ride →
     ((before : History) → StandsIn true memory_story ride before → GoesBy true memory_story before (get_or events i d).command reply next) →
     Moves (get_or events i d).command reply (memory_counts (disk_in ride)) (memory_schedule (disk_in ride)) (memory_counts (disk_in next)) (memory_schedule (disk_in next)) →
-    file ≡ content_of memory_story next → Leads events (drop (i + 1) events) (tolds ++ told reply file ∷ []) next
-leads_on events i d tolds ride next reply file within unspent next_unspent known =
-    behind events (drop (i + 1) events) (get_or events i d) tolds ride next reply file unspent next_unspent
-    (subst (λ left. Leads events left tolds ride) (drop_more events i d within) known)
+    file ≡ content_of memory_story next → Leads events (drop (i + 1) events) (outcomes ++ outcome reply file ∷ []) next
+leads_on events i d outcomes ride next reply file within unspent next_unspent known =
+    one_more events (drop (i + 1) events) (get_or events i d) outcomes ride next reply file unspent next_unspent
+    (subst (λ left. Leads events left outcomes ride) (drop_more events i d within) known)
 
 -- after the last event
-pub at_the_end : (events : List Event) (i : ℕ) (tolds : List Told) (ride : Ride Memory) → length events ≤ i →
-    Leads events (drop i events) tolds ride → IsHistory events tolds
-at_the_end events i tolds ride past known =
-    let end = subst (λ left. Leads events left tolds ride) (drop_all i events past) known in
-    subst (λ all. IsHistory events all) (append-nil tolds) (end.leads [] tt)
+pub at_the_end : (events : List Event) (i : ℕ) (outcomes : List Outcome) (ride : Ride Memory) → length events ≤ i →
+    Leads events (drop i events) outcomes ride → IsHistory events outcomes
+at_the_end events i outcomes ride past known =
+    let end = subst (λ left. Leads events left outcomes ride) (drop_all i events past) known in
+    subst (λ all. IsHistory events all) (append-nil outcomes) (end.leads [] tt)

@@ -11,7 +11,7 @@ use Rattle.fit_world.specs.declared.reply.Reply.{Reply}
 use Rattle.fit_world.specs.declared.reply.Reply.TheVariants as replies
 use Rattle.fit_world.specs.Simulation.Arranging.{IsPast, IsArranged, Moves}
 use Rattle.fit_world.specs.Histories.Arranged.{Arranged, MayFail, broken_off, arranged_after}
-use Rattle.fit_world.specs.Rides.Standing.{IsCounted, told}
+use Rattle.fit_world.specs.Rides.Standing.{IsCounted, outcome}
 
 -- ---- how many of the first calls fail
 
@@ -29,15 +29,15 @@ abbrev without_cut : Option ℕ → Counts → Schedule
 without_cut fail since = record { fail = fail; cut = None; since = since }
 
 not_at : (fail : Option ℕ) (calls number : ℕ) → IsPast fail calls → calls < number → is_at fail number ≡ false
-not_at None calls number past behind = refl
-not_at (Some planned) calls number past behind = ne_eqb number planned (λ same. omega arith)
+not_at None calls number past after = refl
+not_at (Some planned) calls number past after = ne_eqb number planned (λ same. omega arith)
 
 -- after the planned call none fails
-none_behind : (fail : Option ℕ) (since : Counts) (n k : ℕ) → IsPast fail n →
+none_after : (fail : Option ℕ) (since : Counts) (n k : ℕ) → IsPast fail n →
     failures (without_cut fail since) (n + k) ≡ failures (without_cut fail since) n
-none_behind fail since n zero past = rw (add-zero n) refl
-none_behind fail since n (suc k) past =
-    rw (add-suc n k, not_at fail n (suc (n + k)) past (omega arith)) (omega (arith, none_behind fail since n k past))
+none_after fail since n zero past = rw (add-zero n) refl
+none_after fail since n (suc k) past =
+    rw (add-suc n k, not_at fail n (suc (n + k)) past (omega arith)) (omega (arith, none_after fail since n k past))
 
 -- and none fails before it
 none_before : (planned : ℕ) (since : Counts) (n : ℕ) → n < planned → failures (without_cut (Some planned) since) n ≡ 0
@@ -57,7 +57,7 @@ no_growth fail since old new past = by_order (cases_lt new old)
     by_order (inl fewer) = failures_ordered (without_cut fail since) new old (omega arith)
     by_order (inr more) =
         let same : old + (new - old) ≡ new = omega arith in
-        let none = rw same at (none_behind fail since old (new - old) past) in
+        let none = rw same at (none_after fail since old (new - old) past) in
         omega (arith, none)
 
 -- if more calls failed, the planned one was made
@@ -126,7 +126,7 @@ module _ (arranged : Arranged) (schedule : Schedule) (old new : Counts) (is_arra
   }
 
   kept : (reply : Reply) (file : List ℕ) → new.calls < last_count → IsCounted reply old new →
-      MayFail arranged (told reply file) × IsArranged (broken_off arranged (told reply file)) new schedule
+      MayFail arranged (outcome reply file) × IsArranged (broken_off arranged (outcome reply file)) new schedule
   kept (replies.Refused Device) file within counted =
       let one = (counted.cause refl).one within in
       let grown : old.failed < new.failed = omega (arith, one) in
@@ -144,7 +144,7 @@ unspent disk spent =
 pub moved : (arranged : Arranged) (command : Command) (reply : Reply) (file : List ℕ) (old new : Memory) → is_spent old ≡ false →
     is_spent new ≡ false → Moves command reply (memory_counts old) (memory_schedule old) (memory_counts new) (memory_schedule new) →
     IsArranged arranged (memory_counts old) (memory_schedule old) →
-    MayFail arranged (told reply file) × IsArranged (arranged_after arranged command (told reply file)) (memory_counts new) (memory_schedule new)
+    MayFail arranged (outcome reply file) × IsArranged (arranged_after arranged command (outcome reply file)) (memory_counts new) (memory_schedule new)
 moved arranged (commands.Fail k) reply file old new old_unspent new_unspent moves is_arranged =
     rw moves.0 (
       λ broken. absurd (true≢false (sym broken)),
@@ -175,7 +175,7 @@ moved arranged command reply file old new old_unspent new_unspent moves is_arran
     let new_known = unspent new new_unspent in
     let new_as = subst (λ s. FailedAsPlanned (memory_counts new) s) moves.1 new_known.0 in
     let known = kept arranged (memory_schedule old) (memory_counts old) (memory_counts new) is_arranged old_known.0 new_as reply file new_known.1 moves.0 in
-    (known.0, subst (λ s. IsArranged (broken_off arranged (told reply file)) (memory_counts new) s) (sym moves.1) known.1)
+    (known.0, subst (λ s. IsArranged (broken_off arranged (outcome reply file)) (memory_counts new) s) (sym moves.1) known.1)
 
 -- before the first call nothing is spent
 pub unspent_first : (disk : Memory) → was_refused disk ≡ false → memory_counts disk ≡ no_calls → is_spent disk ≡ false

@@ -1,7 +1,7 @@
 -- The number of each fault.
 use Rattle.std.specs.Prelude.{ℕ}
-use Rattle.fit_world.specs.declared.fault.TellFault.{TellFault}
-use Rattle.fit_world.specs.declared.fault.TellFault.TheVariants.{File, Activity, Output, Input, Plain}
+use Rattle.fit_world.specs.declared.fault.ReportFault.{ReportFault}
+use Rattle.fit_world.specs.declared.fault.ReportFault.TheVariants.{File, Activity, Output, Input, Plain}
 use Rattle.fit_world.specs.declared.reading.ReadFault.{ReadFault}
 use Rattle.fit_world.specs.declared.reading.ReadFault.TheVariants.{Failed, TooLarge, NoMemory}
 use Rattle.fit_world.specs.declared.repairing.RepairFault.{RepairFault}
@@ -43,12 +43,12 @@ read_code TooLarge = 2
 read_code NoMemory = 3
 
 -- of a fault of reading, checking, printing or making a file plain
-abbrev pub tell_code : TellFault → ℕ
-tell_code (File fault) = 1
-tell_code (Activity fault) = 2
-tell_code Output = 3
-tell_code (Input why) = 4
-tell_code (Plain fault) = 5
+abbrev pub fault_number : ReportFault → ℕ
+fault_number (File fault) = 1
+fault_number (Activity fault) = 2
+fault_number Output = 3
+fault_number (Input why) = 4
+fault_number (Plain fault) = 5
 
 -- of a fault of a repair
 abbrev pub repair_code : RepairFault → ℕ

@@ -4,8 +4,8 @@ use Rattle.std.specs.Io.KnownBytes.{Consumes, IsAtEnd}
 use Rattle.fit_grammar.specs.Format.File.{FileValue, FileOf}
 use Rattle.fit_grammar.specs.Format.Refusal.{IsFaultOf}
 use Rattle.fit_grammar.specs.Calls.Places.{ArePlaces}
-use Rattle.fit_world.specs.declared.fault.TellFault.{TellFault}
-use Rattle.fit_world.specs.declared.fault.TellFault.TheVariants.{File, Input}
+use Rattle.fit_world.specs.declared.fault.ReportFault.{ReportFault}
+use Rattle.fit_world.specs.declared.fault.ReportFault.TheVariants.{File, Input}
 use Rattle.fit_world.specs.declared.reading.ReadFault.{ReadFault}
 use Rattle.fit_world.specs.declared.reading.ReadFault.TheVariants.{TooLarge, NoMemory}
 
@@ -22,19 +22,19 @@ IsEnough most _ count = count ≤ most
 abbrev pub Refuses : ℕ → Option (List ℕ) → Option (List ℕ) → ReadFault → Type 0
 Refuses most old new fault = (taken : List ℕ) × Consumes old new taken × IsEnough most fault (length taken)
 
--- an input was read to its end, and `IsTold` holds of its bytes and the result; or it failed, or is too large
-abbrev pub TellsInput : {T : Type 0} → ℕ → Option (List ℕ) → Option (List ℕ) → (List ℕ → Result T TellFault → Type 0) → Result T TellFault → Type 0
-TellsInput most old new IsTold (Err (Input why)) = (why ≢ NoMemory) × Refuses most old new why
-TellsInput most old new IsTold result = (bytes : List ℕ) × ReadsAll most old new bytes × IsTold bytes result
+-- an input was read to its end, and `IsReported` holds of its bytes and the result; or it failed, or is too large
+abbrev pub ReportsInput : {T : Type 0} → ℕ → Option (List ℕ) → Option (List ℕ) → (List ℕ → Result T ReportFault → Type 0) → Result T ReportFault → Type 0
+ReportsInput most old new IsReported (Err (Input why)) = (why ≢ NoMemory) × Refuses most old new why
+ReportsInput most old new IsReported result = (bytes : List ℕ) × ReadsAll most old new bytes × IsReported bytes result
 
 -- the file that bytes are, or why they are not a file
-abbrev pub DecodesTo : List ℕ → Result FileValue TellFault → Type 0
+abbrev pub DecodesTo : List ℕ → Result FileValue ReportFault → Type 0
 DecodesTo bytes (Ok file) = FileOf bytes file
 DecodesTo bytes (Err (File fault)) = IsFaultOf bytes fault
 DecodesTo bytes (Err fault) = ⊥
 
 -- the same, with the places of its items in the bytes
-abbrev pub DecodesWith : List ℕ → Result (FileValue × List ℕ) TellFault → Type 0
+abbrev pub DecodesWith : List ℕ → Result (FileValue × List ℕ) ReportFault → Type 0
 DecodesWith bytes (Ok read) = FileOf bytes read.0 × ArePlaces bytes read.1
 DecodesWith bytes (Err (File fault)) = IsFaultOf bytes fault
 DecodesWith bytes (Err fault) = ⊥

@@ -10,7 +10,7 @@ use Rattle.fit_world.specs.declared.command.Command.{Command}
 use Rattle.fit_world.specs.declared.command.Command.TheVariants as commands
 use Rattle.fit_world.specs.declared.event.Event.{Event}
 use Rattle.fit_world.specs.Histories.Runs.{IsHistory}
-use Rattle.fit_world.specs.Histories.Table.{Told, Done, Stopped, Fault, IsFileOf}
+use Rattle.fit_world.specs.Histories.Table.{Outcome, Done, Stopped, Fault, IsFileOf}
 
 -- after the list, these commands hand in entries that are not refused, commit, and stop at the end
 abbrev pub IsRide : List Recorded → List Command → Type 0
@@ -21,19 +21,19 @@ IsRide list (commands.Entry entry ∷ rest) = (refusal_of list entry ≡ None) �
 IsRide list (command ∷ rest) = ⊥
 
 -- each of them was done, and the stop reports a valid file of the whole list and the messages that close it
-abbrev pub RodeWell : List Recorded → List Command → List Told → Type 0
-RodeWell list (commands.Commit ∷ rest) (Done ∷ tolds) = RodeWell list rest tolds
-RodeWell list (commands.Entry (Stop time) ∷ rest) (Stopped file ∷ tolds) = IsFileOf file (list ++ Added (Stop time) ∷ []) × (tolds ≡ [])
-RodeWell list (commands.Entry entry ∷ rest) (Done ∷ tolds) = RodeWell (list ++ Added entry ∷ []) rest tolds
+abbrev pub RodeWell : List Recorded → List Command → List Outcome → Type 0
+RodeWell list (commands.Commit ∷ rest) (Done ∷ outcomes) = RodeWell list rest outcomes
+RodeWell list (commands.Entry (Stop time) ∷ rest) (Stopped file ∷ outcomes) = IsFileOf file (list ++ Added (Stop time) ∷ []) × (outcomes ≡ [])
+RodeWell list (commands.Entry entry ∷ rest) (Done ∷ outcomes) = RodeWell (list ++ Added entry ∷ []) rest outcomes
 RodeWell list _ _ = ⊥
 
 -- no room was left
-abbrev pub is_full : Told → Bool
+abbrev pub is_full : Outcome → Bool
 is_full (Fault Full) = true
 is_full _ = false
 
-abbrev pub HadRoom : List Told → Type 0
-HadRoom tolds = AllByRecursion (λ told. is_full told ≡ false) tolds
+abbrev pub HadRoom : List Outcome → Type 0
+HadRoom outcomes = AllByRecursion (λ outcome. is_full outcome ≡ false) outcomes
 
 abbrev pub command_of : Event → Command
 command_of event = event.command
@@ -41,6 +41,6 @@ command_of event = event.command
 -- over two empty files, a ride goes well if no failure is arranged and there is room
 abbrev pub RidesGoWell : Type 0
 RidesGoWell =
-    (start : Start) (first : Event) (events : List Event) (all : List Told) → first.command ≡ commands.Start start → start_refusal start ≡ None
+    (start : Start) (first : Event) (events : List Event) (all : List Outcome) → first.command ≡ commands.Start start → start_refusal start ≡ None
     → IsRide (Started start ∷ []) (map command_of events) → IsHistory (first ∷ events) all → HadRoom all
-    → (tolds : List Told) × (all ≡ Done ∷ tolds) × RodeWell (Started start ∷ []) (map command_of events) tolds
+    → (outcomes : List Outcome) × (all ≡ Done ∷ outcomes) × RodeWell (Started start ∷ []) (map command_of events) outcomes

@@ -17,12 +17,12 @@ use Rattle.fit_world.specs.declared.command.Command.TheVariants as commands
 use Rattle.fit_world.specs.Histories.Claims.{Claim, claim_of, no_claim, whole, has_none, MayBe, with_start}
 
 -- the answer to a command: a stop that is done and a recovery report the content of the data file at that moment
-pub data Told : Type 0 where
-  Done : Told
-  Stopped : List ℕ → Told
-  Recovered : Summary → List ℕ → Told
-  Fault : RecFault → Told
-  NoRecorder : Told
+pub data Outcome : Type 0 where
+  Done : Outcome
+  Stopped : List ℕ → Outcome
+  Recovered : Summary → List ℕ → Outcome
+  Fault : RecFault → Outcome
+  NoRecorder : Outcome
 
 -- The state of a history. `Idle`: no recorder runs; the claims, and whether a start was begun since the last erasing. `Riding`: a
 -- recorder runs; the list that was handed in, how many of its entries are promised, whether it was reopened, and whether the device
@@ -53,7 +53,7 @@ IsFileOf file list = File file (spoken list ++ closing list)
 
 -- ---- the steps: from `before` this may be answered, and `after` is the state then
 
-abbrev pub StartStep : History → Start → Told → History → Type 0
+abbrev pub StartStep : History → Start → Outcome → History → Type 0
 StartStep before start Done after =
     IsTrue (has_none (claims_of before)) × (start_refusal start ≡ None) × (after ≡ Riding (Started start ∷ []) 1 false false)
 StartStep before start (Fault (Refused refusal)) after = (start_refusal start ≡ Some refusal) × (after ≡ ended before)
@@ -62,7 +62,7 @@ StartStep before start (Fault Device) after = (start_refusal start ≡ None) × 
 StartStep before start _ after = ⊥
 
 -- to an entry that is not a stop
-abbrev pub HandStep : History → Entry → Told → History → Type 0
+abbrev pub HandStep : History → Entry → Outcome → History → Type 0
 HandStep (Idle claims begun) entry NoRecorder after = after ≡ Idle claims begun
 HandStep (Riding list promise reopened false) entry Done after =
     Allowed (list ++ Added entry ∷ []) × (after ≡ Riding (list ++ Added entry ∷ []) promise reopened false)
@@ -76,7 +76,7 @@ HandStep (Riding list promise reopened true) entry (Fault Failed) after = after 
 HandStep before entry _ after = ⊥
 
 -- the journal can fill only in a ride that was reopened, because an older program may have begun it
-abbrev pub CommitStep : History → Told → History → Type 0
+abbrev pub CommitStep : History → Outcome → History → Type 0
 CommitStep (Idle claims begun) NoRecorder after = after ≡ Idle claims begun
 CommitStep (Riding list promise reopened false) Done after = after ≡ Riding list (length list) reopened false
 CommitStep (Riding list promise reopened false) (Fault JournalFull) after = IsTrue reopened × (after ≡ Riding list promise reopened false)
@@ -84,7 +84,7 @@ CommitStep (Riding list promise reopened false) (Fault Device) after = after ≡
 CommitStep (Riding list promise reopened true) (Fault Failed) after = after ≡ Riding list promise reopened true
 CommitStep before _ after = ⊥
 
-abbrev pub StopStep : History → ℕ → Told → History → Type 0
+abbrev pub StopStep : History → ℕ → Outcome → History → Type 0
 StopStep (Idle claims begun) time NoRecorder after = after ≡ Idle claims begun
 StopStep (Riding list promise reopened false) time (Stopped file) after =
     Allowed (list ++ Added (Stop time) ∷ []) × IsFileOf file (list ++ Added (Stop time) ∷ [])
@@ -105,7 +105,7 @@ pub record Recovers (before : History) (summary : Summary) (file : List ℕ) (af
   pub sums_up : summary ≡ summary_of_list list
   pub after_is : after ≡ Idle (whole list ∷ []) (was_begun before)
 
-abbrev pub RecoverStep : History → Told → History → Type 0
+abbrev pub RecoverStep : History → Outcome → History → Type 0
 RecoverStep before (Recovered summary file) after = Recovers before summary file after
 RecoverStep before (Fault NothingRecorded) after =
     IsTrue (has_none (claims_of before)) × (after ≡ Idle (no_claim ∷ []) (was_begun before))
@@ -118,7 +118,7 @@ pub record Finds (before : History) (list : List Recorded) (stopped : Bool) : Ty
   pub some : list ≢ []
   pub stops : has_stopped list ≡ stopped
 
-abbrev pub ReopenStep : History → Told → History → Type 0
+abbrev pub ReopenStep : History → Outcome → History → Type 0
 ReopenStep before Done after = (list : List Recorded) × Finds before list false × (after ≡ Riding list (length list) true false)
 ReopenStep before (Fault (Refused refusals.Stopped)) after = (list : List Recorded) × Finds before list true × (after ≡ ended before)
 ReopenStep before (Fault NothingRecorded) after =
@@ -127,23 +127,23 @@ ReopenStep before (Fault JournalFull) after = (list : List Recorded) × Finds be
 ReopenStep before (Fault Device) after = after ≡ ended before
 ReopenStep before _ after = ⊥
 
-abbrev pub EraseStep : History → Told → History → Type 0
+abbrev pub EraseStep : History → Outcome → History → Type 0
 EraseStep before Done after = after ≡ Idle (no_claim ∷ []) false
 EraseStep before (Fault Device) after = after ≡ Idle (no_claim ∷ claims_of before) (was_begun before)
 EraseStep before _ after = ⊥
 
-abbrev pub EntryStep : History → Entry → Told → History → Type 0
-EntryStep before (Stop time) told after = StopStep before time told after
-EntryStep before entry told after = HandStep before entry told after
+abbrev pub EntryStep : History → Entry → Outcome → History → Type 0
+EntryStep before (Stop time) outcome after = StopStep before time outcome after
+EntryStep before entry outcome after = HandStep before entry outcome after
 
-abbrev pub Step : History → Command → Told → History → Type 0
-Step before (commands.Start start) told after = StartStep before start told after
-Step before (commands.Entry entry) told after = EntryStep before entry told after
-Step before commands.Commit told after = CommitStep before told after
-Step before commands.Recover told after = RecoverStep before told after
-Step before commands.Reopen told after = ReopenStep before told after
-Step before commands.Erase told after = EraseStep before told after
-Step before commands.Restart told after = (told ≡ Done) × (after ≡ ended before)
-Step before commands.Power told after = (told ≡ Done) × (after ≡ ended before)
-Step before (commands.Fail k) told after = (told ≡ Done) × (after ≡ before)
-Step before (commands.Cut k) told after = (told ≡ Done) × (after ≡ before)
+abbrev pub Step : History → Command → Outcome → History → Type 0
+Step before (commands.Start start) outcome after = StartStep before start outcome after
+Step before (commands.Entry entry) outcome after = EntryStep before entry outcome after
+Step before commands.Commit outcome after = CommitStep before outcome after
+Step before commands.Recover outcome after = RecoverStep before outcome after
+Step before commands.Reopen outcome after = ReopenStep before outcome after
+Step before commands.Erase outcome after = EraseStep before outcome after
+Step before commands.Restart outcome after = (outcome ≡ Done) × (after ≡ ended before)
+Step before commands.Power outcome after = (outcome ≡ Done) × (after ≡ ended before)
+Step before (commands.Fail k) outcome after = (outcome ≡ Done) × (after ≡ before)
+Step before (commands.Cut k) outcome after = (outcome ≡ Done) × (after ≡ before)

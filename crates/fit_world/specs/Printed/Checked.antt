@@ -6,14 +6,14 @@ use Rattle.fit_grammar.specs.Format.File.{FileValue, FileOf}
 use Rattle.fit_grammar.specs.Format.Refusal.{IsFaultOf}
 use Rattle.fit_activity.specs.declared.activity.Summary.{Summary}
 use Rattle.fit_activity.specs.Files.Activity.{activity_in}
-use Rattle.fit_world.specs.declared.fault.TellFault.{TellFault}
-use Rattle.fit_world.specs.declared.fault.TellFault.TheVariants as faults
+use Rattle.fit_world.specs.declared.fault.ReportFault.{ReportFault}
+use Rattle.fit_world.specs.declared.fault.ReportFault.TheVariants as faults
 use Rattle.fit_world.specs.Printed.Summary.{summary_text}
 use Rattle.std.specs.Io.KnownBytes.{Appends}
 
 -- The bytes are a file and an activity, and the line of its summary was printed, or a prefix of it and the output failed; or they are
 -- not, and nothing was written.
-abbrev pub ChecksBytes : {T : Type 0} → Option (List ℕ) → Option (List ℕ) → List ℕ → Result T TellFault → Type 0
+abbrev pub ChecksBytes : {T : Type 0} → Option (List ℕ) → Option (List ℕ) → List ℕ → Result T ReportFault → Type 0
 ChecksBytes old new bytes (Ok done) =
     (v : FileValue) × FileOf bytes v × (summary : Summary) × (activity_in (messages_of v.items) ≡ Ok summary)
     × Appends old new (summary_text summary ++ codes "\n")

@@ -21,12 +21,12 @@ Repairs contents story old new (Err (faults.Recorder fault)) = RecoveryAnswers c
 
 -- The line of a recovery's summary was printed, or a prefix of it and the output failed; or the recovery answered a fault, and nothing
 -- was printed.
-abbrev pub TellsRecovered : {T : Type 0} → Result Summary RecFault → Option (List ℕ) → Option (List ℕ) → Result T RepairFault → Type 0
-TellsRecovered recovered old new (Ok done) =
+abbrev pub ReportsRecovered : {T : Type 0} → Result Summary RecFault → Option (List ℕ) → Option (List ℕ) → Result T RepairFault → Type 0
+ReportsRecovered recovered old new (Ok done) =
     (summary : Summary) × (recovered ≡ Ok summary) × Appends old new (summary_text summary ++ codes "\n")
-TellsRecovered recovered old new (Err faults.Output) =
+ReportsRecovered recovered old new (Err faults.Output) =
     (summary : Summary) × (recovered ≡ Ok summary) × AppendsBeginning old new (summary_text summary ++ codes "\n")
-TellsRecovered recovered old new (Err (faults.Recorder fault)) = (recovered ≡ Err fault) × (new ≡ old)
+ReportsRecovered recovered old new (Err (faults.Recorder fault)) = (recovered ≡ Err fault) × (new ≡ old)
 
 -- the faults of a repair, over any disk
 abbrev pub IsRepairFault : RepairFault → Type 0

@@ -28,7 +28,7 @@ lines_text (event ∷ events) (reply ∷ replies) = (line_text event reply ++ co
 
 -- Replies that may come to these events if no recorder runs before them, and for which `Known` holds, were printed, a line for each
 -- event. So many of them are refusals.
-pub record AreTold (events : List Event) (Known : List Reply → Type 0) (refused : ℕ) (old new : Option (List ℕ)) : Type 0 where
+pub record AreReported (events : List Event) (Known : List Reply → Type 0) (refused : ℕ) (old new : Option (List ℕ)) : Type 0 where
   pub replies : List Reply
   pub may : MayReplyAll false events replies
   pub known : Known replies

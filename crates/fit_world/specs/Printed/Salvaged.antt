@@ -10,8 +10,8 @@ use Rattle.fit_grammar.specs.Format.Refusal.{Refusal}
 use Rattle.fit_grammar.specs.Calls.BeginningHeader.{BeginsWithHeader}
 use Rattle.fit_grammar.specs.Calls.Framed.{framed}
 use Rattle.fit_grammar.specs.Calls.LongestFront.{IsLongestFront}
-use Rattle.fit_world.specs.declared.fault.TellFault.{TellFault}
-use Rattle.fit_world.specs.declared.fault.TellFault.TheVariants.{File, Input, Plain}
+use Rattle.fit_world.specs.declared.fault.ReportFault.{ReportFault}
+use Rattle.fit_world.specs.declared.fault.ReportFault.TheVariants.{File, Input, Plain}
 use Rattle.fit_world.specs.declared.reading.ReadFault.TheVariants.{NoMemory}
 use Rattle.fit_world.specs.declared.salvage.Salvage.{Salvage}
 use Rattle.fit_world.specs.Calls.Reading.{DecodesWith}
@@ -54,17 +54,17 @@ abbrev pub saved_file : Salvage → List ℕ
 saved_file salvage = framed salvage.frame salvage.row.now
 
 -- that file and the places of its items in it; or memory was refused
-abbrev pub DecodesSalvage : Salvage → Result (FileValue × List ℕ) TellFault → Type 0
+abbrev pub DecodesSalvage : Salvage → Result (FileValue × List ℕ) ReportFault → Type 0
 DecodesSalvage salvage (Err (Input NoMemory)) = Unit {0}
 DecodesSalvage salvage result = DecodesWith (saved_file salvage) result
 
 -- the plain form of that file, or why there is none
-abbrev pub PlainsSalvage : Salvage → Result FileValue TellFault → Type 0
+abbrev pub PlainsSalvage : Salvage → Result FileValue ReportFault → Type 0
 PlainsSalvage salvage (Err (Input NoMemory)) = Unit {0}
 PlainsSalvage salvage result = PlainsTo (saved_file salvage) result
 
 -- the plain form would be too long, or memory was refused
-abbrev pub IsNoForm : TellFault → Type 0
+abbrev pub IsNoForm : ReportFault → Type 0
 IsNoForm (File fault) = fault.kind ≡ Memory
 IsNoForm (Plain fault) = Unit {0}
 IsNoForm (Input NoMemory) = Unit {0}

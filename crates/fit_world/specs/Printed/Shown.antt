@@ -4,18 +4,18 @@ use Rattle.std.specs.Io.KnownBytes.{Appends}
 use Rattle.fit_grammar.specs.Calls.Output.{AppendsBeginning}
 use Rattle.fit_grammar.specs.Format.File.{FileValue, FileOf}
 use Rattle.fit_grammar.specs.Format.Refusal.{IsFaultOf}
-use Rattle.fit_world.specs.declared.fault.TellFault.{TellFault}
-use Rattle.fit_world.specs.declared.fault.TellFault.TheVariants as faults
+use Rattle.fit_world.specs.declared.fault.ReportFault.{ReportFault}
+use Rattle.fit_world.specs.declared.fault.ReportFault.TheVariants as faults
 use Rattle.fit_text.specs.Text.{text_of}
 
 -- the one fault of an output
-abbrev pub IsOutputFault : TellFault → Type 0
+abbrev pub IsOutputFault : ReportFault → Type 0
 IsOutputFault faults.Output = Unit {0}
 IsOutputFault _ = ⊥
 
 -- the bytes are a file, and all of its text was written, or a prefix of it and the output failed; or they are not a file, and nothing
 -- was written
-abbrev pub ShowsBytes : {T : Type 0} → Bool → Option (List ℕ) → Option (List ℕ) → List ℕ → Result T TellFault → Type 0
+abbrev pub ShowsBytes : {T : Type 0} → Bool → Option (List ℕ) → Option (List ℕ) → List ℕ → Result T ReportFault → Type 0
 ShowsBytes utc old new bytes (Ok done) = (v : FileValue) × FileOf bytes v × Appends old new (text_of utc v)
 ShowsBytes utc old new bytes (Err (faults.File fault)) = IsFaultOf bytes fault × (new ≡ old)
 ShowsBytes utc old new bytes (Err fault) = ((v : FileValue) × FileOf bytes v × AppendsBeginning old new (text_of utc v)) × IsOutputFault fault

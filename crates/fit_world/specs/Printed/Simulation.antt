@@ -10,23 +10,23 @@ use Rattle.fit_world.specs.declared.reply.Reply.TheVariants as replies
 use Rattle.fit_world.specs.declared.simulating.SimulateFault.{SimulateFault}
 use Rattle.fit_world.specs.declared.simulating.SimulateFault.TheVariants as faults
 use Rattle.fit_world.specs.Histories.Runs.{IsHistory}
-use Rattle.fit_world.specs.Histories.Table.{Told, Done, Stopped, Recovered, Fault, NoRecorder}
+use Rattle.fit_world.specs.Histories.Table.{Outcome, Done, Stopped, Recovered, Fault, NoRecorder}
 use Rattle.fit_world.specs.Printed.ReplyLines.{lines_text}
 use Rattle.fit_world.specs.Scripts.Script.{IsLine, events_of, IsFaultOf}
 
 -- the reply of an answer: the answer without its file
-abbrev pub reply_told : Told → Reply
-reply_told Done = replies.Done
-reply_told (Stopped file) = replies.Stopped
-reply_told (Recovered summary file) = replies.Recovered summary
-reply_told (Fault fault) = replies.Refused fault
-reply_told NoRecorder = replies.NoRecorder
+abbrev pub reply_in : Outcome → Reply
+reply_in Done = replies.Done
+reply_in (Stopped file) = replies.Stopped
+reply_in (Recovered summary file) = replies.Recovered summary
+reply_in (Fault fault) = replies.Refused fault
+reply_in NoRecorder = replies.NoRecorder
 
 -- answers that may come to these events over two empty files; `Printed` holds of the text with a line for each of them
 pub record IsPrinted (events : List Event) (Printed : List ℕ → Type 0) : Type 0 where
-  pub tolds : List Told
-  pub history : IsHistory events tolds
-  pub printed : Printed (lines_text events (map reply_told tolds))
+  pub outcomes : List Outcome
+  pub history : IsHistory events outcomes
+  pub printed : Printed (lines_text events (map reply_in outcomes))
 
 -- The bytes are a script, and answers that may come to its events were printed, or a prefix of them and the output failed; or they are
 -- not a script, or memory was refused, and nothing was written.

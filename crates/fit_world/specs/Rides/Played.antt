@@ -8,14 +8,14 @@ use Rattle.fit_world.specs.Histories.Claims.{Claim}
 use Rattle.fit_world.specs.Histories.Table.{History, Idle, Step, ended}
 use Rattle.fit_world.specs.Printed.ReplyLines.{line_text, lines_text}
 use Rattle.fit_world.specs.Rides.Replies.{MayReplyAll}
-use Rattle.fit_world.specs.Rides.Standing.{Rests, told}
+use Rattle.fit_world.specs.Rides.Standing.{Rests, outcome}
 
 -- From `before`, these replies may come to these events, one step after another, and `after` is the state then. A stop that is done
 -- and a recovery report some file.
 abbrev pub GoesTo : History → List Event → List Reply → History → Type 0
 GoesTo before [] [] after = after ≡ before
 GoesTo before (event ∷ events) (reply ∷ replies) after =
-    (file : List ℕ) × (next : History) × Step before event.command (told reply file) next × GoesTo next events replies after
+    (file : List ℕ) × (next : History) × Step before event.command (outcome reply file) next × GoesTo next events replies after
 GoesTo before [] (reply ∷ replies) after = ⊥
 GoesTo before (event ∷ events) [] after = ⊥
 
@@ -26,8 +26,8 @@ pub record Leaves (before : History) (story : Story) (events : List Event) (repl
   pub rests : Rests (ended after) story
 
 -- over an honest disk, from any state without a recorder that allows the disk as it was
-abbrev pub LeavesBehind : Bool → Story → Story → List Event → List Reply → Type 0
-LeavesBehind honest old new events replies =
+abbrev pub LeavesAfter : Bool → Story → Story → List Event → List Reply → Type 0
+LeavesAfter honest old new events replies =
     IsTrue honest → (claims : List Claim) (begun : Bool) → Rests (Idle claims begun) old → Leaves (Idle claims begun) new events replies
 
 -- A prefix of the events was run, and these replies may come to it. A line was printed for each reply but the last, and a prefix of the
@@ -40,7 +40,7 @@ pub record BreaksOff (honest : Bool) (old new : Story) (events : List Event) (be
   pub replies : List Reply
   pub reply : Reply
   pub may : MayReplyAll false (played ++ last ∷ []) (replies ++ reply ∷ [])
-  pub leaves : LeavesBehind honest old new (played ++ last ∷ []) (replies ++ reply ∷ [])
+  pub leaves : LeavesAfter honest old new (played ++ last ∷ []) (replies ++ reply ∷ [])
   pub part : List ℕ
   pub rest : List ℕ
   pub cut_short : line_text last reply ++ codes "\n" ≡ part ++ rest

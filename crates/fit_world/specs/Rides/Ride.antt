@@ -42,9 +42,9 @@ module _ {D : Type 0} where
   Handed (Riding recorder) list = WasHanded recorder list × (has_failed recorder ≡ false)
 
   -- the number of record bytes that its recorder encoded
-  abbrev pub said_len : Ride D → ℕ
-  said_len (Idle disk) = 0
-  said_len (Riding recorder) = data_len recorder
+  abbrev pub encoded_len : Ride D → ℕ
+  encoded_len (Idle disk) = 0
+  encoded_len (Riding recorder) = data_len recorder
 
   -- the slots of its journal; if no recorder runs, empty ones
   abbrev pub slots_of : Ride D → Slots
@@ -52,22 +52,22 @@ module _ {D : Type 0} where
   slots_of (Riding recorder) = journal_slots recorder
 
   -- what may be replied to a command after this list was handed in
-  abbrev pub MayReplyBehind : Ride D → List Recorded → Command → Reply → Type 0
-  MayReplyBehind ride list (commands.Entry entry) reply =
-      (is_stop (Added entry) ≡ false → Replies (HandAnswers list (said_len ride) entry) reply)
+  abbrev pub MayReplyAfter : Ride D → List Recorded → Command → Reply → Type 0
+  MayReplyAfter ride list (commands.Entry entry) reply =
+      (is_stop (Added entry) ≡ false → Replies (HandAnswers list (encoded_len ride) entry) reply)
       × ((time : ℕ) → entry ≡ entries.Stop time → Replies (StopAnswers list time) reply)
-  MayReplyBehind ride list commands.Commit reply = Replies (CommitAnswers list (slots_of ride)) reply
-  MayReplyBehind ride list _ reply = Unit {0}
+  MayReplyAfter ride list commands.Commit reply = Replies (CommitAnswers list (slots_of ride)) reply
+  MayReplyAfter ride list _ reply = Unit {0}
 
   -- after a reply that is ok: an entry is at the end of the list, and a commit took one slot more
   abbrev pub RidesOnWith : Ride D → List Recorded → Command → Ride D → Type 0
   RidesOnWith ride list (commands.Entry entry) next = is_stop (Added entry) ≡ false → Handed next (list ++ Added entry ∷ [])
-  RidesOnWith ride list commands.Commit next = Handed next list × (slots_of next ≡ committed_slots (slots_of ride) (said_len ride))
+  RidesOnWith ride list commands.Commit next = Handed next list × (slots_of next ≡ committed_slots (slots_of ride) (encoded_len ride))
   RidesOnWith ride list _ next = Unit {0}
 
   -- After a start that is ok the recorder was handed the start alone, in the first of two slots that take turns. After a reopening
   -- that is ok it was handed some list.
   abbrev pub HasBegun : Command → Ride D → Type 0
-  HasBegun (commands.Start start) next = Handed next (Started start ∷ []) × (slots_of next ≡ InTurns (Some (said_len next)) None)
+  HasBegun (commands.Start start) next = Handed next (Started start ∷ []) × (slots_of next ≡ InTurns (Some (encoded_len next)) None)
   HasBegun commands.Reopen next = (list : List Recorded) × Handed next list
   HasBegun _ next = Unit {0}

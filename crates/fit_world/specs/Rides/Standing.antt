@@ -18,15 +18,15 @@ use Rattle.fit_world.specs.declared.reply.Reply.TheVariants as replies
 use Rattle.fit_world.specs.declared.ride.Ride.{Ride}
 use Rattle.fit_world.specs.declared.ride.Ride.TheVariants as rides
 use Rattle.fit_world.specs.Histories.Claims.{Claim, has_none, MayBe}
-use Rattle.fit_world.specs.Histories.Table.{History, Idle, Riding, Told, Done, Stopped, Recovered, Fault, NoRecorder, claims_of, was_begun, Step}
+use Rattle.fit_world.specs.Histories.Table.{History, Idle, Riding, Outcome, Done, Stopped, Recovered, Fault, NoRecorder, claims_of, was_begun, Step}
 
 -- the answer of a reply and the content of the data file
-abbrev pub told : Reply → List ℕ → Told
-told replies.Done file = Done
-told replies.Stopped file = Stopped file
-told (replies.Recovered summary) file = Recovered summary file
-told (replies.Refused fault) file = Fault fault
-told replies.NoRecorder file = NoRecorder
+abbrev pub outcome : Reply → List ℕ → Outcome
+outcome replies.Done file = Done
+outcome replies.Stopped file = Stopped file
+outcome (replies.Recovered summary) file = Recovered summary file
+outcome (replies.Refused fault) file = Fault fault
+outcome replies.NoRecorder file = NoRecorder
 
 -- the files stand for a list that may be recorded; or they hold nothing recorded, and the empty claim is present
 abbrev pub Keeps : List Claim → Contents → Type 0
@@ -77,5 +77,5 @@ module _ {D : Type 0} where
   -- the reply may come to the command, and the ride is in the state of the history after it
   pub record GoesBy (honest : Bool) (story : D → Story) (before : History) (command : Command) (reply : Reply) (ride : Ride D) : Type 0 where
     pub after : History
-    pub step : Step before command (told reply (content_of story ride)) after
+    pub step : Step before command (outcome reply (content_of story ride)) after
     pub stands : StandsIn honest story ride after

@@ -38,17 +38,17 @@ abbrev pub are_settings : List (List ℕ) → Bool
 are_settings words = list_all is_setting words && has_no_repeat (map key_in words)
 
 -- the number that the words state, or none; the last word that states one counts
-abbrev pub said : {X : Type 0} → (List ℕ → List ℕ → Option X) → List (List ℕ) → Option X
-said of [] = None
-said of (word ∷ words) = option_or (said of words) (of (key_in word) (value_in word))
+abbrev pub stated : {X : Type 0} → (List ℕ → List ℕ → Option X) → List (List ℕ) → Option X
+stated of [] = None
+stated of (word ∷ words) = option_or (stated of words) (of (key_in word) (value_in word))
 
 -- the number that the words state for each row
-abbrev pub said_by : List FieldRow → List (List ℕ) → List (Option ℕ)
-said_by rows words = map (λ row. said (number_by row) words) rows
+abbrev pub stated_by : List FieldRow → List (List ℕ) → List (Option ℕ)
+stated_by rows words = map (λ row. stated (number_by row) words) rows
 
 -- the sample that the words are settings of
 abbrev pub sample_at : ℕ → List (List ℕ) → Sample
-sample_at time words = of_raw time (said_by sample_rows words)
+sample_at time words = of_raw time (stated_by sample_rows words)
 
 -- ---- for the calls
 

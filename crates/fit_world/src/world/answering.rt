@@ -1,8 +1,8 @@
 // Makes the answer of a reply, with the file if one was finished.
 
 ghost use Rattle.std.specs.Prelude.{◌≡◌, IfOk};
-ghost use Rattle.fit_world.specs.Histories.Runs.{told_in};
-ghost use Rattle.fit_world.specs.Rides.Standing.{told};
+ghost use Rattle.fit_world.specs.Histories.Runs.{outcome_in};
+ghost use Rattle.fit_world.specs.Rides.Standing.{outcome};
 
 use super::NoMemory;
 use crate::answer::Answer;
@@ -11,7 +11,7 @@ use std::alloc::Global;
 
 // The answer with this reply, and with a copy of the data file if the recording was finished.
 pub fn answer_of(alloc: Global, reply: Reply, file: &[u8]) -> Result<Answer, NoMemory>
-    ensures { IfOk result (λ answer. told_in answer ≡ told reply file.now) }
+    ensures { IfOk result (λ answer. outcome_in answer ≡ outcome reply file.now) }
 {
     match reply {
         Reply::Done => Ok(Answer::Done),

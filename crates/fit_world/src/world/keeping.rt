@@ -1,8 +1,8 @@
 // Keeps the answers of a run, or a part of each.
 
 ghost use Rattle.std.specs.Prelude.{◌≡◌, ◌++◌, ◌∷◌, [], List, OnOk};
-ghost use Rattle.fit_world.specs.Histories.Table.{Told};
-ghost use Rattle.fit_world.specs.Rides.Standing.{told};
+ghost use Rattle.fit_world.specs.Histories.Table.{Outcome};
+ghost use Rattle.fit_world.specs.Rides.Standing.{outcome};
 
 use super::NoMemory;
 use super::answering::answer_of;
@@ -13,12 +13,12 @@ use std::alloc::Global;
 // Keeps what is needed of each answer.
 pub trait Keeper {
     // It was given these answers, in this order.
-    ghost WasTold: { Self → List Told → Type 0 };
+    ghost WasReported: { Self → List Outcome → Type 0 };
 
     // Keeps the next answer: a reply, and the data file if no recorder runs.
     fn keep(&mut self, reply: Reply, file: &[u8]) -> Result<(), NoMemory>
-        ensures { (tolds : List Told) → WasTold self.old tolds
-            → OnOk result (WasTold self.new (tolds ++ told reply file.now ∷ [])) };
+        ensures { (outcomes : List Outcome) → WasReported self.old outcomes
+            → OnOk result (WasReported self.new (outcomes ++ outcome reply file.now ∷ [])) };
 }
 
 // The answers, with the files that were finished.
@@ -30,9 +30,9 @@ pub struct Answers {
 
 impl Keeper for Answers {
     ghost use Rattle.std.specs.Prelude.{map};
-    ghost use Rattle.fit_world.specs.Histories.Runs.{told_in};
+    ghost use Rattle.fit_world.specs.Histories.Runs.{outcome_in};
 
-    ghost WasTold = { λ answers tolds. map told_in answers.kept.items ≡ tolds };
+    ghost WasReported = { λ answers outcomes. map outcome_in answers.kept.items ≡ outcomes };
 
     fn keep(&mut self, reply: Reply, file: &[u8]) -> Result<(), NoMemory> {
         let answer = answer_of(self.alloc, reply, file)?;
@@ -48,9 +48,9 @@ pub struct Replies {
 
 impl Keeper for Replies {
     ghost use Rattle.std.specs.Prelude.{map};
-    ghost use Rattle.fit_world.specs.Printed.Simulation.{reply_told};
+    ghost use Rattle.fit_world.specs.Printed.Simulation.{reply_in};
 
-    ghost WasTold = { λ replies tolds. replies.kept.items ≡ map reply_told tolds };
+    ghost WasReported = { λ replies outcomes. replies.kept.items ≡ map reply_in outcomes };
 
     fn keep(&mut self, reply: Reply, _file: &[u8]) -> Result<(), NoMemory> {
         add(&mut self.kept, reply)

@@ -38,7 +38,7 @@ pub fn has_stopped(list: &[Recorded]) -> bool {
 }
 
 // Whether the timer runs after this entry, if it ran before it or not.
-fn runs_behind(ran: bool, one: &Recorded) -> bool {
+fn runs_after(ran: bool, one: &Recorded) -> bool {
     match one {
         Recorded::Started(_) | Recorded::Added(Entry::Resume(_)) => true,
         Recorded::Added(Entry::Pause(_) | Entry::Stop(_)) => false,
@@ -49,7 +49,7 @@ fn runs_behind(ran: bool, one: &Recorded) -> bool {
 fn runs(list: &[Recorded]) -> bool {
     let mut running = false;
     for one in list {
-        running = runs_behind(running, one);
+        running = runs_after(running, one);
     }
     running
 }
@@ -118,7 +118,7 @@ fn timer(list: &[Recorded]) -> u32 {
             seconds = seconds.saturating_add(one.time().saturating_sub(since));
         }
         since = one.time();
-        running = runs_behind(running, one);
+        running = runs_after(running, one);
     }
     seconds
 }

@@ -1,10 +1,10 @@
 // The subcommand `check`: whether a file is an activity, and its summary.
 
 ghost use Rattle.fit_world.specs.Printed.Checked.{ChecksBytes};
-ghost use Rattle.fitrec.specs.Faults.{IsTellFault};
-ghost use Rattle.fitrec.specs.Told.{Tells};
+ghost use Rattle.fitrec.specs.Faults.{IsReportFault};
+ghost use Rattle.fitrec.specs.Reported.{Reports};
 
-use crate::command::input::{MOST_BYTES, fault_of_told, open_file};
+use crate::command::input::{MOST_BYTES, fault_of_report, open_file};
 use crate::fault::Fault;
 use fit_world::check_input;
 use std::io::Write;
@@ -16,12 +16,12 @@ pub fn check_file<'a, R: Files + AllocGlobal, O: Write>(
     name: &'a str,
     out: &mut O,
 ) -> Result<(), Fault<'a>>
-    ensures { Tells name.entry (O.contents out.old) (O.contents out.new) (IsTellFault name.entry)
+    ensures { Reports name.entry (O.contents out.old) (O.contents out.new) (IsReportFault name.entry)
         (ChecksBytes (O.contents out.old) (O.contents out.new)) result }
 {
     let mut file = open_file(rt, name)?;
     match check_input(rt.alloc(), &mut file, MOST_BYTES, out) {
         Ok(()) => Ok(()),
-        Err(fault) => Err(fault_of_told(name, fault)),
+        Err(fault) => Err(fault_of_report(name, fault)),
     }
 }

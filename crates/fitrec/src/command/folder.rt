@@ -3,7 +3,7 @@
 ghost use Rattle.std.specs.Prelude.{◌≡◌, IfErr, IfOk, IfSome};
 ghost use Rattle.fit_disk.specs.Files.{witness_of};
 ghost use Rattle.fit_disk.specs.declared.files.OpenFault.{OpenFault as WhyNotOpen};
-ghost use Rattle.fitrec.specs.Faults.{fault_of_open, IsRecordingSaid};
+ghost use Rattle.fitrec.specs.Faults.{fault_of_open, IsRecordingReported};
 
 use crate::command::input::read_input;
 use crate::fault::Fault;
@@ -44,7 +44,7 @@ pub fn open_recorded<'a, W: Witness>(
 
 /// Reads the data file and the journal of this folder. Nothing is written. If one is missing, the fault is `NothingRecorded`.
 pub fn read_recorded<'a>(rt: &HostRuntime, name: &'a str) -> Result<(Vec<u8>, Vec<u8>), Fault<'a>>
-    ensures { IfErr result (IsRecordingSaid name.entry) }
+    ensures { IfErr result (IsRecordingReported name.entry) }
 {
     let Some((mut data_file, mut journal_file)) = open_to_save(rt, name)? else {
         return Err(Fault::Recorder(RecFault::NothingRecorded));

@@ -2,11 +2,11 @@
 
 ghost use Rattle.std.specs.Prelude.{◌≡◌, ◌<◌, ◌≤◌, ◌↔◌, vec_len, IsTrue, IfOk, IfErr};
 ghost use Rattle.fit_world.specs.Calls.Reading.{ReadsAll};
-ghost use Rattle.fitrec.specs.Faults.{IsTellFault};
+ghost use Rattle.fitrec.specs.Faults.{IsReportFault};
 ghost use Rattle.fitrec.specs.Reading.{fault_of_read, IsReadFault, IsFileFault};
 
 use crate::fault::Fault;
-use fit_world::{ReadFault, TellFault, read_all};
+use fit_world::{ReadFault, ReportFault, read_all};
 use std::alloc::Global;
 use std::fs::{self, OpenFile};
 use std::io::Read;
@@ -64,15 +64,15 @@ pub fn read_input<'a, T: Read>(
 }
 
 /// The program's fault for an input of this name that was not read, checked, printed or made plain.
-pub fn fault_of_told<'a>(name: &'a str, fault: TellFault) -> Fault<'a>
-    ensures { IsTellFault name.entry fault result }
+pub fn fault_of_report<'a>(name: &'a str, fault: ReportFault) -> Fault<'a>
+    ensures { IsReportFault name.entry fault result }
 {
     match fault {
-        TellFault::File(fault) => Fault::File(fault),
-        TellFault::Activity(fault) => Fault::Activity(fault),
-        TellFault::Output => Fault::Write("-"),
-        TellFault::Input(fault) => fault_of(name, fault),
-        TellFault::Plain(fault) => Fault::Plain(fault),
+        ReportFault::File(fault) => Fault::File(fault),
+        ReportFault::Activity(fault) => Fault::Activity(fault),
+        ReportFault::Output => Fault::Write("-"),
+        ReportFault::Input(fault) => fault_of(name, fault),
+        ReportFault::Plain(fault) => Fault::Plain(fault),
     }
 }
 

@@ -1,11 +1,11 @@
 // The subcommand `plain`: a file with the same messages, and each compressed timestamp written out.
 
 ghost use Rattle.std.specs.Prelude.{IfOk, IfErr, OnOk};
-ghost use Rattle.fitrec.specs.Faults.{IsPlainSaid, IsFormSaid};
-ghost use Rattle.fitrec.specs.Told.{IsFormOfFile, PlainsFile, PrintsNothing};
+ghost use Rattle.fitrec.specs.Faults.{IsPlainReported, IsFormReported};
+ghost use Rattle.fitrec.specs.Reported.{IsFormOfFile, PlainsFile, PrintsNothing};
 
 use crate::command::beside::write_whole;
-use crate::command::input::{MOST_BYTES, fault_of_told, open_file};
+use crate::command::input::{MOST_BYTES, fault_of_report, open_file};
 use crate::fault::Fault;
 use fit_grammar::File;
 use fit_world::{count_messages, plain_input, print_messages};
@@ -20,7 +20,7 @@ pub fn make_plain<'a, O: Write>(
     to: &'a str,
     out: &mut O,
 ) -> Result<(), Fault<'a>>
-    ensures said { IfErr result (IsPlainSaid name.entry to.entry) }
+    ensures reported { IfErr result (IsPlainReported name.entry to.entry) }
     ensures made { OnOk result (PlainsFile (O.contents out.old) (O.contents out.new)) }
     ensures quiet { IfErr result (PrintsNothing (O.contents out.old) (O.contents out.new)) }
 {
@@ -28,18 +28,18 @@ pub fn make_plain<'a, O: Write>(
     write_whole(rt, to, &plain)?;
     match print_messages(count_messages(&plain), out) {
         Ok(()) => Ok(()),
-        Err(fault) => Err(fault_of_told(name, fault)),
+        Err(fault) => Err(fault_of_report(name, fault)),
     }
 }
 
 // The plain form of the file of this name.
 fn plain_of<'a, R: Files + AllocGlobal>(rt: &R, name: &'a str) -> Result<File, Fault<'a>>
     ensures form { IfOk result IsFormOfFile }
-    ensures said { IfErr result (IsFormSaid name.entry) }
+    ensures reported { IfErr result (IsFormReported name.entry) }
 {
     let mut file = open_file(rt, name)?;
     match plain_input(rt.alloc(), &mut file, MOST_BYTES) {
         Ok(plain) => Ok(plain),
-        Err(fault) => Err(fault_of_told(name, fault)),
+        Err(fault) => Err(fault_of_report(name, fault)),
     }
 }

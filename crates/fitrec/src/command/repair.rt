@@ -4,8 +4,8 @@ ghost use Rattle.std.specs.Prelude.{◌≡◌, IsTrue, IfErr, IfOk, OnOk};
 ghost use Rattle.fit_disk.specs.Shadow.{shadow_story};
 ghost use Rattle.fit_disk.specs.State.{seen_in};
 ghost use Rattle.fit_world.specs.Printed.Repaired.{Repairs, IsRepairFault};
-ghost use Rattle.fitrec.specs.Faults.{SaysRepair, IsFolderFault, IsOpenSaid};
-ghost use Rattle.fitrec.specs.Told.{TellsRepair, PrintsSummary, PrintsNothing, VerifiesFolder};
+ghost use Rattle.fitrec.specs.Faults.{AnswersRepair, IsFolderFault, IsOpenReported};
+ghost use Rattle.fitrec.specs.Reported.{ReportsRepair, PrintsSummary, PrintsNothing, VerifiesFolder};
 
 use crate::command::folder::{open_recorded, read_recorded};
 use crate::fault::Fault;
@@ -21,12 +21,12 @@ pub fn repair_folder<'a, O: Write>(
     name: &'a str,
     out: &mut O,
 ) -> Result<(), Fault<'a>>
-    ensures said { IfErr result (IsFolderFault name.entry) }
+    ensures reported { IfErr result (IsFolderFault name.entry) }
     ensures repaired { OnOk result (PrintsSummary (O.contents out.old) (O.contents out.new)) }
     ensures quiet { IfErr result (PrintsNothing (O.contents out.old) (O.contents out.new)) }
 {
     let (_, repaired) = repair_files(rt, name, Trusting, false, out)?;
-    said_of(repaired)
+    stated_of(repaired)
 }
 
 /// The same, but both files are read first. Each later answer of the system has to agree with what they held and with what was
@@ -40,7 +40,7 @@ pub fn verify_folder<'a, O: Write>(
 {
     let (in_data, in_journal) = read_recorded(rt, name)?;
     let (_, repaired) = repair_holding(rt, name, in_data.as_slice(), in_journal.as_slice(), out)?;
-    said_of(repaired)
+    stated_of(repaired)
 }
 
 /// The same, if the two files have to hold these bytes. The returned shadow has the story of both files.
@@ -54,7 +54,7 @@ pub fn repair_holding<'a, O: Write>(
     ensures repaired { IfOk result (λ done.
         Repairs (record { in_data = in_data.now; in_journal = in_journal.now }) (shadow_story done.0)
         (O.contents out.old) (O.contents out.new) done.1) }
-    ensures said { IfErr result (IsOpenSaid name.entry) }
+    ensures reported { IfErr result (IsOpenReported name.entry) }
     ensures quiet { IfErr result (λ _. O.contents out.new ≡ O.contents out.old) }
 {
     match Shadow::holding(rt.alloc(), in_data, in_journal) {
@@ -75,8 +75,8 @@ pub fn repair_files<'a, W: Witness, O: Write>(
     ensures repaired { IsTrue W.honest → IfOk result (λ done.
         Repairs (seen_in (W.story witness).now) (W.story done.0) (O.contents out.old) (O.contents out.new) done.1) }
     ensures fault { IfOk result (λ done. IfErr done.1 IsRepairFault) }
-    ensures told { IfOk result (λ done. TellsRepair (O.contents out.old) (O.contents out.new) done.1) }
-    ensures said { IfErr result (IsOpenSaid name.entry) }
+    ensures printed { IfOk result (λ done. ReportsRepair (O.contents out.old) (O.contents out.new) done.1) }
+    ensures reported { IfErr result (IsOpenReported name.entry) }
     ensures quiet { IfErr result (λ _. O.contents out.new ≡ O.contents out.old) }
 {
     let Some(mut files) = open_recorded(rt, name, witness)? else {
@@ -91,8 +91,8 @@ pub fn repair_files<'a, W: Witness, O: Write>(
 }
 
 // The program's result of a repair.
-fn said_of(repaired: Result<(), RepairFault>) -> Result<(), Fault<'static>>
-    ensures { SaysRepair repaired result }
+fn stated_of(repaired: Result<(), RepairFault>) -> Result<(), Fault<'static>>
+    ensures { AnswersRepair repaired result }
 {
     match repaired {
         Ok(()) => Ok(()),

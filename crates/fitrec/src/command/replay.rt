@@ -2,19 +2,19 @@
 
 ghost use Rattle.std.specs.Prelude.{◌≡◌, ℕ, All, Err, IfOk, IfErr, OnOk};
 ghost use Rattle.fit_disk.specs.declared.files.OpenFault.{OpenFault as WhyNotOpen};
-ghost use Rattle.fit_world.specs.Printed.ReplyLines.{AreTold};
+ghost use Rattle.fit_world.specs.Printed.ReplyLines.{AreReported};
 ghost use Rattle.fit_world.specs.Printed.Shown.{IsOutputFault};
-ghost use Rattle.fit_world.specs.Rides.Played.{LeavesBehind, BreaksOff};
+ghost use Rattle.fit_world.specs.Rides.Played.{LeavesAfter, BreaksOff};
 ghost use Rattle.fit_world.specs.Scripts.Replayed.{IsReplayed};
 ghost use Rattle.fitrec.specs.declared.fault.Fault.TheVariants.{Refused};
-ghost use Rattle.fitrec.specs.Faults.{fault_of_open, fault_of_replay, IsScriptSaid, IsReplaySaid};
-ghost use Rattle.fitrec.specs.Told.{IsScriptOf, Replays, PrintsNoLine};
+ghost use Rattle.fitrec.specs.Faults.{fault_of_open, fault_of_replay, IsScriptReported, IsReplayReported};
+ghost use Rattle.fitrec.specs.Reported.{IsScriptOf, Replays, PrintsNoLine};
 
 use crate::command::folder::open_folder;
-use crate::command::input::{fault_of_told, read_file};
+use crate::command::input::{fault_of_report, read_file};
 use crate::fault::Fault;
 use fit_disk::{Trusting, Witness};
-use fit_world::{Event, ReplayFault, TellFault, play, read_script};
+use fit_world::{Event, ReplayFault, ReportFault, play, read_script};
 use std::io::Write;
 use std::rt::Files;
 
@@ -26,7 +26,7 @@ pub fn replay_script<'a, O: Write>(
     folder: &'a str,
     out: &mut O,
 ) -> Result<(), Fault<'a>>
-    ensures said { IfErr result (IsReplaySaid script.entry folder.entry) }
+    ensures reported { IfErr result (IsReplayReported script.entry folder.entry) }
     ensures done { OnOk result (Replays (O.contents out.old) (O.contents out.new) 0) }
     ensures refused { (count : ℕ) → result ≡ Err (Refused count)
         → Replays (O.contents out.old) (O.contents out.new) count }
@@ -37,7 +37,7 @@ pub fn replay_script<'a, O: Write>(
     match played {
         Ok(0) => Ok(()),
         Ok(refused) => Err(Fault::Refused(refused)),
-        Err(fault) => Err(fault_of_told(script, fault)),
+        Err(fault) => Err(fault_of_report(script, fault)),
     }
 }
 
@@ -49,16 +49,16 @@ pub fn replay_files<'a, W: Witness, O: Write>(
     witness: W,
     events: &[Event],
     out: &mut O,
-) -> Result<(W, Result<usize, TellFault>), Fault<'a>>
+) -> Result<(W, Result<usize, ReportFault>), Fault<'a>>
     requires { All IsReplayed events.now }
-    ensures told { IfOk result (λ done. IfOk done.1 (λ refused.
-        AreTold events.now (LeavesBehind W.honest (W.story witness) (W.story done.0) events.now) refused
+    ensures printed { IfOk result (λ done. IfOk done.1 (λ refused.
+        AreReported events.now (LeavesAfter W.honest (W.story witness) (W.story done.0) events.now) refused
         (O.contents out.old) (O.contents out.new))) }
     ensures broken_off { IfOk result (λ done. IfErr done.1 (λ _.
         BreaksOff W.honest (W.story witness) (W.story done.0) events.now (O.contents out.old)
         (O.contents out.new))) }
     ensures fault { IfOk result (λ done. IfErr done.1 IsOutputFault) }
-    ensures said { IfErr result (λ said. (why : WhyNotOpen) × (said ≡ fault_of_open folder.entry why)) }
+    ensures reported { IfErr result (λ reported. (why : WhyNotOpen) × (reported ≡ fault_of_open folder.entry why)) }
     ensures quiet { IfErr result (λ _. O.contents out.new ≡ O.contents out.old) }
 {
     let files = open_folder(rt, folder, witness)?;
@@ -70,7 +70,7 @@ pub fn replay_files<'a, W: Witness, O: Write>(
 fn events_of<'a, R: Files + AllocGlobal>(rt: &R, name: &'a str) -> Result<Vec<Event>, Fault<'a>>
     ensures script { IfOk result (λ events. IsScriptOf events.items) }
     ensures replayed { IfOk result (λ events. All IsReplayed events.items) }
-    ensures said { IfErr result (IsScriptSaid name.entry) }
+    ensures reported { IfErr result (IsScriptReported name.entry) }
 {
     let bytes = read_file(rt, name)?;
     match read_script(rt.alloc(), bytes.as_slice()) {

@@ -1,11 +1,11 @@
 // The subcommand `salvage`: writes the readable part of a file that has no journal to a file of its own.
 
 ghost use Rattle.std.specs.Prelude.{◌≡◌, IfErr, OnOk, true};
-ghost use Rattle.fitrec.specs.Faults.{IsNotMade, IsSalvageSaid};
-ghost use Rattle.fitrec.specs.Told.{HasPlainForm, SavesFile, PrintsNothing};
+ghost use Rattle.fitrec.specs.Faults.{IsNotMade, IsSalvageReported};
+ghost use Rattle.fitrec.specs.Reported.{HasPlainForm, SavesFile, PrintsNothing};
 
 use crate::command::beside::write_whole;
-use crate::command::input::{fault_of_told, read_file};
+use crate::command::input::{fault_of_report, read_file};
 use crate::fault::Fault;
 use fit_world::{Salvage, salvage_bytes};
 use std::io::Write;
@@ -22,7 +22,7 @@ pub fn salvage_file<'a, O: Write, E: Write>(
     out: &mut O,
     err: &mut E,
 ) -> Result<(), Fault<'a>>
-    ensures said { IfErr result (IsSalvageSaid plain name.entry to.entry) }
+    ensures reported { IfErr result (IsSalvageReported plain name.entry to.entry) }
     ensures saved { OnOk result (SavesFile all plain (O.contents out.old) (O.contents out.new)) }
     ensures quiet { IfErr result (PrintsNothing (O.contents out.old) (O.contents out.new)) }
 {
@@ -35,7 +35,7 @@ pub fn salvage_file<'a, O: Write, E: Write>(
     let _ = salvage.print_left(err);
     match salvage.print(out) {
         Ok(()) => Ok(()),
-        Err(fault) => Err(fault_of_told(name, fault)),
+        Err(fault) => Err(fault_of_report(name, fault)),
     }
 }
 
@@ -47,7 +47,7 @@ fn write_salvage<'a>(
     plain: bool,
     salvage: &Salvage<'_>,
 ) -> Result<(), Fault<'a>>
-    ensures said { IfErr result (IsNotMade plain to.entry) }
+    ensures reported { IfErr result (IsNotMade plain to.entry) }
     ensures form { OnOk result (plain ≡ true → HasPlainForm salvage.now) }
 {
     if !plain {
@@ -55,6 +55,6 @@ fn write_salvage<'a>(
     }
     match salvage.plain(rt.alloc()) {
         Ok(file) => write_whole(rt, to, &file),
-        Err(fault) => Err(fault_of_told(name, fault)),
+        Err(fault) => Err(fault_of_report(name, fault)),
     }
 }

@@ -1,12 +1,12 @@
 // The subcommand `save`: writes the ride of a recording to a plain file. Nothing is written to the recording.
 
 ghost use Rattle.std.specs.Prelude.{◌≡◌, IfErr, IfOk, OnOk};
-ghost use Rattle.fitrec.specs.Faults.{IsSaveSaid, IsSavedSaid};
-ghost use Rattle.fitrec.specs.Told.{IsSavedRide, SavesFolder, PrintsNothing};
+ghost use Rattle.fitrec.specs.Faults.{IsSaveReported, IsSavedReported};
+ghost use Rattle.fitrec.specs.Reported.{IsSavedRide, SavesFolder, PrintsNothing};
 
 use crate::command::beside::write_whole;
 use crate::command::folder::read_recorded;
-use crate::command::input::fault_of_told;
+use crate::command::input::fault_of_report;
 use crate::fault::Fault;
 use fit_world::{SaveFault, SavedRide, print_summary, save_ride};
 use std::io::Write;
@@ -19,7 +19,7 @@ pub fn save_folder<'a, O: Write>(
     to: &'a str,
     out: &mut O,
 ) -> Result<(), Fault<'a>>
-    ensures said { IfErr result (IsSaveSaid name.entry to.entry) }
+    ensures reported { IfErr result (IsSaveReported name.entry to.entry) }
     ensures saved { OnOk result (SavesFolder (O.contents out.old) (O.contents out.new)) }
     ensures quiet { IfErr result (PrintsNothing (O.contents out.old) (O.contents out.new)) }
 {
@@ -27,14 +27,14 @@ pub fn save_folder<'a, O: Write>(
     write_whole(rt, to, &saved.file)?;
     match print_summary(saved.summary, out) {
         Ok(()) => Ok(()),
-        Err(fault) => Err(fault_of_told(name, fault)),
+        Err(fault) => Err(fault_of_report(name, fault)),
     }
 }
 
 // The ride of this folder.
 fn saved_of<'a>(rt: &HostRuntime, name: &'a str) -> Result<SavedRide, Fault<'a>>
     ensures ride { IfOk result IsSavedRide }
-    ensures said { IfErr result (IsSavedSaid name.entry) }
+    ensures reported { IfErr result (IsSavedReported name.entry) }
 {
     let (data_bytes, journal_bytes) = read_recorded(rt, name)?;
     match save_ride(rt.alloc(), data_bytes, journal_bytes) {

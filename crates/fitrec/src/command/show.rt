@@ -1,10 +1,10 @@
 // The subcommand `show`: prints the text of a file.
 
 ghost use Rattle.fit_world.specs.Printed.Shown.{ShowsBytes};
-ghost use Rattle.fitrec.specs.Faults.{IsTellFault};
-ghost use Rattle.fitrec.specs.Told.{Tells};
+ghost use Rattle.fitrec.specs.Faults.{IsReportFault};
+ghost use Rattle.fitrec.specs.Reported.{Reports};
 
-use crate::command::input::{MOST_BYTES, fault_of_told, open_file};
+use crate::command::input::{MOST_BYTES, fault_of_report, open_file};
 use crate::fault::Fault;
 use fit_world::show_input;
 use std::io::Write;
@@ -17,12 +17,12 @@ pub fn show_file<'a, R: Files + AllocGlobal, O: Write>(
     utc: bool,
     out: &mut O,
 ) -> Result<(), Fault<'a>>
-    ensures { Tells name.entry (O.contents out.old) (O.contents out.new) (IsTellFault name.entry)
+    ensures { Reports name.entry (O.contents out.old) (O.contents out.new) (IsReportFault name.entry)
         (ShowsBytes utc (O.contents out.old) (O.contents out.new)) result }
 {
     let mut file = open_file(rt, name)?;
     match show_input(rt.alloc(), &mut file, MOST_BYTES, utc, out) {
         Ok(()) => Ok(()),
-        Err(fault) => Err(fault_of_told(name, fault)),
+        Err(fault) => Err(fault_of_report(name, fault)),
     }
 }

@@ -2,7 +2,7 @@
 
 ghost use Rattle.fit_world.specs.Printed.Simulation.{Simulates};
 ghost use Rattle.fitrec.specs.Faults.{IsSimulateFault};
-ghost use Rattle.fitrec.specs.Told.{Tells};
+ghost use Rattle.fitrec.specs.Reported.{Reports};
 
 use crate::command::input::read_file;
 use crate::fault::Fault;
@@ -18,7 +18,7 @@ pub fn simulate_script<'a, R: Files + AllocGlobal, O: Write>(
     choices: &[u8],
     out: &mut O,
 ) -> Result<(), Fault<'a>>
-    ensures { Tells name.entry (O.contents out.old) (O.contents out.new) (IsSimulateFault name.entry)
+    ensures { Reports name.entry (O.contents out.old) (O.contents out.new) (IsSimulateFault name.entry)
         (Simulates (O.contents out.old) (O.contents out.new)) result }
 {
     let bytes = read_file(rt, name)?;

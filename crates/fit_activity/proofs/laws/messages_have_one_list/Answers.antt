@@ -1,4 +1,4 @@
-use Rattle.fit_activity.proofs.OneList.Retold.{one-list}
+use Rattle.fit_activity.proofs.OneList.Reheard.{one-list}
 use Rattle.fit_activity.proofs.laws.messages_have_one_list.Goals as goal
 
 pub returns : goal.returns

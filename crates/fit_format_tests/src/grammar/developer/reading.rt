@@ -22,7 +22,7 @@ fn assert_developer(rt: &impl Abort, message: &Message, rows: &[(u8, u8, &[u8])]
 }
 
 #[test]
-fn they_stand_behind_the_fields(rt: HostRuntime) {
+fn they_stand_after_the_fields(rt: HostRuntime) {
     let mut table = Table::new();
     define(&rt, &RECORD, &mut table);
     let message = read_message(&rt, &[0x00, 0x64, 0xAB, 0xCD], &table, 0);
@@ -97,7 +97,7 @@ fn a_later_definition_has_none(rt: HostRuntime) {
 
 // Six bytes until the number of fields is known, then the bytes up to the number of developer fields, then all.
 #[test]
-fn as_long_as_the_bytes_say(rt: HostRuntime) {
+fn as_long_as_the_bytes_state(rt: HostRuntime) {
     let mut table = Table::new();
     let definition = [0x60, 0, 0, 20, 0, 1, 3, 1, 2, 2, 0, 2, 0, 1, 1, 0];
     for len in 1..=definition.len() {
@@ -108,8 +108,8 @@ fn as_long_as_the_bytes_say(rt: HostRuntime) {
         } else {
             16
         };
-        let told = least_length(&definition[..len], &table).ok();
-        assert_eq!(rt; told, Some(least), "{len}");
+        let reported = least_length(&definition[..len], &table).ok();
+        assert_eq!(rt; reported, Some(least), "{len}");
     }
     define(&rt, &definition, &mut table);
     // Its first byte, a field of one byte, and developer fields of two bytes and one.

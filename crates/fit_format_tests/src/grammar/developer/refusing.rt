@@ -2,7 +2,7 @@
 
 use super::{FILE, RECORD};
 use crate::equality::equal;
-use crate::grammar::decoding::{behind_header, outcome};
+use crate::grammar::decoding::{after_header, outcome};
 use crate::grammar::pieces::check_shown_by_last;
 use fit_grammar::FaultKind;
 use std::alloc::AllocError;
@@ -28,13 +28,13 @@ fn a_definition_is_cut_at_each_byte(rt: HostRuntime) -> Result<(), AllocError> {
     for size in 1..=16u8 {
         let shows = shown_by(size);
         for len in 0..=definition.len() {
-            let bytes = behind_header(rt.alloc(), size, &definition[..len])?;
-            let told = if len >= shows {
+            let bytes = after_header(rt.alloc(), size, &definition[..len])?;
+            let reported = if len >= shows {
                 (FaultKind::SplitMessage, 12)
             } else {
                 (FaultKind::Truncated, 12 + len)
             };
-            assert_eq!(rt; outcome(rt.alloc(), &bytes), Some(told), "{size} {len}");
+            assert_eq!(rt; outcome(rt.alloc(), &bytes), Some(reported), "{size} {len}");
         }
     }
     Ok(())
@@ -50,7 +50,7 @@ fn refused_with_the_byte_that_shows_it(rt: HostRuntime) -> Result<(), AllocError
         (9, [0x60, 0, 0, 20, 0, 0, 1].as_slice()),
         (12, [0x60, 0, 0, 20, 0, 1, 3, 1, 2, 1].as_slice()),
     ] {
-        let bytes = behind_header(alloc, size, records)?;
+        let bytes = after_header(alloc, size, records)?;
         check_shown_by_last(&rt, alloc, &bytes, (FaultKind::SplitMessage, 12));
     }
     Ok(())
@@ -61,7 +61,7 @@ fn refused_with_the_byte_that_shows_it(rt: HostRuntime) -> Result<(), AllocError
 fn a_message_passes_the_end(rt: HostRuntime) -> Result<(), AllocError> {
     let mut records = RECORD.to_vec(rt.alloc())?;
     records.push(0x00)?;
-    let bytes = behind_header(rt.alloc(), 16, &records)?;
+    let bytes = after_header(rt.alloc(), 16, &records)?;
     check_shown_by_last(&rt, rt.alloc(), &bytes, (FaultKind::SplitMessage, 25));
     Ok(())
 }

@@ -4,7 +4,7 @@ use Rattle.fit_grammar.proofs.item.next_definition.Goals as goal
 pub returns-then-window-used : goal.returns-then-window-used
 returns-then-window-used c = λ f.
     record {
-      says = begun_definition f c.args.window.now c.requires.head.0 c.args.announced c.requires.begun c.requires.head.1
+      states = begun_definition f c.args.window.now c.requires.head.0 c.args.announced c.requires.begun c.requires.head.1
           (rw (← c.definition_length-used.ensures.length) c.if-window-used.true);
       lent = tt;
       local = tt;

@@ -8,7 +8,7 @@ use Rattle.fit_grammar.specs.Calls.LentItem.{LentItem, lent_item, items_lent}
 use Rattle.fit_grammar.specs.Calls.PlainForm.{plain_items, plain_of, none_timed, IsPlain, IsPlainFault}
 use Rattle.fit_grammar.specs.Private.PlainSoFar.{PlainSoFar}
 use Rattle.fit_grammar.proofs.PlainForm.Messages.{all_plain}
-use Rattle.fit_grammar.proofs.PlainForm.SoFar.{started, is_ready, went_on, refused, stands_at, has_room, ended, fitted, says, stays}
+use Rattle.fit_grammar.proofs.PlainForm.SoFar.{started, is_ready, went_on, refused, stands_at, has_room, ended, fitted, states, stays}
 use Rattle.fit_grammar.proofs.PlainForm.Stood.{fault_in}
 use Rattle.fit_grammar.proofs.plain.plain_file.Goals as goal
 
@@ -102,7 +102,7 @@ pub returns-clause-plain : goal.returns-clause-plain
 returns-clause-plain c = is_plain c
 
 pub returns-clause-messages : goal.returns-clause-messages
-returns-clause-messages c = ap messages_of (items c) ∙ says c.args.file.now c.frame-frame.ensures.possible
+returns-clause-messages c = ap messages_of (items c) ∙ states c.args.file.now c.frame-frame.ensures.possible
 
 pub returns-clause-written_out : goal.returns-clause-written_out
 returns-clause-written_out c =

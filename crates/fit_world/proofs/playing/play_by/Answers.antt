@@ -1,6 +1,6 @@
 use Rattle.std.proofs.Common.{[], ◌∷◌, ◌++◌, ◌+◌, drop, sym, ◌∙◌, arith}
 use Rattle.fit_world.proofs.Histories.Played.{not_begun, rode_on, all_left, some_left}
-use Rattle.fit_world.proofs.Told.Replayed.{none_yet, one_ok, one_refused, at_the_end, cut_off}
+use Rattle.fit_world.proofs.Reported.Replayed.{none_yet, one_ok, one_refused, at_the_end, cut_off}
 use Rattle.fit_world.proofs.playing.play_by.Goals as goal
 use Rattle.fit_world.proofs.playing.play_by.Goals.{then-not-is_ok, else-not-is_ok}
 
@@ -18,17 +18,17 @@ loop-event-preserved g c =
     let known = c.loop-event.invariant in
     let ran = c.ask-next.ensures in
     let put = c.in_default.ensures.line in
-    let said = known.so_far.0 in
+    let stated = known.so_far.0 in
     let rode =
-    rode_on g.D.Disk.honest g.D.Disk.story (g.D.Disk.story c.args.disk) c.args.events.now c.loop-event.event-index _ said c.loop-event.ride
+    rode_on g.D.Disk.honest g.D.Disk.story (g.D.Disk.story c.args.disk) c.args.events.now c.loop-event.event-index _ stated c.loop-event.ride
     c.ask-next.result.0 c.ask-next.result.1 c.loop-event-test.true known.so_far.2 ran.step in
     elim c.if-not-is_ok.branch [
       | then-not-is_ok w ↦ record {
         goes_on = ran.goes_on;
         most = omega (arith, w.refused-is, known.most);
         so_far = rw w.refused-is (
-          said ++ c.ask-next.result.1 ∷ [],
-          one_refused c.args.events.now c.loop-event.event-index _ _ _ said _ _ _ _ _ c.loop-event-test.true known.so_far.1 ran.reply ran.riding
+          stated ++ c.ask-next.result.1 ∷ [],
+          one_refused c.args.events.now c.loop-event.event-index _ _ _ stated _ _ _ _ _ c.loop-event-test.true known.so_far.1 ran.reply ran.riding
               (sym c.is_ok.ensures ∙ w.if-not-is_ok.true) (put.same, put.all),
           rode,
         );
@@ -38,8 +38,8 @@ loop-event-preserved g c =
         goes_on = ran.goes_on;
         most = omega (arith, w.refused-is, known.most);
         so_far = rw w.refused-is (
-          said ++ c.ask-next.result.1 ∷ [],
-          one_ok c.args.events.now c.loop-event.event-index _ _ _ said _ _ _ _ _ c.loop-event-test.true known.so_far.1 ran.reply ran.riding
+          stated ++ c.ask-next.result.1 ∷ [],
+          one_ok c.args.events.now c.loop-event.event-index _ _ _ stated _ _ _ _ _ c.loop-event-test.true known.so_far.1 ran.reply ran.riding
               (sym c.is_ok.ensures ∙ w.if-not-is_ok.false) (put.same, put.all),
           rode,
         );
@@ -47,8 +47,8 @@ loop-event-preserved g c =
       }
     ]
 
-pub returns-clause-told : goal.returns-clause-told
-returns-clause-told g c =
+pub returns-clause-outcome : goal.returns-clause-outcome
+returns-clause-outcome g c =
     let so_far = c.loop-event.invariant.so_far in
     at_the_end c.args.events.now c.loop-event.event-index _ so_far.0 _ _ _ _ c.loop-event-test.false c.requires.waits
     c.loop-event.invariant.waits so_far.1
@@ -62,10 +62,10 @@ returns-in-Err-clause-broken_off g c =
     let events = c.args.events.now in
     let i = c.loop-event.event-index in
     let so_far = c.loop-event.invariant.so_far in
-    let said = so_far.0 ++ c.ask-next.result.1 ∷ [] in
+    let stated = so_far.0 ++ c.ask-next.result.1 ∷ [] in
     cut_off honest _ _ events i _ _ so_far.0 c.ask-next.result.1 _ _ _ _ c.loop-event-test.true c.requires.waits
     c.loop-event.invariant.waits so_far.1 c.ask-next.ensures.reply c.in-Err.ensures.line.beginning
-    (some_left honest story (story c.args.disk) _ events (drop (i + 1) events) said c.ask-next.result.0
+    (some_left honest story (story c.args.disk) _ events (drop (i + 1) events) stated c.ask-next.result.0
     (rode_on honest story (story c.args.disk) events i _ so_far.0 c.loop-event.ride c.ask-next.result.0 c.ask-next.result.1
     c.loop-event-test.true so_far.2 c.ask-next.ensures.step)
     c.into_disk.ensures.rests)

@@ -2,7 +2,7 @@ use Rattle.std.proofs.Common.{◌≡◌, ◌≤◌, List, [], drop}
 use Rattle.fit_world.specs.declared.reply.Reply.{Reply}
 use Rattle.fit_world.specs.Rides.Ride.{CanGoOn, is_riding}
 use Rattle.fit_world.proofs.Histories.Played.{Rode}
-use Rattle.fit_world.proofs.Told.Replayed.{LeadsTo}
+use Rattle.fit_world.proofs.Reported.Replayed.{LeadsTo}
 use Rattle.fit_world.proofs.playing.play_by.Given as goal
 
 abbrev pub invariant-loop-event : goal.invariant-loop-event
@@ -10,7 +10,7 @@ invariant-loop-event g l =
     record {
       goes_on : CanGoOn g.D.Disk.honest g.D.Disk.story l.ride;
       most : l.refused ≤ l.event-index;
-      so_far : (said : List Reply) × LeadsTo l.events (is_riding l.ride) (drop l.event-index l.events) said l.refused l.initial.pen l.pen
-          × Rode g.D.Disk.honest g.D.Disk.story (g.D.Disk.story l.fn.disk) l.events (drop l.event-index l.events) said l.ride;
+      so_far : (stated : List Reply) × LeadsTo l.events (is_riding l.ride) (drop l.event-index l.events) stated l.refused l.initial.pen l.pen
+          × Rode g.D.Disk.honest g.D.Disk.story (g.D.Disk.story l.fn.disk) l.events (drop l.event-index l.events) stated l.ride;
       waits : l.pen.waiting ≡ [];
     }

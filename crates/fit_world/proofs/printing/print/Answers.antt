@@ -1,4 +1,4 @@
-use Rattle.fit_world.proofs.Told.Printed.{line_flushed}
+use Rattle.fit_world.proofs.Reported.Printed.{line_flushed}
 use Rattle.fit_world.proofs.printing.print.Goals as goal
 
 pub returns-clause-line : goal.returns-clause-line

@@ -1,9 +1,9 @@
 use Rattle.std.proofs.Common.{◌≡◌, ◌∙◌, ◌++◌, Ok, Err, subst}
 use Rattle.fit_grammar.specs.Calls.Output.{AppendsBeginning}
 use Rattle.fit_text.specs.Pen.{Continues, Puts}
-use Rattle.fit_world.specs.declared.fault.TellFault.{TellFault}
-use Rattle.fit_world.specs.declared.fault.TellFault.TheVariants.{Output}
-use Rattle.fit_world.proofs.Told.Printed.{line_made, of_line}
+use Rattle.fit_world.specs.declared.fault.ReportFault.{ReportFault}
+use Rattle.fit_world.specs.declared.fault.ReportFault.TheVariants.{Output}
+use Rattle.fit_world.proofs.Reported.Printed.{line_made, of_line}
 use Rattle.fit_world.proofs.printing.put_line.Goals as goal
 
 pub returns-in-Ok-put-clause-line : goal.returns-in-Ok-put-clause-line
@@ -11,7 +11,7 @@ returns-in-Ok-put-clause-line g c =
     let old = c.args.pen.now in
     let new = c.put.new.self in
     let put : c.as_bytes.result.now ≡ c.writeln.new.self.bytes = c.as_bytes.ensures.value ∙ c.as_str.ensures.value in
-    of_line (λ bytes. Puts {E = TellFault} old new (Ok (tt {0})) bytes) c.writeln.new.self.bytes (g.L.Display.output c.args.line.now)
+    of_line (λ bytes. Puts {E = ReportFault} old new (Ok (tt {0})) bytes) c.writeln.new.self.bytes (g.L.Display.output c.args.line.now)
     (line_made c.new-text.result c.writeln.new.self _ c.new-text.ensures c.in-Ok.ensures.writes)
     (record { same = c.in-Ok-put.ensures.same; all = subst (Continues old new) put c.in-Ok-put.ensures.all; beginning = tt })
 

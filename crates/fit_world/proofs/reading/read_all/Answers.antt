@@ -1,6 +1,6 @@
 use Rattle.std.proofs.Common.{List, ℕ, arith, sym, subst, length-append, length-take}
 use Rattle.std.specs.Io.KnownBytes.{Consumes}
-use Rattle.fit_world.proofs.Told.Reading.{consumes_none, consumes_more}
+use Rattle.fit_world.proofs.Reported.Reading.{consumes_none, consumes_more}
 use Rattle.fit_world.proofs.reading.read_all.Goals as goal
 
 pub loop-taken-init : goal.loop-taken-init

@@ -1,6 +1,6 @@
 use Rattle.std.proofs.Common.{Ok, Err}
 use Rattle.std.specs.declared.io.Error.{Error}
-use Rattle.fit_world.proofs.Told.Reading.{reads_then}
+use Rattle.fit_world.proofs.Reported.Reading.{reads_then}
 use Rattle.fit_world.proofs.reading.read_piece.Goals as goal
 
 pub returns-in-Ok-clause-bytes : goal.returns-in-Ok-clause-bytes

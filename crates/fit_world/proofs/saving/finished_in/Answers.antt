@@ -1,4 +1,4 @@
-use Rattle.fit_world.proofs.Told.Saved.{finished_of}
+use Rattle.fit_world.proofs.Reported.Saved.{finished_of}
 use Rattle.fit_world.proofs.saving.finished_in.Goals as goal
 
 pub returns-in-Ok-decode_whole : goal.returns-in-Ok-decode_whole

@@ -3,7 +3,7 @@ use Rattle.std.proofs.lemmas.List.{drop_more, drop_all}
 use Rattle.fit_text.proofs.PenLemmas.{Leaves, leaves_less, leaves_none, leaves_off, puts_same, puts_then}
 use Rattle.fit_text.specs.Pen.{Written, Puts}
 use Rattle.fit_world.specs.declared.event.Event.{Event}
-use Rattle.fit_world.specs.declared.fault.TellFault.{TellFault}
+use Rattle.fit_world.specs.declared.fault.ReportFault.{ReportFault}
 use Rattle.fit_world.specs.declared.reply.Reply.{Reply}
 use Rattle.fit_world.specs.Printed.ReplyLines.{line_text, lines_text}
 use Rattle.fit_world.proofs.simulating.put_replies.Goals as goal
@@ -33,7 +33,7 @@ no_event events replies i past = rw (drop_all i events past) refl
 all_lines : {T E : Type 0} (o m n : Written) (text left : List ℕ) (flushed : Result T E) → left ≡ [] → Leaves o m text left →
     Puts m n flushed [] → Puts o n flushed text
 all_lines o m n text left flushed none leaves flush =
-    puts_same (puts_then (leaves_none {E = TellFault} (tt {0}) (subst (Leaves o m text) none leaves)) flush) (append-nil text)
+    puts_same (puts_then (leaves_none {E = ReportFault} (tt {0}) (subst (Leaves o m text) none leaves)) flush) (append-nil text)
 
 pub loop-index-preserved : goal.loop-index-preserved
 loop-index-preserved g c =

@@ -1,6 +1,6 @@
 use Rattle.std.proofs.Common.{◌≡◌, true, false, drop, List}
 use Rattle.fit_disk.specs.Memory.{memory_story, is_spent}
-use Rattle.fit_world.specs.Histories.Table.{Told}
+use Rattle.fit_world.specs.Histories.Table.{Outcome}
 use Rattle.fit_world.specs.Rides.Ride.{CanGoOn, disk_in}
 use Rattle.fit_world.proofs.Histories.Runs.{Leads}
 use Rattle.fit_world.proofs.world.run_for.Given as goal
@@ -10,5 +10,5 @@ invariant-loop-event g l =
     record {
       goes_on : CanGoOn true memory_story l.ride;
       not_spent : is_spent (disk_in l.ride) ≡ false;
-      so_far : (tolds : List Told) × g.K.Keeper.WasTold l.keeper tolds × Leads l.events (drop l.event-index l.events) tolds l.ride;
+      so_far : (outcomes : List Outcome) × g.K.Keeper.WasReported l.keeper outcomes × Leads l.events (drop l.event-index l.events) outcomes l.ride;
     }

@@ -11,11 +11,11 @@ use Rattle.fit_grammar.proofs.KeptRow.InForce.{in_force-data}
 use Rattle.fit_grammar.proofs.KeptRow.Kept.{kept}
 use Rattle.fit_grammar.proofs.file.File.push_data.Goals as goal
 
-abbrev behind : goal.After-unwrap → Inside
-behind c = record { frame = c.self.inside.frame; records = c.extend_from_slice.new.self; table = c.self.inside.table }
+abbrev after : goal.After-unwrap → Inside
+after c = record { frame = c.self.inside.frame; records = c.extend_from_slice.new.self; table = c.self.inside.table }
 
 on : (c : goal.After-unwrap)
-    → IsKept (behind c) × (file_view (behind c) ≡ with_item (file_view c.self.inside) (Data c.args.local c.args.offset c.args.content.now))
+    → IsKept (after c) × (file_view (after c) ≡ with_item (file_view c.self.inside) (Data c.args.local c.args.offset c.args.content.now))
 on c =
     let old = c.self.inside in
     let item = Data c.args.local c.args.offset c.args.content.now in
@@ -26,7 +26,7 @@ on c =
     (rw c.unwrap.ensures at c.extend_from_slice.ensures.items)
     ∙ ap (λ (b : List ℕ). b ++ c.args.content.now) first
     ∙ append_assoc old.records.items (data_byte c.args.local c.args.offset ∷ []) c.args.content.now in
-    kept old (behind c) item c.self.invariant refl bytes
+    kept old (after c) item c.self.invariant refl bytes
     (follows_in (file_view old) c.args.self.now item c.self.view_is
     (record {
       encodable = c.requires.encodable;

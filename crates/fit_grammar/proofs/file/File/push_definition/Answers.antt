@@ -10,10 +10,10 @@ use Rattle.fit_grammar.specs.Private.ItemRow.{items_in}
 use Rattle.fit_grammar.proofs.KeptRow.Kept.{kept, table-take}
 use Rattle.fit_grammar.proofs.file.File.push_definition.Goals as goal
 
-abbrev behind : goal.After-keep → Inside
-behind c = record { frame = c.self.inside.frame; records = c.extend_from_slice.new.self; table = c.keep.new.self }
+abbrev after : goal.After-keep → Inside
+after c = record { frame = c.self.inside.frame; records = c.extend_from_slice.new.self; table = c.keep.new.self }
 
-on : (c : goal.After-keep) → IsKept (behind c) × (file_view (behind c) ≡ with_item (file_view c.self.inside) (Defines c.args.d.now))
+on : (c : goal.After-keep) → IsKept (after c) × (file_view (after c) ≡ with_item (file_view c.self.inside) (Defines c.args.d.now))
 on c =
     let old = c.self.inside in
     let d = c.args.d.now in
@@ -22,7 +22,7 @@ on c =
     c.in_ok-extend_from_slice.ensures.items ∙ ap (λ (b : List ℕ). old.records.items ++ b)
     (c.bytes.ensures ∙ ap (λ (e : Definition). encoded_item (Defines e)) same) in
     let taken = rw same at c.keep.ensures in
-    kept old (behind c) (Defines d) c.self.invariant refl bytes
+    kept old (after c) (Defines d) c.self.invariant refl bytes
     (record { encodable = c.requires.local; fits = c.new-written.ensures.fits; defined = tt })
     (λ long. c.requires.fits (subst (λ (v : FileValue). IsTooLong v (Defines d)) c.self.view_is long))
     (table-take old.table c.keep.new.self (items_in old.records.items) d c.self.invariant.table taken.taken taken.others)

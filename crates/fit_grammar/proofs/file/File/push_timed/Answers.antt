@@ -11,11 +11,11 @@ use Rattle.fit_grammar.proofs.KeptRow.InForce.{in_force-data}
 use Rattle.fit_grammar.proofs.KeptRow.Kept.{kept}
 use Rattle.fit_grammar.proofs.file.File.push_timed.Goals as goal
 
-abbrev behind : goal.After-unwrap-2 → Inside
-behind c = record { frame = c.self.inside.frame; records = c.extend_from_slice-2.new.self; table = c.self.inside.table }
+abbrev after : goal.After-unwrap-2 → Inside
+after c = record { frame = c.self.inside.frame; records = c.extend_from_slice-2.new.self; table = c.self.inside.table }
 
 on : (c : goal.After-unwrap-2)
-    → IsKept (behind c) × (file_view (behind c) ≡ with_item (file_view c.self.inside) (Data c.args.local None (c.args.time.now ++ c.args.content.now)))
+    → IsKept (after c) × (file_view (after c) ≡ with_item (file_view c.self.inside) (Data c.args.local None (c.args.time.now ++ c.args.content.now)))
 on c =
     let old = c.self.inside in
     let content = c.args.time.now ++ c.args.content.now in
@@ -29,7 +29,7 @@ on c =
     ∙ ap (λ (b : List ℕ). b ++ c.args.content.now) second
     ∙ append_assoc (old.records.items ++ c.args.local ∷ []) c.args.time.now c.args.content.now
     ∙ append_assoc old.records.items (c.args.local ∷ []) content in
-    kept old (behind c) item c.self.invariant refl bytes
+    kept old (after c) item c.self.invariant refl bytes
     (follows_in (file_view old) c.args.self.now item c.self.view_is
     (record {
       encodable = c.requires.local;

@@ -5,7 +5,7 @@ use Rattle.fit_grammar.specs.declared.file.fault.FileFault.{FileFault}
 use Rattle.fit_grammar.specs.Format.File.{FileValue, FileOf}
 use Rattle.fit_grammar.specs.Format.Refusal.{IsFaultOf}
 use Rattle.fit_grammar.proofs.Decoding.Refused.{file_not_refused}
-use Rattle.fit_grammar.proofs.Pieces.Told.{shown_fault}
+use Rattle.fit_grammar.proofs.Pieces.Reported.{shown_fault}
 use Rattle.fit_grammar.proofs.file.decode.decode_file.Goals as goal
 
 memory_by : (b : List ℕ) (v : FileValue) (fault : FileFault) → FileOf b v → IsFaultOf b fault → fault.kind ≡ Memory

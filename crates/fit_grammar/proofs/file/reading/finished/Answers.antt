@@ -4,7 +4,7 @@ use Rattle.std.proofs.lemmas.List.{length-append}
 use Rattle.fit_grammar.specs.Format.Records.{data_size}
 use Rattle.fit_grammar.proofs.Pieces.Noted.{all_noted}
 use Rattle.fit_grammar.proofs.Pieces.Standing.{stands_length}
-use Rattle.fit_grammar.proofs.Pieces.Told.{cut_fault}
+use Rattle.fit_grammar.proofs.Pieces.Reported.{cut_fault}
 use Rattle.fit_grammar.proofs.file.reading.finished.Goals as goal
 
 pub returns-then-len-lt2-clause-refused : goal.returns-then-len-lt2-clause-refused

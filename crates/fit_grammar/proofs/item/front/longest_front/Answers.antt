@@ -8,18 +8,18 @@ use Rattle.fit_grammar.specs.declared.item.Step.TheVariants as steps
 use Rattle.fit_grammar.specs.Format.Item.{Item, Spells}
 use Rattle.fit_grammar.specs.Format.Records.{Records, IsDefinedBy}
 use Rattle.fit_grammar.specs.Calls.LongestFront.{IsLongestFront}
-use Rattle.fit_grammar.specs.Calls.Step.{item_of, ItemAtFront, IsStepItem, StepSays}
-use Rattle.fit_grammar.specs.Calls.Table.{behind, definition_in}
+use Rattle.fit_grammar.specs.Calls.Step.{item_of, ItemAtFront, IsStepItem, StepReports}
+use Rattle.fit_grammar.specs.Calls.Table.{in_force_after, definition_in}
 use Rattle.fit_grammar.specs.Private.FrontPassed.{HasPassed}
 use Rattle.fit_grammar.proofs.OneItem.Steps.{only_item}
 use Rattle.fit_grammar.proofs.Decoding.Alignment.{GoesOn, longer, shorter, aligned}
 use Rattle.fit_grammar.proofs.Decoding.Reached.{records_more}
-use Rattle.fit_grammar.proofs.KeptRow.ByLookup.{behind-in_force}
+use Rattle.fit_grammar.proofs.KeptRow.ByLookup.{in_force_after-in_force}
 use Rattle.fit_grammar.proofs.item.front.longest_front.Goals as goal
 
 -- an item at the front of what is left is passed too
 passes_more : (f g : ℕ → Option Definition) (bytes : List ℕ) (front : ℕ) (item : Item) (used : ℕ) → HasPassed f bytes front
-    → ItemAtFront f (drop front bytes) item used → g ≡ behind item f → HasPassed g bytes (front + used)
+    → ItemAtFront f (drop front bytes) item used → g ≡ in_force_after item f → HasPassed g bytes (front + used)
 passes_more f g bytes front item used p at e =
     let own = take used (drop front bytes) in
     let defined = subst (λ (h : ℕ → Option Definition). IsDefinedBy h item) p.in_force_are at.defined in
@@ -28,7 +28,7 @@ passes_more f g bytes front item used p at e =
       items = p.items ++ item ∷ [];
       are_records = subst (λ (l : List ℕ). Records l (p.items ++ item ∷ [])) (sym (take-add front used bytes))
           (records_more [] (take front bytes) p.items item own p.are_records at.spelled defined);
-      in_force_are = e ∙ ap (behind item) p.in_force_are ∙ behind-in_force p.items item;
+      in_force_are = e ∙ ap (in_force_after item) p.in_force_are ∙ in_force_after-in_force p.items item;
     }
 
 -- no item is at the front of what is left
@@ -97,19 +97,19 @@ no_item (steps.Item found count) item used none is = none found count refl
 no_item steps.NeedMore item used none is = is
 no_item (steps.Refused fault) item used none is = is
 
-step_ends : (f : ℕ → Option Definition) (window : List ℕ) (step : Step) → StepSays f window step
+step_ends : (f : ℕ → Option Definition) (window : List ℕ) (step : Step) → StepReports f window step
     → ((found : ReadItem) (count : ℕ) → step ≡ steps.Item found count → ⊥) → Ends f window
-step_ends f window step says none = λ item used at. no_item step item used none (only_item f window step item used says at)
+step_ends f window step states none = λ item used at. no_item step item used none (only_item f window step item used states at)
 
 pub loop-item-preserved : goal.loop-item-preserved
 loop-item-preserved c =
     let f = definition_in c.loop-item.latest in
     passes_more f (definition_in c.take_over.new.latest) c.args.bytes.now c.loop-item.front (item_of c.in-Item.item) c.in-Item.used
-    c.loop-item.invariant (rw take_rest at c.in-Item.ensures.says) c.take_over.ensures
+    c.loop-item.invariant (rw take_rest at c.in-Item.ensures.states) c.take_over.ensures
 
 pub returns : goal.returns
 returns c =
     let f = definition_in c.loop-item.latest in
     longest f c.args.bytes.now c.loop-item.front c.loop-item.invariant
-    (step_ends f (drop c.loop-item.front c.args.bytes.now) c.step_behind.result (rw take_rest at c.step_behind.ensures.says)
+    (step_ends f (drop c.loop-item.front c.args.bytes.now) c.step_after.result (rw take_rest at c.step_after.ensures.states)
     c.in_default.not-Item)

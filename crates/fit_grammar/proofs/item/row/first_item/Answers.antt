@@ -8,12 +8,12 @@ pub unreachable-requires : goal.unreachable-requires
 unreachable-requires c =
     let f = definition_in c.args.latest.now in
     let step = c.step_under.ensures f (sym (c.get-definition.ensures ∙ ap f c.first_local.ensures)) in
-    step_found f c.args.bytes.now c.step_under.result c.requires.written c.requires.some step.says c.in_default.not-Item
+    step_found f c.args.bytes.now c.step_under.result c.requires.written c.requires.some step.states c.in_default.not-Item
 
 pub split_at-requires : goal.split_at-requires
 split_at-requires c =
     let f = definition_in c.args.latest.now in
-    (c.in-Item.ensures f (sym (c.get-definition.ensures ∙ ap f c.first_local.ensures))).says.within
+    (c.in-Item.ensures f (sym (c.get-definition.ensures ∙ ap f c.first_local.ensures))).states.within
 
 pub returns : goal.returns
 returns c =

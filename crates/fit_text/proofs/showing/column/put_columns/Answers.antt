@@ -1,6 +1,6 @@
 use Rattle.std.proofs.Common.{sym, ◌∙◌, arith}
 use Rattle.fit_text.proofs.PenLemmas.{leaves_less, leaves_off}
-use Rattle.fit_text.proofs.PlanLemmas.{first_size, first_behind, no_behind, other_kinds, first_text}
+use Rattle.fit_text.proofs.PlanLemmas.{first_size, first_after, no_after, other_kinds, first_text}
 use Rattle.fit_text.proofs.showing.column.put_columns.Goals as goal
 
 pub returns-in_err-put_column-clause-text : goal.returns-in_err-put_column-clause-text
@@ -17,13 +17,13 @@ loop-left-preserved g c =
     record {
       kinds = other_kinds c.args.dates.now left c.in-len1-up.len_at_least c.loop-left.invariant.kinds;
       within = omega (arith, size, c.loop-left.invariant.within, c.split_at.ensures.back_len, c.from.ensures);
-      behind = first_behind left column c.loop-left.rest.now _ _ c.in-len1-up.len_at_least c.column-item.is c.split_at.ensures.back c.from.ensures
-          ∙ c.loop-left.invariant.behind;
+      after = first_after left column c.loop-left.rest.now _ _ c.in-len1-up.len_at_least c.column-item.is c.split_at.ensures.back c.from.ensures
+          ∙ c.loop-left.invariant.after;
       put = leaves_less _ c.loop-left.invariant.put c.in_ok-put_column.ensures
           (first_text c.args.dates.now c.args.arch left column c.loop-left.rest.now _ _ _ c.in-len1-up.len_at_least
           c.column-item.is c.split_at.ensures.front c.split_at.ensures.back c.from.ensures);
     }
 
-pub returns-clause-behind : goal.returns-clause-behind
-returns-clause-behind g c =
-    sym (no_behind c.loop-left.left.now c.loop-left.rest.now c.in_default.len_below) ∙ c.loop-left.invariant.behind
+pub returns-clause-after : goal.returns-clause-after
+returns-clause-after g c =
+    sym (no_after c.loop-left.left.now c.loop-left.rest.now c.in_default.len_below) ∙ c.loop-left.invariant.after

@@ -7,7 +7,7 @@ abbrev pub invariant-loop-left : goal.invariant-loop-left
 invariant-loop-left g l = record {
   kinds : HaveKinds l.dates l.left;
   within : sum_by (λ column. column.size) l.left ≤ length l.rest;
-  behind : drop (sum_by (λ column. column.size) l.left) l.rest ≡ drop (sum_by (λ column. column.size) l.initial.left) l.initial.rest;
+  after : drop (sum_by (λ column. column.size) l.left) l.rest ≡ drop (sum_by (λ column. column.size) l.initial.left) l.initial.rest;
   put : Leaves l.initial.pen l.pen (columns_text l.dates l.arch l.initial.left l.initial.rest) (columns_text l.dates l.arch l.left l.rest);
 }
 

@@ -4,7 +4,7 @@ use Rattle.fit_grammar.specs.Format.Item.{Defines}
 use Rattle.fit_grammar.specs.Format.Message.{messages_of}
 use Rattle.fit_grammar.specs.Format.Records.{in_force}
 use Rattle.fit_grammar.specs.Calls.LentItem.{lent_item, messages_in}
-use Rattle.fit_grammar.specs.Calls.Table.{behind}
+use Rattle.fit_grammar.specs.Calls.Table.{in_force_after}
 use Rattle.fit_text.specs.Text.{message_text}
 use Rattle.fit_text.proofs.PenLemmas.{leaves_all, leaves_less, leaves_off}
 use Rattle.fit_text.proofs.PlanLemmas.{plan_at, plan_got}
@@ -13,15 +13,15 @@ use Rattle.fit_text.proofs.showing.file.put_messages.Goals as goal
 pub loop-item-init : goal.loop-item-init
 loop-item-init g c =
     let all = c.into_iter-item-iterator.ensures.into_iter_gives in
-    let said : messages_in c.into_iter-item-iterator.result ≡ messages_of c.args.file.now.items =
+    let stated : messages_in c.into_iter-item-iterator.result ≡ messages_of c.args.file.now.items =
     ap messages_in all ∙ c.items-item-items.ensures.messages in (
       in_force [],
       record {
         under = rw all c.items-item-items.ensures.under;
         plans = c.new-plans.ensures.plans (in_force []);
         utc = c.new-plans.ensures.utc;
-        put = rw said (leaves_all _ _);
-        count = omega (arith, ap length said);
+        put = rw stated (leaves_all _ _);
+        count = omega (arith, ap length stated);
       },
     )
 
@@ -38,7 +38,7 @@ loop-item-preserved-in-Definition g c =
     let d = c.in-Definition.definition in
     let steps = c.in-Some.ensures.steps ∙ ap (λ item. lent_item item ∷ c.next.new.self) c.in-Definition.is in
     let under = rw steps at kept.under in (
-      behind (Defines d) definition_for,
+      in_force_after (Defines d) definition_for,
       record {
         under = under.1;
         plans = c.forget.ensures.plans definition_for d (sym c.local.ensures) kept.plans;

@@ -40,7 +40,7 @@ put_developer_fields-requires g c =
       arith,
       size,
       ap (λ fields. sum_by (λ field. field.size) fields) c.requires.developer,
-      ap length c.in_ok-behind.ensures.behind,
+      ap length c.in_ok-after.ensures.after,
       length-drop (sum_by (λ column. column.size) c.args.columns.now) content,
       c.args.message.now.whole,
     )
@@ -53,12 +53,12 @@ returns-in_err-put_time g c =
     (plan_text c.args.number message.definition c.args.time message.content.now c.args.plan.now c.args.columns.now c.args.developer.now _
     c.dates_of-dates.ensures c.in_err-put_time.ensures.fits c.requires)
 
-pub returns-in_err-behind : goal.returns-in_err-behind
-returns-in_err-behind g c =
+pub returns-in_err-after : goal.returns-in_err-after
+returns-in_err-after g c =
     let message = c.args.message.now in
     puts_same (puts_then (puts_more (puts_more c.in_ok-room.ensures.puts c.add_number.ensures) c.add_label.ensures.label)
     (puts_then c.in_ok-put_time.ensures.text
-    (puts_stop c.from_residual-in_err-behind.ensures.0 c.in_err-behind.ensures.text _)))
+    (puts_stop c.from_residual-in_err-after.ensures.0 c.in_err-after.ensures.text _)))
     (plan_text c.args.number message.definition c.args.time message.content.now c.args.plan.now c.args.columns.now c.args.developer.now _
     c.dates_of-dates.ensures c.in_ok-put_time.ensures.fits c.requires)
 
@@ -67,9 +67,9 @@ returns-in_err-put_developer_fields g c =
     let message = c.args.message.now in
     puts_same (puts_then (puts_more (puts_more c.in_ok-room.ensures.puts c.add_number.ensures) c.add_label.ensures.label)
     (puts_then c.in_ok-put_time.ensures.text
-    (puts_then c.in_ok-behind.ensures.text
+    (puts_then c.in_ok-after.ensures.text
     (puts_stop c.from_residual-in_err-put_developer_fields.ensures.0
-    (rw c.in_ok-behind.ensures.behind at c.in_err-put_developer_fields.ensures) _))))
+    (rw c.in_ok-after.ensures.after at c.in_err-put_developer_fields.ensures) _))))
     (plan_text c.args.number message.definition c.args.time message.content.now c.args.plan.now c.args.columns.now c.args.developer.now _
     c.dates_of-dates.ensures c.in_ok-put_time.ensures.fits c.requires)
 
@@ -78,7 +78,7 @@ returns g c =
     let message = c.args.message.now in
     puts_same (puts_then (puts_more (puts_more c.in_ok-room.ensures.puts c.add_number.ensures) c.add_label.ensures.label)
     (puts_then c.in_ok-put_time.ensures.text
-    (puts_then c.in_ok-behind.ensures.text
-    (puts_then (rw c.in_ok-behind.ensures.behind at c.in_ok-put_developer_fields.ensures) c.put.ensures))))
+    (puts_then c.in_ok-after.ensures.text
+    (puts_then (rw c.in_ok-after.ensures.after at c.in_ok-put_developer_fields.ensures) c.put.ensures))))
     (plan_text c.args.number message.definition c.args.time message.content.now c.args.plan.now c.args.columns.now c.args.developer.now _
     c.dates_of-dates.ensures c.in_ok-put_time.ensures.fits c.requires)

@@ -1,6 +1,6 @@
 use Rattle.fit_recorder.specs.Calls.Answers.{CommitAnswers}
 use Rattle.fit_recorder.specs.Calls.Recorder.{journal_slots}
-use Rattle.fit_world.proofs.Told.Replies.{replies_of_call, done_of_call}
+use Rattle.fit_world.proofs.Reported.Replies.{replies_of_call, done_of_call}
 use Rattle.fit_world.proofs.Histories.Riding.{commit_goes}
 use Rattle.fit_world.proofs.ride.Ride.commit.Goals as goal
 
@@ -15,7 +15,7 @@ pub returns-in-Riding-clause-handed : goal.returns-in-Riding-clause-handed
 returns-in-Riding-clause-handed g c list handed done =
     let known = rw c.in-Riding.is at handed in (
       done_of_call c.commit.result c.into.result _ c.into.ensures (c.commit.ensures.handed list known.0) done,
-      done_of_call c.commit.result c.into.result _ c.into.ensures c.commit.ensures.behind.going done,
+      done_of_call c.commit.result c.into.result _ c.into.ensures c.commit.ensures.after.going done,
     )
 
 pub returns-in-Riding-clause-made : goal.returns-in-Riding-clause-made
@@ -27,5 +27,5 @@ returns-in-Riding-clause-step g c honest before stands =
     let here = rw c.in-Riding.is at stands in
     let done = c.commit.ensures in
     rw c.into.ensures
-    (commit_goes g.D.Disk.honest g.D.Disk.story c.in-Riding.recorder c.commit.new.self c.commit.result done.behind.same done.behind.failed done.behind.gone
+    (commit_goes g.D.Disk.honest g.D.Disk.story c.in-Riding.recorder c.commit.new.self c.commit.result done.after.same done.after.failed done.after.gone
     done.answers done.turns done.ok (done.any_moment honest) before here)

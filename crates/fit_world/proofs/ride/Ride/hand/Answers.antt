@@ -1,6 +1,6 @@
 use Rattle.fit_recorder.specs.Calls.Answers.{HandAnswers}
 use Rattle.fit_recorder.specs.Calls.Recorder.{data_len}
-use Rattle.fit_world.proofs.Told.Replies.{replies_of_call, done_of_call, counted_by}
+use Rattle.fit_world.proofs.Reported.Replies.{replies_of_call, done_of_call, counted_by}
 use Rattle.fit_world.proofs.Histories.Riding.{hand_goes}
 use Rattle.fit_world.proofs.ride.Ride.hand.Goals as goal
 
@@ -15,7 +15,7 @@ pub returns-in-Riding-clause-handed : goal.returns-in-Riding-clause-handed
 returns-in-Riding-clause-handed g c list handed done =
     let known = rw c.in-Riding.is at handed in (
       done_of_call c.hand.result c.into.result _ c.into.ensures (c.hand.ensures.handed list known.0) done,
-      done_of_call c.hand.result c.into.result _ c.into.ensures c.hand.ensures.behind.going done,
+      done_of_call c.hand.result c.into.result _ c.into.ensures c.hand.ensures.after.going done,
     )
 
 pub returns-in-Riding-clause-step : goal.returns-in-Riding-clause-step
@@ -23,7 +23,7 @@ returns-in-Riding-clause-step g c honest before stands =
     let here = rw c.in-Riding.is at stands in
     let done = c.hand.ensures in
     rw c.into.ensures
-    (hand_goes g.D.Disk.honest g.D.Disk.story c.in-Riding.recorder c.hand.new.self c.hand.result done.behind.same done.behind.failed done.behind.gone c.args.entry.now c.requires.no_stop done.slots
+    (hand_goes g.D.Disk.honest g.D.Disk.story c.in-Riding.recorder c.hand.new.self c.hand.result done.after.same done.after.failed done.after.gone c.args.entry.now c.requires.no_stop done.slots
     done.answers done.ok (done.any_moment honest) before here)
 
 pub returns-in-Riding-clause-counted : goal.returns-in-Riding-clause-counted

@@ -2,7 +2,7 @@ use Rattle.std.proofs.Common.{refl}
 use Rattle.fit_disk.specs.Story.{seen_of}
 use Rattle.fit_disk.specs.declared.disk.Which.TheVariants.{Data}
 use Rattle.fit_world.proofs.Histories.Idle.{recover_goes}
-use Rattle.fit_world.proofs.Told.Replies.{replies_recovery}
+use Rattle.fit_world.proofs.Reported.Replies.{replies_recovery}
 use Rattle.fit_world.proofs.Histories.Riding.{idle_goes}
 use Rattle.fit_world.proofs.ride.Ride.recover.Goals as goal
 

@@ -1,7 +1,7 @@
 use Rattle.std.proofs.Common.{◌++◌, ◌∙◌, ap, subst}
 use Rattle.fit_world.specs.Calls.Reading.{DecodesWith}
 use Rattle.fit_world.specs.Printed.Salvaged.{saved_file}
-use Rattle.fit_world.proofs.Told.Salvaged.{decodes_salvage}
+use Rattle.fit_world.proofs.Reported.Salvaged.{decodes_salvage}
 use Rattle.fit_world.proofs.salvage.Salvage.decoded.Goals as goal
 
 pub returns-clause-decodes : goal.returns-clause-decodes

@@ -1,4 +1,4 @@
-use Rattle.fit_world.proofs.Told.Salvaged.{no_form, not_decoded}
+use Rattle.fit_world.proofs.Reported.Salvaged.{no_form, not_decoded}
 use Rattle.fit_world.proofs.salvage.Salvage.plain.Goals as goal
 
 pub returns-in-Err-clause-taken : goal.returns-in-Err-clause-taken

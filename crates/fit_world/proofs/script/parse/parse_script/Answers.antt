@@ -6,7 +6,7 @@ use Rattle.fit_world.specs.Scripts.Script.{IsLine, meaning_of, event_of, events_
 use Rattle.fit_world.specs.declared.event.Event.{Event}
 use Rattle.fit_world.specs.Histories.Runs.{CanRun}
 use Rattle.fit_world.proofs.Simulation.CanRun.{events_can}
-use Rattle.fit_world.proofs.Told.Scripts.{now_at, within_now, events_next}
+use Rattle.fit_world.proofs.Reported.Scripts.{now_at, within_now, events_next}
 use Rattle.fit_world.proofs.script.parse.parse_script.Goals as goal
 
 abbrev texts_of : List (Bor (List ℕ)) → List (List ℕ)

@@ -1,6 +1,6 @@
 use Rattle.std.proofs.Common.{◌≡◌, true, take, map}
 use Rattle.fit_activity.specs.Rides.Table.{sample_rows, ValuesFit}
-use Rattle.fit_world.specs.Scripts.Sample.{are_settings, said_by}
+use Rattle.fit_world.specs.Scripts.Sample.{are_settings, stated_by}
 use Rattle.fit_world.proofs.script.sample.sample_at.Given as goal
 
 abbrev pub invariant-loop-index : goal.invariant-loop-index
@@ -8,6 +8,6 @@ invariant-loop-index l =
     let words = take l.index (map (λ word. word.now) l.settings) in
     record {
       settings : are_settings words ≡ true;
-      values : l.values ≡ said_by sample_rows words;
+      values : l.values ≡ stated_by sample_rows words;
       fit : ValuesFit sample_rows l.values;
     }

@@ -1,6 +1,6 @@
 use Rattle.std.proofs.Common.{◌∙◌, arith}
 use Rattle.std.proofs.lemmas.List.{length-set}
-use Rattle.fit_world.proofs.Told.Settings.{set-more, set-all}
+use Rattle.fit_world.proofs.Reported.Settings.{set-more, set-all}
 use Rattle.fit_world.proofs.script.sample.set_all.Goals as goal
 
 pub loop-at-preserved : goal.loop-at-preserved

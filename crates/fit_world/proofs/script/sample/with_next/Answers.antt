@@ -2,11 +2,11 @@ use Rattle.std.proofs.Common.{◌≡◌, ◌&&◌, ◌∙◌, Bool, true, false,
 use Rattle.std.proofs.lemmas.Bool.{and_left, and_right}
 use Rattle.std.specs.List.{list_any}
 use Rattle.std.specs.Result.{result_ok}
-use Rattle.fit_world.proofs.Told.Numbers.{none-any}
+use Rattle.fit_world.proofs.Reported.Numbers.{none-any}
 use Rattle.std.specs.Str.{bytes_eq}
 use Rattle.fit_activity.specs.Rides.Table.{sample_rows}
 use Rattle.fit_world.specs.Scripts.Sample.{key_in, value_in, has_number, is_setting, is_new_setting, stands_in, with_setting}
-use Rattle.fit_world.proofs.Told.Scripts.{any_map}
+use Rattle.fit_world.proofs.Reported.Scripts.{any_map}
 use Rattle.fit_world.proofs.script.sample.with_next.Goals as goal
 
 stands : (earlier : List (Bor (List ℕ))) (word key : List ℕ) (b : Bool) → key ≡ key_in word →

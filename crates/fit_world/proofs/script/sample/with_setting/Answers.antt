@@ -1,7 +1,7 @@
 use Rattle.std.proofs.Common.{◌≡◌, Bool, true, false, List, ℕ, Option, Some, None, refl, sym, ap, ◌∙◌, subst, if◌then◌else◌}
 use Rattle.fit_activity.specs.Rides.Table.{ValuesFit, sample_rows}
 use Rattle.fit_world.specs.Scripts.Sample.{has_number}
-use Rattle.fit_world.proofs.Told.Numbers.{setting-fits}
+use Rattle.fit_world.proofs.Reported.Numbers.{setting-fits}
 use Rattle.fit_world.proofs.script.sample.with_setting.Goals as goal
 
 none-if : (h : Bool) (x : List (Option ℕ)) → h ≡ false → None ≡ (if h then Some x else None)

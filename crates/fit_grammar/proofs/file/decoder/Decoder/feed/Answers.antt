@@ -1,7 +1,7 @@
 use Rattle.std.proofs.Common.{◌++◌, subst, sym}
 use Rattle.std.proofs.lemmas.Result.{on_ok_weaker}
 use Rattle.fit_grammar.specs.Calls.Fed.{WasFed}
-use Rattle.fit_grammar.proofs.Pieces.Told.{open_quiet, carried_short}
+use Rattle.fit_grammar.proofs.Pieces.Reported.{open_quiet, carried_short}
 use Rattle.fit_grammar.proofs.file.decoder.Decoder.feed.Goals as goal
 
 pub invariant_of-self : goal.invariant_of-self

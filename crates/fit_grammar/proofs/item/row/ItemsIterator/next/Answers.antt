@@ -2,18 +2,18 @@ use Rattle.std.proofs.Common.{◌≡◌, ℕ, ◌∷◌, Option, length, sym, ap
 use Rattle.fit_grammar.specs.declared.definition.Definition.{Definition}
 use Rattle.fit_grammar.specs.declared.item.Item.TheVariants as items
 use Rattle.fit_grammar.specs.Format.Item.{Defines}
-use Rattle.fit_grammar.specs.Calls.Table.{definition_in, behind}
+use Rattle.fit_grammar.specs.Calls.Table.{definition_in, in_force_after}
 use Rattle.fit_grammar.specs.Calls.LentItem.{DefinesHere}
 use Rattle.fit_grammar.specs.Private.ByLookup.{lent_items_by}
 use Rattle.fit_grammar.specs.Private.ItemRow.{items_under, AreWritten, IsFirst}
-use Rattle.fit_grammar.proofs.KeptRow.Left.{latest_behind}
+use Rattle.fit_grammar.proofs.KeptRow.Left.{latest_after}
 use Rattle.fit_grammar.proofs.item.row.ItemsIterator.next.Goals as goal
 
 -- the definitions after the one that was taken
 taken : (c : goal.After-take)
-    → definition_in c.take.new.self ≡ behind (Defines c.in-Definition.definition) (definition_in c.self.inside.latest)
+    → definition_in c.take.new.self ≡ in_force_after (Defines c.in-Definition.definition) (definition_in c.self.inside.latest)
 taken c =
-    latest_behind (definition_in c.self.inside.latest) (definition_in c.take.new.self) c.in-Definition.definition
+    latest_after (definition_in c.self.inside.latest) (definition_in c.take.new.self) c.in-Definition.definition
     c.take.ensures.taken c.take.ensures.others
 
 first : (c : goal.After-take) → IsFirst (definition_in c.self.inside.latest) c.self.inside.rest.now
