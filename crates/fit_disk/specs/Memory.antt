@@ -43,7 +43,7 @@ is_spent m = was_refused m || (m.call_schedule.counts.calls == last_count)
 -- A call fails if and only if it is scheduled to, the counts are at their last value, or memory was refused in it. A refusal is remembered.
 pub record FailsByCause {T E : Type 0} (result : Result T E) (old new : Memory) : Type 0 where
   pub fails : is_err result ≡ (must_fail (memory_counts old) (memory_schedule old) || is_refused new)
-  pub with_event : was_refused new ≡ (was_refused old || is_refused new)
+  pub refused : was_refused new ≡ (was_refused old || is_refused new)
 
 -- A call that may take memory. If it failed, reads give what they gave before. If memory was refused in it, it failed and nothing changed.
 pub record FailsCleanly {T E : Type 0} (result : Result T E) (old new : Memory) : Type 0 where

@@ -8,5 +8,6 @@ pub mod Counting
 pub mod Timing
 pub mod Writing
 pub mod Entry
+pub mod Head
 pub mod Standing
 pub mod Answers

@@ -7,3 +7,4 @@ pub mod Committed
 pub mod Finished
 pub mod Settled
 pub mod NothingRecorded
+pub mod NeverFull

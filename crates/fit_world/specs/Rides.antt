@@ -3,3 +3,4 @@ pub mod Ride
 pub mod Replies
 pub mod Standing
 pub mod Played
+pub mod NeverFull

@@ -14,8 +14,9 @@ impl<D: Disk> Ride<D> {
     ghost use Rattle.fit_world.specs.Histories.Table.{History};
     ghost use Rattle.fit_world.specs.Scripts.Replayed.{is_simulated};
     ghost use Rattle.fit_world.specs.Rides.Replies.{MayReply, rides_on};
-    ghost use Rattle.fit_world.specs.Rides.Ride.{HasBegun, CanGoOn, Handed, MayReplyAfter, RidesOnWith, disk_in, is_riding};
-    ghost use Rattle.fit_world.specs.Rides.Standing.{GoesBy, IsCounted, StandsIn};
+    ghost use Rattle.fit_world.specs.Rides.Ride.{HasBegun, CanGoOn, Called, Handed, MayReplyAfter, RidesOnWith, disk_in, is_riding};
+    ghost use Rattle.fit_world.specs.Rides.NeverFull.{StaysNeverFull};
+    ghost use Rattle.fit_world.specs.Rides.Standing.{GoesBy, StandsIn};
 
     /// Runs a command, and returns the ride after it and the reply. The command may not be `Fail`, `Cut` or `Power`.
     pub fn ask(mut self, command: &Command) -> (Ride<D>, Reply)
@@ -31,8 +32,8 @@ impl<D: Disk> Ride<D> {
         ensures begun { result.1 ≡ Done → HasBegun command.now result.0 }
         ensures step { IsTrue D.honest → (before : History) → StandsIn D.honest D.story self before
             → GoesBy D.honest D.story before command.now result.1 result.0 }
-        ensures counted { IsCounted result.1 (D.log (disk_in self)).counts (D.log (disk_in result.0)).counts }
-        ensures planned { (D.log (disk_in result.0)).schedule ≡ (D.log (disk_in self)).schedule }
+        ensures never_full { StaysNeverFull D.honest D.story self result.1 result.0 }
+        ensures called { Called D.log result.1 self result.0 }
     {
         match command {
             Command::Start(start) => self.start(*start),

@@ -56,7 +56,7 @@ pub fn repair<D: Disk, O: Write>(disk: &mut D, out: &mut O) -> Result<(), Repair
         × Appends (O.contents out.old) (O.contents out.new) (summary_text summary ++ codes "\n")) }
     ensures quiet { (why : AnyRecFault) → result ≡ Err (faults.Recorder why)
         → O.contents out.new ≡ O.contents out.old }
-    ensures ran { Ran (recovery_calls + most_body_reads)
+    ensures ran { Ran (recovery_calls + most_body_reads) most_body_reads
         (IsErrOf result (faults.Recorder recording.Device)) (D.log disk.old) (D.log disk.new) }
 {
     report(recover(disk), out)

@@ -9,7 +9,7 @@ use fit_disk::Disk;
 use fit_recorder::{Recorder, erase, recover, resume};
 
 /// The recording of a disk. Over an honest disk each call is a step of a history, whatever it replies (`step`). Over any disk it
-/// replies `Device` only if the device failed (`counted`). From then on a recorder replies only `Failed` until it ends.
+/// replies `Device` only if the device failed (`called`). From then on a recorder replies only `Failed` until it ends.
 #[derive(Drop)]
 pub enum Ride<D: Disk> {
     /// No recorder runs.
@@ -22,19 +22,21 @@ impl<D: Disk> Ride<D> {
     ghost use Rattle.std.specs.Prelude.{List};
     ghost use Rattle.fit_activity.specs.declared.recording.entry.Entry.TheVariants.{Stop};
     ghost use Rattle.fit_activity.specs.Rides.Recording.{Recorded, Started, Added, is_stop};
-    ghost use Rattle.fit_disk.specs.State.{seen_in};
+    ghost use Rattle.fit_disk.specs.State.{LeavesOnly, seen_in};
     ghost use Rattle.fit_disk.specs.Story.{seen_of};
     ghost use Rattle.fit_disk.specs.declared.disk.Which.TheVariants.{Data};
-    ghost use Rattle.fit_recorder.specs.declared.fault.RecFault.TheVariants.{NotEmpty, JournalFull, Device, Failed};
+    ghost use Rattle.fit_recorder.specs.declared.fault.RecFault.TheVariants.{NotEmpty, JournalFull};
     ghost use Rattle.fit_journal.specs.declared.slots.Slots.TheVariants.{InTurns};
     ghost use Rattle.fit_journal.specs.Turn.{committed_slots};
     ghost use Rattle.fit_recorder.specs.Calls.Answers.{HandAnswers, CommitAnswers, StopAnswers};
     ghost use Rattle.fit_recorder.specs.Calls.Resume.{HasNoRoom};
-    ghost use Rattle.fit_world.specs.declared.reply.Reply.TheVariants.{Done, Stopped, Refused, NoRecorder};
+    ghost use Rattle.fit_world.specs.declared.reply.Reply.TheVariants.{Done, Refused};
     ghost use Rattle.fit_world.specs.Histories.Table.{History, ended};
-    ghost use Rattle.fit_world.specs.Rides.Replies.{Replies, RepliesStart, RepliesRecovery, RepliesReopening, RepliesErasing, is_ok};
-    ghost use Rattle.fit_world.specs.Rides.Ride.{CanGoOn, Handed, disk_in, is_broken, is_riding, encoded_len, slots_of};
-    ghost use Rattle.fit_world.specs.Rides.Standing.{StandsIn, GoesBy, IsCounted, Rests};
+    ghost use Rattle.fit_world.specs.Rides.Replies.{Replies, outlives_stop, RepliesStart, RepliesRecovery, RepliesReopening, RepliesErasing, is_ok};
+    ghost use Rattle.fit_world.specs.Rides.Ride.{CanGoOn, Handed, Called, Answered, disk_in, is_riding, encoded_len, slots_of};
+    ghost use Rattle.fit_world.specs.Rides.NeverFull.{NeverFull, StaysNeverFull};
+    ghost use Rattle.fit_world.specs.Rides.Standing.{StandsIn, GoesBy, Rests};
+    ghost use Rattle.fit_recorder.specs.Files.NeverFull.{NeverFills};
 
     /// Ends the recorder that runs, if one does, and begins a recording. If the reply is not `Done`, no recorder runs.
     pub fn start(self, start: Start) -> (Ride<D>, Reply)
@@ -47,8 +49,8 @@ impl<D: Disk> Ride<D> {
         ensures riding { is_riding result.0 ≡ is_ok result.1 }
         ensures step { IsTrue D.honest → (before : History) → StandsIn D.honest D.story self before
             → GoesBy D.honest D.story before (commands.Start start) result.1 result.0 }
-        ensures counted { IsCounted result.1 (D.log (disk_in self)).counts (D.log (disk_in result.0)).counts }
-        ensures planned { (D.log (disk_in result.0)).schedule ≡ (D.log (disk_in self)).schedule }
+        ensures never_full { StaysNeverFull D.honest D.story self result.1 result.0 }
+        ensures called { Called D.log result.1 self result.0 }
     {
         match Recorder::start(self.into_disk(), start) {
             Ok(recorder) => (Ride::Riding(recorder), Reply::Done),
@@ -65,15 +67,12 @@ impl<D: Disk> Ride<D> {
             → Replies (HandAnswers list (encoded_len self.old) entry.now) result }
         ensures handed { (list : List Recorded) → Handed self.old list → result ≡ Done
             → Handed self.new (list ++ Added entry.now ∷ []) }
-        ensures none { (result ≡ NoRecorder) ↔ (is_riding self.old ≡ false) }
+        ensures answered { Answered result self.old self.new }
         ensures riding { is_riding self.new ≡ is_riding self.old }
-        ensures failed { is_broken self.old ≡ true → result ≡ Refused Failed }
-        ensures broken { is_riding self.old ≡ true → result ≡ Refused Device → is_broken self.new ≡ true }
         ensures step { IsTrue D.honest → (before : History) → StandsIn D.honest D.story self.old before
             → GoesBy D.honest D.story before (commands.Entry entry.now) result self.new }
-        ensures counted { IsCounted result (D.log (disk_in self.old)).counts
-            (D.log (disk_in self.new)).counts }
-        ensures planned { (D.log (disk_in self.new)).schedule ≡ (D.log (disk_in self.old)).schedule }
+        ensures never_full { StaysNeverFull D.honest D.story self.old result self.new }
+        ensures called { Called D.log result self.old self.new }
     {
         match self {
             Ride::Idle(_) => Reply::NoRecorder,
@@ -91,15 +90,12 @@ impl<D: Disk> Ride<D> {
             → Handed self.new list }
         ensures made { result ≡ Done
             → slots_of self.new ≡ committed_slots (slots_of self.old) (encoded_len self.old) }
-        ensures none { (result ≡ NoRecorder) ↔ (is_riding self.old ≡ false) }
+        ensures answered { Answered result self.old self.new }
         ensures riding { is_riding self.new ≡ is_riding self.old }
-        ensures failed { is_broken self.old ≡ true → result ≡ Refused Failed }
-        ensures broken { is_riding self.old ≡ true → result ≡ Refused Device → is_broken self.new ≡ true }
         ensures step { IsTrue D.honest → (before : History) → StandsIn D.honest D.story self.old before
             → GoesBy D.honest D.story before commands.Commit result self.new }
-        ensures counted { IsCounted result (D.log (disk_in self.old)).counts
-            (D.log (disk_in self.new)).counts }
-        ensures planned { (D.log (disk_in self.new)).schedule ≡ (D.log (disk_in self.old)).schedule }
+        ensures never_full { StaysNeverFull D.honest D.story self.old result self.new }
+        ensures called { Called D.log result self.old self.new }
     {
         match self {
             Ride::Idle(_) => Reply::NoRecorder,
@@ -114,16 +110,13 @@ impl<D: Disk> Ride<D> {
         ensures goes_on { CanGoOn D.honest D.story result.0 }
         ensures replies { (list : List Recorded) → Handed self list
             → Replies (StopAnswers list time) result.1 }
-        ensures none { (result.1 ≡ NoRecorder) ↔ (is_riding self ≡ false) }
         ensures not_done { result.1 ≢ Done }
-        ensures ended { result.1 ≡ Stopped → is_riding result.0 ≡ false }
-        ensures kept { result.1 ≢ Stopped → is_riding result.0 ≡ is_riding self }
-        ensures failed { is_broken self ≡ true → result.1 ≡ Refused Failed }
-        ensures broken { is_riding self ≡ true → result.1 ≡ Refused Device → is_broken result.0 ≡ true }
+        ensures answered { Answered result.1 self result.0 }
+        ensures riding { is_riding result.0 ≡ outlives_stop (is_riding self) result.1 }
         ensures step { IsTrue D.honest → (before : History) → StandsIn D.honest D.story self before
             → GoesBy D.honest D.story before (commands.Entry (Stop time)) result.1 result.0 }
-        ensures counted { IsCounted result.1 (D.log (disk_in self)).counts (D.log (disk_in result.0)).counts }
-        ensures planned { (D.log (disk_in result.0)).schedule ≡ (D.log (disk_in self)).schedule }
+        ensures never_full { StaysNeverFull D.honest D.story self result.1 result.0 }
+        ensures called { Called D.log result.1 self result.0 }
     {
         match self {
             Ride::Idle(disk) => (Ride::Idle(disk), Reply::NoRecorder),
@@ -141,6 +134,7 @@ impl<D: Disk> Ride<D> {
         ensures disk { disk_in result.0 ≡ disk_in self }
         ensures step { IsTrue D.honest → (before : History) → StandsIn D.honest D.story self before
             → GoesBy D.honest D.story before commands.Restart result.1 result.0 }
+        ensures never_full { StaysNeverFull D.honest D.story self result.1 result.0 }
     {
         (Ride::Idle(self.into_disk()), Reply::Done)
     }
@@ -151,8 +145,8 @@ impl<D: Disk> Ride<D> {
         ensures ended { is_riding result.0 ≡ false }
         ensures step { IsTrue D.honest → (before : History) → StandsIn D.honest D.story self before
             → GoesBy D.honest D.story before commands.Recover result.1 result.0 }
-        ensures counted { IsCounted result.1 (D.log (disk_in self)).counts (D.log (disk_in result.0)).counts }
-        ensures planned { (D.log (disk_in result.0)).schedule ≡ (D.log (disk_in self)).schedule }
+        ensures never_full { StaysNeverFull D.honest D.story self result.1 result.0 }
+        ensures called { Called D.log result.1 self result.0 }
     {
         let mut disk = self.into_disk();
         let reply = recover(&mut disk).into();
@@ -169,8 +163,8 @@ impl<D: Disk> Ride<D> {
         ensures riding { is_riding result.0 ≡ is_ok result.1 }
         ensures step { IsTrue D.honest → (before : History) → StandsIn D.honest D.story self before
             → GoesBy D.honest D.story before commands.Reopen result.1 result.0 }
-        ensures counted { IsCounted result.1 (D.log (disk_in self)).counts (D.log (disk_in result.0)).counts }
-        ensures planned { (D.log (disk_in result.0)).schedule ≡ (D.log (disk_in self)).schedule }
+        ensures never_full { StaysNeverFull D.honest D.story self result.1 result.0 }
+        ensures called { Called D.log result.1 self result.0 }
     {
         match resume(self.into_disk()) {
             Ok(resumed) => (Ride::Riding(resumed), Reply::Done),
@@ -184,8 +178,8 @@ impl<D: Disk> Ride<D> {
         ensures ended { is_riding result.0 ≡ false }
         ensures step { IsTrue D.honest → (before : History) → StandsIn D.honest D.story self before
             → GoesBy D.honest D.story before commands.Erase result.1 result.0 }
-        ensures counted { IsCounted result.1 (D.log (disk_in self)).counts (D.log (disk_in result.0)).counts }
-        ensures planned { (D.log (disk_in result.0)).schedule ≡ (D.log (disk_in self)).schedule }
+        ensures never_full { StaysNeverFull D.honest D.story self result.1 result.0 }
+        ensures called { Called D.log result.1 self result.0 }
     {
         let mut disk = self.into_disk();
         let reply = erase(&mut disk).into();
@@ -197,6 +191,8 @@ impl<D: Disk> Ride<D> {
         ensures disk { result ≡ disk_in self }
         ensures rests { IsTrue D.honest → (before : History) → StandsIn D.honest D.story self before
             → Rests (ended before) (D.story result) }
+        ensures never_fills { IsTrue D.honest → (before : History) → StandsIn D.honest D.story self before
+            → NeverFull D.story self → LeavesOnly NeverFills (D.story result).now }
     {
         match self {
             Ride::Idle(disk) => disk,

@@ -1,7 +1,7 @@
 //! A recording over a disk in memory. Commands arrange which calls fail and when the power is cut.
 
 ghost use Rattle.std.specs.Prelude.{◌≡◌, [], List, All, map, IfOk, OnOk};
-ghost use Rattle.fit_world.specs.Histories.Runs.{CanRun, IsHistory, outcome_in};
+ghost use Rattle.fit_world.specs.Histories.Runs.{CanRun, IsHistory, NoneFull, outcome_in};
 ghost use Rattle.fit_world.specs.Histories.Table.{Outcome};
 ghost use Rattle.fit_world.specs.Printed.Simulation.{reply_in};
 
@@ -27,7 +27,8 @@ pub struct NoMemory;
 /// files. Each power cut takes the bytes after those of the one before it. Missing bytes are 0.
 pub fn run(alloc: Global, events: &[Event], choices: &[u8]) -> Result<Vec<Answer>, NoMemory>
     requires { All (λ event. CanRun event.command) events.now }
-    ensures { IfOk result (λ answers. IsHistory events.now (map outcome_in answers.items)) }
+    ensures history { IfOk result (λ answers. IsHistory events.now (map outcome_in answers.items)) }
+    ensures never_full { IfOk result (λ answers. NoneFull (map outcome_in answers.items)) }
 {
     let kept = Vec::new(alloc);
     let mut answers = Answers { alloc, kept };
@@ -42,7 +43,9 @@ pub fn run_for_replies(
     choices: &[u8],
 ) -> Result<Vec<Reply>, NoMemory>
     requires { All (λ event. CanRun event.command) events.now }
-    ensures { IfOk result (λ replies. (outcomes : List Outcome) × IsHistory events.now outcomes
+    ensures history { IfOk result (λ replies. (outcomes : List Outcome) × IsHistory events.now outcomes
+        × (replies.items ≡ map reply_in outcomes)) }
+    ensures never_full { IfOk result (λ replies. (outcomes : List Outcome) × NoneFull outcomes
         × (replies.items ≡ map reply_in outcomes)) }
 {
     let kept = Vec::new(alloc);
@@ -60,7 +63,8 @@ fn run_for<K: Keeper>(
 ) -> Result<(), NoMemory>
     requires can { All (λ event. CanRun event.command) events.now }
     requires first { K.WasReported keeper.old [] }
-    ensures { OnOk result ((outcomes : List Outcome) × IsHistory events.now outcomes × K.WasReported keeper.new outcomes) }
+    ensures { OnOk result ((outcomes : List Outcome) × IsHistory events.now outcomes × NoneFull outcomes
+        × K.WasReported keeper.new outcomes) }
 {
     let mut ride = Ride::Idle(Memory::new(alloc));
     for event in events {

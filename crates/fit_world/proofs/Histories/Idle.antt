@@ -1,5 +1,5 @@
 -- The calls that a ride makes while no recorder runs, as steps of its history.
-use Rattle.std.proofs.Common.{◌≡◌, ◌⊎◌, inl, ⊎_elim, ℕ, Bool, true, false, true≢false, List, [], ◌∷◌, ◌++◌, Result, Ok, Err, refl, sym, ◌∙◌, ap, subst}
+use Rattle.std.proofs.Common.{◌≡◌, ◌⊎◌, inl, inr, ⊎_elim, ℕ, Bool, true, false, true≢false, List, [], ◌∷◌, ◌++◌, Result, Ok, Err, refl, sym, ◌∙◌, ap, subst}
 use Rattle.std.specs.Prelude.{OnOk, IfErr}
 use Rattle.fit_grammar.specs.Format.File.{File}
 use Rattle.fit_activity.specs.declared.activity.Summary.{Summary}
@@ -20,7 +20,7 @@ use Rattle.fit_recorder.specs.declared.fault.RecFault.TheVariants.{NotEmpty, Ref
 use Rattle.fit_recorder.specs.Calls.Answers.{StartAnswers}
 use Rattle.fit_recorder.specs.Files.NothingRecorded.{IsNothing}
 use Rattle.fit_recorder.specs.Files.Body.{StandsFor}
-use Rattle.fit_recorder.specs.Calls.Erasing.{LeftOrNothing, IsEmpty}
+use Rattle.fit_recorder.specs.Calls.Erasing.{LeftOrErased, IsEmpty}
 use Rattle.fit_recorder.specs.Files.Finished.{IsFinished}
 use Rattle.fit_recorder.specs.Calls.Recovery.{RecoveryAnswers, KeepsStanding, Rebuilds, unchanged, standing, InRecovery}
 use Rattle.fit_recorder.specs.Calls.Resume.{IsRefusedFor}
@@ -225,14 +225,14 @@ module _ (before : History) (old : Story) (rests : Rests (ended before) old) (so
         let none = rest_left new.now.data_file [] contents.in_data empty left.data_left in
         record { keeps = keeps_none [] contents (inl none); empty = λ _. none }
 
-    erase_broken : Throughout (LeftOrNothing old.now) old new → (LeavesOnly IsEmpty old.now → Throughout IsEmpty old new) → Rests (Idle (no_claim ∷ claims_of before) (was_begun before)) new
+    erase_broken : Throughout (LeftOrErased old.now) old new → (LeavesOnly IsEmpty old.now → Throughout IsEmpty old new) → Rests (Idle (no_claim ∷ claims_of before) (was_begun before)) new
     erase_broken run stays contents left =
         record {
-          keeps = ⊎_elim (λ could. keeps_more no_claim (claims_of before) contents (rests contents could).keeps) (λ nothing. keeps_none (claims_of before) contents nothing) (at_end (LeftOrNothing old.now) old new run contents left);
+          keeps = ⊎_elim (λ could. keeps_more no_claim (claims_of before) contents (rests contents could).keeps) (λ erased. keeps_none (claims_of before) contents (inr erased.nothing)) (at_end (LeftOrErased old.now) old new run contents left);
           empty = λ unbegun. at_end IsEmpty old new (stays (λ c could. (rests c could).empty unbegun)) contents left;
         }
 
-    pub erase_goes : (file : List ℕ) (result : Result (Unit {0}) RecFault) → OnOk result (new.now.data_file ≡ at_rest []) → IfErr result (λ fault. fault ≡ Device) → Throughout (LeftOrNothing old.now) old new
+    pub erase_goes : (file : List ℕ) (result : Result (Unit {0}) RecFault) → OnOk result (new.now.data_file ≡ at_rest []) → IfErr result (λ fault. fault ≡ Device) → Throughout (LeftOrErased old.now) old new
         → (LeavesOnly IsEmpty old.now → Throughout IsEmpty old new) → GoesIdle (λ after. EraseStep before (outcome (reply_of result) file) after) new
     erase_goes file (Ok done) empty device run stays = record { claims = no_claim ∷ []; begun = false; step = refl; rests = erase_done empty }
     erase_goes file (Err fault) empty device run stays =

@@ -63,7 +63,7 @@ entry_step before after (Resume time) answer other step = step
 entry_step before after (Stop time) answer other step = absurd (true≢false other)
 
 -- slots that take turns have no last one
-never_full : {A : Type 0} (slots : Slots) → slots_left slots ≡ None → IsLastSlot slots → A
+pub never_full : {A : Type 0} (slots : Slots) → slots_left slots ≡ None → IsLastSlot slots → A
 never_full (InRow slots) turns last = absurd cc
 never_full (HalfOpen slots) turns last = absurd cc
 never_full (InTurns first second) turns last = absurd last

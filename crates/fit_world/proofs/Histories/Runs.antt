@@ -1,21 +1,27 @@
 -- The answers so far, and those that may come to the remaining events: for `world::run`.
-use Rattle.std.proofs.Common.{◌≡◌, ◌<◌, ◌≤◌, ◌+◌, ℕ, true, false, List, [], ◌∷◌, ◌++◌, length, get_or, drop, inl, inr, refl, sym, ap, subst, append_assoc}
+use Rattle.std.proofs.Common.{◌≡◌, ◌≢◌, ◌<◌, ◌≤◌, ◌+◌, ℕ, true, false, List, [], ◌∷◌, ◌++◌, length, get_or, drop, inl, inr, refl, sym, ap, subst, append_assoc}
 use Rattle.std.proofs.lemmas.List.{drop_more, drop_all, append-nil}
 use Rattle.fit_disk.specs.declared.memory.Memory.{Memory}
 use Rattle.fit_disk.specs.Counts.{unplanned, no_calls}
 use Rattle.fit_disk.specs.Events.{fresh}
 use Rattle.fit_disk.specs.Memory.{memory_story, memory_counts, memory_schedule, is_spent}
 use Rattle.fit_disk.specs.Story.{Story}
+use Rattle.fit_disk.specs.State.{LeavesOnly}
+use Rattle.fit_recorder.specs.declared.fault.RecFault.{RecFault}
+use Rattle.fit_recorder.specs.declared.fault.RecFault.TheVariants.{JournalFull}
+use Rattle.fit_recorder.specs.Files.NeverFull.{NeverFills}
 use Rattle.fit_disk.proofs.Leaving.{rest_left}
 use Rattle.fit_world.specs.declared.event.Event.{Event}
 use Rattle.fit_world.specs.declared.reply.Reply.{Reply}
+use Rattle.fit_world.specs.declared.reply.Reply.TheVariants as replies
 use Rattle.fit_world.specs.declared.ride.Ride.{Ride}
 use Rattle.fit_world.specs.declared.ride.Ride.TheVariants as rides
 use Rattle.fit_world.specs.Simulation.Arranging.{IsArranged, Moves}
 use Rattle.fit_world.specs.Histories.Arranged.{Arranged, nothing_arranged, MayFail, arranged_after}
-use Rattle.fit_world.specs.Histories.Runs.{Runs, IsHistory}
-use Rattle.fit_world.specs.Histories.Table.{History, Step, Outcome, at_first}
+use Rattle.fit_world.specs.Histories.Runs.{Runs, IsHistory, NoneFull}
+use Rattle.fit_world.specs.Histories.Table.{History, Step, Outcome, Fault, at_first}
 use Rattle.fit_world.specs.Rides.Ride.{disk_in}
+use Rattle.fit_world.specs.Rides.NeverFull.{NeverFull, StaysNeverFull}
 use Rattle.fit_world.specs.Rides.Standing.{StandsIn, GoesBy, Rests, content_of, outcome}
 use Rattle.fit_world.proofs.Simulation.Counts.{moved}
 
@@ -26,12 +32,25 @@ pub record Leads (events left : List Event) (outcomes : List Outcome) (ride : Ri
   pub arranged : Arranged
   pub stands : StandsIn true memory_story ride history
   pub is_arranged : IsArranged arranged (memory_counts (disk_in ride)) (memory_schedule (disk_in ride))
+  pub never_full : NeverFull memory_story ride
+  pub none_full : (rest : List Outcome) → NoneFull rest → NoneFull (outcomes ++ rest)
   pub leads : (rest : List Outcome) → Runs history arranged left rest → IsHistory events (outcomes ++ rest)
 
 empty_rests : (story : Story) → story ≡ fresh → Rests at_first story
 empty_rests story is contents left =
     let none : contents.in_data ≡ [] = rest_left story.now.data_file [] contents.in_data (ap (λ (s : Story). s.now.data_file) is) left.data_left in
     record { keeps = inr (refl, inl none); empty = λ begun. none }
+
+empty_never_full : (story : Story) → story ≡ fresh → LeavesOnly NeverFills story.now
+empty_never_full story is contents left = inl (rest_left story.now.data_file [] contents.in_data (ap (λ (s : Story). s.now.data_file) is) left.data_left)
+
+-- an answer is that the journal is full only if the reply is
+not_full : (reply : Reply) (file : List ℕ) → reply ≢ replies.Refused JournalFull → outcome reply file ≢ Fault JournalFull
+not_full replies.Done file other is = absurd cc
+not_full replies.Stopped file other is = absurd cc
+not_full (replies.Recovered summary) file other is = absurd cc
+not_full (replies.Refused fault) file other is = let same : fault ≡ JournalFull = cc in other (ap (λ (fault : RecFault). replies.Refused fault) same)
+not_full replies.NoRecorder file other is = absurd cc
 
 -- before the first event
 pub first_leads : (events : List Event) (disk : Memory) → memory_story disk ≡ fresh → memory_counts disk ≡ no_calls →
@@ -44,16 +63,19 @@ first_leads events disk story counts schedule = record {
     no_cut = λ cut. refl;
     no_fail = λ cut fail. tt;
   });
+  never_full = empty_never_full (memory_story disk) story;
+  none_full = λ rest none. none;
   leads = λ rest runs. runs;
 }
 
 one_more : (events left : List Event) (event : Event) (outcomes : List Outcome) (ride next : Ride Memory) (reply : Reply) (file : List ℕ) →
     is_spent (disk_in ride) ≡ false → is_spent (disk_in next) ≡ false → Leads events (event ∷ left) outcomes ride →
-    ((before : History) → StandsIn true memory_story ride before → GoesBy true memory_story before event.command reply next) →
+    ((before : History) → StandsIn true memory_story ride before → GoesBy true memory_story before event.command reply next) → StaysNeverFull true memory_story ride reply next →
     Moves event.command reply (memory_counts (disk_in ride)) (memory_schedule (disk_in ride)) (memory_counts (disk_in next)) (memory_schedule (disk_in next)) →
     file ≡ content_of memory_story next → Leads events left (outcomes ++ outcome reply file ∷ []) next
-one_more events left event outcomes ride next reply file unspent next_unspent known step moves file_is =
+one_more events left event outcomes ride next reply file unspent next_unspent known step stays moves file_is =
     let goes = step known.history known.stands in
+    let not = stays refl known.history known.stands known.never_full in
     let states : outcome reply file ≡ outcome reply (content_of memory_story next) = ap (outcome reply) file_is in
     let may = moved known.arranged event.command reply (content_of memory_story next) (disk_in ride) (disk_in next) unspent next_unspent moves known.is_arranged in
     record {
@@ -61,6 +83,8 @@ one_more events left event outcomes ride next reply file unspent next_unspent kn
       arranged = arranged_after known.arranged event.command (outcome reply (content_of memory_story next));
       stands = goes.stands;
       is_arranged = may.1;
+      never_full = not.never_full;
+      none_full = λ rest none. rw append_assoc (known.none_full (outcome reply file ∷ rest) (not_full reply file not.not_full, none));
       leads = λ rest runs.
           rw append_assoc
           (known.leads (outcome reply file ∷ rest) (
@@ -74,7 +98,7 @@ one_more events left event outcomes ride next reply file unspent next_unspent kn
 -- one more event
 pub leads_on : (events : List Event) (i : ℕ) (d : Event) (outcomes : List Outcome) (ride next : Ride Memory) (reply : Reply) (file : List ℕ) →
     i < length events → is_spent (disk_in ride) ≡ false → is_spent (disk_in next) ≡ false → Leads events (drop i events) outcomes ride →
-    ((before : History) → StandsIn true memory_story ride before → GoesBy true memory_story before (get_or events i d).command reply next) →
+    ((before : History) → StandsIn true memory_story ride before → GoesBy true memory_story before (get_or events i d).command reply next) → StaysNeverFull true memory_story ride reply next →
     Moves (get_or events i d).command reply (memory_counts (disk_in ride)) (memory_schedule (disk_in ride)) (memory_counts (disk_in next)) (memory_schedule (disk_in next)) →
     file ≡ content_of memory_story next → Leads events (drop (i + 1) events) (outcomes ++ outcome reply file ∷ []) next
 leads_on events i d outcomes ride next reply file within unspent next_unspent known =
@@ -83,7 +107,7 @@ leads_on events i d outcomes ride next reply file within unspent next_unspent kn
 
 -- after the last event
 pub at_the_end : (events : List Event) (i : ℕ) (outcomes : List Outcome) (ride : Ride Memory) → length events ≤ i →
-    Leads events (drop i events) outcomes ride → IsHistory events outcomes
+    Leads events (drop i events) outcomes ride → IsHistory events outcomes × NoneFull outcomes
 at_the_end events i outcomes ride past known =
     let end = subst (λ left. Leads events left outcomes ride) (drop_all i events past) known in
-    subst (λ all. IsHistory events all) (append-nil outcomes) (end.leads [] tt)
+    subst (λ all. IsHistory events all × NoneFull all) (append-nil outcomes) (end.leads [] tt, end.none_full [] tt)

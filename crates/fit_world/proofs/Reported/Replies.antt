@@ -42,7 +42,7 @@ device_outcome (Ok done) is = absurd cc
 device_outcome (Err fault) is = cc
 
 -- and the reply is counted as the call was
-pub counted_by : {most : ℕ} (result : Result (Unit {0}) RecFault) (reply : Reply) (old new : Log) → reply ≡ reply_of result → Ran most (IsErrOf result Device) old new
+pub counted_by : {most reads : ℕ} (result : Result (Unit {0}) RecFault) (reply : Reply) (old new : Log) → reply ≡ reply_of result → Ran most reads (IsErrOf result Device) old new
     → IsCounted reply old.counts new.counts
 counted_by result reply old new is run = record {
   cause = λ device. run.cause (device_outcome result (sym is ∙ device));

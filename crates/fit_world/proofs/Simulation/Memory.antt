@@ -4,12 +4,15 @@ use Rattle.fit_disk.specs.declared.memory.Memory.{Memory}
 use Rattle.fit_disk.specs.Cycle.{cycled, left_by, taken_by}
 use Rattle.fit_disk.specs.Memory.{memory_story}
 use Rattle.fit_disk.specs.State.{State, Contents, BothLeft, LeavesOnly, seen_in}
+use Rattle.fit_disk.specs.Story.{Story}
 use Rattle.fit_disk.proofs.Leaving.{rest_left}
 use Rattle.fit_journal.specs.Turn.{slots_left}
 use Rattle.fit_recorder.specs.declared.recorder.Recorder.{Recorder}
+use Rattle.fit_recorder.specs.Files.NeverFull.{NeverFills}
 use Rattle.fit_recorder.specs.Calls.OnMemory.{StandsAsBefore}
 use Rattle.fit_world.specs.declared.ride.Ride.TheVariants as rides
 use Rattle.fit_world.specs.Histories.Table.{History, Idle, Riding}
+use Rattle.fit_world.specs.Rides.NeverFull.{NeverFull}
 use Rattle.fit_world.specs.Rides.Standing.{Rests, StandsIn}
 use Rattle.fit_world.proofs.Histories.Claims.{same_contents}
 
@@ -42,3 +45,9 @@ cut_rests P choices old new is left rests contents after =
     (rest_left new.journal_file in_journal contents.in_journal (ap (λ (s : State). s.journal_file) is) after.journal_left
     ∙ sym (ap (λ (s : State). s.journal_file.seen) is)) in
     subst P (sym same) (rests (seen_in new) left)
+
+pub same_never_full : (old new : Recorder Memory) → StandsAsBefore old new → NeverFull memory_story (rides.Riding old) → NeverFull memory_story (rides.Riding new)
+same_never_full old new same never = (
+  λ going. ap slots_left same.slots ∙ never.0 (sym same.failed ∙ going),
+  λ broken. subst (λ (story : Story). LeavesOnly NeverFills story.now) (sym same.story) (never.1 (sym same.failed ∙ broken)),
+)

@@ -1,5 +1,7 @@
 -- Whole histories: which answers may come to a list of events over two empty files.
-use Rattle.std.specs.Prelude.{◌≤◌, List, [], ◌∷◌}
+use Rattle.std.specs.Prelude.{◌≢◌, ◌≤◌, List, [], ◌∷◌}
+use Rattle.std.specs.List.{AllByRecursion}
+use Rattle.fit_recorder.specs.declared.fault.RecFault.TheVariants.{JournalFull}
 use Rattle.fit_world.specs.declared.answer.Answer.{Answer}
 use Rattle.fit_world.specs.declared.answer.Answer.TheVariants as answers
 use Rattle.fit_world.specs.declared.command.Command.{Command}
@@ -35,3 +37,7 @@ abbrev pub CanRun : Command → Type 0
 CanRun (Fail k) = 1 ≤ k
 CanRun (Cut k) = 1 ≤ k
 CanRun _ = Unit {0}
+
+-- no answer is that the journal is full
+abbrev pub NoneFull : List Outcome → Type 0
+NoneFull outcomes = AllByRecursion (λ outcome. outcome ≢ Fault JournalFull) outcomes

@@ -1,19 +1,23 @@
 -- What contracts see of a ride.
-use Rattle.std.specs.Prelude.{◌≡◌, ℕ, Bool, true, false, Some, None, List, [], ◌∷◌, ◌++◌}
+use Rattle.std.specs.Prelude.{◌≡◌, ◌↔◌, ℕ, Bool, true, false, Some, None, List, [], ◌∷◌, ◌++◌}
 use Rattle.fit_activity.specs.declared.recording.entry.Entry.TheVariants as entries
 use Rattle.fit_activity.specs.Rides.Recording.{Recorded, Started, Added, is_stop}
+use Rattle.fit_disk.specs.Counts.{Log}
 use Rattle.fit_disk.specs.Story.{Story}
 use Rattle.fit_journal.specs.declared.slots.Slots.{Slots}
 use Rattle.fit_journal.specs.declared.slots.Slots.TheVariants.{InTurns}
 use Rattle.fit_journal.specs.Turn.{committed_slots}
 use Rattle.fit_recorder.specs.Calls.Answers.{HandAnswers, CommitAnswers, StopAnswers}
 use Rattle.fit_recorder.specs.Calls.Recorder.{GoesOn, WasHanded, disk_of, has_failed, data_len, journal_slots}
+use Rattle.fit_recorder.specs.declared.fault.RecFault.TheVariants.{Device, Failed}
 use Rattle.fit_world.specs.declared.reply.Reply.{Reply}
+use Rattle.fit_world.specs.declared.reply.Reply.TheVariants.{Refused, NoRecorder}
 use Rattle.fit_world.specs.declared.command.Command.{Command}
 use Rattle.fit_world.specs.declared.command.Command.TheVariants as commands
 use Rattle.fit_world.specs.declared.ride.Ride.{Ride}
 use Rattle.fit_world.specs.declared.ride.Ride.TheVariants.{Idle, Riding}
 use Rattle.fit_world.specs.Rides.Replies.{Replies}
+use Rattle.fit_world.specs.Rides.Standing.{IsCounted}
 
 module _ {D : Type 0} where
   -- its disk
@@ -30,6 +34,18 @@ module _ {D : Type 0} where
   abbrev pub is_broken : Ride D → Bool
   is_broken (Idle disk) = false
   is_broken (Riding recorder) = has_failed recorder
+
+  -- what a call of a ride did to its disk: `Device` is replied if and only if a device call failed, and the schedule is unchanged
+  pub record Called (log : D → Log) (reply : Reply) (old new : Ride D) : Type 0 where
+    pub counted : IsCounted reply (log (disk_in old)).counts (log (disk_in new)).counts
+    pub planned : (log (disk_in new)).schedule ≡ (log (disk_in old)).schedule
+
+  -- What holds after a call that only a recorder answers: the reply is `NoRecorder` if and only if none runs, and after `Device` every
+  -- reply is `Failed`.
+  pub record Answered (reply : Reply) (old new : Ride D) : Type 0 where
+    pub none : (reply ≡ NoRecorder) ↔ (is_riding old ≡ false)
+    pub failed : is_broken old ≡ true → reply ≡ Refused Failed
+    pub broken : is_riding old ≡ true → reply ≡ Refused Device → is_broken new ≡ true
 
   -- every call of the recorder that runs may be made
   abbrev pub CanGoOn : Bool → (D → Story) → Ride D → Type 0

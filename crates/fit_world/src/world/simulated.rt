@@ -13,6 +13,7 @@ impl Ride<Memory> {
     ghost use Rattle.fit_disk.specs.Memory.{memory_story, memory_counts, memory_schedule, is_spent};
     ghost use Rattle.fit_world.specs.Histories.Table.{History};
     ghost use Rattle.fit_world.specs.Rides.Ride.{CanGoOn, disk_in, is_riding};
+    ghost use Rattle.fit_world.specs.Rides.NeverFull.{NeverFull, StaysNeverFull};
     ghost use Rattle.fit_world.specs.Rides.Standing.{StandsIn, GoesBy, content_of};
 
     /// Makes the k-th call of the disk from now on fail, counted from 1. The ride stays as it is.
@@ -21,6 +22,7 @@ impl Ride<Memory> {
         ensures goes_on { CanGoOn true memory_story self.old → CanGoOn true memory_story self.new }
         ensures stands { (history : History) → StandsIn true memory_story self.old history
             → StandsIn true memory_story self.new history }
+        ensures never_full { NeverFull memory_story self.old → NeverFull memory_story self.new }
         ensures counts { memory_counts (disk_in self.new) ≡ memory_counts (disk_in self.old) }
         ensures schedule { memory_schedule (disk_in self.new)
             ≡ failing_at k (memory_counts (disk_in self.old)) (memory_schedule (disk_in self.old)) }
@@ -37,6 +39,7 @@ impl Ride<Memory> {
         ensures goes_on { CanGoOn true memory_story self.old → CanGoOn true memory_story self.new }
         ensures stands { (history : History) → StandsIn true memory_story self.old history
             → StandsIn true memory_story self.new history }
+        ensures never_full { NeverFull memory_story self.old → NeverFull memory_story self.new }
         ensures counts { memory_counts (disk_in self.new) ≡ memory_counts (disk_in self.old) }
         ensures schedule { memory_schedule (disk_in self.new)
             ≡ cut_off_at k (memory_counts (disk_in self.old)) (memory_schedule (disk_in self.old)) }
@@ -53,6 +56,7 @@ impl Ride<Memory> {
         ensures ended { is_riding result.0 ≡ false }
         ensures step { (before : History) → StandsIn true memory_story self before
             → GoesBy true memory_story before commands.Power replies.Done result.0 }
+        ensures never_full { StaysNeverFull true memory_story self replies.Done result.0 }
         ensures left { (memory_story (disk_in result.0)).now
             ≡ cycled choices.now (memory_story (disk_in self)).now }
         ensures taken { result.1

@@ -7,6 +7,7 @@ ghost use Rattle.fit_world.specs.Simulation.Choices.{takes, IsLeftBy};
 ghost use Rattle.fit_world.specs.Histories.Runs.{CanRun};
 ghost use Rattle.fit_world.specs.Histories.Table.{History};
 ghost use Rattle.fit_world.specs.Rides.Ride.{CanGoOn, disk_in};
+ghost use Rattle.fit_world.specs.Rides.NeverFull.{StaysNeverFull};
 ghost use Rattle.fit_world.specs.Rides.Standing.{StandsIn, GoesBy};
 
 use crate::command::Command;
@@ -25,6 +26,7 @@ pub fn step(
     ensures goes_on { CanGoOn true memory_story result.0 }
     ensures step { (before : History) → StandsIn true memory_story ride before
         → GoesBy true memory_story before command.now result.1 result.0 }
+    ensures never_full { StaysNeverFull true memory_story ride result.1 result.0 }
     ensures moves { Moves command.now result.1 (memory_counts (disk_in ride)) (memory_schedule (disk_in ride))
         (memory_counts (disk_in result.0)) (memory_schedule (disk_in result.0)) }
     ensures taken { result.2 ≡ takes command.now choices.now (memory_story (disk_in ride)).now }

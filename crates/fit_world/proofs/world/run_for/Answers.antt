@@ -25,11 +25,12 @@ loop-event-preserved g c =
         _,
         c.in_ok-keep.ensures so_far.0 so_far.1,
         leads_on c.args.events.now c.loop-event.event-index _ so_far.0 c.loop-event.ride next c.step-next.result.1 c.file.result.now
-            c.loop-event-test.true c.loop-event.invariant.not_spent not_spent so_far.2 step.step step.moves c.file.ensures,
+            c.loop-event-test.true c.loop-event.invariant.not_spent not_spent so_far.2 step.step step.never_full step.moves c.file.ensures,
       );
     }
 
 pub returns : goal.returns
 returns g c =
     let so_far = c.loop-event.invariant.so_far in
-    (so_far.0, at_the_end c.args.events.now c.loop-event.event-index _ _ c.loop-event-test.false so_far.2, so_far.1)
+    let all = at_the_end c.args.events.now c.loop-event.event-index _ _ c.loop-event-test.false so_far.2 in
+    (so_far.0, all.0, all.1, so_far.1)

@@ -1,7 +1,12 @@
+use Rattle.std.proofs.Common.{◌∙◌, ap}
+use Rattle.std.proofs.lemmas.Result.{on_ok_weaker}
+use Rattle.fit_journal.specs.Turn.{slots_left}
 use Rattle.fit_recorder.specs.Calls.Answers.{CommitAnswers}
 use Rattle.fit_recorder.specs.Calls.Recorder.{journal_slots}
 use Rattle.fit_world.proofs.Reported.Replies.{replies_of_call, done_of_call}
-use Rattle.fit_world.proofs.Histories.Riding.{commit_goes}
+use Rattle.fit_recorder.proofs.Commit.Slots.{committed_turns}
+use Rattle.fit_world.proofs.Histories.NeverFull.{rides_on}
+use Rattle.fit_world.proofs.Histories.Riding.{commit_goes, never_full}
 use Rattle.fit_world.proofs.ride.Ride.commit.Goals as goal
 
 pub returns-in-Riding-clause-replies : goal.returns-in-Riding-clause-replies
@@ -28,4 +33,13 @@ returns-in-Riding-clause-step g c honest before stands =
     let done = c.commit.ensures in
     rw c.into.ensures
     (commit_goes g.D.Disk.honest g.D.Disk.story c.in-Riding.recorder c.commit.new.self c.commit.result done.after.same done.after.failed done.after.gone
-    done.answers done.turns done.ok (done.any_moment honest) before here)
+    done.answers (λ none. on_ok_weaker c.commit.result (λ slots. ap slots_left slots ∙ committed_turns _ _ none) done.slots) done.ok (done.any_moment honest) before here)
+
+pub returns-in-Riding-clause-never_full : goal.returns-in-Riding-clause-never_full
+returns-in-Riding-clause-never_full g c honest before stands never =
+    let here = rw c.in-Riding.is at stands in
+    let full = rw c.in-Riding.is at never in
+    let done = c.commit.ensures in
+    rides_on g.D.Disk.honest g.D.Disk.story honest c.in-Riding.recorder c.commit.new.self c.commit.result done.after (done.head honest) before here full
+    (λ list result. CommitAnswers list (journal_slots c.in-Riding.recorder) result) done.answers (λ none list full. never_full (journal_slots c.in-Riding.recorder) none full.1)
+    (on_ok_weaker c.commit.result (λ slots none. ap slots_left slots ∙ committed_turns _ _ none) done.slots) c.into.result c.into.ensures

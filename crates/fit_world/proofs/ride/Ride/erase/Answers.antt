@@ -1,3 +1,5 @@
+use Rattle.std.proofs.Common.{◌∙◌, sym}
+use Rattle.fit_world.proofs.Histories.NeverFull.{erasing_not_full, erased_fills}
 use Rattle.fit_disk.specs.Story.{seen_of}
 use Rattle.fit_disk.specs.declared.disk.Which.TheVariants.{Data}
 use Rattle.fit_world.proofs.Histories.Idle.{erase_goes}
@@ -12,3 +14,11 @@ returns-clause-step g c honest before stands =
     (idle_goes g.D.Disk.honest g.D.Disk.story before _ _ _
     (erase_goes before _ (c.into_disk-disk.ensures.rests honest before stands) (g.met.D.Disk.sound c.into_disk-disk.result honest) _ file c.erase.result
     (done.empty honest) done.fault (done.any_moment honest) (done.stays_empty honest)))
+
+pub returns-clause-never_full : goal.returns-clause-never_full
+returns-clause-never_full g c honest before stands never =
+    let done = c.erase.ensures in
+    record {
+      not_full = λ is. erasing_not_full c.erase.result done.fault (sym c.into-reply.ensures ∙ is);
+      never_full = erased_fills _ (g.met.D.Disk.sound c.into_disk-disk.result honest) (c.into_disk-disk.ensures.never_fills honest before stands never) _ (done.any_moment honest);
+    }

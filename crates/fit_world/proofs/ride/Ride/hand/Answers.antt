@@ -1,6 +1,10 @@
+use Rattle.std.proofs.Common.{◌∙◌, ap}
+use Rattle.fit_journal.specs.Turn.{slots_left}
 use Rattle.fit_recorder.specs.Calls.Answers.{HandAnswers}
 use Rattle.fit_recorder.specs.Calls.Recorder.{data_len}
 use Rattle.fit_world.proofs.Reported.Replies.{replies_of_call, done_of_call, counted_by}
+use Rattle.fit_recorder.proofs.Commit.Head.{rest_head, stands_rest}
+use Rattle.fit_world.proofs.Histories.NeverFull.{on_ok_of, rides_on}
 use Rattle.fit_world.proofs.Histories.Riding.{hand_goes}
 use Rattle.fit_world.proofs.ride.Ride.hand.Goals as goal
 
@@ -26,5 +30,16 @@ returns-in-Riding-clause-step g c honest before stands =
     (hand_goes g.D.Disk.honest g.D.Disk.story c.in-Riding.recorder c.hand.new.self c.hand.result done.after.same done.after.failed done.after.gone c.args.entry.now c.requires.no_stop done.slots
     done.answers done.ok (done.any_moment honest) before here)
 
-pub returns-in-Riding-clause-counted : goal.returns-in-Riding-clause-counted
-returns-in-Riding-clause-counted g c = rw c.in-Riding.is (counted_by c.hand.result c.into.result _ _ c.into.ensures c.hand.ensures.ran)
+pub returns-in-Riding-clause-called : goal.returns-in-Riding-clause-called
+returns-in-Riding-clause-called g c =
+    rw c.in-Riding.is (record { counted = counted_by c.hand.result c.into.result _ _ c.into.ensures c.hand.ensures.ran; planned = c.hand.ensures.ran.planned })
+
+pub returns-in-Riding-clause-never_full : goal.returns-in-Riding-clause-never_full
+returns-in-Riding-clause-never_full g c honest before stands never =
+    let here = rw c.in-Riding.is at stands in
+    let full = rw c.in-Riding.is at never in
+    let done = c.hand.ensures in
+    rides_on g.D.Disk.honest g.D.Disk.story honest c.in-Riding.recorder c.hand.new.self c.hand.result done.after
+    (λ list committed at. rest_head _ _ (stands_rest g.D.Disk.honest g.D.Disk.story c.in-Riding.recorder list committed at honest) (done.journal_file honest)) before here full
+    (λ list result. HandAnswers list (data_len c.in-Riding.recorder) c.args.entry.now result) done.answers (λ _ list none. none)
+    (on_ok_of _ c.hand.result (λ none. ap slots_left done.slots ∙ none)) c.into.result c.into.ensures

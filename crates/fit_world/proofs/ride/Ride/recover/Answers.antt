@@ -1,4 +1,5 @@
-use Rattle.std.proofs.Common.{refl}
+use Rattle.std.proofs.Common.{◌∙◌, refl, sym}
+use Rattle.fit_world.proofs.Histories.NeverFull.{recovery_not_full, recovered_fills}
 use Rattle.fit_disk.specs.Story.{seen_of}
 use Rattle.fit_disk.specs.declared.disk.Which.TheVariants.{Data}
 use Rattle.fit_world.proofs.Histories.Idle.{recover_goes}
@@ -17,3 +18,11 @@ returns-clause-step g c honest before stands =
 
 pub returns-clause-replies : goal.returns-clause-replies
 returns-clause-replies g c = rw c.into-reply.ensures (replies_recovery c.recover.result c.recover.ensures.known_fault)
+
+pub returns-clause-never_full : goal.returns-clause-never_full
+returns-clause-never_full g c honest before stands never =
+    let done = c.recover.ensures in
+    record {
+      not_full = λ is. recovery_not_full c.recover.result done.known_fault (sym c.into-reply.ensures ∙ is);
+      never_full = recovered_fills _ (g.met.D.Disk.sound c.into_disk-disk.result honest) (c.into_disk-disk.ensures.never_fills honest before stands never) _ (done.journal honest) (done.any_moment honest);
+    }
