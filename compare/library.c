@@ -2,6 +2,8 @@
 
      library repair SPARE DATA JOURNAL OUT   the data file goes to OUT; its buffer has SPARE bytes more than it
      library salvage SPARE IN OUT ALL        the new file goes to OUT; its buffer has SPARE bytes more than IN
+     library check IN
+     library show IN UTC OUT                 the text goes to OUT; its buffer has just as many bytes, and too few at first
      library lengths DATA JOURNAL            lengths that are greater than their buffers, and buffers of no bytes
 
    It prints the answer and, if that is 0, a line on what was found. Each buffer is between two rows of known bytes, which no call
@@ -66,22 +68,65 @@ static void or_dash(const char *name, uint32_t number) {
         printf(" %s=%u", name, number);
 }
 
+static void print_summary(struct fitrec_summary sum) {
+    printf("ok records=%u laps=%u sessions=%u", sum.records, sum.laps, sum.sessions);
+    or_dash("start", sum.start);
+    or_dash("elapsed_ms", sum.elapsed_ms);
+    or_dash("timer_ms", sum.timer_ms);
+    or_dash("distance_cm", sum.distance_cm);
+    printf("\n");
+}
+
 static void repair(char **words) {
     struct buffer data = file_at(words[1], (size_t)atoi(words[0])), journal = file_at(words[2], 0);
     struct fitrec_summary sum;
     unsigned answer = fitrec_repair(data.bytes, data.size, &data.len, journal.bytes, journal.size, &journal.len, &sum);
     printf("%u\n", answer);
-    if (answer == FITREC_REPAIRED) {
-        printf("ok records=%u laps=%u sessions=%u", sum.records, sum.laps, sum.sessions);
-        or_dash("start", sum.start);
-        or_dash("elapsed_ms", sum.elapsed_ms);
-        or_dash("timer_ms", sum.timer_ms);
-        or_dash("distance_cm", sum.distance_cm);
-        printf("\n");
-    }
+    if (answer == FITREC_REPAIRED)
+        print_summary(sum);
     keep(data, words[3]);
     look_at_guards(data);
     look_at_guards(journal);
+}
+
+static void check(char **words) {
+    struct buffer in = file_at(words[0], 0);
+    struct fitrec_summary sum;
+    uint64_t place;
+    unsigned answer = fitrec_check(in.bytes, in.size, &sum, &place);
+    printf("%u\n", answer);
+    if (answer == FITREC_ACTIVITY)
+        print_summary(sum);
+    else if (answer <= FITREC_TRAILING_BYTES)
+        printf("at %llu\n", (unsigned long long)place);
+    look_at_guards(in);
+}
+
+/* Shows into a buffer of so many bytes, and says whether that had room. */
+static unsigned show_in(struct buffer in, bool utc, size_t size, struct buffer *out, uint64_t *place) {
+    *out = room(size);
+    return fitrec_show(in.bytes, in.size, utc, out->bytes, out->size, &out->len, place);
+}
+
+static void show(char **words) {
+    struct buffer in = file_at(words[0], 0), out;
+    bool utc = words[1][0] == '1';
+    uint64_t place;
+    unsigned answer = show_in(in, utc, 0, &out, &place);
+    look_at_guards(out);
+    if (answer == FITREC_SHOW_NO_ROOM) {
+        uint64_t needed = out.len;
+        if (show_in(in, utc, needed - 1, &out, &place) != FITREC_SHOW_NO_ROOM || out.len != needed)
+            fail("another answer to a buffer that lacks one byte");
+        look_at_guards(out);
+        answer = show_in(in, utc, needed, &out, &place);
+        keep(out, words[2]);
+        look_at_guards(out);
+    }
+    printf("%u\n", answer);
+    if (answer)
+        printf("at %llu\n", (unsigned long long)place);
+    look_at_guards(in);
 }
 
 static void salvage(char **words) {
@@ -117,6 +162,12 @@ int main(int count, char **words) {
         repair(words + 2);
     else if (count == 6 && !strcmp(words[1], "salvage"))
         salvage(words + 2);
+    else if (count == 3 && !strcmp(words[1], "check"))
+        check(words + 2);
+    else if (count == 5 && !strcmp(words[1], "show"))
+        show(words + 2);
+    else if (count == 2 && !strcmp(words[1], "version"))
+        printf("%u\n", fitrec_version() == FITREC_VERSION);
     else if (count == 4 && !strcmp(words[1], "lengths"))
         lengths(words + 2);
     else

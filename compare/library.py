@@ -1,5 +1,5 @@
 """Compares the library for C (fit_c, include/fitrec.h) with the program, byte for byte: over recordings whose power went, over damaged
-ones, and over files without a journal. The C program is compiled with all warnings as errors, without and with sanitizers."""
+ones, and over files that are salvaged, shown and checked. The C program is compiled with all warnings as errors, without and with sanitizers."""
 
 import contextlib
 import pathlib
@@ -20,8 +20,9 @@ from told import holds, room
 HERE = pathlib.Path(__file__).resolve().parent
 # The most bytes that a repair and a salvage may add.
 CLOSING, FRAME = 254, 16
-# The answer that each line of the program on standard error stands for.
-ANSWERS = {"NothingRecorded": 7, "Damaged": 8, "Truncated": 1, "HeaderSize": 2, "Magic": 3, "Protocol": 4}
+# The answer that each line of the program on standard error stands for: of a recording, and of a file.
+ANSWERS = {"NothingRecorded": 7, "Damaged": 8, "Truncated": 1, "HeaderSize": 2, "Magic": 3, "Protocol": 4, "HeaderCrc": 5, "UndefinedLocal": 6,
+           "SplitMessage": 7, "FileCrc": 8, "TrailingBytes": 9, "NoFileId": 11, "NotActivity": 12, "NoLap": 13, "NoSession": 14, "NoActivity": 15}
 COMPILERS = {"as it is": ["-O2"], "under sanitizers": ["-g", "-fsanitize=address,undefined", "-fno-sanitize-recover=all"]}
 
 
@@ -55,7 +56,7 @@ def names_of(archive):
     """The library calls only three functions of C, and exports exactly what the header declares."""
     listed = subprocess.run(["nm", archive], capture_output=True, text=True, check=True).stdout
     yield "what it calls", differs(set(re.findall(r" U (\w+)", listed)), {"memcpy", "memmove", "memset"})
-    declared = re.findall(r"^uint8_t (\w+)\(", (HERE.parent / "include/fitrec.h").read_text(), re.M)
+    declared = re.findall(r"^uint\w+_t (\w+)\(", (HERE.parent / "include/fitrec.h").read_text(), re.M)
     yield "what it exports", differs(sorted(re.findall(r" T (\w+)", listed)), sorted(declared))
 
 
@@ -121,6 +122,36 @@ def of_files(fitrec, program, count, seed):
         yield "a salvage of a whole file needs two bytes more", differs(said[1].split("\n")[0], "0")
 
 
+def looked_at(fitrec, program, source, mine):
+    """What differs between looking at a file by the library and by the program: its text, with dates and without, and its check."""
+    for words, part in (((), "show"), (("--utc",), "show"), ((), "check")):
+        wanted = run(fitrec, part, *words, source)
+        said = run(program, "check", source) if part == "check" else run(program, "show", source, len(words), mine)
+        place = re.match(r"fitrec: \w+(?:\(\d+\))? at (\d+)$", wanted[2].strip())
+        lines = "%d\n%s" % (answer_of(wanted), "at %s\n" % place[1] if place else wanted[1] if part == "check" else "")
+        yield part, differs((said, bytes_of(mine)), ((0, lines, ""), wanted[1].encode() if part == "show" and not wanted[0] else None))
+        mine.unlink(missing_ok=True)
+
+
+def of_looks(fitrec, program, count, seed):
+    """Files that are shown and checked: whole, damaged, cut short and continued."""
+    pick = random.Random(seed)
+    with room() as (script, new):
+        folder = pathlib.Path(new())
+        source, mine = folder / "in.fit", folder / "mine.txt"
+        files = [made(pick) for _ in range(count)]
+        files += [damaged_file(pick, made(pick)) for _ in range(3 * count)]
+        script.write_text(script_of(20, 4))
+        run(fitrec, "replay", script, new_ride := new())
+        ride = holds(new_ride)[0]
+        files += [ride[:length] for length in range(0, len(ride), max(1, len(ride) // 60))] + [ride, ride + b"\0", b""]
+        for content in files:
+            source.write_bytes(content)
+            for part, difference in looked_at(fitrec, program, source, mine):
+                yield "a file that is looked at by " + part, difference
+        yield "its version", differs(run(program, "version"), (0, "1\n", ""))
+
+
 def check(fitrec, count, seed):
     """Yields a name, and a difference or None, for each check."""
     with tempfile.TemporaryDirectory() as folder:
@@ -133,6 +164,7 @@ def check(fitrec, count, seed):
             yield "library: " + name, difference
         with programs(archive) as made_so:
             for how, program in made_so.items():
-                for part in (of_recordings(fitrec, program, count, seed), of_files(fitrec, program, count // 4, seed)):
+                parts = of_recordings(fitrec, program, count, seed), of_files(fitrec, program, count // 4, seed), of_looks(fitrec, program, count // 4, seed)
+                for part in parts:
                     for name, difference in part:
                         yield "library %s: %s" % (how, name), difference

@@ -1,14 +1,14 @@
-/* fitrec: rides of a dead device, saved in memory.
+/* fitrec: rides of a dead device, saved in memory; FIT files, checked and shown.
 
-   A recording is two files, activity.fit (the data file) and activity.frj (the journal). These calls work on their bytes in buffers of
-   the caller. The library is crates/fit_c of fitrec; its exports are proved to do what this header says of them, as long as the caller
+   A recording is two files, activity.fit (the data file) and activity.frj (the journal). These calls work on the bytes of files in
+   buffers of the caller. The library is crates/fit_c of fitrec; its exports are proved to do what this header says of them, as long as the caller
    keeps these rules:
 
    - No pointer is NULL, and no two buffers or numbers of one call overlap.
    - A buffer has as many bytes as its size argument says, and all of them may be read.
 
    The library takes no memory, keeps none between calls, and calls nothing but memcpy, memmove and memset. So calls on different buffers
-   may run at the same time in any threads. On x86-64 a repair needs 40 KB of stack, a salvage 10 KB. */
+   may run at the same time in any threads. On x86-64 a repair needs 40 KB of stack, a call on one file @STACK@ KB. */
 
 #ifndef FITREC_H
 #define FITREC_H
@@ -20,6 +20,12 @@
 #ifdef __cplusplus
 extern "C" {
 #endif
+
+/* The version of these calls. It grows when one of them changes. */
+#define FITREC_VERSION 1
+
+/* The version that the library was built with. */
+uint32_t fitrec_version(void);
 
 /* A number of a summary that is not there. */
 #define FITREC_ABSENT UINT32_MAX
@@ -74,7 +80,7 @@ struct fitrec_salvage_counts {
    bytes, size   the file; fewer than 4294967296 bytes
    all           look at all bytes after the header, whatever size it gives
    out, out_size the buffer of the new file; size + FITREC_FRAME_ROOM bytes are enough
-   out_len       how many bytes the new file has, after 0
+   out_len       how many bytes the new file has, after 0 and FITREC_SALVAGE_NO_ROOM
    counts        is filled after 0
 
    Answers one of these. After every other answer than 0 the bytes of out may have changed. */
@@ -89,6 +95,55 @@ enum {
 };
 uint8_t fitrec_salvage(const uint8_t *bytes, size_t size, bool all, uint8_t *out, size_t out_size, uint64_t *out_len,
                        struct fitrec_salvage_counts *counts);
+
+/* Why bytes are no FIT file, as fitrec_check and fitrec_show answer it. Each comes with the place of the fault, an offset in bytes: the
+   first item or number that is wrong. If several faults hold, it is the one that the first bytes show. */
+enum {
+    FITREC_TRUNCATED = 1,       /* the bytes end before the closing checksum is whole */
+    FITREC_HEADER_SIZE = 2,     /* byte 0 is not 12 or 14 */
+    FITREC_MAGIC = 3,           /* bytes 8 to 11 are not ".FIT" */
+    FITREC_PROTOCOL = 4,        /* the major version of the protocol is not 1 or 2 */
+    FITREC_HEADER_CRC = 5,      /* the checksum of the header is wrong */
+    FITREC_UNDEFINED_LOCAL = 6, /* a data message has no definition */
+    FITREC_SPLIT_MESSAGE = 7,   /* an item extends past the end of the data that the header gives */
+    FITREC_FILE_CRC = 8,        /* the closing checksum is wrong */
+    FITREC_TRAILING_BYTES = 9   /* a byte follows the closing checksum */
+};
+
+/* Checks whether bytes are an activity file: a FIT file whose first message is a file_id of the type activity, and that has a lap, a
+   session and an activity message.
+
+   bytes, size   the file
+   summary       is filled after 0, from the first session
+   fault_place   the place of the fault, after 1 to 9
+
+   Answers 0, one of 1 to 9 above, or one of these. */
+enum {
+    FITREC_ACTIVITY = 0,
+    FITREC_NO_FILE_ID = 11,
+    FITREC_NOT_ACTIVITY = 12, /* the file is of another type, such as a course */
+    FITREC_NO_LAP = 13,
+    FITREC_NO_SESSION = 14,
+    FITREC_NO_ACTIVITY = 15
+};
+uint8_t fitrec_check(const uint8_t *bytes, size_t size, struct fitrec_summary *summary, uint64_t *fault_place);
+
+/* Writes the text of a FIT file: a line for its header, one for each message, and one that counts them, as docs/FORMAT.md describes it.
+   It is ASCII, lines end with a line feed, and no zero byte follows.
+
+   bytes, size   the file
+   utc           write times as dates
+   out, out_size the buffer of the text
+   out_len       how many bytes the text has, after 0 and FITREC_SHOW_NO_ROOM
+   fault_place   the place of the fault, after 1 to 9
+
+   Answers 0, one of 1 to 9 above, or FITREC_SHOW_NO_ROOM. After every other answer than 0 the bytes of out may have changed. */
+enum {
+    FITREC_SHOWN = 0,
+    FITREC_SHOW_NO_ROOM = 20 /* the text has no room in out */
+};
+uint8_t fitrec_show(const uint8_t *bytes, size_t size, bool utc, uint8_t *out, size_t out_size, uint64_t *out_len,
+                    uint64_t *fault_place);
 
 #ifdef __cplusplus
 }

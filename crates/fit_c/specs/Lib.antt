@@ -1,3 +1,4 @@
+pub mod Files
 pub mod Repaired
 pub mod Room
 pub mod Salvaged

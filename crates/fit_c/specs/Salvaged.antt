@@ -1,5 +1,5 @@
 -- What a salvage in memory leaves and returns.
-use Rattle.std.specs.Prelude.{◌≡◌, ℕ, Bool, List, length}
+use Rattle.std.specs.Prelude.{◌≡◌, ℕ, ◌<◌, Bool, List, length}
 use Rattle.fit_world.specs.Printed.Salvaged.{IsSalvage, saved_file}
 use Rattle.fit_world.specs.declared.salvage.Salvage.{Salvage}
 use Rattle.fit_c.specs.declared.salvaging.SalvageCounts.{SalvageCounts}
@@ -13,3 +13,10 @@ pub record IsSalvaged (all : Bool) (bytes file : List ℕ) (counts : SalvageCoun
   pub found : IsSalvage all bytes salvage
   pub is : file ≡ saved_file salvage
   pub counted : counts ≡ counts_of salvage
+
+-- the file of what is readable of `bytes` has so many bytes, more than there is room for
+pub record NeedsRoomToSalvage (all : Bool) (bytes : List ℕ) (room needed : ℕ) : Type 0 where
+  pub salvage : Salvage
+  pub found : IsSalvage all bytes salvage
+  pub needed_is : needed ≡ length (saved_file salvage)
+  pub short : room < needed

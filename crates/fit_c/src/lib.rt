@@ -1,13 +1,28 @@
-//! Recovers rides of a dead device in the memory of a C program or of a page in a browser. `include/fitrec.h` documents the
+//! Recovers rides of a dead device, and shows and checks files, in the memory of a C program or of a page in a browser. `include/fitrec.h` documents the
 //! same calls for C.
 //!
 //! Nothing here takes memory, keeps state, or makes a system call. A call reads and writes only the buffers that it is given,
 //! so calls on different buffers may run at the same time.
 #![tactic(auto)]
 
+ghost use Rattle.std.specs.Prelude.{◌≡◌};
+
+mod checking;
 mod repairing;
 mod room;
 mod salvaging;
+mod showing;
+mod tape;
 
+pub use checking::fitrec_check;
 pub use repairing::{RideSummary, fitrec_repair};
 pub use salvaging::fitrec_salvage;
+pub use showing::fitrec_show;
+
+/// The version of these calls. It grows when one of them changes.
+#[unsafe(no_mangle)]
+pub extern "C" fn fitrec_version() -> u32
+    ensures { result ≡ 1 }
+{
+    1
+}

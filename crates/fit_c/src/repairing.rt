@@ -100,7 +100,7 @@ fn recovered(buffers: &mut Buffers<'_, '_>) -> Result<Summary, RecFault>
     done
 }
 
-fn numbers(summary: &Summary) -> RideSummary
+pub fn numbers(summary: &Summary) -> RideSummary
     ensures { result ≡ numbers_of summary.now }
 {
     RideSummary {

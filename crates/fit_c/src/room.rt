@@ -1,14 +1,38 @@
-// A writer into a caller's buffer.
+// A writer into a caller's buffer. It takes all bytes, and keeps them if they have room.
 
-ghost use Rattle.std.specs.Prelude.{◌≡◌, ◌+◌, ◌≤◌, ◌++◌, length, take};
+ghost use Rattle.std.specs.Prelude.{◌≡◌, ◌+◌, ◌≤◌, ◌++◌, [], length, take};
 
+use crate::tape::Tape;
 use std::io::{self, ErrorKind, Write};
+
+// What was to be written does not fit into the buffer.
+pub const NO_ROOM: u8 = 20;
+
+// More bytes than memory can have were to be written.
+pub const TOO_LONG: u8 = 21;
 
 #[derive(Drop)]
 pub struct Room<'a> {
     pub bytes: &'a mut [u8],
+    // How many bytes were taken.
     pub len: usize,
-    pub ghost fits: { len ≤ length bytes.now },
+    pub tape: Tape,
+    pub ghost counted: { len ≡ length tape.bytes },
+    pub ghost kept: { len ≤ length bytes.now → take len bytes.now ≡ tape.bytes },
+}
+
+impl<'a> Room<'a> {
+    // No bytes were taken.
+    pub fn new(bytes: &'a mut [u8]) -> Room<'a>
+        ensures buffer { result.bytes ≡ bytes.entry }
+        ensures none { result.tape.bytes ≡ [] }
+    {
+        Room {
+            bytes,
+            len: 0,
+            tape: Tape::new(),
+        }
+    }
 }
 
 impl Write for Room<'_> {
@@ -17,11 +41,14 @@ impl Write for Room<'_> {
     ghost contents = { contents_of };
 
     fn write(&mut self, buf: &[u8]) -> io::Result<usize> {
-        if buf.len() > self.bytes.len() - self.len {
+        let Some(len) = self.len.checked_add(buf.len()) else {
             return Err(ErrorKind::WriteZero.into());
+        };
+        if len <= self.bytes.len() {
+            put(self.bytes, self.len, buf);
         }
-        put(self.bytes, self.len, buf);
-        self.len += buf.len();
+        self.tape.add(buf);
+        self.len = len;
         Ok(buf.len())
     }
 

@@ -1,20 +1,17 @@
 // Recovers what is readable of a file that has no journal.
 
-ghost use Rattle.std.specs.Prelude.{◌≡◌, ◌<◌, ◌≤◌, ◌^◌, ◌⊎◌, length, take, IfOk};
+ghost use Rattle.std.specs.Prelude.{◌≡◌, ◌<◌, ◌≤◌, ◌^◌, ◌⊎◌, [], length, take, IfOk};
 ghost use Rattle.fit_grammar.specs.Calls.FaultCode.{kind_code};
 ghost use Rattle.fit_grammar.specs.declared.file.fault.FileFault.{FileFault};
 ghost use Rattle.fit_world.specs.Printed.Salvaged.{IsNotSalvaged, saved_file};
-ghost use Rattle.fit_c.specs.Salvaged.{IsSalvaged};
+ghost use Rattle.fit_c.specs.Salvaged.{IsSalvaged, NeedsRoomToSalvage};
 
-use crate::room::Room;
+use crate::room::{NO_ROOM, Room, TOO_LONG};
 use fit_grammar::EncodeFault;
 use fit_world::{Salvage, salvage_bytes};
 
 // The input has 4294967296 bytes or more.
 const TOO_LARGE: u8 = 22;
-
-// The buffer is too small for the file.
-const NO_ROOM: u8 = 20;
 
 /// How much of a file was kept, in bytes.
 #[repr(C)]
@@ -30,7 +27,7 @@ pub struct SalvageCounts {
 
 /// Writes a new file into `out`: the longest row of whole items after the header of `bytes`, as `salvage_bytes` of `fit_world`
 /// finds it. Returns 0; 1 to 4 if `bytes` begins with no header (the code of the `FaultKind`); 20 if the file does not fit into
-/// `out`; 22 if `bytes` has 4294967296 bytes or more. An `out` that is 16 bytes longer than `bytes` is always large enough.
+/// `out`, with its length in `out_len`; 22 if `bytes` has 4294967296 bytes or more. An `out` that is 16 bytes longer than `bytes` is always large enough.
 #[unsafe(no_mangle)]
 pub extern "C" fn fitrec_salvage(
     bytes: &[u8],
@@ -42,6 +39,7 @@ pub extern "C" fn fitrec_salvage(
     ensures ok { result ≡ 0 → IsSalvaged all bytes.now (take out_len.new out.new) counts.new }
     ensures refused { 1 ≤ result → result ≤ 10
         → (fault : FileFault) × IsNotSalvaged bytes.now fault × (result ≡ kind_code fault.kind) }
+    ensures no_room { result ≡ 20 → NeedsRoomToSalvage all bytes.now (length out.old) out_len.new }
     ensures too_large { result ≡ 22 → 2 ^ 32 ≤ length bytes.now }
 {
     if bytes.len() >= 1 << 32 {
@@ -49,28 +47,39 @@ pub extern "C" fn fitrec_salvage(
     }
     match salvage_bytes(bytes, all) {
         Ok(salvage) => {
-            let mut room = Room { bytes: out, len: 0 };
-            let done = write_in(&salvage, &mut room);
-            *out_len = room.len as u64;
             *counts = SalvageCounts {
                 kept: salvage.row.len() as u64,
                 looked_at: salvage.looked_at as u64,
                 not_looked_at: salvage.not_looked_at as u64,
             };
-            match done {
-                Ok(()) => 0,
-                Err(_) => NO_ROOM,
-            }
+            write_out(&salvage, out, out_len)
         }
         Err(fault) => fault.kind.code(),
     }
 }
 
+// Writes the file into the buffer, if it has room, and returns the code of that.
+fn write_out(salvage: &Salvage<'_>, out: &mut [u8], out_len: &mut u64) -> u8
+    ensures code { (result ≡ 0) ⊎ (result ≡ 20) ⊎ (result ≡ 21) }
+    ensures ok { result ≡ 0 → take out_len.new out.new ≡ saved_file salvage.now }
+    ensures needed { result ≡ 20 → out_len.new ≡ length (saved_file salvage.now) }
+    ensures no_room { result ≡ 20 → length out.old < out_len.new }
+{
+    let mut room = Room::new(out);
+    let done = write_in(salvage, &mut room);
+    *out_len = room.len as u64;
+    match done {
+        Ok(()) if room.len <= room.bytes.len() => 0,
+        Ok(()) => NO_ROOM,
+        Err(_) => TOO_LONG,
+    }
+}
+
 // Writes the file into the same buffer.
 fn write_in(salvage: &Salvage<'_>, room: &mut Room<'_>) -> Result<(), EncodeFault>
-    requires empty { room.old.len ≡ 0 }
+    requires empty { room.old.tape.bytes ≡ [] }
     ensures name { room.new.bytes.ghost_name ≡ room.old.bytes.ghost_name }
-    ensures file { IfOk result (λ _. take room.new.len room.new.bytes.now ≡ saved_file salvage.now) }
+    ensures file { IfOk result (λ _. room.new.tape.bytes ≡ saved_file salvage.now) }
 {
     salvage.write(room)
 }

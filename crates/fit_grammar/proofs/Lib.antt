@@ -5,5 +5,6 @@ pub mod Decoding
 mod Pieces
 pub mod Encoder
 pub mod KeptRow
+mod LentRow
 pub mod PlainForm
 mod StatedTime

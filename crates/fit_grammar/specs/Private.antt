@@ -13,3 +13,5 @@ pub mod ItemsLeft
 pub mod Decoding
 pub mod Feeding
 pub mod CheckedOutput
+pub mod LentRow
+pub mod Passing

@@ -19,6 +19,8 @@ mod encode;
 mod fault;
 mod frame;
 mod header;
+mod lent;
+mod passing;
 mod places;
 mod reading;
 mod taking;
@@ -34,6 +36,7 @@ pub use encode::{encode_file, encode_records, header_front};
 pub use fault::{EncodeFault, FaultKind, FileFault, PutFault};
 pub use frame::Frame;
 pub use header::{Header, read_header_front};
+pub use lent::LentFile;
 pub use places::Places;
 use std::alloc::{AllocError, Global};
 use std::marker::Model;
@@ -113,12 +116,23 @@ impl File {
         least_length(window, &self.table)
     }
 
+    /// The same file, lent in the bytes that it keeps.
+    pub fn lend(&self) -> LentFile<'_>
+        ensures { result ≡ self.now }
+    {
+        LentFile {
+            frame: self.frame,
+            records: &self.records,
+            size: self.data_size(),
+        }
+    }
+
     /// The messages in order. The time of a compressed timestamp is counted from the last time before it, or from 0 if there is
     /// none.
     pub fn messages(&self) -> Messages<'_>
         ensures { result ≡ messages_of self.now.items }
     {
-        Messages::new(self.items())
+        self.lend().messages()
     }
 
     /// The items in order, each with what is needed to read it where it is: a data message comes with its definition in force
@@ -132,7 +146,7 @@ impl File {
         // They encode the messages of the file.
         ensures messages { messages_in result ≡ messages_of self.now.items }
     {
-        Items::new(&self.records)
+        self.lend().items()
     }
 
     /// Adds a definition, which is in force for its local number from here on.

@@ -93,12 +93,26 @@ fn length_at(window: &[u8], table: &Table) -> Result<usize, ItemFault>
     ensures answer { result ≡ least_length_of (definition_in table.now) window.now }
     ensures bound { IfOk result (λ n. n ≤ 130051) }
 {
-    let [first, ..] = window else {
-        return Ok(1);
-    };
-    match read_head(*first) {
+    match window {
+        [first, ..] => least_under(window, table.get(first_local(*first))),
+        [] => Ok(1),
+    }
+}
+
+// The least length at the front of a window that is not empty, if this is the definition of the local number in its first byte.
+pub(crate) fn least_under(
+    window: &[u8],
+    definition: Option<DefinitionMessage<'_>>,
+) -> Result<usize, ItemFault>
+    requires { 1 ≤ length window.now }
+    ensures answer { (f : ℕ → Option AnyDefinition)
+        → f (local_of (head_of (slice_index window.now 0))) ≡ definition.entry
+        → result ≡ least_length_of f window.now }
+    ensures bound { IfOk result (λ n. n ≤ 130051) }
+{
+    match read_head(window[0]) {
         Head::Definition(_, announced) => Ok(definition_length(window, announced)),
-        Head::Data(local, _) => match table.get(local) {
+        Head::Data(local, _) => match definition {
             None => Err(ItemFault::UndefinedLocal(local)),
             Some(definition) => Ok(1 + definition.content_size()),
         },

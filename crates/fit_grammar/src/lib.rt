@@ -35,8 +35,8 @@ pub use definition::{
     Definition, DefinitionMessage, DeveloperFieldDefinition, FieldDefinition, Table,
 };
 pub use file::{
-    Decoder, EncodeFault, FaultKind, File, FileFault, Frame, Header, Places, PutFault, decode_file,
-    encode_file, encode_records, header_front, read_header_front,
+    Decoder, EncodeFault, FaultKind, File, FileFault, Frame, Header, LentFile, Places, PutFault,
+    decode_file, encode_file, encode_records, header_front, read_header_front,
 };
 pub use item::{
     DataMessage, FileItem, Item, ItemFault, Items, Step, least_length, longest_front, next_item,

@@ -1,11 +1,11 @@
 //! The messages of a FIT file as text: a line for its header, a line for each message, and a line that counts them.
 //!
-//! `show` writes the text of a `File`, in one pass and without allocation. Times are numbers, or dates on request:
+//! `show` writes the text of a file, in one pass and without allocation. Times are numbers, or dates on request:
 //!
 //!     let mut file = File::new(alloc, frame);
 //!     file.define(&Definition { local: 0, arch: Arch::Little, global: 0, fields, developer: ArrayVec::new() })?;
 //!     file.data(0, None, &[4, 0x00, 0xCA, 0x9A, 0x3B])?;
-//!     show(&file, true, &mut out)?;
+//!     show(&file.lend(), true, &mut out)?;
 //!
 //! writes
 //!

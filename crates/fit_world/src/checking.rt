@@ -47,7 +47,7 @@ fn check<O: Write>(file: &File, out: &mut O) -> Result<(), ReportFault>
     ensures { (bytes : List ℕ) → FileOf bytes file.now
         → ChecksBytes (O.contents out.old) (O.contents out.new) bytes result }
 {
-    match check_activity(file) {
+    match check_activity(&file.lend()) {
         Ok(summary) => print_summary(summary, out),
         Err(fault) => Err(ReportFault::Activity(fault)),
     }

@@ -54,7 +54,7 @@ fn show_flushed<O: Write>(file: &File, utc: bool, out: &mut O) -> Result<(), Rep
     ensures text { WritesText (O.contents out.old) (O.contents out.new) result (text_of utc file.now) }
     ensures fault { IfErr result IsOutputFault }
 {
-    let Ok(()) = show(file, utc, out) else {
+    let Ok(()) = show(&file.lend(), utc, out) else {
         return Err(ReportFault::Output);
     };
     match out.flush() {

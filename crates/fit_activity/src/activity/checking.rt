@@ -6,10 +6,10 @@ ghost use Rattle.fit_activity.specs.Files.Activity.{activity_in};
 
 use crate::activity::seen::Seen;
 use crate::activity::{ActivityFault, Summary};
-use fit_grammar::File;
+use fit_grammar::LentFile;
 
 /// The summary of an activity file, or the first of the five faults that it has. It makes one pass over the messages, and takes no memory.
-pub fn check_activity(file: &File) -> Result<Summary, ActivityFault>
+pub fn check_activity(file: &LentFile<'_>) -> Result<Summary, ActivityFault>
     ensures { result ≡ activity_in (messages_of file.now.items) }
 {
     // Every file has fewer than 2^32 messages.

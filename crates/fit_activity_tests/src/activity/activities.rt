@@ -47,14 +47,14 @@ fn accepts_a_short_ride(rt: HostRuntime) -> Result<(), PutFault> {
         timer_ms: Some(0),
         distance_cm: None,
     };
-    equal(&rt, check_activity(&file), Ok(summary));
+    equal(&rt, check_activity(&file.lend()), Ok(summary));
     Ok(())
 }
 
 #[test]
 fn reports_what_is_missing(rt: HostRuntime) -> Result<(), Fail> {
     let fault = |left_out: &[u16]| -> Result<Option<ActivityFault>, Fail> {
-        Ok(check_activity(&short_ride(&rt, rt.alloc(), left_out)?).err())
+        Ok(check_activity(&short_ride(&rt, rt.alloc(), left_out)?.lend()).err())
     };
     equal(&rt, fault(&[0])?, Some(ActivityFault::NoFileId));
     equal(&rt, fault(&[0, 19, 18, 34])?, Some(ActivityFault::NoFileId));
@@ -80,12 +80,12 @@ const SMALL: [u8; 34] = [
 fn judges_known_files(rt: HostRuntime) -> Result<(), Fail> {
     equal(
         &rt,
-        check_activity(&decode_file(rt.alloc(), &EMPTY)?),
+        check_activity(&decode_file(rt.alloc(), &EMPTY)?.lend()),
         Err(ActivityFault::NoFileId),
     );
     equal(
         &rt,
-        check_activity(&decode_file(rt.alloc(), &SMALL)?),
+        check_activity(&decode_file(rt.alloc(), &SMALL)?.lend()),
         Err(ActivityFault::NoLap),
     );
     Ok(())
@@ -136,7 +136,7 @@ fn with_file_id(
     file.define(&definition(0, Arch::Big, 0, fields))?;
     file.data(0, None, content)?;
     put_empty(&mut file, &[19, 18, 34])?;
-    Ok(check_activity(&file))
+    Ok(check_activity(&file.lend()))
 }
 
 #[test]
@@ -207,7 +207,7 @@ fn reads_the_first_session(rt: HostRuntime) -> Result<(), PutFault> {
         timer_ms: None,
         distance_cm: None,
     };
-    equal(&rt, check_activity(&file), Ok(summary));
+    equal(&rt, check_activity(&file.lend()), Ok(summary));
     Ok(())
 }
 

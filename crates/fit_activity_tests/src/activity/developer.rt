@@ -133,6 +133,6 @@ fn an_activity_may_have_them(rt: HostRuntime) -> Result<(), Fail> {
         timer_ms: None,
         distance_cm: None,
     };
-    equal(&rt, check_activity(&file), Ok(summary));
+    equal(&rt, check_activity(&file.lend()), Ok(summary));
     Ok(())
 }

@@ -84,7 +84,7 @@ fn summaries(
     speak_closing(&ride(rt, entries), &mut speech);
     put(&mut file, &speech)?;
     let reported = replay.into_recording().map(|(_, summary)| summary);
-    Ok((reported, check_activity(&file).ok()))
+    Ok((reported, check_activity(&file.lend()).ok()))
 }
 
 #[test]

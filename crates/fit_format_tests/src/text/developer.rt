@@ -56,7 +56,7 @@ fn shows_them_after_the_fields(rt: HostRuntime) -> Result<(), Fail> {
     file.define(&definition(0, &[], &[(5, 1, 2)])?)?;
     file.data(0, None, &[0x67])?;
     let mut out = Vec::new(rt.alloc());
-    show(&file, true, &mut out)?;
+    show(&file.lend(), true, &mut out)?;
     // Definitions of 19, 9 and 10 bytes, and messages of 8, 8, 2 and 2.
     let lines = [
         "header 14 protocol 1.0 profile 100 data 58",
@@ -120,7 +120,7 @@ fn shows_those_of_each_local_number(rt: HostRuntime) -> Result<(), Fail> {
     }
     text.push_str("messages 32\n")?;
     let mut out = Vec::new(rt.alloc());
-    show(&file, false, &mut out)?;
+    show(&file.lend(), false, &mut out)?;
     equal(&rt, out.as_slice(), text.as_bytes());
     Ok(())
 }

@@ -175,7 +175,7 @@ fn are_named(
     push_fields(alloc, &mut text, fields, 128, 255)?;
     text.push_str("\nmessages 2\n")?;
     let mut out = Vec::new(alloc);
-    show(&file, false, &mut out)?;
+    show(&file.lend(), false, &mut out)?;
     Ok(out.as_slice() == text.as_bytes())
 }
 
@@ -205,7 +205,7 @@ fn names_messages_and_fields(rt: HostRuntime) -> Result<(), Fail> {
     }
     text.push_str("messages 65536\n")?;
     let mut out = Vec::new(rt.alloc());
-    show(&file, false, &mut out)?;
+    show(&file.lend(), false, &mut out)?;
     assert!(rt; out.as_slice() == text.as_bytes());
     Ok(())
 }

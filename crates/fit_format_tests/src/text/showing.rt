@@ -36,7 +36,7 @@ fn text_of(
     })?;
     file.data(0, None, bytes)?;
     let mut out = Vec::new(rt.alloc());
-    show(&file, utc, &mut out)?;
+    show(&file.lend(), utc, &mut out)?;
     Ok(out)
 }
 
@@ -251,7 +251,7 @@ fn the_example_of_the_crate(rt: HostRuntime) -> Result<(), Fail> {
     })?;
     file.data(0, None, &[4, 0x00, 0xCA, 0x9A, 0x3B])?;
     let mut out = Vec::new(rt.alloc());
-    show(&file, true, &mut out)?;
+    show(&file.lend(), true, &mut out)?;
     let lines = [
         "header 14 protocol 1.0 profile 100 data 18",
         "0 file_id type=4 time_created=2021-09-08T01:46:40Z",
@@ -318,7 +318,7 @@ fn shows_many_definitions(rt: HostRuntime) -> Result<(), Fail> {
         }
         text.push_str("messages 64\n")?;
         let mut out = Vec::new(rt.alloc());
-        show(&file, false, &mut out)?;
+        show(&file.lend(), false, &mut out)?;
         assert_eq!(rt; out.as_slice(), text.as_bytes(), "{last}");
     }
     Ok(())

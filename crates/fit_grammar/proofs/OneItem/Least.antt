@@ -27,7 +27,7 @@ some_length : (o : Option Definition) (local n : ℕ) → IsSomeAnd o (λ d. con
 some_length None local n h = absurd h
 some_length (Some d) local n h = ap (λ (k : ℕ). Ok (1 + k)) h
 
-abbrev no_bytes : List ℕ
+abbrev pub no_bytes : List ℕ
 no_bytes = []
 
 -- an item at the front has its least length

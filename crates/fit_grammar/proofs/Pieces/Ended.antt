@@ -65,7 +65,7 @@ abbrev file_by : Frame → List Item → FileValue
 file_by frame items = record { frame = frame; items = items }
 
 -- or after it, if it is right
-closed_file : (b closing : List ℕ) (v : FileValue) (at end : ℕ) → Reached b v at end → end ≤ at → drop at b ≡ closing
+pub closed_file : (b closing : List ℕ) (v : FileValue) (at end : ℕ) → Reached b v at end → end ≤ at → drop at b ≡ closing
     → length closing ≡ 2 → low_first closing ≡ crc (take end b) → FileOf b v
 closed_file b closing v at end r le is two right =
     let f = r.front in

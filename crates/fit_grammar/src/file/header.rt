@@ -61,7 +61,7 @@ fn add_header(header: &mut ArrayVec<u8, LONGEST_HEADER>, bytes: &[u8])
 }
 
 // Reads the header. The checks come in the order of the bytes that they need.
-fn read_header(bytes: &[u8]) -> Result<Header, FileFault>
+pub(crate) fn read_header(bytes: &[u8]) -> Result<Header, FileFault>
     ensures header { IfOk result (BeginsWith bytes.now) }
     ensures fits { IfOk result (λ header. header.data_size < 2 ^ 32) }
     ensures refused { IfErr result (IsRefusedBy bytes.now) }

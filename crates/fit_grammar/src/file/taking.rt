@@ -1,8 +1,10 @@
 // Taking items into a file from the front of a window.
 
-ghost use Rattle.std.specs.Prelude.{◌≡◌, ◌<◌, ◌≤◌, ◌+◌, ◌↔◌, ◌^◌, ◌++◌, [], ℕ, List, length, drop, IfOk, OnErr, IfErr, IsTrue};
+ghost use Rattle.std.specs.Prelude.{◌≡◌, ◌<◌, ◌≤◌, ◌+◌, ◌↔◌, ◌^◌, ◌++◌, [], ℕ, List, Option, length, drop, IfOk, OnErr, IfErr, IsTrue};
+ghost use Rattle.fit_grammar.specs.declared.definition.Definition.{Definition as AnyDefinition};
 ghost use Rattle.fit_grammar.specs.Format.Records.{in_force, data_size};
 ghost use Rattle.fit_grammar.specs.Calls.Pieces.{IsShownBy};
+ghost use Rattle.fit_grammar.specs.Calls.Step.{least_length_of};
 ghost use Rattle.fit_grammar.specs.Private.Decoding.{IsItemFault, IsWholeLength, WindowShows};
 ghost use Rattle.fit_grammar.specs.Private.Feeding.{StandsBefore, TakesItems, TakesNext, GoesOnFrom, fault_in};
 
@@ -65,7 +67,7 @@ pub(crate) fn take_item(
     ensures cut { IfErr result (λ kind. kind ≡ FaultKind.Truncated → places.new ≡ places.old) }
     ensures short { IfErr result (λ kind. kind ≡ FaultKind.Truncated → length window.now < 130051) }
 {
-    let used = whole_length(file, window, left)?;
+    let used = whole_length(file.least_length(window), window, left)?;
     match read_head(window[0]) {
         Head::Definition(..) => {
             let definition = DefinitionMessage::new(&window[..used]).read();
@@ -77,14 +79,21 @@ pub(crate) fn take_item(
     Ok(used)
 }
 
-// The number of bytes of the item at the front of the window, if all of them are there. What its first bytes show is reported
-// before the rest is waited for.
-fn whole_length(file: &File, window: &[u8], left: usize) -> Result<usize, FaultKind>
-    ensures whole { IfOk result (IsWholeLength (in_force file.now.items) window.now left) }
-    ensures shown { IfErr result (WindowShows (in_force file.now.items) window.now left) }
+// The number of bytes of the item at the front of the window, if all of them are there; `least` is its least length. What its
+// first bytes show is reported before the rest is waited for.
+pub(crate) fn whole_length(
+    least: Result<usize, ItemFault>,
+    window: &[u8],
+    left: usize,
+) -> Result<usize, FaultKind>
+    requires { IfOk least (λ n. n ≤ 130051) }
+    ensures whole { (f : ℕ → Option AnyDefinition) → least_length_of f window.now ≡ least
+        → IfOk result (IsWholeLength f window.now left) }
+    ensures shown { (f : ℕ → Option AnyDefinition) → least_length_of f window.now ≡ least
+        → IfErr result (WindowShows f window.now left) }
     ensures short { IfErr result (λ kind. kind ≡ FaultKind.Truncated → length window.now < 130051) }
 {
-    let least = match file.least_length(window) {
+    let least = match least {
         Ok(least) => least,
         Err(ItemFault::UndefinedLocal(local)) => return Err(FaultKind::UndefinedLocal(local)),
     };

@@ -1,11 +1,10 @@
 // The items of a file, one after another.
 
 ghost use Rattle.std.specs.Prelude.{◌≡◌, ◌≤◌, [], length};
-ghost use Rattle.fit_grammar.specs.Format.Encoding.{encoded_items};
+ghost use Rattle.fit_grammar.specs.Format.Records.{in_force};
 ghost use Rattle.fit_grammar.specs.Calls.LentItem.{items_lent};
-ghost use Rattle.fit_grammar.specs.Calls.Possible.{AllCanFollow};
 ghost use Rattle.fit_grammar.specs.Calls.Table.{definition_in};
-ghost use Rattle.fit_grammar.specs.Private.ItemRow.{items_in, AreWritten, IsFirst};
+ghost use Rattle.fit_grammar.specs.Private.ItemRow.{items_in, AreRead, IsFirst};
 
 use crate::definition::DefinitionMessage;
 use crate::definition::latest::Latest;
@@ -64,8 +63,7 @@ impl<'a> Model for Items<'a> {
 impl<'a> Items<'a> {
     // All the items of a file. These are their bytes.
     pub(crate) fn new(records: &'a [u8]) -> Self
-        requires written { encoded_items (items_in records.now) ≡ records.now }
-        requires follow { AllCanFollow [] (items_in records.now) }
+        requires { AreRead (in_force []) records.now }
         ensures { result ≡ items_lent (items_in records.now) }
     {
         Items {
@@ -110,7 +108,7 @@ impl<'a> Iterator for Items<'a> {
 // The first of the items that are left, and the bytes of the others.
 fn first_item<'a>(bytes: &'a [u8], latest: &Latest<'a>) -> (Item<'a>, &'a [u8])
     requires some { 1 ≤ length bytes.now }
-    requires written { AreWritten (definition_in latest.now) bytes.now }
+    requires read { AreRead (definition_in latest.now) bytes.now }
     ensures { IsFirst (definition_in latest.now) bytes.now result.0 result.1.now }
 {
     let definition = latest.get(first_local(bytes[0]));

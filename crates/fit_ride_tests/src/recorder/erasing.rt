@@ -40,7 +40,7 @@ fn rides_anew(rt: &impl Abort, alloc: Global, disk: Memory) -> Result<(), Fail> 
         timer_ms: Some(9000),
         ..ALONE
     };
-    equal(rt, check_activity(&file), Ok(summary));
+    equal(rt, check_activity(&file.lend()), Ok(summary));
     equal(rt, entries_reported(&file, &entries), Some(2));
     Ok(())
 }

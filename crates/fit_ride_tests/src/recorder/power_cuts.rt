@@ -170,7 +170,7 @@ fn entries_in(
     }
     let file = decode_file(alloc, disk.content(Which::Data))?;
     let summary = answer?;
-    equal(rt, check_activity(&file), Ok(summary));
+    equal(rt, check_activity(&file.lend()), Ok(summary));
     let mut entries = Vec::new(alloc);
     for (entry, _) in ride {
         entries.push(*entry)?;

@@ -44,7 +44,7 @@ fn what_is_committed_is_recovered(rt: HostRuntime) -> Result<(), Fail> {
     let mut disk = committed(&rt)?;
     equal(&rt, recover(&mut disk), Ok(SHORT_RIDE));
     let file = decode_file(rt.alloc(), disk.content(Which::Data))?;
-    equal(&rt, check_activity(&file), Ok(SHORT_RIDE));
+    equal(&rt, check_activity(&file.lend()), Ok(SHORT_RIDE));
     equal(&rt, entries_reported(&file, &short_ride()), Some(4));
     Ok(())
 }
@@ -176,7 +176,7 @@ pub(super) fn recovers_the_start(
     equal(rt, &written[..14], ALONE_HEADER.as_slice());
     equal(rt, &written[14..86], START_RECORDS.as_slice());
     let file = decode_file(alloc, written)?;
-    equal(rt, check_activity(&file), Ok(ALONE));
+    equal(rt, check_activity(&file.lend()), Ok(ALONE));
     equal(rt, entries_reported(&file, &[]), Some(0));
     Ok(())
 }
@@ -319,7 +319,7 @@ fn another_spelling_is_recovered_as_it_stands(rt: HostRuntime) -> Result<(), Fai
     let written = disk.content(Which::Data);
     equal(&rt, written.get(14..230), Some(OTHER_SPELLING.as_slice()));
     let file = decode_file(rt.alloc(), written)?;
-    equal(&rt, check_activity(&file), Ok(summary));
+    equal(&rt, check_activity(&file.lend()), Ok(summary));
     let mut sample = Sample::new(TIME + 1);
     sample.heart_rate = Some(100);
     sample.power = Some(200);

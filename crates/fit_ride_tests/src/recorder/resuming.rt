@@ -79,7 +79,7 @@ fn a_ride_goes_on_after_what_was_committed(rt: HostRuntime) -> Result<(), Fail> 
         timer_ms: Some(2000),
         ..ALONE
     };
-    equal(&rt, check_activity(&file), Ok(summary));
+    equal(&rt, check_activity(&file.lend()), Ok(summary));
     // Average and greatest heart rate of the session.
     let (global, reported) = reported_at(&rt, &file, 7)?;
     equal(&rt, global, Some(18));
@@ -189,7 +189,7 @@ fn a_row_of_slots_goes_on_while_one_is_left(rt: HostRuntime) -> Result<(), Fail>
         timer_ms: Some(4000),
         ..SHORT_RIDE
     };
-    equal(&rt, check_activity(&file), Ok(summary));
+    equal(&rt, check_activity(&file.lend()), Ok(summary));
     let full = committed_in_a_row(&rt, 4096)?;
     equal(
         &rt,
@@ -274,7 +274,7 @@ fn another_spelling_goes_on(rt: HostRuntime) -> Result<(), Fail> {
         ..ALONE
     };
     let file = decode_file(rt.alloc(), written)?;
-    equal(&rt, check_activity(&file), Ok(summary));
+    equal(&rt, check_activity(&file.lend()), Ok(summary));
     Ok(())
 }
 
@@ -322,7 +322,7 @@ fn what_was_added_up_goes_on(rt: HostRuntime) -> Result<(), Fail> {
         distance_cm: Some(600),
         ..ALONE
     };
-    equal(&rt, check_activity(&file), Ok(summary));
+    equal(&rt, check_activity(&file.lend()), Ok(summary));
     Ok(())
 }
 

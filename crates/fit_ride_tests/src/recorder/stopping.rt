@@ -76,7 +76,7 @@ fn a_stop_closes_the_file(rt: HostRuntime) -> Result<(), Fail> {
     equal(&rt, written.get(..12), Some(header.as_slice()));
     equal(&rt, written.get(14..86), Some(START_RECORDS.as_slice()));
     let file = decode_file(rt.alloc(), written)?;
-    equal(&rt, check_activity(&file), Ok(SHORT_RIDE));
+    equal(&rt, check_activity(&file.lend()), Ok(SHORT_RIDE));
     equal(
         &rt,
         lap_values(&file, 0, 15, 16),
@@ -198,7 +198,7 @@ fn a_full_recording_takes_no_entry_more(rt: HostRuntime) -> Result<(), Fail> {
     recorder.stop(TIME)?;
     let disk = recorder.into_disk();
     let file = decode_file(rt.alloc(), disk.content(Which::Data))?;
-    let summary = check_activity(&file).map(|summary| summary.records);
+    let summary = check_activity(&file.lend()).map(|summary| summary.records);
     equal(&rt, summary, Ok(762_568));
     Ok(())
 }

@@ -10,7 +10,7 @@ use crate::showing::header::{put_header, put_labelled};
 use crate::showing::message::put_message;
 use crate::showing::plans::Plans;
 use crate::writing::Pen;
-use fit_grammar::{File, FileItem, WriteFailed};
+use fit_grammar::{FileItem, LentFile, WriteFailed};
 use std::io::Write;
 
 /// Why a file was not shown.
@@ -33,7 +33,7 @@ impl ShowFault {
 /// set, times are dates in UTC. The writer is not flushed. If it fails, it has taken a prefix of the text.
 // Not inlined, so its buffers reuse the stack on which those of the reading were.
 #[inline(never)]
-pub fn show<W: Write>(file: &File, utc: bool, out: &mut W) -> Result<(), ShowFault>
+pub fn show<W: Write>(file: &LentFile<'_>, utc: bool, out: &mut W) -> Result<(), ShowFault>
     ensures { WritesText (W.contents out.old) (W.contents out.new) result (text_of utc file.now) }
 {
     match put_file(out, utc, file) {
@@ -42,7 +42,7 @@ pub fn show<W: Write>(file: &File, utc: bool, out: &mut W) -> Result<(), ShowFau
     }
 }
 
-fn put_file<W: Write>(out: &mut W, utc: bool, file: &File) -> Result<(), WriteFailed>
+fn put_file<W: Write>(out: &mut W, utc: bool, file: &LentFile<'_>) -> Result<(), WriteFailed>
     ensures { WritesText (W.contents out.old) (W.contents out.new) result (text_of utc file.now) }
 {
     let mut pen = Pen::new(out);
@@ -52,7 +52,11 @@ fn put_file<W: Write>(out: &mut W, utc: bool, file: &File) -> Result<(), WriteFa
 }
 
 // The whole text. At Ok none of it waits.
-fn put_all<W: Write>(pen: &mut Pen<'_, W>, utc: bool, file: &File) -> Result<(), WriteFailed>
+fn put_all<W: Write>(
+    pen: &mut Pen<'_, W>,
+    utc: bool,
+    file: &LentFile<'_>,
+) -> Result<(), WriteFailed>
     ensures text { Puts pen.old pen.new result (text_of utc file.now) }
     ensures none { IfOk result (λ _. pen.new.waiting ≡ []) }
 {
@@ -60,7 +64,11 @@ fn put_all<W: Write>(pen: &mut Pen<'_, W>, utc: bool, file: &File) -> Result<(),
     pen.hand_over()
 }
 
-fn put_lines<W: Write>(pen: &mut Pen<'_, W>, utc: bool, file: &File) -> Result<(), WriteFailed>
+fn put_lines<W: Write>(
+    pen: &mut Pen<'_, W>,
+    utc: bool,
+    file: &LentFile<'_>,
+) -> Result<(), WriteFailed>
     ensures { Puts pen.old pen.new result (text_of utc file.now) }
 {
     put_header(pen, file.frame(), file.data_size())?;
@@ -70,7 +78,11 @@ fn put_lines<W: Write>(pen: &mut Pen<'_, W>, utc: bool, file: &File) -> Result<(
 }
 
 // The lines of the messages. Returns how many there are.
-fn put_messages<W: Write>(pen: &mut Pen<'_, W>, utc: bool, file: &File) -> Result<u64, WriteFailed>
+fn put_messages<W: Write>(
+    pen: &mut Pen<'_, W>,
+    utc: bool,
+    file: &LentFile<'_>,
+) -> Result<u64, WriteFailed>
     requires { length (messages_of file.now.items) < 2 ^ 32 }
     ensures text { Puts pen.old pen.new result (messages_text utc (messages_of file.now.items)) }
     ensures count { IfOk result (λ count. count ≡ length (messages_of file.now.items)) }

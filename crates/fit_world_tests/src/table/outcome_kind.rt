@@ -39,7 +39,7 @@ pub fn outcome_by(alloc: Global, bytes: &[u8]) -> Result<Option<Outcome>, AllocE
     let Ok(file) = decode_file(alloc, bytes) else {
         return Ok(None);
     };
-    let Ok(summary) = check_activity(&file) else {
+    let Ok(summary) = check_activity(&file.lend()) else {
         return Ok(None);
     };
     let mut messages = Vec::new(alloc);

@@ -1,4 +1,4 @@
-use Rattle.std.proofs.Common.{rules, ◌≡◌, ℕ, ◌+◌, ◌-◌, List, length, take, drop, refl, ap, ◌∙◌, arith}
+use Rattle.std.proofs.Common.{rules, ◌≡◌, ℕ, ◌+◌, ◌-◌, List, length, take, drop, refl, sym, ap, ◌∙◌, arith}
 use Rattle.std.proofs.lemmas.Bool.{eq-eqb}
 use Rattle.std.proofs.lemmas.List.{length-take-le, length-take}
 use Rattle.std.proofs.lemmas.Grind.{common_steps}
@@ -12,13 +12,13 @@ use Rattle.fit_grammar.proofs.file.taking.take_item.Goals as goal
 
 spelled : (c : goal.After-definition-in-Definition-1) → SpellsDefinition c.read-definition.result (take c.in_ok-used.used c.args.window.now)
 spelled c =
-    let whole = c.in_ok-used.ensures.whole in
+    let whole = c.in_ok-used.ensures.whole (in_force c.args.file.now.items) (sym c.least_length.ensures.answer) in
     definition_whole (in_force c.args.file.now.items) c.args.window.now c.in_ok-used.used c.in-Definition.field-0 c.in-Definition.field-1
     c.read-definition.result whole.least whole.there c.in-Definition.ensures (c.read-definition.ensures ∙ c.new.ensures)
 
 pub push_definition-requires-clause-fits : goal.push_definition-requires-clause-fits
 push_definition-requires-clause-fits c =
-    let whole = c.in_ok-used.ensures.whole in
+    let whole = c.in_ok-used.ensures.whole (in_force c.args.file.now.items) (sym c.least_length.ensures.answer) in
     let own = take c.in_ok-used.used c.args.window.now in
     λ past. omega (
       arith,
@@ -31,11 +31,11 @@ push_definition-requires-clause-fits c =
 
 pub push_data-requires-clause-small : goal.push_data-requires-clause-small
 push_data-requires-clause-small c =
-    omega (arith, c.in_ok-used.ensures.whole.inside, c.requires.fits, length-take (c.in_ok-used.used - 1) (drop 1 c.args.window.now))
+    omega (arith, (c.in_ok-used.ensures.whole (in_force c.args.file.now.items) (sym c.least_length.ensures.answer)).inside, c.requires.fits, length-take (c.in_ok-used.used - 1) (drop 1 c.args.window.now))
 
 pub returns-in_ok-push_definition-in-Definition-clause-taken : goal.returns-in_ok-push_definition-in-Definition-clause-taken
 returns-in_ok-push_definition-in-Definition-clause-taken c =
-    let whole = c.in_ok-used.ensures.whole in
+    let whole = c.in_ok-used.ensures.whole (in_force c.args.file.now.items) (sym c.least_length.ensures.answer) in
     record {
       taken = record {
         item = Defines c.read-definition.result;
@@ -72,7 +72,7 @@ returns-in_ok-push_data-in-Data-clause-taken c =
       taken = record {
         item = Data c.in-Data.local c.in-Data.offset content;
         at_front = there;
-        inside = c.in_ok-used.ensures.whole.inside;
+        inside = (c.in_ok-used.ensures.whole (in_force c.args.file.now.items) (sym c.least_length.ensures.answer)).inside;
         added = c.in_ok-push_data-in-Data.ensures.ok;
       };
       noted_is = not_noted c.args.places.now c.args.at (1 + length content) used size;

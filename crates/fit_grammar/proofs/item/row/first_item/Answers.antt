@@ -8,7 +8,7 @@ pub unreachable-requires : goal.unreachable-requires
 unreachable-requires c =
     let f = definition_in c.args.latest.now in
     let step = c.step_under.ensures f (sym (c.get-definition.ensures ∙ ap f c.first_local.ensures)) in
-    step_found f c.args.bytes.now c.step_under.result c.requires.written c.requires.some step.states c.in_default.not-Item
+    step_found f c.args.bytes.now c.step_under.result c.requires.read c.requires.some step.states c.in_default.not-Item
 
 pub split_at-requires : goal.split_at-requires
 split_at-requires c =
@@ -20,4 +20,4 @@ returns c =
     let f = definition_in c.args.latest.now in
     let step = c.in-Item.ensures f (sym (c.get-definition.ensures ∙ ap f c.first_local.ensures)) in
     subst (λ (others : List ℕ). IsFirst f c.args.bytes.now c.in-Item.item others) (sym c.split_at.ensures.back)
-    (first_is f c.args.bytes.now c.in-Item.item c.in-Item.used c.requires.written c.requires.some step)
+    (first_is f c.args.bytes.now c.in-Item.item c.in-Item.used c.requires.read c.requires.some step)

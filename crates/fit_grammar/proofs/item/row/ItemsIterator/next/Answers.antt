@@ -5,7 +5,7 @@ use Rattle.fit_grammar.specs.Format.Item.{Defines}
 use Rattle.fit_grammar.specs.Calls.Table.{definition_in, in_force_after}
 use Rattle.fit_grammar.specs.Calls.LentItem.{DefinesHere}
 use Rattle.fit_grammar.specs.Private.ByLookup.{lent_items_by}
-use Rattle.fit_grammar.specs.Private.ItemRow.{items_under, AreWritten, IsFirst}
+use Rattle.fit_grammar.specs.Private.ItemRow.{items_under, AreRead, IsFirst}
 use Rattle.fit_grammar.proofs.KeptRow.Left.{latest_after}
 use Rattle.fit_grammar.proofs.item.row.ItemsIterator.next.Goals as goal
 
@@ -22,7 +22,7 @@ first c = rw c.in-Definition.is at c.first_item-item.ensures
 
 pub invariant_of-self : goal.invariant_of-self
 invariant_of-self c =
-    subst (λ (f : ℕ → Option Definition). AreWritten f c.first_item-item.result.1.now) (sym (taken c)) (first c).written
+    subst (λ (f : ℕ → Option Definition). AreRead f c.first_item-item.result.1.now) (sym (taken c)) (first c).read
 
 pub returns-in-Definition-clause-steps : goal.returns-in-Definition-clause-steps
 returns-in-Definition-clause-steps c =

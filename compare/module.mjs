@@ -1,0 +1,114 @@
+#!/usr/bin/env node
+// Calls the WebAssembly module of the page for compare/page.py, with the words and answers of library.c. The module's path is in FITREC_MODULE.
+// Known bytes stand before, between and after the buffers, which no call may change.
+
+import { readFileSync, writeFileSync } from 'node:fs';
+
+const GUARD = 4096, FILLED = 0xA5, ABSENT = 0xFFFFFFFF, CLOSING_ROOM = 254;
+const [word, ...words] = process.argv.slice(2);
+const module = new WebAssembly.Module(readFileSync(process.env.FITREC_MODULE));
+
+// An instance with these buffers, each filled with the bytes that it is given and otherwise known ones.
+function place(...buffers) {
+  const { exports } = new WebAssembly.Instance(module);
+  let end = Number(exports.__heap_base.value);
+  const places = buffers.map(({ size }) => {
+    const at = (end + GUARD + 15) & ~15;
+    end = at + size;
+    return at;
+  });
+  end += GUARD;
+  exports.memory.grow(Math.max(0, Math.ceil((end - exports.memory.buffer.byteLength) / 65536)));
+  const bytes = new Uint8Array(exports.memory.buffer), view = new DataView(exports.memory.buffer), base = Number(exports.__heap_base.value);
+  bytes.fill(FILLED, base);
+  buffers.forEach(({ content, number }, i) => {
+    if (content) bytes.set(content, places[i]);
+    if (number !== undefined) view.setBigUint64(places[i], BigInt.asUintN(64, BigInt(number)), true);
+  });
+  const lookAtGuards = () => {
+    let at = base;
+    for (const [i, { size }] of [...buffers.entries(), [buffers.length, { size: 0 }]]) {
+      const to = i < buffers.length ? places[i] : end;
+      if (bytes.subarray(at, to).some(byte => byte !== FILLED)) throw new Error('a byte outside a buffer was written');
+      at = to + size;
+    }
+  };
+  const call = (name, ...numbers) => exports[name](...numbers.map(n => typeof n === 'boolean' ? Number(n) : BigInt.asUintN(64, BigInt(n))));
+  const long = i => Number(view.getBigUint64(places[i], true));
+  const result = (i, length) => bytes.slice(places[i], places[i] + length);
+  const summary = i => {
+    const n = [0, 1, 2, 3, 4, 5, 6].map(k => view.getUint32(places[i] + 4 * k, true)).map(n => n === ABSENT ? '-' : n);
+    return `ok records=${n[0]} laps=${n[1]} sessions=${n[2]} start=${n[3]} elapsed_ms=${n[4]} timer_ms=${n[5]} distance_cm=${n[6]}`;
+  };
+  return { places, call, long, result, summary, lookAtGuards };
+}
+
+const file = (path, spare = 0) => { const content = readFileSync(path); return { content, size: content.length + spare }; };
+const number = (n = 0) => ({ size: 8, number: n });
+const print = line => process.stdout.write(line + '\n');
+
+function repair([spare, dataPath, journalPath, out]) {
+  const data = file(dataPath, Number(spare)), journal = file(journalPath);
+  const it = place(data, number(data.content.length), journal, number(journal.size), { size: 28 }), at = it.places;
+  const answer = it.call('fitrec_repair', at[0], data.size, at[1], at[2], journal.size, at[3], at[4]);
+  print(String(answer));
+  if (answer === 0) print(it.summary(4));
+  writeFileSync(out, it.result(0, it.long(1)));
+  it.lookAtGuards();
+}
+
+function salvage([spare, path, out, all]) {
+  const source = file(path), room = source.size + Number(spare);
+  const it = place(source, { size: room }, number(), { size: 24 }), at = it.places;
+  const answer = it.call('fitrec_salvage', at[0], source.size, all === '1', at[1], room, at[2], at[3]);
+  print(String(answer));
+  if (answer === 0) {
+    const [kept, looked, more] = new BigUint64Array(it.result(3, 24).buffer);
+    print(`kept ${kept} of ${looked}, ${more} not looked at`);
+    writeFileSync(out, it.result(1, it.long(2)));
+  }
+  it.lookAtGuards();
+}
+
+function check([path]) {
+  const source = file(path), it = place(source, { size: 28 }, number()), at = it.places;
+  const answer = it.call('fitrec_check', at[0], source.size, at[1], at[2]);
+  print(String(answer));
+  if (answer === 0) print(it.summary(1));
+  else if (answer <= 9) print('at ' + it.long(2));
+  it.lookAtGuards();
+}
+
+function show([path, utc, out]) {
+  const source = file(path);
+  const shown = size => {
+    const it = place(source, { size }, number(), number()), at = it.places;
+    const answer = it.call('fitrec_show', at[0], source.size, utc === '1', at[1], size, at[2], at[3]);
+    it.lookAtGuards();
+    return { answer, length: it.long(2), place: it.long(3), text: it.result(1, size) };
+  };
+  let it = shown(0);
+  if (it.answer === 20) {
+    const needed = it.length, less = shown(needed - 1);
+    if (less.answer !== 20 || less.length !== needed) throw new Error('another answer to a buffer that lacks one byte');
+    it = shown(needed);
+    writeFileSync(out, it.text);
+  }
+  print(String(it.answer));
+  if (it.answer) print('at ' + it.place);
+}
+
+function lengths([dataPath, journalPath]) {
+  const data = file(dataPath, CLOSING_ROOM), journal = file(journalPath);
+  const asked = (dataLength, journalLength, dataSize = data.size, journalSize = journal.size) => {
+    const it = place(data, number(dataLength), journal, number(journalLength), { size: 28 }), at = it.places;
+    const answer = it.call('fitrec_repair', at[0], dataSize, at[1], at[2], journalSize, at[3], at[4]);
+    it.lookAtGuards();
+    return answer;
+  };
+  print([asked(data.size + 1, journal.size), asked(data.content.length, journal.size + 1), asked(-1, journal.size),
+    asked(0, 0, data.size, 0)].join(' '));
+}
+
+const calls = { repair, salvage, check, show, lengths, version: () => print(String(Number(place().call('fitrec_version') === 1))) };
+calls[word](words);

@@ -1,0 +1,117 @@
+"""Compares the page and its WebAssembly module with the program: the module under Node, as the library for C is compared, and the page in
+headless Chromium, for each kind of input and each refusal. It makes web/out/fitrec.html first."""
+
+import json
+import pathlib
+import shutil
+import subprocess
+import tempfile
+
+from library import of_files, of_looks, of_recordings
+from replacing import bytes_of
+from rides import differs, run
+from saves import NAMES
+
+HERE = pathlib.Path(__file__).resolve().parent
+WEB = HERE.parent / "web"
+# What brings each word, in Debian.
+PACKAGES = {"node": "nodejs", "wasm-opt": "binaryen", "chromium": "chromium"}
+
+# A ride with positions and everything that is drawn.
+RIDE = ["start 1000000000 7 cycling"] + [
+    "sample %d lat=%d long=%d alt=%d hr=%d dist=%d speed=%d power=%d" % (
+        1000000000 + at, (47 + at / 5000) * 2**31 / 180, (8 + (at - 150) ** 2 / 4e6) * 2**31 / 180, 2700 + at, 110 + at % 60, at * 780, 7800 + at % 500,
+        150 + at % 120) for at in range(300)] + ["commit"]
+
+NOTHING = "Nothing could be saved"
+
+
+def is_there(what, *words):
+    """Whether these words are there; it says which packages bring those that are not."""
+    missing = [word for word in words if not shutil.which(word)]
+    for word in missing:
+        print("skipped: %s, for want of %s, which is in Debian's package %s" % (what, word, PACKAGES[word]))
+    return not missing
+
+
+def of_module(fitrec, count, seed):
+    """The module under Node does what the program does, and what the C library does with its buffers."""
+    for part in (of_recordings(fitrec, HERE / "module.mjs", count, seed), of_files(fitrec, HERE / "module.mjs", count // 2, seed),
+                 of_looks(fitrec, HERE / "module.mjs", count // 4, seed)):
+        for name, difference in part:
+            yield "module: " + name, difference
+
+
+def inputs(fitrec, folder):
+    """Chosen files of each kind, each with what the page has to show: its heading, words of its reason, and the file that it offers."""
+    torn, script = folder / "torn", folder / "script"
+    torn.mkdir()
+    script.write_text("\n".join(RIDE))
+    run(fitrec, "replay", script, torn)
+    longer = folder / "longer"
+    longer.mkdir()
+    script.write_text("\n".join([*RIDE, "sample 1000000300 hr=100", "commit"]))
+    run(fitrec, "replay", script, longer)
+    ride, journal = (torn / name for name in NAMES)
+    run(fitrec, "repair", shutil.copytree(torn, folder / "mended"))
+    whole = (folder / "mended/activity.fit").read_bytes()
+    made = lambda name, content: [(folder / name, (folder / name).write_bytes(content))[0]]
+    run(fitrec, "salvage", ride, folder / "salvaged.fit")
+    salvaged = (folder / "salvaged.fit").read_bytes()
+    run(fitrec, "salvage", *made("cut.fit", whole[:3000]), folder / "kept.fit")
+    cut = (folder / "kept.fit").read_bytes()
+    wrong = bytes([*whole[:-1], whole[-1] ^ 1])
+    run(fitrec, "salvage", *made("wrong.fit", wrong), folder / "mended.fit")
+    yield "a recording", [ride, journal], "The ride is saved", "confirmed", whole
+    yield "a whole file", made("whole.fit", whole), "The file is whole", "checksum is right", None
+    yield "a file that was cut off", made("cut.fit", whole[:3000]), "The readable part is saved", "ends too soon", cut
+    yield "a ride without its journal", [ride], "The readable part is saved", "checksum of the file is wrong", salvaged
+    yield "a wrong checksum", [folder / "wrong.fit"], "The readable part is saved", "checksum of the file is wrong", (folder / "mended.fit").read_bytes()
+    yield "a file without a summary", [folder / "salvaged.fit"], "The file is readable", "no lap", None
+    yield "no FIT file", made("notes.fit", b"notes of a ride"), NOTHING, "not a FIT file", None
+    yield "an empty file", made("empty.fit", b""), NOTHING, "not a FIT file", None
+    yield "files of two rides", [ride, longer / "activity.frj"], NOTHING, "do not fit together", None
+    yield "a journal of nothing", [ride, *made("none.frj", b"")], NOTHING, "not confirmed anything", None
+    yield "a journal alone", [journal], NOTHING, "no ride in it", None
+    yield "two FIT files", [ride, folder / "whole.fit"], NOTHING, "either one FIT file", None
+
+
+def visits(cases):
+    """Each input by the file input on a wide window, and by a drop on a narrow and dark one; the first one by keys too."""
+    for name, files, *wanted in cases:
+        for drop in (False, True):
+            yield (name, drop), wanted, {"files": [str(it) for it in files], "drop": drop, "width": 360 if drop else 900, "dark": drop, "keyboard": not drop}
+
+
+def of_page(fitrec, folder):
+    """The page in a browser."""
+    planned = list(visits(list(inputs(fitrec, folder))))
+    words = [HERE / "browser.mjs", WEB / "out/fitrec.html", folder]
+    said = subprocess.run(words, input=json.dumps([it for _, _, it in planned]), capture_output=True, text=True, timeout=600)
+    yield "page: opened", said.stderr[-2000:] or differs(said.returncode, 0)
+    for ((name, drop), (heading, reason, content), _), answer in zip(planned, json.loads(said.stdout or "[]")):
+        how = "page: %s, %s" % (name, "dropped" if drop else "chosen")
+        yield how, differs((answer["heading"].startswith(heading), reason in answer["reason"]), (True, True)) and (answer["heading"], answer["reason"])
+        yield how + ": the file", differs(bytes_of(pathlib.Path(answer.get("file", "/-"))), content)
+        yield how + ": no request", differs([it for it in answer["requests"] if it != "blob:"], ["file://%s" % (WEB / "out/fitrec.html")])
+        yield how + ": nothing is logged", differs(answer["logged"], [])
+        yield how + ": fits the window, and all is named", differs((answer["wide"], answer["unnamed"], answer["focus"] != ""), (False, 0, True))
+        drawn = ["Track", "Heart rate", "Speed", "Altitude", "Power"] if content or heading.startswith("The file") else []
+        yield how + ": pictures", differs(answer["pictures"], drawn)
+        if heading in ("The ride is saved", "The file is whole"):
+            numbers = {"Duration": "0:04:59", "Distance": "2.33 km", "Samples": "300", "Laps": "1"}
+            yield how + ": numbers", differs({it: answer["numbers"].get(it) for it in numbers}, numbers)
+
+
+def check(fitrec, count, seed):
+    """Yields a name, and a difference or None, for each check."""
+    if not is_there("the page and its module", "node", "wasm-opt"):
+        return
+    built = subprocess.run([WEB / "build"], stdout=subprocess.PIPE, stderr=subprocess.STDOUT, text=True)
+    yield "module: proved and built", None if built.returncode == 0 else ("web/build failed", built.stdout[-2000:])
+    if built.returncode:
+        return
+    yield from of_module(fitrec, count, seed)
+    if is_there("the page in a browser", "chromium"):
+        with tempfile.TemporaryDirectory() as folder:
+            yield from of_page(fitrec, pathlib.Path(folder))

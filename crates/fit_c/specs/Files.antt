@@ -1,0 +1,49 @@
+-- What the calls over the bytes of a file answer.
+use Rattle.std.specs.Prelude.{◌≡◌, ℕ, ◌+◌, ◌<◌, Bool, List, length, Ok, Err}
+use Rattle.fit_activity.specs.declared.activity.Summary.{Summary}
+use Rattle.fit_activity.specs.declared.activity.ActivityFault.{ActivityFault}
+use Rattle.fit_activity.specs.Files.Activity.{activity_in, activity_fault_code}
+use Rattle.fit_grammar.specs.Calls.FaultCode.{kind_code}
+use Rattle.fit_grammar.specs.declared.file.fault.FileFault.{FileFault}
+use Rattle.fit_grammar.specs.Format.File.{FileValue, FileOf}
+use Rattle.fit_grammar.specs.Format.Message.{messages_of}
+use Rattle.fit_grammar.specs.Format.Refusal.{Refusal}
+use Rattle.fit_text.specs.Text.{text_of}
+use Rattle.fit_c.specs.Repaired.{numbers_of}
+use Rattle.fit_c.specs.declared.repairing.RideSummary.{RideSummary}
+
+-- the bytes are no file; the code and the place are those of their refusal
+pub record IsNoFile (bytes : List ℕ) (code place : ℕ) : Type 0 where
+  pub fault : FileFault
+  pub refusal : Refusal bytes fault.kind fault.place
+  pub code_is : code ≡ kind_code fault.kind
+  pub place_is : place ≡ fault.place
+
+-- the bytes are a file, and the text is its text
+pub record Shows (utc : Bool) (bytes text : List ℕ) : Type 0 where
+  pub file : FileValue
+  pub is : FileOf bytes file
+  pub text_is : text ≡ text_of utc file
+
+-- the bytes are a file, whose text has so many bytes, more than there is room for
+pub record NeedsRoomToShow (utc : Bool) (bytes : List ℕ) (room needed : ℕ) : Type 0 where
+  pub file : FileValue
+  pub is : FileOf bytes file
+  pub needed_is : needed ≡ length (text_of utc file)
+  pub short : room < needed
+
+-- the bytes are an activity file, and the numbers are those of its summary
+pub record IsActivity (bytes : List ℕ) (numbers : RideSummary) : Type 0 where
+  pub file : FileValue
+  pub is : FileOf bytes file
+  pub summary : Summary
+  pub activity : activity_in (messages_of file.items) ≡ Ok summary
+  pub sums_up : numbers ≡ numbers_of summary
+
+-- the bytes are a file that is no activity; the code is ten more than that of the reason
+pub record IsNoActivity (bytes : List ℕ) (code : ℕ) : Type 0 where
+  pub file : FileValue
+  pub is : FileOf bytes file
+  pub fault : ActivityFault
+  pub reason : activity_in (messages_of file.items) ≡ Err fault
+  pub code_is : code ≡ 10 + activity_fault_code fault
