@@ -143,11 +143,13 @@ def triples(data):
     return [tuple(data[at:at + 3]) for at in range(0, len(data), 3)]
 
 
-def show(data, utc=False):
-    """The text of a file. Times are shown as dates or as numbers."""
+def messages(data, utc, value):
+    """What a file states: its size of the header, its versions and its size of records; and for each message its number, its fields and
+    its developer fields. Each field has its number and the `value` of its base type, whether its high byte is first, and its bytes.
+    Times are dates or numbers."""
     header, size = read_header(data)
     at, end = header, header + size
-    definitions, before, lines, needless = {}, 0, [], 0
+    definitions, before, found, needless = {}, 0, [], 0
     while at < end:
         wait(data, at + 1)
         first = data[at]
@@ -178,31 +180,85 @@ def show(data, utc=False):
             while before % 32 != first & 31:
                 before += 1
             before %= 1 << 32
-            shown.append((253, utc and date_text(before) or value_text(0x86, True, before.to_bytes(4, "big"))))
+            shown.append((253, utc and date_text(before) or value(0x86, True, before.to_bytes(4, "big"))))
         for field, length, base in fields:
             content = data[at:at + length]
             at += length
             is_date = utc and (length, base) == (4, 0x86) and field in {253} | DATES.get(message, set())
-            shown.append((field, is_date and date_text(number(content, big)) or value_text(base, big, content)))
+            shown.append((field, is_date and date_text(number(content, big)) or value(base, big, content)))
             if stated is None and (field, length, base) == (253, 4, 0x86) and content != b"\xFF" * 4:
                 stated = number(content, big)
         if stated is not None and not compressed:
             before = stated
-        name, names = MESSAGES.get(message, ("message_%d" % message, {}))
-        names = names | COMMON
-        pairs = "".join(" %s=%s" % (names.get(field, "field_%d" % field), text) for field, text in shown)
+        behind = []
         for field, length, index in developer:
-            pairs += " developer_%d_%d=%s" % (index, field, hexadecimal(data[at:at + length]) if length else "")
+            behind.append((index, field, data[at:at + length]))
             at += length
-        lines.append("%d %s%s\n" % (len(lines), name, pairs))
+        found.append((message, shown, behind))
     wait(data, end + 2)
     if number(data[end:end + 2], False) != checksum(data[:end]):
         raise Refused("FileCrc at %d" % end)
     if len(data) > end + 2:
         raise Refused("TrailingBytes at %d" % (end + 2))
-    versions = data[1] >> 4, data[1] & 15, number(data[2:4], False)
-    head = "header %d protocol %d.%d profile %d data %d\n" % (header, *versions, end - header - needless)
-    return head + "".join(lines) + "messages %d\n" % len(lines)
+    return header, (data[1] >> 4, data[1] & 15, number(data[2:4], False)), end - header - needless, found
+
+
+def names_of(message):
+    """The name of a message, or None, and the names of its fields."""
+    name, names = MESSAGES.get(message, (None, {}))
+    return name, names | COMMON
+
+
+def show(data, utc=False):
+    """The text of a file. Times are shown as dates or as numbers."""
+    header, versions, size, found = messages(data, utc, value_text)
+    lines = []
+    for message, shown, developer in found:
+        name, names = names_of(message)
+        pairs = "".join(" %s=%s" % (names.get(field, "field_%d" % field), text) for field, text in shown)
+        pairs += "".join(" developer_%d_%d=%s" % (index, field, hexadecimal(it) if it else "") for index, field, it in developer)
+        lines.append("%d %s%s\n" % (len(lines), name or "message_%d" % message, pairs))
+    return "header %d protocol %d.%d profile %d data %d\n" % (header, *versions, size) + "".join(lines) + "messages %d\n" % len(lines)
+
+
+def value_json(base, big, data):
+    """The value of a field's bytes in JSON."""
+    name, size, invalid = BASE_TYPES.get(base, ("raw", 1, None))
+    if name == "raw" or len(data) % size:
+        return hexadecimal(data) if data else ""
+    if not data:
+        return None
+    if name == "byte":
+        return None if set(data) == {0xFF} else hexadecimal(data)
+    if name == "string":
+        text = data.split(b"\0")[0]
+        try:
+            return text.decode()
+        except UnicodeDecodeError:
+            return text.decode("latin-1")
+    values = []
+    for at in range(0, len(data), size):
+        value = number(data[at:at + size], big)
+        if value == invalid:
+            values.append(None)
+        elif name.startswith("float"):
+            values.append("0x%0*X" % (2 * size, value))
+        else:
+            values.append(int.from_bytes(data[at:at + size], "big" if big else "little", signed=name.startswith("sint")))
+    return values if len(values) > 1 else values[0]
+
+
+def show_json(data, utc=False):
+    """The values of the lines of a file as JSON, each a list of pairs, since a name may be there twice."""
+    header, versions, size, found = messages(data, utc, value_json)
+    lines = [[("header", header), ("protocol", "%d.%d" % versions[:2]), ("profile", versions[2]), ("data", size)]]
+    for message, shown, developer in found:
+        name, names = names_of(message)
+        fields = [(names.get(field, "field_%d" % field), value) for field, value in shown]
+        behind = [[("index", index), ("number", field), ("bytes", hexadecimal(it) if it else "")] for index, field, it in developer]
+        place = len(lines) - 1
+        lines.append([("number", place), ("message", message), ("name", name), ("fields", fields), ("developer", behind)])
+    return lines + [[("messages", len(lines) - 1)]]
 
 
 def wanted(data, utc=False):

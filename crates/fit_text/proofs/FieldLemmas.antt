@@ -76,7 +76,7 @@ byte_numbers type arch bytes one =
     let whole : length bytes / 1 ≡ length bytes = omega arith in
     rw (one, rest, whole, numbers_bytes arch bytes) refl
 
-bytes_at : (field : Field) (type : BaseType) → base_type field.base ≡ Some type → (row_of type).size ≡ 1 →
+pub bytes_at : (field : Field) (type : BaseType) → base_type field.base ≡ Some type → (row_of type).size ≡ 1 →
     numbers field.arch (value_size field) (count_of field) field.bytes ≡ field.bytes
 bytes_at field type known one =
     ap (λ o. numbers field.arch (size_by o) (count_by o (raw_by o (length field.bytes)) field.bytes) field.bytes) known

@@ -7,3 +7,4 @@ mod TextLemmas
 mod FieldLemmas
 mod DateLemmas
 mod DeveloperLemmas
+mod JsonLemmas

@@ -1,5 +1,7 @@
 pub mod Profile
 pub mod Date
 pub mod Text
+pub mod Json
 pub mod Pen
 pub mod Plan
+pub mod Members

@@ -18,9 +18,11 @@
 //! the names in it, `Date` the dates, and `Pen` what a pen puts. `Plan` is only for private functions and proofs.
 #![tactic(auto)]
 
+mod json;
 mod profile;
 mod showing;
 mod writing;
 
+pub use json::show_json;
 pub use showing::{ShowFault, show};
 pub use writing::Pen;

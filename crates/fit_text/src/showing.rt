@@ -1,15 +1,15 @@
 // The messages of a file as text.
 
-mod bytes;
+pub(crate) mod bytes;
 mod column;
-mod date;
+pub(crate) mod date;
 mod developer;
 mod field;
 mod file;
-mod header;
+pub(crate) mod header;
 mod message;
 mod number;
-mod plan;
-mod plans;
+pub(crate) mod plan;
+pub(crate) mod plans;
 
 pub use file::{ShowFault, show};

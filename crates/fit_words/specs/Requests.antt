@@ -18,7 +18,8 @@ pub record IsFlag (found : Found) (name : List ℕ) (is_set : Bool) : Type 0 whe
 
 -- the subcommand of this name makes this request, with these words
 abbrev pub IsAskedBy : List ℕ → Found → Request → Type 0
-IsAskedBy name found (Show file utc) = (name ≡ codes "show") × IsWord found (codes "FILE") file × IsFlag found (codes "utc") utc
+IsAskedBy name found (Show file utc json) =
+    (name ≡ codes "show") × IsWord found (codes "FILE") file × IsFlag found (codes "utc") utc × IsFlag found (codes "json") json
 IsAskedBy name found (Check file) = (name ≡ codes "check") × IsWord found (codes "FILE") file
 IsAskedBy name found (Replay script folder) =
     (name ≡ codes "replay") × IsWord found (codes "SCRIPT") script × IsWord found (codes "FOLDER") folder

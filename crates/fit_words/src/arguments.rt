@@ -10,6 +10,13 @@ pub(crate) fn utc_option<'a>(alloc: Global) -> Arg<'a> {
         .action(ArgAction::SetTrue)
 }
 
+pub(crate) fn json_option<'a>(alloc: Global) -> Arg<'a> {
+    Arg::new(alloc, "json")
+        .long("json")
+        .help("Writes a JSON object on each line, for programs")
+        .action(ArgAction::SetTrue)
+}
+
 pub(crate) fn all_option<'a>(alloc: Global) -> Arg<'a> {
     Arg::new(alloc, "all")
         .long("all")

@@ -12,6 +12,7 @@ pub enum Request<'a> {
     Show {
         file: &'a str,
         utc: bool,
+        json: bool,
     },
     Check {
         file: &'a str,
@@ -58,6 +59,7 @@ fn request_of<'a>(name: &str, matches: &ArgMatches<'a>) -> Option<Request<'a>>
         "show" => Some(Request::Show {
             file: matches.get_str("FILE")?,
             utc: matches.get_flag("utc"),
+            json: matches.get_flag("json"),
         }),
         "check" => Some(Request::Check {
             file: matches.get_str("FILE")?,

@@ -1,8 +1,8 @@
 // The subcommands, and the words that each takes.
 
 use crate::arguments::{
-    all_option, choices_option, file_argument, folder_argument, in_argument, out_argument,
-    plain_option, script_argument, utc_option, verify_option,
+    all_option, choices_option, file_argument, folder_argument, in_argument, json_option,
+    out_argument, plain_option, script_argument, utc_option, verify_option,
 };
 use clap::{Command, Error};
 use std::alloc::Global;
@@ -55,6 +55,7 @@ fn show_command<'a>(alloc: Global) -> Result<Command<'a>, Error> {
         Command::new(alloc, "show")
             .about("Shows every message of a FIT file, a line each")
             .arg(utc_option(alloc))?
+            .arg(json_option(alloc))?
             .arg(file_argument(alloc))?,
     )
 }

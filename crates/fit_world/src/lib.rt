@@ -1,6 +1,6 @@
 //! What the program does with an open file: it shows, checks, salvages or saves its content, and records what a script states.
 //!
-//! `show_input` and `check_input` print the text or the summary of a file read from an input; `show_bytes` and `check_bytes` take its
+//! `show_input`, `show_json_input` and `check_input` print the text, the JSON or the summary of a file read from an input; `show_bytes` and `check_bytes` take its
 //! bytes. `plain_input` makes the plain form of a file. `read_all` reads a whole input. `salvage_bytes` finds the readable part of a
 //! file that has no journal. `save_ride` makes a file from the two files of a recording, and `repair` finishes the recording itself.
 //! `read_script` reads the events of a script. `play` runs them over any `Disk`, by a `Ride`, which replies to each `Command`.
@@ -34,6 +34,7 @@ mod command;
 mod decoding;
 mod event;
 mod fault;
+mod json;
 pub mod laws;
 mod naming;
 mod plain;
@@ -59,6 +60,7 @@ pub use choices::read_choices;
 pub use command::Command;
 pub use event::Event;
 pub use fault::ReportFault;
+pub use json::show_json_input;
 pub use plain::{count_messages, plain_input, print_messages};
 pub use playing::play;
 pub use printing::print_summary;

@@ -11,6 +11,7 @@ mod check;
 mod content;
 mod folder;
 mod input;
+mod json;
 mod plain;
 mod repair;
 mod replay;
@@ -24,6 +25,7 @@ use check::check_file;
 use clap::error::ErrorKind;
 use fit_words::{Request, no_choices, read_words};
 use fit_world::read_choices;
+use json::show_as_json;
 use plain::make_plain;
 use repair::{repair_folder, verify_folder};
 use replay::replay_script;
@@ -45,7 +47,20 @@ pub fn command<S: AsStr, O: Write, E: Write>(
     ensures { result ≤ 2 }
 {
     match read_words(rt.alloc(), words) {
-        Ok(Request::Show { file, utc }) => status(show_file(rt, file, utc, out), err),
+        Ok(
+            Request::Show {
+                file,
+                utc,
+                json: false,
+            },
+        ) => status(show_file(rt, file, utc, out), err),
+        Ok(
+            Request::Show {
+                file,
+                utc,
+                json: true,
+            },
+        ) => status(show_as_json(rt, file, utc, out), err),
         Ok(Request::Check { file }) => status(check_file(rt, file, out), err),
         Ok(Request::Replay { script, folder }) => {
             status(replay_script(rt, script, folder, out), err)

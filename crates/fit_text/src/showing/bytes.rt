@@ -59,7 +59,8 @@ fn put_escaped<W: Write>(pen: &mut Pen<'_, W>, byte: u8) -> Result<(), WriteFail
     pen.put(&hex_byte(byte))
 }
 
-fn is_plain(byte: u8) -> bool
+/// Whether a byte is printable and needs no escape.
+pub fn is_plain(byte: u8) -> bool
     ensures { result ≡ is_plain byte }
 {
     byte >= 32 && byte <= 126 && byte != b'"' && byte != b'\\'
@@ -76,14 +77,16 @@ pub fn put_byte_field<W: Write>(pen: &mut Pen<'_, W>, bytes: &[u8]) -> Result<()
     }
 }
 
-fn all_invalid(bytes: &[u8]) -> bool
+/// Whether all bytes are FF.
+pub fn all_invalid(bytes: &[u8]) -> bool
     ensures { result ≡ list_all (λ byte. byte == 255) bytes.now }
 {
     bytes.iter().all(|byte| *byte == 255)
 }
 
+/// The two digits of a byte.
 #[tactic(auto, unfolding(crate::specs::Text::hex_byte))]
-fn hex_byte(byte: u8) -> [u8; 2]
+pub fn hex_byte(byte: u8) -> [u8; 2]
     ensures { result ≡ hex_byte byte }
 {
     [hex_digit(byte / 16), hex_digit(byte % 16)]

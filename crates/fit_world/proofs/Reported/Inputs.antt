@@ -1,24 +1,23 @@
--- The result for an input that was read to its end: for `show_input` and `check_input`.
-use Rattle.std.proofs.Common.{◌≡◌, ℕ, List, Bool, Option, Result, Ok, Err, subst}
+-- The result for an input that was read to its end: for `show_input`, `show_json_input` and `check_input`.
+use Rattle.std.proofs.Common.{◌≡◌, ℕ, List, Option, Result, Ok, Err, subst}
 use Rattle.std.specs.Prelude.{IfErr}
 use Rattle.fit_grammar.specs.Calls.Output.{WritesText}
 use Rattle.fit_grammar.specs.Format.File.{FileValue, FileOf}
-use Rattle.fit_text.specs.Text.{text_of}
 use Rattle.fit_world.specs.declared.fault.ReportFault.{ReportFault}
 use Rattle.fit_world.specs.declared.fault.ReportFault.TheVariants.{File, Activity, Output, Input, Plain}
 use Rattle.fit_world.specs.declared.reading.ReadFault.{ReadFault}
 use Rattle.fit_world.specs.Calls.Reading.{ReadsAll, ReportsInput}
-use Rattle.fit_world.specs.Printed.Shown.{ShowsBytes, IsOutputFault}
+use Rattle.fit_world.specs.Printed.Shown.{ShowsBy, IsOutputFault}
 
 -- a file was shown, or the output failed
-pub shows_file : {T : Type 0} → (utc : Bool) (old new : Option (List ℕ)) (bytes : List ℕ) (v : FileValue) (result : Result T ReportFault) → FileOf bytes v
-    → WritesText old new result (text_of utc v) → IfErr result IsOutputFault → ShowsBytes utc old new bytes result
-shows_file utc old new bytes v (Ok done) file writes fault = (v, file, writes.all)
-shows_file utc old new bytes v (Err Output) file writes fault = ((v, file, writes.beginning), tt)
-shows_file utc old new bytes v (Err (File why)) file writes fault = absurd fault
-shows_file utc old new bytes v (Err (Activity why)) file writes fault = absurd fault
-shows_file utc old new bytes v (Err (Input why)) file writes fault = absurd fault
-shows_file utc old new bytes v (Err (Plain why)) file writes fault = absurd fault
+pub shows_file : {T : Type 0} → (text : FileValue → List ℕ) (old new : Option (List ℕ)) (bytes : List ℕ) (v : FileValue) (result : Result T ReportFault) → FileOf bytes v
+    → WritesText old new result (text v) → IfErr result IsOutputFault → ShowsBy text old new bytes result
+shows_file text old new bytes v (Ok done) file writes fault = (v, file, writes.all)
+shows_file text old new bytes v (Err Output) file writes fault = ((v, file, writes.beginning), tt)
+shows_file text old new bytes v (Err (File why)) file writes fault = absurd fault
+shows_file text old new bytes v (Err (Activity why)) file writes fault = absurd fault
+shows_file text old new bytes v (Err (Input why)) file writes fault = absurd fault
+shows_file text old new bytes v (Err (Plain why)) file writes fault = absurd fault
 
 module _ {T : Type 0} (IsReported : List ℕ → Result T ReportFault → Type 0) (never : (bytes : List ℕ) (why : ReadFault) → IsReported bytes (Err (Input why)) → ⊥) where
   -- a result for the bytes is not a fault of the input

@@ -1,0 +1,390 @@
+-- JSON by the cases that the code distinguishes, and by its parts: for `json`.
+use Rattle.std.proofs.Common.{◌≡◌, ◌≢◌, ℕ, zero, suc, ◌+◌, ◌-◌, ◌*◌, ◌/◌, ◌%◌, ◌^◌, ◌<◌, ◌≤◌, ◌==◌, Bool, true, false, List, [], ◌∷◌, ◌++◌, length, get_or, take, drop, sum_by, refl, sym, ap, ◌∙◌, append_assoc, append-nil, eq-eqb, codes, decimal, Option, Some, None, IfSome, arith, rules, if◌then◌else◌}
+use Rattle.std.specs.Prelude.{◌||◌, ◌&&◌, ◌↔◌, IsSome, nat_le, not}
+use Rattle.std.proofs.lemmas.List.{take_all, length-append}
+use Rattle.std.proofs.Math.Seq.{take-append_seam}
+use Rattle.std.specs.Fmt.{signed_decimal}
+use Rattle.std.specs.Int.{to_be_bytes, to_le_bytes, w32, w64}
+use Rattle.std.specs.List.{flat_map, list_all, before_first, join_by}
+use Rattle.std.specs.Option.{is_some, is_none}
+use Rattle.std.specs.Str.{is_utf8, IsUtf8}
+use Rattle.std.proofs.lemmas.Str.{IsUtf8-from_is_utf8, is_utf8-from_IsUtf8}
+use Rattle.fit_base.specs.declared.order.Arch.{Arch}
+use Rattle.fit_base.specs.declared.order.Arch.TheVariants.{Little}
+use Rattle.fit_base.specs.declared.base.BaseType.{BaseType}
+use Rattle.fit_base.specs.declared.base.BaseType.TheVariants.{Float32, Float64, String, Byte}
+use Rattle.fit_base.specs.Number.{twos_complement, low_first}
+use Rattle.fit_base.specs.Base.{row_of, base_type, has_sign}
+use Rattle.fit_base.specs.Value.{Field, Values, Numbers, Raw, size_by, value_size, is_raw, raw_by, count_of, values_of, unsigned_at, signed_at, numbers}
+use Rattle.fit_grammar.specs.declared.definition.Definition.{Definition}
+use Rattle.fit_grammar.specs.declared.definition.FieldDefinition.{FieldDefinition}
+use Rattle.fit_grammar.specs.declared.definition.DeveloperFieldDefinition.{DeveloperFieldDefinition}
+use Rattle.fit_grammar.specs.declared.file.frame.Frame.{Frame}
+use Rattle.fit_grammar.specs.Format.File.{FileValue}
+use Rattle.fit_grammar.specs.Format.Item.{fields_size}
+use Rattle.fit_grammar.specs.Format.Message.{Message, MessageField, MessageDeveloperField, developer_of, fields_of, time_field, time_fields, message_under, messages_of}
+use Rattle.fit_grammar.specs.Format.Records.{data_size}
+use Rattle.fit_text.specs.declared.showing.plan.Column.{Column}
+use Rattle.fit_text.specs.declared.showing.plan.Plan.{Plan}
+use Rattle.fit_text.specs.Date.{dates_of}
+use Rattle.fit_text.specs.Json.{quoted, string_byte, string_json, bytes_json, byte_json, plain_json, number_json, numbers_json, some_json, values_json, field_json, developer_json, name_json, message_json, header_json, messages_json, json_of}
+use Rattle.fit_text.specs.Members.{separator, joined, inner, json_at, column_json, columns_json, time_json}
+use Rattle.fit_text.specs.Plan.{field_at, time_definition, IsColumn, AreColumns, IsPlanOf}
+use Rattle.fit_text.specs.Profile.{FieldNames, message_named, names_of_fields}
+use Rattle.fit_text.specs.Text.{hex_byte, hex_text, is_plain, plain_text, whole_text, IsNumber, field_name}
+use Rattle.fit_text.proofs.FieldLemmas.{bytes_at}
+use Rattle.fit_text.proofs.PlanLemmas.{columns_size}
+use Rattle.fit_text.proofs.TextLemmas.{whole_signed_at, plain_signed, plain_float32, plain_float64, plain_whole, whole_unsigned, rest_text}
+
+-- ---- strings
+
+utf8_by : {X : Type 0} (o : Option X) (bytes : List ℕ) (b : Bool) → is_utf8 bytes ≡ b → IsSome o ↔ IsUtf8 bytes → is_some o ≡ b
+utf8_by (Some x) bytes true e h = refl
+utf8_by (Some x) bytes false e h = let is : is_utf8 bytes ≡ true = is_utf8-from_IsUtf8 bytes (h.0 refl) in cc
+utf8_by None bytes true e h = h.1 (IsUtf8-from_is_utf8 bytes e)
+utf8_by None bytes false e h = refl
+
+-- bytes are a text if and only if they are UTF-8
+pub utf8_is : {X : Type 0} (o : Option X) (bytes : List ℕ) → IsSome o ↔ IsUtf8 bytes → is_some o ≡ is_utf8 bytes
+utf8_is o bytes h = utf8_by o bytes (is_utf8 bytes) refl h
+
+pub byte_whole : (in_utf8 : Bool) (byte : ℕ) → (is_plain byte || (in_utf8 && nat_le 128 byte)) ≡ true → byte ∷ [] ≡ string_byte in_utf8 byte
+unfolding string_byte
+byte_whole in_utf8 byte e = rw e refl
+
+pub byte_escaped : (in_utf8 : Bool) (byte : ℕ) → (is_plain byte || (in_utf8 && nat_le 128 byte)) ≡ false →
+    codes "\\u00" ++ hex_byte byte ≡ string_byte in_utf8 byte
+unfolding string_byte
+byte_escaped in_utf8 byte e = rw e refl
+
+pub string_parts : (bytes text : List ℕ) (in_utf8 : Bool) → text ≡ before_first (λ byte. byte == 0) bytes → in_utf8 ≡ is_utf8 (before_first (λ byte. byte == 0) bytes) →
+    codes "\"" ++ (flat_map (string_byte in_utf8) text ++ codes "\"") ≡ string_json bytes
+unfolding string_json
+string_parts bytes text in_utf8 is coded = rw (is, coded) refl
+
+pub byte_invalid : (bytes : List ℕ) → list_all (λ byte. byte == 255) bytes ≡ true → codes "null" ≡ byte_json bytes
+unfolding byte_json
+byte_invalid bytes e = rw e refl
+
+pub byte_valid : (bytes : List ℕ) → list_all (λ byte. byte == 255) bytes ≡ false → bytes_json bytes ≡ byte_json bytes
+unfolding byte_json
+byte_valid bytes e = rw e refl
+
+-- ---- numbers
+
+pub float32_json : (type : BaseType) (n : ℕ) (bytes : List ℕ) → type ≡ Float32 → bytes ≡ to_be_bytes w64 n →
+    bytes_json (take 4 (drop 4 bytes)) ≡ plain_json type n
+unfolding plain_json
+float32_json type n bytes e h = rw e (ap quoted (plain_float32 Float32 n bytes refl h))
+
+pub float64_json : (type : BaseType) (n : ℕ) (bytes : List ℕ) → type ≡ Float64 → bytes ≡ to_be_bytes w64 n →
+    bytes_json bytes ≡ plain_json type n
+unfolding plain_json
+float64_json type n bytes e h = rw e (ap quoted (plain_float64 Float64 n bytes refl h))
+
+pub whole_json : (type : BaseType) (n : ℕ) → type ≢ Float32 → type ≢ Float64 → plain_text type n ≡ plain_json type n
+unfolding plain_json
+whole_json Float32 n no_32 no_64 = absurd (no_32 refl)
+whole_json Float64 n no_32 no_64 = absurd (no_64 refl)
+whole_json type n no_32 no_64 = refl
+
+-- a type with a sign is not a float
+pub signed_json : (type : BaseType) (n : ℕ) → has_sign type ≡ true → plain_text type n ≡ plain_json type n
+unfolding plain_json
+signed_json Float32 n e = cc
+signed_json Float64 n e = cc
+signed_json type n e = refl
+
+pub number_null : (type : BaseType) (n : ℕ) → n ≡ (row_of type).invalid → codes "null" ≡ number_json type n
+unfolding number_json
+number_null type n e = let t : (n == (row_of type).invalid) ≡ true = eq-eqb _ _ e in rw t refl
+
+pub number_valid : (type : BaseType) (n : ℕ) → n ≢ (row_of type).invalid → plain_json type n ≡ number_json type n
+unfolding number_json
+number_valid type n e = let t : (n == (row_of type).invalid) ≡ false = search rules in rw t refl
+
+pub one_number : (type : BaseType) (n : ℕ) → number_json type n ≡ numbers_json type (n ∷ [])
+unfolding numbers_json
+one_number type n = refl
+
+-- the only number of a row of one
+pub only_number : (type : BaseType) (arch : Arch) (size count : ℕ) (bytes : List ℕ) → count ≡ 1 →
+    number_json type (get_or (numbers arch size count bytes) 0 0) ≡ numbers_json type (numbers arch size count bytes)
+unfolding numbers_json
+only_number type arch size count bytes one = rw one refl
+
+array_by : (type : BaseType) (ns : List ℕ) → (length ns ≡ 1 → ⊥) →
+    codes "[" ++ (join_by (number_json type) (codes ",") ns ++ codes "]") ≡ numbers_json type ns
+unfolding numbers_json
+array_by type [] more = refl
+array_by type (n ∷ []) more = absurd (more refl)
+array_by type (n ∷ m ∷ ns) more = refl
+
+pub array_parts : (type : BaseType) (ns : List ℕ) (count : ℕ) → length ns ≡ count → count ≢ 1 →
+    codes "[" ++ (join_by (number_json type) (codes ",") ns ++ codes "]") ≡ numbers_json type ns
+array_parts type ns count long more = array_by type ns (λ one. more (sym long ∙ one))
+
+pub row_all : (type : BaseType) (ns : List ℕ) → join_by (number_json type) (codes ",") ns ≡ rest_text (number_json type) ns 0
+row_all type ns = refl
+
+-- ---- the values of a field
+
+pub raw_values : (field : Field) → is_raw field ≡ true → bytes_json field.bytes ≡ values_json (base_type field.base) (values_of field)
+raw_values field raw = rw raw refl
+
+no_values_by : (o : Option BaseType) (arch : Arch) (bytes : List ℕ) (raw : Bool) (count : ℕ) → raw ≡ false → count ≡ 0 →
+    codes "null" ≡ values_json o (if raw then Raw bytes else Numbers (numbers arch (size_by o) count bytes))
+no_values_by o arch bytes raw count is none = rw (is, none) refl
+
+pub no_values : (field : Field) → is_raw field ≡ false → count_of field ≡ 0 → codes "null" ≡ values_json (base_type field.base) (values_of field)
+no_values field raw none = no_values_by (base_type field.base) field.arch field.bytes (is_raw field) (count_of field) raw none
+
+some_by : (o : Option BaseType) (arch : Arch) (bytes : List ℕ) (raw : Bool) (count : ℕ) → (raw ≡ true → count ≡ 0) → (count ≡ 0 → ⊥) →
+    some_json o (numbers arch (size_by o) count bytes)
+    ≡ values_json o (if raw then Raw bytes else Numbers (numbers arch (size_by o) count bytes))
+some_by o arch bytes true count none some = absurd (some (none refl))
+some_by o arch bytes false zero none some = absurd (some refl)
+some_by o arch bytes false (suc count) none some = refl
+
+raw_none : (field : Field) → is_raw field ≡ true → count_of field ≡ 0
+raw_none field raw = rw raw refl
+
+-- a field with values has them as its type requires
+some_values : (field : Field) (type : BaseType) → base_type field.base ≡ Some type → (count_of field ≡ 0 → ⊥) →
+    some_json (Some type) (numbers field.arch (value_size field) (count_of field) field.bytes)
+    ≡ values_json (base_type field.base) (values_of field)
+some_values field type known some =
+    ap (λ o. some_json o (numbers field.arch (value_size field) (count_of field) field.bytes)) (sym known)
+    ∙ some_by (base_type field.base) field.arch field.bytes (is_raw field) (count_of field) (raw_none field) some
+
+pub string_values : (field : Field) → base_type field.base ≡ Some String → (count_of field ≡ 0 → ⊥) →
+    string_json field.bytes ≡ values_json (base_type field.base) (values_of field)
+string_values field known some = ap string_json (sym (bytes_at field String known refl)) ∙ some_values field String known some
+
+pub byte_values : (field : Field) → base_type field.base ≡ Some Byte → (count_of field ≡ 0 → ⊥) →
+    byte_json field.bytes ≡ values_json (base_type field.base) (values_of field)
+byte_values field known some = ap byte_json (sym (bytes_at field Byte known refl)) ∙ some_values field Byte known some
+
+-- a type of numbers
+some_numbers : (type : BaseType) (ns : List ℕ) → IsNumber type → numbers_json type ns ≡ some_json (Some type) ns
+some_numbers String ns bad = absurd bad
+some_numbers Byte ns bad = absurd bad
+some_numbers type ns is = refl
+
+pub number_values : (field : Field) (type : BaseType) → base_type field.base ≡ Some type → IsNumber type → (count_of field ≡ 0 → ⊥) →
+    numbers_json type (numbers field.arch (value_size field) (count_of field) field.bytes)
+    ≡ values_json (base_type field.base) (values_of field)
+number_values field type known is some = some_numbers type _ is ∙ some_values field type known some
+
+-- ---- members
+
+pub name_parts : (first : Bool) (name : List ℕ) →
+    ((separator first ++ codes "\"") ++ name) ++ codes "\":" ≡ separator first ++ (quoted name ++ codes ":")
+name_parts first name = simp append_assoc
+
+pub column_parts : (first : Bool) (name value : List ℕ) →
+    (separator first ++ (quoted name ++ codes ":")) ++ value ≡ separator first ++ ((quoted name ++ codes ":") ++ value)
+column_parts first name value = append_assoc (separator first) (quoted name ++ codes ":") value
+
+inner_of : (name : List ℕ) → inner (codes " " ++ name ++ codes "=") ≡ name
+inner_of name =
+    let long : length (codes " " ++ name ++ codes "=") - 2 ≡ length name = omega (arith, length-append name (codes "=")) in
+    ap (λ n. take n (name ++ codes "=")) long ∙ take-append_seam name (codes "=")
+
+-- the member of a column is that of its field
+column_is : (names : FieldNames) (dates : List ℕ) (arch : Arch) (field : FieldDefinition) (column : Column) (bytes : List ℕ) →
+    IsColumn names dates field column →
+    column_json dates arch column bytes ≡ field_json names dates (field_at field.number field.base arch bytes)
+column_is names dates arch field column bytes h =
+    ap (λ label. (quoted (inner label) ++ codes ":") ++ json_at dates column.number column.base arch bytes) h.label
+    ∙ ap (λ name. (quoted name ++ codes ":") ++ json_at dates column.number column.base arch bytes) (inner_of (field_name names field.number))
+    ∙ ap (λ n. (quoted (field_name names field.number) ++ codes ":") ++ json_at dates n column.base arch bytes) h.number
+    ∙ ap (λ b. (quoted (field_name names field.number) ++ codes ":") ++ json_at dates field.number b arch bytes) h.base
+
+-- the first member after some text, and the others
+next_is : (front : List ℕ) (names : FieldNames) (dates : List ℕ) (arch : Arch) (field : FieldDefinition) (column : Column)
+    (columns : List Column) (content others : List ℕ) → IsColumn names dates field column →
+    columns_json false dates arch columns (drop field.size content) ≡ others →
+    (front ++ column_json dates arch column (take column.size content)) ++ columns_json false dates arch columns (drop column.size content)
+    ≡ (front ++ field_json names dates (field_at field.number field.base arch (take field.size content))) ++ others
+next_is front names dates arch field column columns content others h rest =
+    ap (λ n. (front ++ column_json dates arch column (take n content)) ++ columns_json false dates arch columns (drop n content)) h.size
+    ∙ ap (λ t. (front ++ t) ++ columns_json false dates arch columns (drop field.size content))
+    (column_is names dates arch field column (take field.size content) h)
+    ∙ ap (λ t. (front ++ field_json names dates (field_at field.number field.base arch (take field.size content))) ++ t) rest
+
+columns_after : (names : FieldNames) (dates : List ℕ) (arch : Arch) (fields : List FieldDefinition) (columns : List Column)
+    (content : List ℕ) → AreColumns names dates fields columns →
+    columns_json false dates arch columns content ≡ joined false (field_json names dates) (fields_of arch fields content)
+columns_after names dates arch [] [] content h = refl
+columns_after names dates arch [] (column ∷ columns) content h = absurd h
+columns_after names dates arch (field ∷ fields) [] content h = absurd h
+columns_after names dates arch (field ∷ fields) (column ∷ columns) content h =
+    next_is (codes ",") names dates arch field column columns content _ h.0
+    (columns_after names dates arch fields columns (drop field.size content) h.1)
+
+columns_are : (first : Bool) (names : FieldNames) (dates : List ℕ) (arch : Arch) (fields : List FieldDefinition) (columns : List Column)
+    (content : List ℕ) → AreColumns names dates fields columns →
+    columns_json first dates arch columns content ≡ joined first (field_json names dates) (fields_of arch fields content)
+columns_are false names dates arch fields columns content h = columns_after names dates arch fields columns content h
+columns_are true names dates arch [] [] content h = refl
+columns_are true names dates arch [] (column ∷ columns) content h = absurd h
+columns_are true names dates arch (field ∷ fields) [] content h = absurd h
+columns_are true names dates arch (field ∷ fields) (column ∷ columns) content h =
+    next_is [] names dates arch field column columns content _ h.0
+    (columns_after names dates arch fields columns (drop field.size content) h.1)
+
+-- ---- the line of a message
+
+pub flipped : (a b : Bool) → a ≡ not b → b ≡ not a
+flipped true true e = cc
+flipped true false e = refl
+flipped false true e = refl
+flipped false false e = cc
+
+members_by : (names : FieldNames) (dates : List ℕ) (arch : Arch) (fields : List FieldDefinition) (columns : List Column) (content : List ℕ)
+    (column : Column) (time : Option ℕ) → IfSome time (λ time. time < 2 ^ 32) → IsColumn names dates time_definition column →
+    AreColumns names dates fields columns →
+    time_json dates column time ++ columns_json (is_none time) dates arch columns content
+    ≡ join_by (field_json names dates) (codes ",") (time_fields time ++ fields_of arch fields content)
+members_by names dates arch fields columns content column None fits is are = columns_are true names dates arch fields columns content are
+members_by names dates arch fields columns content column (Some time) fits is are =
+    let all : low_first (to_le_bytes w32 time) ≡ time = omega (arith, fits) in
+    ap (λ t. t ++ columns_json false dates arch columns content)
+    (column_is names dates Little time_definition column (to_le_bytes w32 time) is ∙ ap (λ n. field_json names dates (time_field n)) all)
+    ∙ ap (λ t. field_json names dates (time_field time) ++ t) (columns_are false names dates arch fields columns content are)
+
+line_parts : (head times fields developer : List ℕ) →
+    head ++ (times ++ (fields ++ (codes "},\"developer\":[" ++ (developer ++ codes "]}\n"))))
+    ≡ head ++ ((times ++ fields) ++ (codes "},\"developer\":[" ++ (developer ++ codes "]}\n")))
+line_parts head times fields developer = simp append_assoc
+
+abbrev head_json : ℕ → ℕ → List ℕ
+head_json number global =
+    codes "{\"number\":" ++ decimal number ++ codes ",\"message\":" ++ decimal global ++ codes ",\"name\":"
+    ++ name_json (message_named global) ++ codes ",\"fields\":{"
+
+whole_line : (number global : ℕ) (fields developer : List ℕ) →
+    head_json number global ++ (fields ++ (codes "},\"developer\":[" ++ (developer ++ codes "]}\n")))
+    ≡ codes "{\"number\":" ++ decimal number ++ codes ",\"message\":" ++ decimal global
+    ++ codes ",\"name\":" ++ name_json (message_named global) ++ codes ",\"fields\":{" ++ fields
+    ++ codes "},\"developer\":[" ++ developer ++ codes "]}\n"
+whole_line number global fields developer = simp append_assoc
+
+regrouped_seven : (a b c d e f g : List ℕ) → (a ++ b) ++ ((c ++ d) ++ (e ++ (f ++ g))) ≡ a ++ b ++ c ++ d ++ e ++ f ++ g
+regrouped_seven a b c d e f g = simp append_assoc
+
+pub head_parts : (number n global g : ℕ) (name : List ℕ) → n ≡ number → g ≡ global → name ≡ name_json (message_named global) →
+    (codes "{\"number\":" ++ decimal n) ++ ((codes ",\"message\":" ++ decimal g) ++ (codes ",\"name\":" ++ (name ++ codes ",\"fields\":{")))
+    ≡ head_json number global
+head_parts number n global g name is also named =
+    rw (is, also, named)
+    (regrouped_seven (codes "{\"number\":") (decimal number) (codes ",\"message\":") (decimal global) (codes ",\"name\":")
+    (name_json (message_named global)) (codes ",\"fields\":{"))
+
+-- the parts of the line, in their order
+pub plan_json : (number : ℕ) (d : Definition) (time : Option ℕ) (content : List ℕ) (plan : Plan) (columns : List Column)
+    (developer : List DeveloperFieldDefinition) (dates : List ℕ) (first : Bool) → dates ≡ dates_of plan.utc plan.global →
+    IfSome time (λ time. time < 2 ^ 32) → first ≡ is_none time → IsPlanOf d plan columns developer →
+    head_json number plan.global
+    ++ (time_json dates plan.time time
+    ++ (columns_json first dates plan.arch columns content
+    ++ (codes "},\"developer\":["
+    ++ (join_by developer_json (codes ",") (developer_of developer (drop (sum_by (λ c. c.size) columns) content)) ++ codes "]}\n"))))
+    ≡ message_json plan.utc number (message_under d time content)
+plan_json number d time content plan columns developer dates first is fits begins h =
+    let names = names_of_fields d.global in
+    let shown = dates_of plan.utc d.global in
+    let size = columns_size names shown d.fields.items columns h.fields in
+    let after = join_by developer_json (codes ",") (developer_of d.developer.items (drop (fields_size d) content)) in
+    rw (is, begins, h.global, h.arch, h.developer, size)
+    (line_parts (head_json number d.global) (time_json shown plan.time time) (columns_json (is_none time) shown d.arch columns content) after
+    ∙ ap (λ t. head_json number d.global ++ (t ++ (codes "},\"developer\":[" ++ (after ++ codes "]}\n"))))
+    (members_by names shown d.arch d.fields.items columns content plan.time time fits h.time h.fields)
+    ∙ whole_line number d.global _ after)
+
+-- the line of a message begins so
+pub plan_head : (utc : Bool) (number global : ℕ) (m : Message) → global ≡ m.global →
+    head_json number global
+    ++ (join_by (field_json (names_of_fields m.global) (dates_of utc m.global)) (codes ",") m.fields
+    ++ (codes "},\"developer\":[" ++ (join_by developer_json (codes ",") m.developer ++ codes "]}\n")))
+    ≡ message_json utc number m
+plan_head utc number global m is = rw is (whole_line number m.global _ _)
+
+-- ---- developer fields
+
+abbrev member_from : ℕ → ℕ → List ℕ → MessageDeveloperField
+member_from index number bytes = record { index = index; number = number; bytes = bytes }
+
+pub developer_parts : (index number i n : ℕ) (bytes : List ℕ) → i ≡ index → n ≡ number →
+    (codes "{\"index\":" ++ decimal i) ++ ((codes ",\"number\":" ++ decimal n) ++ (codes ",\"bytes\":" ++ (bytes_json bytes ++ codes "}")))
+    ≡ developer_json (member_from index number bytes)
+developer_parts index number i n bytes is also =
+    rw (is, also)
+    (regrouped_seven (codes "{\"index\":") (decimal index) (codes ",\"number\":") (decimal number) (codes ",\"bytes\":") (bytes_json bytes) (codes "}"))
+
+abbrev first : List DeveloperFieldDefinition → DeveloperFieldDefinition
+first fields = get_or fields 0 (record { number = 0; size = 0; index = 0 })
+
+abbrev others : List DeveloperFieldDefinition → List DeveloperFieldDefinition
+others fields = take (length fields - 1) (drop 1 fields)
+
+next_by : (is_first : Bool) (f : DeveloperFieldDefinition) (fields : List DeveloperFieldDefinition) (content : List ℕ) →
+    joined is_first developer_json (developer_of (f ∷ fields) content)
+    ≡ (separator is_first ++ developer_json (member_from f.index f.number (take f.size content)))
+    ++ joined false developer_json (developer_of fields (drop f.size content))
+next_by true f fields content = refl
+next_by false f fields content = refl
+
+pub next_developer : (is_first : Bool) (fields : List DeveloperFieldDefinition) (content bytes after : List ℕ) (n : ℕ) → 1 ≤ length fields →
+    bytes ≡ take n content → after ≡ drop n content → n ≡ (first fields).size →
+    joined is_first developer_json (developer_of fields content)
+    ≡ (separator is_first ++ developer_json (member_from (first fields).index (first fields).number bytes))
+    ++ joined false developer_json (developer_of (others fields) after)
+next_developer is_first [] content bytes after n some front back size = absurd (omega arith)
+next_developer is_first (f ∷ fields) content bytes after n some front back size =
+    let rest : others (f ∷ fields) ≡ fields = take_all _ fields (omega arith) in rw (front, back, size, rest) (next_by is_first f fields content)
+
+pub no_developer : (is_first : Bool) (fields : List DeveloperFieldDefinition) (content : List ℕ) → length fields < 1 →
+    joined is_first developer_json (developer_of fields content) ≡ []
+no_developer true [] content none = refl
+no_developer false [] content none = refl
+no_developer is_first (f ∷ fields) content none = absurd (omega arith)
+
+-- ---- columns
+
+abbrev other_columns : List Column → List Column
+other_columns columns = take (length columns - 1) (drop 1 columns)
+
+pub next_column : (is_first : Bool) (dates : List ℕ) (arch : Arch) (columns : List Column) (column : Column) (content bytes after : List ℕ) (n : ℕ) →
+    1 ≤ length columns → column ≡ get_or columns 0 column → bytes ≡ take n content → after ≡ drop n content → n ≡ column.size →
+    columns_json is_first dates arch columns content
+    ≡ (separator is_first ++ column_json dates arch column bytes) ++ columns_json false dates arch (other_columns columns) after
+next_column is_first dates arch [] column content bytes after n some is front back size = absurd (omega arith)
+next_column is_first dates arch (c ∷ columns) column content bytes after n some is front back size =
+    let rest : other_columns (c ∷ columns) ≡ columns = take_all _ columns (omega arith) in rw (front, back, size, is, rest) refl
+
+pub no_column : (is_first : Bool) (dates : List ℕ) (arch : Arch) (columns : List Column) (content : List ℕ) → length columns < 1 →
+    columns_json is_first dates arch columns content ≡ []
+no_column is_first dates arch [] content none = refl
+no_column is_first dates arch (column ∷ columns) content none = absurd (omega arith)
+
+-- ---- files
+
+pub header_parts : (frame : Frame) (size a b c d e : ℕ) → a ≡ frame.header_size → b ≡ frame.protocol / 16 → c ≡ frame.protocol % 16 →
+    d ≡ frame.profile → e ≡ size →
+    (codes "{\"header\":" ++ decimal a) ++ ((codes ",\"protocol\":\"" ++ decimal b) ++ ((codes "." ++ decimal c)
+    ++ ((codes "\",\"profile\":" ++ decimal d) ++ ((codes ",\"data\":" ++ decimal e) ++ codes "}\n")))) ≡ header_json frame size
+header_parts frame size a b c d e is_a is_b is_c is_d is_e = rw (is_a, is_b, is_c, is_d, is_e) (simp append_assoc)
+
+regrouped : (a b c d e : List ℕ) → a ++ (b ++ ((c ++ d) ++ e)) ≡ a ++ b ++ c ++ d ++ e
+regrouped a b c d e = simp append_assoc
+
+pub file_parts : (utc : Bool) (v : FileValue) (frame : Frame) (size count : ℕ) → frame ≡ v.frame → size ≡ data_size v.items →
+    count ≡ length (messages_of v.items) →
+    header_json frame size ++ (messages_json utc (messages_of v.items) ++ ((codes "{\"messages\":" ++ decimal count) ++ codes "}\n")) ≡ json_of utc v
+unfolding json_of
+file_parts utc v frame size count is_frame is_size is_count =
+    rw (is_frame, is_size, is_count)
+    (regrouped (header_json v.frame (data_size v.items)) (messages_json utc (messages_of v.items)) (codes "{\"messages\":")
+    (decimal (length (messages_of v.items))) (codes "}\n"))

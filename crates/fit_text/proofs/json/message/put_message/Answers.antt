@@ -1,0 +1,70 @@
+use Rattle.std.proofs.Common.{ap, length, sum_by, refl, arith}
+use Rattle.std.proofs.lemmas.List.{length-drop}
+use Rattle.fit_grammar.specs.Format.Message.{message_under}
+use Rattle.fit_text.proofs.PenLemmas.{puts_then, puts_stop, puts_same}
+use Rattle.fit_text.proofs.PlanLemmas.{plan_size}
+use Rattle.fit_text.proofs.JsonLemmas.{plan_json, plan_head, flipped}
+use Rattle.fit_text.proofs.json.message.put_message.Goals as goal
+
+pub returns-in_err-put_head : goal.returns-in_err-put_head
+returns-in_err-put_head g c =
+    let message = c.args.message.now in
+    puts_same (puts_stop c.from_residual.ensures.0 c.in_err-put_head.ensures _)
+    (plan_head c.args.plan.now.utc c.args.number c.args.plan.now.global (message_under message.definition c.args.time message.content.now) c.requires.global)
+
+pub put_columns-requires : goal.put_columns-requires
+put_columns-requires g c =
+    omega (
+      arith,
+      plan_size c.args.message.now.definition c.args.plan.now c.args.columns.now c.args.developer.now c.requires,
+      c.args.message.now.whole,
+    )
+
+pub put_developer_fields-requires : goal.put_developer_fields-requires
+put_developer_fields-requires g c =
+    let size = plan_size c.args.message.now.definition c.args.plan.now c.args.columns.now c.args.developer.now c.requires in
+    let content = c.args.message.now.content.now in
+    omega (
+      arith,
+      size,
+      ap (λ fields. sum_by (λ field. field.size) fields) c.requires.developer,
+      ap length c.in_ok-after.ensures.after,
+      length-drop (sum_by (λ column. column.size) c.args.columns.now) content,
+      c.args.message.now.whole,
+    )
+
+pub returns-in_err-put_time : goal.returns-in_err-put_time
+returns-in_err-put_time g c =
+    let message = c.args.message.now in
+    puts_same (puts_then c.in_ok-put_head.ensures (puts_stop c.from_residual-in_err-put_time.ensures.0 c.in_err-put_time.ensures.text _))
+    (plan_json c.args.number message.definition c.args.time message.content.now c.args.plan.now c.args.columns.now c.args.developer.now _ _
+    c.dates_of-dates.ensures c.in_err-put_time.ensures.fits refl c.requires)
+
+pub returns-in_err-after : goal.returns-in_err-after
+returns-in_err-after g c =
+    let message = c.args.message.now in
+    puts_same (puts_then c.in_ok-put_head.ensures (puts_then c.in_ok-put_time.ensures.text (puts_stop c.from_residual-in_err-after.ensures.0 c.in_err-after.ensures.text _)))
+    (plan_json c.args.number message.definition c.args.time message.content.now c.args.plan.now c.args.columns.now c.args.developer.now _ _
+    c.dates_of-dates.ensures c.in_ok-put_time.ensures.fits (flipped _ _ c.is_none.ensures) c.requires)
+
+pub returns-in_err-put : goal.returns-in_err-put
+returns-in_err-put g c =
+    let message = c.args.message.now in
+    puts_same (puts_then c.in_ok-put_head.ensures (puts_then c.in_ok-put_time.ensures.text (puts_then c.in_ok-after.ensures.text (puts_stop c.from_residual-in_err-put.ensures.0 c.in_err-put.ensures _))))
+    (plan_json c.args.number message.definition c.args.time message.content.now c.args.plan.now c.args.columns.now c.args.developer.now _ _
+    c.dates_of-dates.ensures c.in_ok-put_time.ensures.fits (flipped _ _ c.is_none.ensures) c.requires)
+
+pub returns-in_err-put_developer_fields : goal.returns-in_err-put_developer_fields
+returns-in_err-put_developer_fields g c =
+    let message = c.args.message.now in
+    puts_same (puts_then c.in_ok-put_head.ensures (puts_then c.in_ok-put_time.ensures.text (puts_then c.in_ok-after.ensures.text (puts_then c.in_ok-put.ensures (puts_stop c.from_residual-in_err-put_developer_fields.ensures.0
+    (rw c.in_ok-after.ensures.after at c.in_err-put_developer_fields.ensures) _)))))
+    (plan_json c.args.number message.definition c.args.time message.content.now c.args.plan.now c.args.columns.now c.args.developer.now _ _
+    c.dates_of-dates.ensures c.in_ok-put_time.ensures.fits (flipped _ _ c.is_none.ensures) c.requires)
+
+pub returns : goal.returns
+returns g c =
+    let message = c.args.message.now in
+    puts_same (puts_then c.in_ok-put_head.ensures (puts_then c.in_ok-put_time.ensures.text (puts_then c.in_ok-after.ensures.text (puts_then c.in_ok-put.ensures (puts_then (rw c.in_ok-after.ensures.after at c.in_ok-put_developer_fields.ensures) c.put-2.ensures)))))
+    (plan_json c.args.number message.definition c.args.time message.content.now c.args.plan.now c.args.columns.now c.args.developer.now _ _
+    c.dates_of-dates.ensures c.in_ok-put_time.ensures.fits (flipped _ _ c.is_none.ensures) c.requires)

@@ -1,0 +1,19 @@
+use Rattle.std.proofs.Common.{refl}
+use Rattle.fit_text.proofs.JsonLemmas.{string_parts}
+use Rattle.fit_text.proofs.PenLemmas.{puts_then, puts_stop, puts_same}
+use Rattle.fit_text.proofs.json.string.put_string.Goals as goal
+
+pub returns-in_err-put : goal.returns-in_err-put
+returns-in_err-put g c =
+    puts_same (puts_stop c.from_residual.ensures.0 c.in_err-put.ensures _)
+    (string_parts c.args.field.now.bytes _ _ refl c.is_utf8-in_utf8.ensures)
+
+pub returns-in_err-put_all : goal.returns-in_err-put_all
+returns-in_err-put_all g c =
+    puts_same (puts_then c.in_ok-put.ensures (puts_stop c.from_residual-in_err-put_all.ensures.0 c.in_err-put_all.ensures _))
+    (string_parts c.args.field.now.bytes _ _ c.text_bytes.ensures c.is_utf8-in_utf8.ensures)
+
+pub returns : goal.returns
+returns g c =
+    puts_same (puts_then c.in_ok-put.ensures (puts_then c.in_ok-put_all.ensures c.put-2.ensures))
+    (string_parts c.args.field.now.bytes _ _ c.text_bytes.ensures c.is_utf8-in_utf8.ensures)

@@ -1,0 +1,118 @@
+-- A file as JSON: a line for its header, a line for each message, and a line that counts them. Each line is a JSON object (RFC 8259).
+-- The names, the dates and the numbers are those of the shown text.
+use Rattle.std.specs.Prelude.{ℕ, Bool, true, false, ◌/◌, ◌%◌, List, [], ◌∷◌, ◌++◌, length, codes, decimal, Option, Some, None, ◌==◌, ◌&&◌, ◌||◌, nat_le, if◌then◌else◌}
+use Rattle.std.specs.List.{flat_map, list_all, before_first, join_by, enumerate_from}
+use Rattle.std.specs.Str.{is_utf8}
+use Rattle.fit_base.specs.declared.base.BaseType.{BaseType}
+use Rattle.fit_base.specs.declared.base.BaseType.TheVariants.{Float32, Float64, String, Byte}
+use Rattle.fit_base.specs.Base.{row_of, base_type}
+use Rattle.fit_base.specs.Value.{Values, Numbers, Raw}
+use Rattle.fit_grammar.specs.declared.file.frame.Frame.{Frame}
+use Rattle.fit_grammar.specs.Format.Records.{data_size}
+use Rattle.fit_grammar.specs.Format.Message.{Message, MessageField, MessageDeveloperField, messages_of}
+use Rattle.fit_grammar.specs.Format.File.{FileValue}
+use Rattle.fit_text.specs.Date.{dates_of, date_in, date_text}
+use Rattle.fit_text.specs.Profile.{FieldNames, message_named, names_of_fields}
+use Rattle.fit_text.specs.Text.{hex_byte, hex_text, is_plain, plain_text, field_name}
+
+-- ---- strings
+
+-- a text between quotation marks
+abbrev pub quoted : List ℕ → List ℕ
+quoted text = codes "\"" ++ text ++ codes "\""
+
+-- a byte of a string: as it is if it is printable, or part of a character of UTF-8; any other by its number, as `\u00E9`
+unfoldable pub string_byte : Bool → ℕ → List ℕ
+string_byte in_utf8 byte = if is_plain byte || (in_utf8 && nat_le 128 byte) then byte ∷ [] else codes "\\u00" ++ hex_byte byte
+
+-- a string up to its first zero byte; one that is no UTF-8 is read as Latin-1
+unfoldable pub string_json : List ℕ → List ℕ
+string_json bytes =
+    let text = before_first (λ byte. byte == 0) bytes in quoted (flat_map (string_byte (is_utf8 text)) text)
+
+-- ---- values
+
+-- bytes as a string of hexadecimal digits after `0x`
+abbrev pub bytes_json : List ℕ → List ℕ
+bytes_json bytes = quoted (hex_text bytes)
+
+-- the bytes of a field of type byte, which is invalid if all of them are FF
+unfoldable pub byte_json : List ℕ → List ℕ
+byte_json bytes = if list_all (λ byte. byte == 255) bytes then codes "null" else bytes_json bytes
+
+-- a number that is not invalid, in decimal; for a float, the hexadecimal digits of its bits, as a string
+unfoldable pub plain_json : BaseType → ℕ → List ℕ
+plain_json Float32 n = quoted (plain_text Float32 n)
+plain_json Float64 n = quoted (plain_text Float64 n)
+plain_json type n = plain_text type n
+
+unfoldable pub number_json : BaseType → ℕ → List ℕ
+number_json type n = if n == (row_of type).invalid then codes "null" else plain_json type n
+
+-- one number, or an array of several
+unfoldable pub numbers_json : BaseType → List ℕ → List ℕ
+numbers_json type (n ∷ []) = number_json type n
+numbers_json type numbers = codes "[" ++ join_by (number_json type) (codes ",") numbers ++ codes "]"
+
+-- the values of a type, of which there is at least one
+abbrev pub some_json : Option BaseType → List ℕ → List ℕ
+some_json None numbers = []
+some_json (Some String) bytes = string_json bytes
+some_json (Some Byte) bytes = byte_json bytes
+some_json (Some type) numbers = numbers_json type numbers
+
+-- the values of a field; a field of size 0 has none
+abbrev pub values_json : Option BaseType → Values → List ℕ
+values_json type (Raw bytes) = bytes_json bytes
+values_json type (Numbers []) = codes "null"
+values_json type (Numbers (n ∷ numbers)) = some_json type (n ∷ numbers)
+
+-- ---- messages
+
+-- a date, or else the values of the field
+abbrev pub shown_json : Option ℕ → MessageField → List ℕ
+shown_json (Some time) field = quoted (date_text time)
+shown_json None field = values_json (base_type field.base) field.values
+
+-- a field with its name, if the fields of these numbers are dates
+abbrev pub field_json : FieldNames → List ℕ → MessageField → List ℕ
+field_json names dates field = quoted (field_name names field.number) ++ codes ":" ++ shown_json (date_in dates field) field
+
+-- a developer field: the index of its developer data, its number and its bytes
+abbrev pub developer_json : MessageDeveloperField → List ℕ
+developer_json field =
+    codes "{\"index\":" ++ decimal field.index ++ codes ",\"number\":" ++ decimal field.number ++ codes ",\"bytes\":"
+    ++ bytes_json field.bytes ++ codes "}"
+
+-- the name of a message, if it has one
+abbrev pub name_json : Option (List ℕ) → List ℕ
+name_json None = codes "null"
+name_json (Some name) = quoted name
+
+-- the line of a message, with its place among the messages and its global number
+abbrev pub message_json : Bool → ℕ → Message → List ℕ
+message_json utc number message =
+    codes "{\"number\":" ++ decimal number ++ codes ",\"message\":" ++ decimal message.global
+    ++ codes ",\"name\":" ++ name_json (message_named message.global)
+    ++ codes ",\"fields\":{"
+    ++ join_by (field_json (names_of_fields message.global) (dates_of utc message.global)) (codes ",") message.fields
+    ++ codes "},\"developer\":[" ++ join_by developer_json (codes ",") message.developer ++ codes "]}\n"
+
+-- ---- files
+
+-- the first line: what the header states, and the number of bytes of records
+abbrev pub header_json : Frame → ℕ → List ℕ
+header_json frame size =
+    codes "{\"header\":" ++ decimal frame.header_size ++ codes ",\"protocol\":\"" ++ decimal (frame.protocol / 16)
+    ++ codes "." ++ decimal (frame.protocol % 16) ++ codes "\",\"profile\":" ++ decimal frame.profile
+    ++ codes ",\"data\":" ++ decimal size ++ codes "}\n"
+
+-- the lines of the messages, numbered from 0
+abbrev pub messages_json : Bool → List Message → List ℕ
+messages_json utc messages = flat_map (λ row. message_json utc row.0 row.1) (enumerate_from 0 messages)
+
+-- with times as dates in UTC, or as numbers
+unfoldable pub json_of : Bool → FileValue → List ℕ
+json_of utc v =
+    header_json v.frame (data_size v.items) ++ messages_json utc (messages_of v.items)
+    ++ codes "{\"messages\":" ++ decimal (length (messages_of v.items)) ++ codes "}\n"

@@ -1,0 +1,71 @@
+// The developer fields of a message as JSON.
+
+ghost use Rattle.std.specs.Prelude.{◌≡◌, ◌≤◌, ◌++◌, codes, length, sum_by};
+ghost use Rattle.std.specs.List.{join_by};
+ghost use Rattle.fit_grammar.specs.Format.Message.{developer_of};
+ghost use Rattle.fit_text.specs.Pen.{Puts};
+ghost use Rattle.fit_text.specs.Json.{developer_json};
+ghost use Rattle.fit_text.specs.Members.{separator};
+
+use crate::json::string::put_bytes;
+use crate::showing::header::put_labelled;
+use crate::writing::Pen;
+use fit_grammar::{DeveloperFieldDefinition, WriteFailed};
+use std::io::Write;
+
+/// The developer fields at the front of this content, with commas between them.
+pub fn put_developer_fields<W: Write>(
+    pen: &mut Pen<'_, W>,
+    fields: &[DeveloperFieldDefinition],
+    content: &[u8],
+) -> Result<(), WriteFailed>
+    requires { sum_by (λ field. field.size) fields.now ≤ length content.now }
+    ensures { Puts pen.old pen.new result
+        (join_by developer_json (codes ",") (developer_of fields.now content.now)) }
+{
+    let mut left = fields;
+    let mut rest = content;
+    let mut first = true;
+    while let [field, others @ ..] = left {
+        let (bytes, after) = rest.split_at(usize::from(field.size));
+        put_next(pen, field, bytes, first)?;
+        left = others;
+        rest = after;
+        first = false;
+    }
+    Ok(())
+}
+
+// A developer field, after a comma if it is not the first.
+fn put_next<W: Write>(
+    pen: &mut Pen<'_, W>,
+    field: &DeveloperFieldDefinition,
+    bytes: &[u8],
+    is_first: bool,
+) -> Result<(), WriteFailed>
+    ensures { Puts pen.old pen.new result
+        (separator is_first
+        ++ developer_json (record { index = field.now.index; number = field.now.number; bytes = bytes.now })) }
+{
+    if is_first {
+        return put_developer_field(pen, field, bytes);
+    }
+    pen.put(b",")?;
+    put_developer_field(pen, field, bytes)
+}
+
+// A developer field: the index of its developer data, its number, and its bytes.
+fn put_developer_field<W: Write>(
+    pen: &mut Pen<'_, W>,
+    field: &DeveloperFieldDefinition,
+    bytes: &[u8],
+) -> Result<(), WriteFailed>
+    ensures { Puts pen.old pen.new result
+        (developer_json (record { index = field.now.index; number = field.now.number; bytes = bytes.now })) }
+{
+    put_labelled(pen, b"{\"index\":", u64::from(field.index))?;
+    put_labelled(pen, b",\"number\":", u64::from(field.number))?;
+    pen.put(b",\"bytes\":")?;
+    put_bytes(pen, bytes)?;
+    pen.put(b"}")
+}
