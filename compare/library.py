@@ -31,10 +31,10 @@ def run(*words):
     return told.run(*[str(it) for it in words])
 
 
-def build(to):
-    """Proves fit_c over the libraries of the tree, and makes its static library."""
+def build(to, name="fit_c"):
+    """Proves a static library over the libraries of the tree, and makes it."""
     rt = load_rt()
-    crate = next(it for it in rt.rtlib.crates_below(str(HERE.parent)) if it.name == "fit_c")
+    crate = next(it for it in rt.rtlib.crates_below(str(HERE.parent)) if it.name == name)
     words = [rt.rtlib.RATTLE, "build", *crate.words(["--jobs", "1"], keeps=True), "--toolchain", rt.KIT + "/toolchain", "-o", to]
     built = subprocess.run(words, cwd=crate.folder, stdout=subprocess.PIPE, stderr=subprocess.STDOUT, text=True)
     return None if built.returncode == 0 else built.stdout[-2000:]
@@ -52,12 +52,17 @@ def programs(archive):
         yield made
 
 
+def declared():
+    """The calls that the header declares, those of fit_c and those of a recorder in a device."""
+    text = (HERE.parent / "include/fitrec.h").read_text()
+    return [re.findall(r"^uint\w+_t (\w+)\(", part, re.M) for part in text.split("/* A recorder in a device.")]
+
+
 def names_of(archive):
     """The library calls only three functions of C, and exports exactly what the header declares."""
     listed = subprocess.run(["nm", archive], capture_output=True, text=True, check=True).stdout
     yield "what it calls", differs(set(re.findall(r" U (\w+)", listed)), {"memcpy", "memmove", "memset"})
-    declared = re.findall(r"^uint\w+_t (\w+)\(", (HERE.parent / "include/fitrec.h").read_text(), re.M)
-    yield "what it exports", differs(sorted(re.findall(r" T (\w+)", listed)), sorted(declared))
+    yield "what it exports", differs(sorted(re.findall(r" T (\w+)", listed)), sorted(declared()[0]))
 
 
 def answer_of(said):

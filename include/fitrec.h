@@ -145,6 +145,113 @@ enum {
 uint8_t fitrec_show(const uint8_t *bytes, size_t size, bool utc, uint8_t *out, size_t out_size, uint64_t *out_len,
                     uint64_t *fault_place);
 
+/* A recorder in a device.
+
+   The library is crates/fit_device of fitrec. The device keeps the recorder as plain numbers and carries out the calls of its two files,
+   activity.fit and activity.frj, itself. Each step of the recorder fills a plan of at most FITREC_MOST_CALLS calls. A step takes no
+   memory, makes no call of its own, and never waits.
+
+   The host keeps these rules. Each is needed: without it a ride that was answered as committed may be lost.
+
+   - It carries out each plan whole and in order, before it makes the next step, and before it reports the answer of the step to anybody.
+   - A write puts its bytes at its place and touches no byte outside. A cut makes the file as long as it says. A sync returns only when all
+     that was written to the file is kept through a power cut, with its length.
+   - At the first call that fails it makes no further step with this handle, and drops it. The ride goes on through a recovery.
+   - Both files keep their names, and nobody else writes them.
+   - It changes nothing in the handle but data_size, and that only before a start.
+
+   A handle may lie in memory that is kept while the device sleeps. If the memory was lost, or holds anything else, the mark and the check
+   code do not fit, and every step answers FITREC_NO_RECORDER. */
+
+#define FITREC_MOST_CALLS 12
+#define FITREC_MOST_BYTES 1024
+
+/* The two files. */
+enum { FITREC_DATA_FILE = 0, FITREC_JOURNAL_FILE = 1 };
+
+/* The kinds of calls. */
+enum { FITREC_WRITE = 1, FITREC_CUT = 2, FITREC_SYNC = 3 };
+
+/* A call: the bytes of a write are count bytes of the plan from start on. */
+struct fitrec_call {
+    uint64_t at;    /* the place of a write in its file, or the length that a cut leaves */
+    uint16_t start;
+    uint16_t count;
+    uint8_t kind;
+    uint8_t file;
+};
+
+/* The first count calls are to be carried out, in order. */
+struct fitrec_plan {
+    uint32_t count;
+    uint32_t used; /* how many of the bytes belong to the calls */
+    struct fitrec_call calls[FITREC_MOST_CALLS];
+    uint8_t bytes[FITREC_MOST_BYTES];
+};
+
+/* A recorder. Before fitrec_start the host sets data_size to the length of activity.fit. The other numbers are the library's. */
+struct fitrec_recorder {
+    uint64_t data_size;
+    uint64_t numbers[187];
+};
+
+/* The values of the sensors at one time. A sensor without a value has the greatest number of its type, such as UINT16_MAX. */
+struct fitrec_sample {
+    uint32_t time;              /* seconds since 1989-12-31 00:00 UTC */
+    int32_t lat;                /* semicircles: 2^31 of them are 180 degrees */
+    int32_t lon;                /* semicircles */
+    uint32_t distance;          /* centimetres since the start */
+    uint32_t enhanced_speed;    /* millimetres a second */
+    uint32_t enhanced_altitude; /* fifths of a metre above -500 m */
+    uint16_t altitude;          /* fifths of a metre above -500 m */
+    uint16_t speed;             /* millimetres a second */
+    uint16_t power;             /* watts */
+    uint8_t heart_rate;         /* beats a minute */
+    uint8_t cadence;            /* turns or steps a minute */
+    int8_t temperature;         /* degrees Celsius */
+};
+
+/* A sample without values, at a time. */
+#define FITREC_NO_VALUES(time) \
+    { (time), INT32_MAX, INT32_MAX, UINT32_MAX, UINT32_MAX, UINT32_MAX, UINT16_MAX, UINT16_MAX, UINT16_MAX, UINT8_MAX, UINT8_MAX, INT8_MAX }
+
+/* Answers of a step. After every other answer than 0 and FITREC_DEVICE the plan has no calls that change what the files hold. */
+enum {
+    FITREC_OK = 0,
+    FITREC_NOT_EMPTY = 1,    /* start: the data file has bytes */
+    FITREC_FULL = 3,         /* the ride has its longest size; commit and stop still work */
+    FITREC_JOURNAL_FULL = 4, /* never after fitrec_start */
+    FITREC_DEVICE = 5,       /* the plan had no room: never seen, and to be handled as a call that failed */
+    FITREC_FAILED = 6,       /* an earlier step answered FITREC_DEVICE */
+    FITREC_NO_RECORDER = 11, /* the handle is none of a recorder */
+    FITREC_NO_SPORT = 12,    /* start: no sport has this number */
+    /* Refused by a rule; nothing changed. */
+    FITREC_REFUSED_TIME = 33,          /* below the last time, or none that a start may have */
+    FITREC_REFUSED_DISTANCE = 34,      /* below the last distance */
+    FITREC_REFUSED_VALUE = 35,         /* a value is the invalid one of its field */
+    FITREC_REFUSED_TIMER_STOPPED = 36, /* a sample or a pause while the timer is stopped */
+    FITREC_REFUSED_TIMER_RUNNING = 37, /* a resume while the timer runs */
+    FITREC_REFUSED_TOO_LONG = 38,      /* more than 4,000,000 seconds after the start */
+    FITREC_REFUSED_TOO_MANY_LAPS = 39, /* after 999 others */
+    FITREC_REFUSED_STOPPED = 40        /* the ride has ended */
+};
+
+/* Begins a ride on an empty data file. time in seconds since 1989-12-31 00:00 UTC; serial of the device, or 0; sport 0 generic, 1 running,
+   2 cycling. At most 11 calls; after them the start is committed. */
+uint8_t fitrec_start(struct fitrec_recorder *recorder, uint32_t time, uint32_t serial, uint8_t sport, struct fitrec_plan *plan);
+
+/* Hands an entry to the recorder. At most one call. A power cut loses the entry unless it is committed. */
+uint8_t fitrec_hand_sample(struct fitrec_recorder *recorder, const struct fitrec_sample *sample, struct fitrec_plan *plan);
+uint8_t fitrec_lap(struct fitrec_recorder *recorder, uint32_t time, struct fitrec_plan *plan);
+uint8_t fitrec_pause(struct fitrec_recorder *recorder, uint32_t time, struct fitrec_plan *plan);
+uint8_t fitrec_resume(struct fitrec_recorder *recorder, uint32_t time, struct fitrec_plan *plan);
+
+/* Commits all entries so far. At most 8 calls; after them every recovery keeps these entries. */
+uint8_t fitrec_commit(struct fitrec_recorder *recorder, struct fitrec_plan *plan);
+
+/* Ends the ride. At most 12 calls; after them the data file is a finished FIT file. */
+uint8_t fitrec_stop(struct fitrec_recorder *recorder, uint32_t time, struct fitrec_plan *plan);
+
 #ifdef __cplusplus
 }
 #endif

@@ -5,3 +5,4 @@ pub mod Refusal
 pub mod Timer
 pub mod Stretch
 pub mod RunningTotals
+pub mod Frozen

@@ -20,4 +20,5 @@ pub use replay::{NotNext, Replay};
 pub use speaking::speech::{Speech, SpokenMessage};
 pub use speaking::{speak, speak_closing, speak_compressed, speak_start};
 pub use totals::Totals;
+pub use totals::frozen::{FrozenClock, FrozenSums, FrozenTally, FrozenTotals};
 pub use totals::summary::{ActivitySummary, LapSummary, SessionSummary, Stretch};

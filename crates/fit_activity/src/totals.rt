@@ -4,6 +4,7 @@ ghost use Rattle.std.specs.Prelude.{◌≡◌, ◌+◌, ◌*◌, ◌≤◌, ◌<
 ghost use Rattle.std.specs.Result.{result_err};
 
 pub(crate) mod clock;
+pub(crate) mod frozen;
 pub(crate) mod summary;
 pub(crate) mod sums;
 pub(crate) mod tally;

@@ -32,6 +32,13 @@ impl Crc {
         Crc { register: 0 }
     }
 
+    /// The checksum of bytes that were added before, given by its `value`.
+    pub fn with_value(value: u16) -> Self
+        ensures { result ≡ value }
+    {
+        Crc { register: value }
+    }
+
     /// The checksum of these bytes alone.
     pub fn of(bytes: &[u8]) -> u16
         ensures { result ≡ crc bytes.now }

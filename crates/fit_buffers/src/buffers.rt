@@ -8,10 +8,10 @@ ghost use Rattle.fit_disk.specs.Counts.{CountsCall, CountsRead, no_calls, with_c
 ghost use Rattle.fit_disk.specs.Stored.{at_rest};
 ghost use Rattle.fit_disk.specs.Story.{seen_of};
 ghost use Rattle.fit_disk.specs.declared.disk.Which.TheVariants.{Data, Journal};
-ghost use Rattle.fit_buffers.specs.Noted.{number_of, refused};
+ghost use Rattle.fit_notes.specs.Noted.{number_of, refused};
 
-use crate::notes::Notes;
 use fit_disk::{CallCounts, DeviceError, Disk, Which, copy_from};
+use fit_notes::Notes;
 
 // The kinds of notes.
 const FOUND: u64 = 0;

@@ -11,6 +11,5 @@
 #![tactic(auto)]
 
 mod buffers;
-mod notes;
 
 pub use buffers::Buffers;

@@ -7,3 +7,4 @@ pub mod Resume
 pub mod Erasing
 pub mod FaultCode
 pub mod OnMemory
+pub mod Frozen

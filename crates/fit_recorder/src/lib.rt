@@ -23,6 +23,7 @@ mod closing;
 mod erasing;
 mod fault;
 mod finishing;
+mod frozen;
 mod header;
 pub mod laws;
 mod limits;
@@ -34,6 +35,7 @@ mod spelling;
 
 pub use erasing::erase;
 pub use fault::RecFault;
+pub use frozen::{FrozenDefinition, FrozenRecorder};
 pub use limits::CLOSING_ROOM;
 pub use recorder::Recorder;
 pub use recovery::recover;

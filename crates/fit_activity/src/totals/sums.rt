@@ -11,11 +11,11 @@ use crate::totals::tally::Tally;
 // What the samples of a stretch add up to, and the last distance known where it begins, in cm (0 if none is).
 #[derive(Clone, Copy, Debug)]
 pub(crate) struct Sums {
-    known: u32,
+    pub(crate) known: u32,
     // The greatest speed, in mm/s.
-    speed: Option<u32>,
-    heart_rate: Tally,
-    power: Tally,
+    pub(crate) speed: Option<u32>,
+    pub(crate) heart_rate: Tally,
+    pub(crate) power: Tally,
 }
 
 impl Sums {

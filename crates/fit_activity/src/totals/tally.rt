@@ -6,8 +6,8 @@ ghost use Rattle.fit_activity.specs.Private.Step.{tally_with, average_of};
 
 #[derive(Clone, Copy, Debug, PartialEq, Eq)]
 pub(crate) struct Tally {
-    total: u64,
-    count: u64,
+    pub(crate) total: u64,
+    pub(crate) count: u64,
     pub(crate) greatest: Option<u16>,
 }
 

@@ -25,13 +25,13 @@ use denote.Triple.Entry.{on_entry}
 use denote.Triple.Spec.{Meets, triple_of}
 use denote.Triple.Table.{entered}
 use denote.Triple.Walked.{says, Stays, stay_ref, walk_of, AllGo, Goes-ref, Walks, ends_at, walked, walk_Meets}
-use Rattle.fit_buffers.specs.declared.notes.Notes.{Notes}
-use Rattle.fit_buffers.specs.Noted.{noted_by}
-use Rattle.fit_buffers.specs.contracts.notes.Notes as T
-use Rattle.fit_buffers.specs.contracts.notes.Notes.note.Key.{name as #it}
-use Rattle.fit_buffers.specs.contracts.notes.Notes.note as it
-use Rattle.fit_buffers.proofs.notes.Notes.note.Statement as stated
-use Rattle.fit_buffers.proofs.notes.Notes.note.Code as code
+use Rattle.fit_notes.specs.declared.notes.Notes.{Notes}
+use Rattle.fit_notes.specs.Noted.{noted_by, since_by}
+use Rattle.fit_notes.specs.contracts.notes.Notes as T
+use Rattle.fit_notes.specs.contracts.notes.Notes.note.Key.{name as #it}
+use Rattle.fit_notes.specs.contracts.notes.Notes.note as it
+use Rattle.fit_notes.proofs.notes.Notes.note.Statement as stated
+use Rattle.fit_notes.proofs.notes.Notes.note.Code as code
 use denote.Ref.{Bor}
 use denote.Builtin.{u8, u64}
 use denote.Exit.{yes}
@@ -52,7 +52,7 @@ module _ {M : Type 1} {𝓤 : Ura M} (𝓛 : Logic 𝓤) (at_mem : Memory → SP
   x = (record { ref_ptr = (b, o); ghost_name = γ; now = h }, (k, (s, tt)))
 
   abbrev h' : Notes
-  h' = record { marker = h.marker; story = noted_by k.now s.now h.story }
+  h' = record { marker = h.marker; story = noted_by k.now s.now h.story; since = since_by k.now h.story h.since }
 
   abbrev at : List Val × (List Val × (List Val × Unit {0}))
   at = (vptr b o ∷ [], (slice_val k.ref_ptr (length k.now) ∷ [], (slice_val s.ref_ptr (length s.now) ∷ [], tt)))
@@ -66,7 +66,7 @@ module _ {M : Type 1} {𝓤 : Ura M} (𝓛 : Logic 𝓤) (at_mem : Memory → SP
   exits : ent 𝓤 (sep 𝓤 (A.obs γ ((T.the_row).coded.code h')) (sep 𝓤 (A.bor κ (Body (mem T.the_row) b o γ)) (sep 𝓤 (A.lft κ q) (sep 𝓤 (types.Logic.sem 𝓛 rest) (sep 𝓤 (A.lft κ' q') (sep 𝓤 (A.lft κ'' q'') (emp 𝓤))))))) (Post vunit)
   exits =
       qed 𝓛 (‵ (fobs γ ((T.the_row).coded.code h')) ∷ ‵ (fbor κ (Body (mem T.the_row) b o γ)) ∷ ‵ (flft κ q) ∷ ‵ rest ∷ (‵ (flft κ' q') ⊛ (‵ (flft κ'' q'') ⊛ ‵ ftrue)) ∷ []) ∵
-      suffices ! _ (ends_at 𝓛 it.ended stayed (it.clauses 𝓛 at_mem run) (((κ, (κ', (κ'', tt))), (q, (q', (q'', tt))), tt, x, at), tt) vunit tt (h', (tt, (tt, tt))) (tt, (tt, (tt, tt)))) $ says ! refl $ move ! (2 ∷ 4 ∷ []) $ join ! $
+      suffices ! _ (ends_at 𝓛 it.ended stayed (it.clauses 𝓛 at_mem run) (((κ, (κ', (κ'', tt))), (q, (q', (q'', tt))), tt, x, at), tt) vunit tt (h', (tt, (tt, tt))) (tt, (tt, (tt, tt)))) $ says ! (refl, refl) $ move ! (2 ∷ 4 ∷ []) $ join ! $
       frame ! $ feq_i ! (List Val) (vptr b o ∷ []) (vptr b o ∷ []) refl $ fjoin3 ! $ fjoin ! $
       feq_i ! (List Val) (vunit ∷ []) (vunit ∷ []) refl $ move ! (1 ∷ 0 ∷ []) $ done !
 

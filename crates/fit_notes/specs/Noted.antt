@@ -1,4 +1,5 @@
--- What a note does to a story. Its numbers are a kind (0 found, 1 written, 2 refused, 3 cut, else synced), a file, and a place or a length.
+-- What a note does to a story. Its numbers are a kind (0 found, 1 written, 2 refused, 3 cut, 5 a mark, else synced), a file, and a place or
+-- a length.
 use Rattle.std.specs.Prelude.{ℕ, ◌==◌, if◌then◌else◌, List, [], length, take, slice_index}
 use Rattle.fit_disk.specs.declared.disk.Which.{Which}
 use Rattle.fit_disk.specs.declared.disk.Which.TheVariants.{Data, Journal}
@@ -40,5 +41,10 @@ noted kind which at bytes story =
     else if kind == 3 then shortened which at story
     else synced which story
 
+-- the story at the last mark
+abbrev pub since_by : List ℕ → Story → Story → Story
+since_by numbers story since = if slice_index numbers 0 == 5 then story else since
+
+-- a mark changes nothing of the story itself
 abbrev pub noted_by : List ℕ → List ℕ → Story → Story
-noted_by numbers bytes story = noted (slice_index numbers 0) (which_of (slice_index numbers 1)) (slice_index numbers 2) bytes story
+noted_by numbers bytes story = if slice_index numbers 0 == 5 then story else noted (slice_index numbers 0) (which_of (slice_index numbers 1)) (slice_index numbers 2) bytes story

@@ -1,8 +1,9 @@
--- `new` makes a value of no bytes, whose list is empty.
+-- `new` makes a value of no bytes, with two empty files.
 use mathlib.Core.Path.{refl}
 use mathlib.Core.List.{[], ◌∷◌}
 use seplogic.Ra.Ura.{Ura}
-use mir.Val.{Val, vstruct, vcons, vnil}
+use mir.Val.{Val, vint, vstruct, vcons, vnil}
+use Rattle.std.proofs.Common.{lit<, w8}
 use base.Logic.{SProp}
 use prog.Memory.{Memory}
 use prog.Routine.{Routine}
@@ -12,7 +13,7 @@ use contract.Monad.{Fun}
 use contract.Running.{tables, tables_of}
 use sound.WpLaws.{WpFn-mono}
 use types.Kit.{raw, ◌$◌, ◌∵◌, !, qed, keep, join, suffices, done}
-use types.Run.{no_more, and_then, returns, enter}
+use types.Run.{lit, no_more, and_then, returns, enter}
 use types.Part.{agg}
 use types.ByLocal.{alloc_all, pass_all, free_all, look_at, get, sets}
 use denote.Shadow.{pure_i}
@@ -21,19 +22,19 @@ use denote.Triple.Entry.{on_entry}
 use denote.Triple.Spec.{Meets, triple_of}
 use denote.Triple.Table.{entered}
 use denote.Triple.Walked.{says, ends_at, walked, walk_Meets}
-use Rattle.fit_buffers.specs.declared.notes.Notes.{Notes}
+use Rattle.fit_notes.specs.declared.notes.Notes.{Notes}
 use Rattle.fit_disk.specs.Events.{fresh}
-use Rattle.fit_buffers.specs.contracts.notes.Notes as T
-use Rattle.fit_buffers.specs.contracts.notes.Notes.new.Key.{name as #it}
-use Rattle.fit_buffers.specs.contracts.notes.Notes.new as it
-use Rattle.fit_buffers.proofs.notes.Notes.new.Statement as stated
-use Rattle.fit_buffers.proofs.notes.Notes.new.Code as code
+use Rattle.fit_notes.specs.contracts.notes.Notes as T
+use Rattle.fit_notes.specs.contracts.notes.Notes.new.Key.{name as #it}
+use Rattle.fit_notes.specs.contracts.notes.Notes.new as it
+use Rattle.fit_notes.proofs.notes.Notes.new.Statement as stated
+use Rattle.fit_notes.proofs.notes.Notes.new.Code as code
 
 abbrev v : Val
-v = vstruct (vcons (vstruct vnil) vnil)
+v = vstruct (vcons (vint w8 0) vnil)
 
 abbrev r : Notes
-r = record { marker = record {}; story = fresh }
+r = record { marker = 0; story = fresh; since = fresh }
 
 meets : {M : Type 1} {𝓤 : Ura M} (𝓛 : Logic 𝓤) → (at_mem : Memory → SProp 𝓤) (run : Routine → Fun 𝓤) (𝓣 : Tables 𝓤 𝓛.H)
     → Meets 𝓛 it.signature (WpFn 𝓤 𝓛.H 𝓣.C 𝓣.Λ code.function) (it.spec 𝓛 at_mem run)
@@ -42,10 +43,10 @@ meets {𝓤 = 𝓤} 𝓛 at_mem run 𝓣 =
     (walked 𝓛 it.ended tt (it.clauses 𝓛 at_mem run) (WpFn 𝓤 𝓛.H 𝓣.C 𝓣.Λ code.function) (λ κs. tt) (λ κs. tt) (λ κs qs bounds a g _.
     qed 𝓛 (raw (on_entry 𝓛 it.signature κs qs a tt) ∷ raw ((it.clauses 𝓛 at_mem run κs a).requires g) ∷ []) ∵ keep ! [] $
     enter ! 𝓣.C 𝓣.Λ code.function [] _ $ alloc_all ! (λ l. pass_all ! refl tt $
-    sets ! (agg ! (no_more !)) refl (tt, tt) $ sets ! (agg ! (and_then ! (get ! refl) (no_more !))) refl (tt, (tt, tt)) $
+    sets ! (agg ! (and_then ! (lit ! tt) (no_more !))) refl (tt, (record { fits = lit< tt }, tt)) $
     returns ! (look_at ! 0 refl) $ free_all ! refl $
-    pure_i ! ((T.the_row).own_val r (v ∷ [])) ((λ vss. (tt, ((λ uss. (tt, tt)), tt))), tt) (((vstruct vnil ∷ [], tt), (refl, ((tt, (refl, tt)), tt))), tt) $
-    suffices ! _ (ends_at 𝓛 it.ended tt (it.clauses 𝓛 at_mem run) ((κs, qs, bounds, a, tt), g) v r tt tt) $ says ! refl $
+    pure_i ! ((T.the_row).own_val r (v ∷ [])) ((λ vss. (tt, ((tt, tt), tt))), tt) (((vint w8 0 ∷ [], tt), (refl, ((refl, lit< tt), tt))), tt) $
+    suffices ! _ (ends_at 𝓛 it.ended tt (it.clauses 𝓛 at_mem run) ((κs, qs, bounds, a, tt), g) v r tt tt) $ says ! (refl, refl) $
     nothing ! $ join ! $ nothing ! $ done !)))
 
 pub new_spec : {M : Type 1} → stated.statement M

@@ -1,0 +1,261 @@
+/* Records a script by the plans of fit_device, for compare/device.py:
+
+     device play SCRIPT FOLDER              over the files of a folder, by the host of examples/device
+     device cut SCRIPT FOLDER CALL SEED RULE
+                                            over files in memory, whose power goes inside the call of this number (0: after the last)
+     device random SEED                     steps with handles of random bytes, each of which is to be refused
+
+   A script is one of `fitrec replay`. Each answer is printed as that prints it. After a power cut the folder gets what was left: of each
+   byte that was written since the last sync of its file the old or the new one or any other, by SEED, and a length between the least and
+   the greatest since. RULE is 0, or the number of a rule of the header that the host breaks:
+
+     1 a call of each plan is left out    2 the calls of each plan in reverse      3 the answer comes before the calls are carried out
+     4 it goes on after the call of this number failed
+     5 a sync returns before anything is kept */
+
+#include "../examples/device/files.h"
+#include <inttypes.h>
+#include <stdio.h>
+#include <stdlib.h>
+#include <string.h>
+
+#ifndef MOST
+#define MOST (1 << 22)
+#endif
+
+enum { GUARD = 64 };
+
+/* A file in memory: what reads give, what the last sync kept, and which bytes were written since. */
+struct memory_file {
+    uint8_t now[MOST], kept[MOST], written[MOST];
+    size_t len, kept_len, least, greatest;
+};
+
+static struct memory_file memory[2];
+static struct files files;
+static int in_memory, rule;
+static long left = -1; /* calls before the power goes, or -1 */
+static const char *folder;
+
+/* A recorder and a plan between two rows of known bytes, which no step may change. */
+static struct {
+    uint8_t before[GUARD];
+    struct fitrec_recorder recorder;
+    uint8_t between[GUARD];
+    struct fitrec_plan plan;
+    uint8_t after[GUARD];
+} room;
+
+static void fail(const char *why) {
+    printf("%s\n", why);
+    exit(2);
+}
+
+static uint64_t chance_state;
+
+static uint32_t chance(uint32_t below) {
+    chance_state = chance_state * 6364136223846793005u + 1442695040888963407u;
+    return (uint32_t)(chance_state >> 33) % below;
+}
+
+static void keep_file(const char *name, const uint8_t *bytes, size_t len) {
+    char path[4096];
+    snprintf(path, sizeof path, "%s/%s", folder, name);
+    FILE *file = fopen(path, "wb");
+    if (!file || fwrite(bytes, 1, len, file) != len || fclose(file))
+        fail("cannot write a file");
+}
+
+/* What a power cut leaves of a file. */
+static void keep_rest(struct memory_file *it, const char *name) {
+    static uint8_t rest[MOST];
+    size_t len = it->least + chance((uint32_t)(it->greatest - it->least + 1));
+    for (size_t at = 0; at < len; at++) {
+        uint8_t old = at < it->kept_len ? it->kept[at] : 0, any[] = {old, it->now[at], (uint8_t)chance(256)};
+        rest[at] = it->written[at] || at >= it->kept_len ? any[chance(3)] : old;
+    }
+    keep_file(name, rest, len);
+}
+
+static void power_goes(void) {
+    keep_rest(&memory[0], "activity.fit");
+    keep_rest(&memory[1], "activity.frj");
+    exit(0);
+}
+
+static void keep_all(struct memory_file *it) {
+    memcpy(it->kept, it->now, it->len);
+    memset(it->written, 0, it->greatest);
+    it->kept_len = it->least = it->greatest = it->len;
+}
+
+static void do_in_memory(const struct fitrec_call *call) {
+    struct memory_file *it = &memory[call->file];
+    size_t end = call->at + call->count;
+    if (rule == 4 && left > 0 && --left == 0)
+        return;
+    if (end > MOST || (call->at > it->len && !rule))
+        fail("a call outside its file");
+    if (call->kind == FITREC_WRITE) {
+        memcpy(it->now + call->at, room.plan.bytes + call->start, call->count);
+        memset(it->written + call->at, 1, call->count);
+        it->len = end > it->len ? end : it->len;
+        it->greatest = it->len > it->greatest ? it->len : it->greatest;
+    } else if (call->kind == FITREC_CUT) {
+        it->len = call->at;
+        it->least = it->len < it->least ? it->len : it->least;
+    } else if (rule != 5) {
+        keep_all(it);
+    }
+    /* The power goes once the call has begun, and has been done in part. */
+    if (rule != 4 && left > 0 && --left == 0)
+        power_goes();
+}
+
+/* Carries out the plan, by the rules or not. */
+static void carry_out_plan(void) {
+    struct fitrec_plan *plan = &room.plan;
+    if (plan->count > FITREC_MOST_CALLS || plan->used > FITREC_MOST_BYTES)
+        fail("a plan that is too long");
+    if (!in_memory) {
+        if (carry_out(&files, plan))
+            fail("cannot carry out a call");
+        return;
+    }
+    for (uint32_t k = 0; k < plan->count; k++) {
+        uint32_t at = rule == 2 ? plan->count - 1 - k : k;
+        if (rule == 1 && plan->count > 1 && k == chance(plan->count))
+            continue;
+        do_in_memory(&plan->calls[at]);
+    }
+}
+
+static void look_at_guards(void) {
+    for (size_t at = 0; at < GUARD; at++)
+        if (room.before[at] != 0xA5 || room.between[at] != 0xA5 || room.after[at] != 0xA5)
+            fail("a byte outside was written");
+}
+
+static void set_value(struct fitrec_sample *sample, const char *key, long long value) {
+    if (!strcmp(key, "lat")) sample->lat = (int32_t)value;
+    else if (!strcmp(key, "long")) sample->lon = (int32_t)value;
+    else if (!strcmp(key, "alt")) sample->altitude = (uint16_t)value;
+    else if (!strcmp(key, "hr")) sample->heart_rate = (uint8_t)value;
+    else if (!strcmp(key, "cad")) sample->cadence = (uint8_t)value;
+    else if (!strcmp(key, "dist")) sample->distance = (uint32_t)value;
+    else if (!strcmp(key, "speed")) sample->speed = (uint16_t)value;
+    else if (!strcmp(key, "power")) sample->power = (uint16_t)value;
+    else if (!strcmp(key, "temp")) sample->temperature = (int8_t)value;
+    else if (!strcmp(key, "espeed")) sample->enhanced_speed = (uint32_t)value;
+    else if (!strcmp(key, "ealt")) sample->enhanced_altitude = (uint32_t)value;
+    else fail("an unknown key");
+}
+
+static uint8_t hand_sample(uint32_t time, char *rest) {
+    struct fitrec_sample sample = FITREC_NO_VALUES(time);
+    for (char *word = strtok(rest, " \n"); word; word = strtok(NULL, " \n")) {
+        char *value = strchr(word, '=');
+        *value = 0;
+        set_value(&sample, word, strtoll(value + 1, NULL, 10));
+    }
+    return fitrec_hand_sample(&room.recorder, &sample, &room.plan);
+}
+
+/* Makes the step of a line. */
+static uint8_t step(char *line, char word[16]) {
+    struct fitrec_recorder *recorder = &room.recorder;
+    unsigned long long time = 0, serial = 0;
+    char sport[16] = "";
+    int used = 0;
+    sscanf(line, "%15s %llu %n", word, &time, &used);
+    if (!strcmp(word, "start")) {
+        sscanf(line, "%*s %*u %llu %15s", &serial, sport);
+        recorder->data_size = in_memory ? memory[0].len : (uint64_t)data_size(&files);
+        return fitrec_start(recorder, (uint32_t)time, (uint32_t)serial, sport[0] == 'g' ? 0 : sport[0] == 'r' ? 1 : 2, &room.plan);
+    }
+    if (!strcmp(word, "sample")) return hand_sample((uint32_t)time, line + used);
+    if (!strcmp(word, "lap")) return fitrec_lap(recorder, (uint32_t)time, &room.plan);
+    if (!strcmp(word, "pause")) return fitrec_pause(recorder, (uint32_t)time, &room.plan);
+    if (!strcmp(word, "resume")) return fitrec_resume(recorder, (uint32_t)time, &room.plan);
+    if (!strcmp(word, "commit")) return fitrec_commit(recorder, &room.plan);
+    if (!strcmp(word, "stop")) return fitrec_stop(recorder, (uint32_t)time, &room.plan);
+    fail("an unknown line");
+    return 0;
+}
+
+static void report(int number, const char *word, uint8_t answer) {
+    static const char *faults[] = {"ok", "NotEmpty", "", "Full", "JournalFull", "Device", "Failed", "", "", "", "", "NoRecorder"};
+    static const char *refused[] = {"", "Time", "Distance", "Value", "TimerStopped", "TimerRunning", "TooLong", "TooManyLaps", "Stopped"};
+    if (answer > 32)
+        printf("%d %s: Refused(%s)\n", number, word, refused[answer - 32]);
+    else
+        printf("%d %s: %s\n", number, word, faults[answer]);
+    fflush(stdout);
+}
+
+static void play(const char *script) {
+    FILE *file = fopen(script, "r");
+    char line[512], word[16];
+    if (!file)
+        fail("cannot read the script");
+    for (int number = 1; fgets(line, sizeof line, file); number++) {
+        if (line[0] == '#' || line[0] == '\n')
+            continue;
+        uint8_t answer = step(line, word);
+        if (rule == 3)
+            report(number, word, answer);
+        carry_out_plan();
+        if (rule != 3)
+            report(number, word, answer);
+    }
+    fclose(file);
+}
+
+/* Handles of random bytes are refused by every step, and stay as they are. */
+static void refuse_random(void) {
+    for (int times = 0; times < 20000; times++) {
+        uint8_t *bytes = (uint8_t *)&room.recorder;
+        for (size_t at = 0; at < sizeof room.recorder; at++)
+            bytes[at] = (uint8_t)chance(256);
+        /* Some have the mark of a recorder, so that only the check code is wrong. */
+        if (times % 100 == 0)
+            memcpy(bytes + 1496, "fitr", 4);
+        struct fitrec_recorder before = room.recorder;
+        struct fitrec_sample sample = FITREC_NO_VALUES(1000000000);
+        uint8_t answers[] = {fitrec_hand_sample(&room.recorder, &sample, &room.plan), fitrec_lap(&room.recorder, 1, &room.plan),
+                             fitrec_pause(&room.recorder, 1, &room.plan), fitrec_resume(&room.recorder, 1, &room.plan),
+                             fitrec_commit(&room.recorder, &room.plan), fitrec_stop(&room.recorder, 1, &room.plan)};
+        for (size_t at = 0; at < sizeof answers; at++)
+            if (answers[at] != FITREC_NO_RECORDER)
+                fail("a handle of random bytes was believed");
+        if (memcmp(&before, &room.recorder, sizeof before) || room.plan.count)
+            fail("a refused handle was changed");
+    }
+    printf("ok\n");
+}
+
+int main(int count, char **words) {
+    memset(&room, 0xA5, sizeof room);
+    if (count > 2 && !strcmp(words[1], "random")) {
+        chance_state = strtoull(words[2], NULL, 10);
+        refuse_random();
+        look_at_guards();
+        return 0;
+    }
+    if (count < 4)
+        fail("words are missing");
+    folder = words[3];
+    in_memory = !strcmp(words[1], "cut");
+    if (in_memory) {
+        left = strtol(words[4], NULL, 10);
+        chance_state = strtoull(words[5], NULL, 10);
+        rule = atoi(words[6]);
+    } else if (open_files(&files, folder)) {
+        fail("cannot open the files");
+    }
+    play(words[2]);
+    look_at_guards();
+    if (in_memory)
+        power_goes();
+    return 0;
+}

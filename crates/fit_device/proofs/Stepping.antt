@@ -1,0 +1,102 @@
+-- A step of the recorder in a handle: what it was taken out as, and what it was put back as.
+use Rattle.std.proofs.Common.{◌≡◌, ℕ, ◌+◌, Bool, true, false, List, refl, sym, ap, ◌∙◌, subst, arith, Result, Ok, Err}
+use Rattle.std.specs.Prelude.{OnOk}
+use Rattle.std.proofs.Math.Logic.{∥∥₁_map}
+use Rattle.fit_activity.specs.Rides.Recording.{Recorded}
+use Rattle.fit_activity.specs.Rides.RunningTotals.{AreTotals}
+use Rattle.fit_activity.specs.Rides.Frozen.{totals_in}
+use Rattle.fit_device.specs.declared.handle.Handle.{Handle}
+use Rattle.fit_device.specs.declared.plan.DevicePlan.{DevicePlan}
+use Rattle.fit_device.specs.Answer.{code_of}
+use Rattle.fit_device.specs.Handle.{story_of, IsRecorder, WasHanded, Stands}
+use Rattle.fit_device.specs.Planned.{carried_out}
+use Rattle.fit_device.specs.Sealed.{GoesOnIn}
+use Rattle.fit_device.specs.Steps.{Steps}
+use Rattle.fit_disk.specs.State.{Contents}
+use Rattle.fit_disk.specs.Story.{Story, Throughout}
+use Rattle.fit_notes.proofs.Numbers.{same_story}
+use Rattle.fit_notes.specs.Numbers.{numbers_of}
+use Rattle.fit_plan.specs.declared.plan.Plan.{Plan}
+use Rattle.fit_plan.specs.Plan.{story_in, since_in}
+use Rattle.fit_recorder.specs.declared.fault.RecFault.{RecFault}
+use Rattle.fit_recorder.specs.declared.fault.RecFault.TheVariants.{NotEmpty, Refused, Full, JournalFull, Device, Failed, NothingRecorded, Damaged}
+use Rattle.fit_recorder.specs.declared.frozen.FrozenRecorder.{FrozenRecorder}
+use Rattle.fit_recorder.specs.declared.recorder.Recorder.{Recorder}
+use Rattle.fit_recorder.specs.Calls.Frozen.{state_in, has_failed_in, GoesOnAt}
+use Rattle.fit_recorder.specs.Calls.Recorder.{GoesOn, StandsAt, state_of, has_failed, disk_of}
+use Rattle.fit_recorder.specs.Private.State.{RecorderState, IsAt}
+
+-- the same of equal numbers
+pub goes_on_at : (state other : RecorderState) (failed too : Bool) (story later : Story) → state ≡ other → failed ≡ too → story ≡ later
+    → GoesOnAt true state failed story → GoesOnAt true other too later
+goes_on_at state other failed too story later states faileds stories goes_on =
+    subst (λ s. GoesOnAt true other too s) stories (subst (λ f. GoesOnAt true other f story) faileds (subst (λ m. GoesOnAt true m failed story) states goes_on))
+
+is_at : (list committed : List Recorded) (state other : RecorderState) (story later : Story) → state ≡ other → story ≡ later
+    → IsAt true state story list committed → IsAt true other later list committed
+is_at list committed state other story later states stories at =
+    subst (λ s. IsAt true other s list committed) stories (subst (λ m. IsAt true m story list committed) states at)
+
+-- only an Ok has the number 0
+pub on_ok : {P : Type 0} (result : Result (Unit {0}) RecFault) (code : ℕ) → code ≡ code_of result → code ≡ 0 → OnOk result P → P
+on_ok (Ok _) code is zero holds = holds
+on_ok (Err NotEmpty) code is zero holds = let no : ⊥ = omega (arith, is, zero) in absurd no
+on_ok (Err (Refused refusal)) code is zero holds = let no : ⊥ = omega (arith, is, zero) in absurd no
+on_ok (Err Full) code is zero holds = let no : ⊥ = omega (arith, is, zero) in absurd no
+on_ok (Err JournalFull) code is zero holds = let no : ⊥ = omega (arith, is, zero) in absurd no
+on_ok (Err Device) code is zero holds = let no : ⊥ = omega (arith, is, zero) in absurd no
+on_ok (Err Failed) code is zero holds = let no : ⊥ = omega (arith, is, zero) in absurd no
+on_ok (Err NothingRecorded) code is zero holds = let no : ⊥ = omega (arith, is, zero) in absurd no
+on_ok (Err Damaged) code is zero holds = let no : ⊥ = omega (arith, is, zero) in absurd no
+
+-- a recorder that was taken out of a handle
+pub record IsTaken (old : Handle) (recorder : Recorder Plan) : Type 0 where
+  pub is_recorder : IsRecorder old
+  pub state : state_of recorder ≡ state_in old.recorder
+  pub failed : has_failed recorder ≡ has_failed_in old.recorder
+  pub story : story_in (disk_of recorder) ≡ story_of old
+  pub since : since_in (disk_of recorder) ≡ story_of old
+
+-- a recorder that was put into a handle, and its calls into a plan
+pub record IsPut (new : Handle) (plan : DevicePlan) (recorder : Recorder Plan) : Type 0 where
+  pub is_recorder : IsRecorder new
+  pub state : state_in new.recorder ≡ state_of recorder
+  pub failed : has_failed_in new.recorder ≡ has_failed recorder
+  pub story : story_of new ≡ story_in (disk_of recorder)
+  pub planned : carried_out plan (since_in (disk_of recorder)) ≡ story_in (disk_of recorder)
+
+module _ (old : Handle) (before : Recorder Plan) (taken : IsTaken old before) where
+  pub stood : (list committed : List Recorded) → Stands old list committed → StandsAt true story_in before list committed
+  stood list committed stands = is_at list committed _ _ _ _ (sym taken.state) (sym taken.story) stands.at
+
+  pub was_going : (list : List Recorded) → WasHanded old list → has_failed before ≡ false
+  was_going list handed = taken.failed ∙ handed.going
+
+  pub was_handed : (list : List Recorded) → WasHanded old list → AreTotals before.totals list
+  was_handed list handed = subst (λ totals. AreTotals totals list) (sym (ap (λ (state : RecorderState). state.totals) taken.state)) handed.totals
+
+module _ (new : Handle) (plan : DevicePlan) (after : Recorder Plan) (put : IsPut new plan after) where
+  pub stands : (list committed : List Recorded) → has_failed after ≡ false → StandsAt true story_in after list committed → Stands new list committed
+  stands list committed going at = record {
+    recorder = put.is_recorder;
+    going = put.failed ∙ going;
+    at = is_at list committed _ _ _ _ (sym put.state) (sym put.story) at;
+  }
+
+  pub is_handed : (list : List Recorded) → has_failed after ≡ false → AreTotals after.totals list → WasHanded new list
+  is_handed list going totals = record {
+    recorder = put.is_recorder;
+    going = put.failed ∙ going;
+    totals = subst (λ totals. AreTotals totals list) (sym (ap (λ (state : RecorderState). state.totals) put.state)) totals;
+  }
+
+  module _ (old : Handle) (before : Recorder Plan) (taken : IsTaken old before) where
+    pub steps : (code : ℕ) → numbers_of (since_in (disk_of after)) ≡ numbers_of (since_in (disk_of before)) → Steps old new plan code
+    steps code same = record {
+      planned = put.story ∙ sym put.planned ∙ ap (carried_out plan) (same_story _ _ same ∙ taken.since);
+      none = λ no. absurd (no taken.is_recorder);
+      known = λ _. put.is_recorder;
+    }
+
+    pub throughout : (P : Contents → Type 0) → Throughout P (story_in (disk_of before)) (story_in (disk_of after)) → Throughout P (story_of old) (story_of new)
+    throughout P run = subst (λ later. Throughout P (story_of old) later) (sym put.story) (subst (λ earlier. Throughout P earlier (story_in (disk_of after))) taken.story run)

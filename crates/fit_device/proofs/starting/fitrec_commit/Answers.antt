@@ -1,0 +1,49 @@
+use Rattle.std.proofs.Common.{◌≡◌, ◌⊎◌, List, refl, sym, ap, subst}
+use Rattle.fit_activity.specs.Rides.Recording.{Recorded}
+use Rattle.fit_disk.specs.State.{Contents}
+use Rattle.fit_journal.specs.declared.slots.Slots.{Slots}
+use Rattle.fit_recorder.specs.Calls.Answers.{CommitAnswers}
+use Rattle.fit_recorder.specs.Files.Body.{StandsFor}
+use Rattle.fit_recorder.specs.Private.State.{RecorderState}
+use Rattle.fit_device.proofs.Stepping.{IsTaken, IsPut, stood, was_going, was_handed, stands, steps, throughout, on_ok}
+use Rattle.fit_device.proofs.starting.fitrec_commit.Goals as goal
+
+pub returns : goal.returns
+returns c =
+    let old = c.args.handle.now in
+    let new = c.put.new.self in
+    let plan = c.put.new.plan in
+    let before = c.in-Some.recorder in
+    let after = c.commit-answer.new.self in
+    let did = c.commit-answer.ensures in
+    let taken : IsTaken old before = record {
+      is_recorder = c.in-Some.ensures.some.0 refl;
+      state = c.in-Some.ensures.state;
+      failed = c.in-Some.ensures.failed;
+      story = c.in-Some.ensures.story;
+      since = c.in-Some.ensures.since;
+    } in
+    let put : IsPut new plan after = record {
+      is_recorder = c.put.ensures.recorder;
+      state = c.put.ensures.state;
+      failed = c.put.ensures.failed;
+      story = c.put.ensures.story;
+      planned = c.put.ensures.planned;
+    } in
+    record {
+      steps = steps new plan after put old before taken c.code_of.result did.ran.memory;
+      answers = λ list handed. (
+        c.commit-answer.result,
+        (
+          subst (λ (slots : Slots). CommitAnswers list slots c.commit-answer.result) (ap (λ (state : RecorderState). state.journal_slots) taken.state)
+              (did.answers list (was_handed old before taken list handed) (was_going old before taken list handed)),
+          c.code_of.ensures,
+        ),
+      );
+      ok = λ list committed held zero.
+          let went = on_ok c.commit-answer.result c.code_of.result c.code_of.ensures zero (did.ok list committed (stood old before taken list committed held)) in
+          stands new plan after put list list went.0 went.1;
+      any_moment = λ list committed held.
+          throughout new plan after put old before taken (λ (contents : Contents). StandsFor committed contents ⊎ StandsFor list contents)
+          (did.any_moment refl list committed (stood old before taken list committed held));
+    }

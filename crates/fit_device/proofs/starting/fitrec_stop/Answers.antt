@@ -1,0 +1,47 @@
+use Rattle.std.proofs.Common.{◌≡◌, ◌⊎◌, List, ◌++◌, ◌∷◌, [], refl, sym, ap, subst}
+use Rattle.fit_activity.specs.declared.recording.entry.Entry.TheVariants.{Stop}
+use Rattle.fit_activity.specs.Rides.Recording.{Recorded, Added}
+use Rattle.fit_disk.specs.State.{Contents}
+use Rattle.fit_disk.specs.Story.{Story}
+use Rattle.fit_recorder.specs.Calls.Answers.{StopAnswers}
+use Rattle.fit_recorder.specs.Files.Body.{StandsFor}
+use Rattle.fit_recorder.specs.Files.Finished.{IsFinished}
+use Rattle.fit_device.proofs.Stepping.{IsTaken, IsPut, stood, was_going, was_handed, is_handed, steps, throughout, on_ok}
+use Rattle.fit_device.proofs.starting.fitrec_stop.Goals as goal
+
+pub returns : goal.returns
+returns c =
+    let old = c.args.handle.now in
+    let new = c.put.new.self in
+    let plan = c.put.new.plan in
+    let before = c.in-Some.recorder in
+    let after = c.stop-answer.new.self in
+    let did = c.stop-answer.ensures in
+    let taken : IsTaken old before = record {
+      is_recorder = c.in-Some.ensures.some.0 refl;
+      state = c.in-Some.ensures.state;
+      failed = c.in-Some.ensures.failed;
+      story = c.in-Some.ensures.story;
+      since = c.in-Some.ensures.since;
+    } in
+    let put : IsPut new plan after = record {
+      is_recorder = c.put.ensures.recorder;
+      state = c.put.ensures.state;
+      failed = c.put.ensures.failed;
+      story = c.put.ensures.story;
+      planned = c.put.ensures.planned;
+    } in
+    record {
+      steps = steps new plan after put old before taken c.code_of.result did.ran.memory;
+      answers = λ list handed.
+          (c.stop-answer.result, (did.answers list (was_handed old before taken list handed) (was_going old before taken list handed), c.code_of.ensures));
+      ended = λ list handed zero.
+          let went = on_ok c.stop-answer.result c.code_of.result c.code_of.ensures zero (did.ok list (was_handed old before taken list handed)) in
+          is_handed new plan after put (list ++ Added (Stop c.args.time) ∷ []) went.0 went.1.0;
+      finished = λ list committed held zero.
+          let went = on_ok c.stop-answer.result c.code_of.result c.code_of.ensures zero (did.finished refl list committed (stood old before taken list committed held)) in
+          subst (λ (story : Story). IsFinished (list ++ Added (Stop c.args.time) ∷ []) story) (sym put.story) went;
+      any_moment = λ list committed held.
+          throughout new plan after put old before taken (λ (contents : Contents). StandsFor committed contents ⊎ StandsFor (list ++ Added (Stop c.args.time) ∷ []) contents)
+          (did.any_moment refl list committed (stood old before taken list committed held));
+    }

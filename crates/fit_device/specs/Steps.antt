@@ -1,0 +1,55 @@
+-- What each call does to the recorder in a handle, and what its plan does to the two files.
+use Rattle.std.specs.Prelude.{◌≡◌, ◌⊎◌, ℕ, ◌≤◌, true, false, List, [], ◌∷◌, ◌++◌, take, Result}
+use Rattle.std.specs.List.{fold}
+use Rattle.fit_activity.specs.declared.recording.entry.Entry.{Entry}
+use Rattle.fit_activity.specs.declared.recording.entry.Entry.TheVariants.{Stop}
+use Rattle.fit_activity.specs.Rides.Recording.{Recorded, Added}
+use Rattle.fit_activity.specs.Rides.RunningTotals.{AreTotals}
+use Rattle.fit_activity.specs.Rides.Frozen.{totals_in}
+use Rattle.fit_device.specs.declared.handle.Handle.{Handle}
+use Rattle.fit_device.specs.declared.plan.DevicePlan.{DevicePlan}
+use Rattle.fit_device.specs.Answer.{code_of, no_recorder}
+use Rattle.fit_device.specs.Handle.{story_of, IsRecorder, WasHanded, Stands}
+use Rattle.fit_device.specs.Planned.{carried_out}
+use Rattle.fit_disk.specs.State.{Contents}
+use Rattle.fit_disk.specs.Story.{Throughout}
+use Rattle.fit_journal.specs.Frozen.{slots_in}
+use Rattle.fit_recorder.specs.Calls.Answers.{HandAnswers, CommitAnswers, StopAnswers}
+use Rattle.fit_recorder.specs.Calls.Frozen.{state_in, has_failed_in}
+use Rattle.fit_recorder.specs.Files.Body.{StandsFor}
+use Rattle.fit_recorder.specs.Files.Finished.{IsFinished}
+use Rattle.fit_recorder.specs.declared.fault.RecFault.{RecFault}
+
+-- the answer with this number
+abbrev pub Answers : (Result (Unit {0}) RecFault → Type 0) → ℕ → Type 0
+Answers Is code = (answer : Result (Unit {0}) RecFault) × (Is answer × (code ≡ code_of answer))
+
+-- The files are those before with the planned calls. A handle that is none of a recorder stays as it is, and nothing is planned.
+pub record Steps (old new : Handle) (plan : DevicePlan) (code : ℕ) : Type 0 where
+  pub planned : story_of new ≡ carried_out plan (story_of old)
+  pub none : (IsRecorder old → ⊥) → (code ≡ no_recorder) × (new ≡ old)
+  pub known : IsRecorder old → IsRecorder new
+
+-- An entry is handed. A host that carries out any part of the plan leaves what was committed.
+pub record Hands (e : Entry) (old new : Handle) (plan : DevicePlan) (code : ℕ) : Type 0 where
+  pub steps : Steps old new plan code
+  pub answers : (list : List Recorded) → WasHanded old list → Answers (HandAnswers list old.recorder.len e) code
+  pub ok : (list committed : List Recorded) → Stands old list committed → code ≡ 0 → Stands new (list ++ Added e ∷ []) committed
+  pub any_moment : (list committed : List Recorded) → Stands old list committed → Throughout (StandsFor committed) (story_of old) (story_of new)
+
+-- All entries are committed. Any part of the plan leaves what was committed before, or all entries.
+pub record Commits (old new : Handle) (plan : DevicePlan) (code : ℕ) : Type 0 where
+  pub steps : Steps old new plan code
+  pub answers : (list : List Recorded) → WasHanded old list → Answers (CommitAnswers list (slots_in old.recorder.journal)) code
+  pub ok : (list committed : List Recorded) → Stands old list committed → code ≡ 0 → Stands new list list
+  pub any_moment : (list committed : List Recorded) → Stands old list committed
+      → Throughout (λ contents. StandsFor committed contents ⊎ StandsFor list contents) (story_of old) (story_of new)
+
+-- The recording ends, and its data file is the finished one.
+pub record Stops (time : ℕ) (old new : Handle) (plan : DevicePlan) (code : ℕ) : Type 0 where
+  pub steps : Steps old new plan code
+  pub answers : (list : List Recorded) → WasHanded old list → Answers (StopAnswers list time) code
+  pub ended : (list : List Recorded) → WasHanded old list → code ≡ 0 → WasHanded new (list ++ Added (Stop time) ∷ [])
+  pub finished : (list committed : List Recorded) → Stands old list committed → code ≡ 0 → IsFinished (list ++ Added (Stop time) ∷ []) (story_of new)
+  pub any_moment : (list committed : List Recorded) → Stands old list committed
+      → Throughout (λ contents. StandsFor committed contents ⊎ StandsFor (list ++ Added (Stop time) ∷ []) contents) (story_of old) (story_of new)

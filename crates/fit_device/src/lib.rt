@@ -1,0 +1,20 @@
+//! A recorder in a device whose program is written in C. `include/fitrec.h` documents the same calls for C.
+//!
+//! The device keeps the recorder as plain numbers (`handle`), and carries out the calls of its two files itself, from a plan
+//! (`plan`). Nothing here takes memory, keeps state between two calls, or makes a system call.
+#![tactic(auto)]
+
+mod answer;
+mod handing;
+mod handle;
+mod plan;
+mod sample;
+mod seal;
+mod starting;
+mod thawed;
+
+pub use handing::{fitrec_hand_sample, fitrec_lap, fitrec_pause, fitrec_resume};
+pub use handle::Handle;
+pub use plan::DevicePlan;
+pub use sample::DeviceSample;
+pub use starting::{fitrec_commit, fitrec_start, fitrec_stop};

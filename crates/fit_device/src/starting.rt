@@ -1,0 +1,90 @@
+// Start, commit and stop of a recorder in the memory of C.
+
+ghost use Rattle.std.specs.Prelude.{◌≡◌, ◌≤◌, ◌<◌, ◌↔◌, IfSome, IsSome};
+ghost use Rattle.fit_activity.specs.Rides.Frozen.{sport_in};
+ghost use Rattle.fit_device.specs.Answer.{no_sport};
+ghost use Rattle.fit_device.specs.Starts.{Starts};
+ghost use Rattle.fit_device.specs.Steps.{Commits, Stops};
+
+use crate::answer::{NO_RECORDER, NO_SPORT, code_of, code_of_fault};
+use crate::handle::Handle;
+use crate::plan::DevicePlan;
+use fit_activity::{Sport, Start};
+use fit_recorder::Recorder;
+
+/// Begins a recording over two files, of which `data_size` of the handle is the length of the data file, and plans at most
+/// eleven calls. Whatever else the handle held is forgotten.
+#[unsafe(no_mangle)]
+pub extern "C" fn fitrec_start(
+    handle: &mut Handle,
+    time: u32,
+    serial: u32,
+    sport: u8,
+    plan: &mut DevicePlan,
+) -> u8
+    ensures starts { sport ≤ 2
+        → Starts (record { time = time; serial = serial; sport = sport_in sport }) handle.old handle.new plan.new result }
+    ensures no_sport { 2 < sport → (result ≡ no_sport) × (handle.new ≡ handle.old) }
+{
+    let Some(sport) = sport_of(sport) else {
+        plan.clear();
+        return NO_SPORT;
+    };
+    let start = Start {
+        time,
+        serial,
+        sport,
+    };
+    match Recorder::start(handle.take_files(), start) {
+        Ok(recorder) => {
+            handle.put(recorder, plan);
+            0
+        }
+        Err((disk, fault)) => {
+            handle.put_files(disk, plan);
+            code_of_fault(&fault)
+        }
+    }
+}
+
+/// Commits all entries so far, and plans at most eight calls. Once these are carried out, every recovery keeps the entries.
+#[unsafe(no_mangle)]
+pub extern "C" fn fitrec_commit(handle: &mut Handle, plan: &mut DevicePlan) -> u8
+    ensures { Commits handle.old handle.new plan.new result }
+{
+    let Some(mut recorder) = handle.take() else {
+        plan.clear();
+        return NO_RECORDER;
+    };
+    let answer = recorder.commit();
+    handle.put(recorder, plan);
+    code_of(&answer)
+}
+
+/// Ends the recording with a stop, and plans at most twelve calls. Once these are carried out, the data file is the finished
+/// one.
+#[unsafe(no_mangle)]
+pub extern "C" fn fitrec_stop(handle: &mut Handle, time: u32, plan: &mut DevicePlan) -> u8
+    ensures { Stops time handle.old handle.new plan.new result }
+{
+    let Some(mut recorder) = handle.take() else {
+        plan.clear();
+        return NO_RECORDER;
+    };
+    let answer = recorder.stop(time);
+    handle.put(recorder, plan);
+    code_of(&answer)
+}
+
+// The sport of a number of the profile.
+fn sport_of(number: u8) -> Option<Sport>
+    ensures some { IfSome result (λ sport. sport ≡ sport_in number) }
+    ensures known { IsSome result ↔ (number ≤ 2) }
+{
+    match number {
+        0 => Some(Sport::Generic),
+        1 => Some(Sport::Running),
+        2 => Some(Sport::Cycling),
+        _ => None,
+    }
+}

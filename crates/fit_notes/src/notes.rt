@@ -1,0 +1,38 @@
+// The story of two files, told by notes.
+
+ghost use Rattle.std.specs.Prelude.{◌≡◌};
+ghost use Rattle.std.specs.Borrow.{ftrue};
+ghost use Rattle.fit_disk.specs.Story.{Story};
+ghost use Rattle.fit_disk.specs.Events.{fresh};
+ghost use Rattle.fit_notes.specs.Noted.{noted_by, since_by};
+
+use std::marker::Model;
+
+/// The story of two files, and what it was at the last mark. Both are ghost data, so it takes one byte of memory, which C may
+/// keep between two calls.
+#[repr(C)]
+#[derive(Drop)]
+pub struct Notes {
+    marker: u8,
+    pub ghost story: { Story },
+    pub ghost since: { Story },
+}
+
+impl Model for Notes {
+    ghost also_owns = { λ _. ftrue };
+}
+
+impl Notes {
+    /// Two empty files.
+    pub fn new() -> Notes
+        ensures { (result.story ≡ fresh) × (result.since ≡ fresh) }
+    {
+        Notes { marker: 0 }
+    }
+
+    /// Notes what a call did. The numbers are its kind, the number of the file, and a place or a length.
+    pub fn note(&mut self, _numbers: &[u64], _bytes: &[u8])
+        ensures { (self.new.story ≡ noted_by _numbers.now _bytes.now self.old.story)
+            × (self.new.since ≡ since_by _numbers.now self.old.story self.old.since) }
+    {}
+}

@@ -1,0 +1,2 @@
+mod Planning
+pub mod Prefix

@@ -1,0 +1,5 @@
+pub mod Carried
+pub mod Within
+pub mod Planned
+pub mod Between
+pub mod Plan

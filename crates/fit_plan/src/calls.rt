@@ -1,0 +1,82 @@
+// Calls of a disk, in the order in which a host carries them out.
+
+ghost use Rattle.std.specs.Prelude.{◌≡◌, ◌+◌, ◌≤◌, [], length, OnOk, OnErr, All};
+ghost use Rattle.fit_disk.specs.Story.{Story};
+ghost use Rattle.fit_notes.specs.Noted.{which_of};
+ghost use Rattle.fit_plan.specs.Within.{IsWithin};
+ghost use Rattle.fit_plan.specs.Carried.{carried};
+
+use arrayvec::ArrayVec;
+use fit_disk::DeviceError;
+
+/// The most calls of a plan. No call of a recorder makes more.
+pub const MOST_CALLS: usize = 12;
+
+/// The most bytes that the writes of a plan have together.
+pub const MOST_BYTES: usize = 1024;
+
+/// One call of a disk.
+#[repr(C)]
+#[derive(Clone, Copy, Default)]
+pub struct Call {
+    /// The place of a write in its file, or the length to which a cut shortens it.
+    pub at: u64,
+    /// Where the bytes of a write begin among those of the plan, and how many they are.
+    pub start: u16,
+    pub count: u16,
+    /// 1 for a write, 2 for a cut, 3 for a sync.
+    pub kind: u8,
+    /// 0 for the data file, 1 for the journal.
+    pub file: u8,
+}
+
+/// The calls and the bytes of their writes.
+#[derive(Drop)]
+pub struct Calls {
+    pub calls: ArrayVec<Call, MOST_CALLS>,
+    pub bytes: ArrayVec<u8, MOST_BYTES>,
+    ghost within: { All (IsWithin (length bytes.items)) calls.items },
+}
+
+impl Calls {
+    ghost use Rattle.fit_plan.specs.Planned.{planned};
+
+    /// No calls.
+    pub fn new() -> Calls
+        ensures { (since : Story) → planned result since ≡ since }
+    {
+        Calls {
+            calls: ArrayVec::new(),
+            bytes: ArrayVec::new(),
+        }
+    }
+
+    // Adds a call, if there is room for it and its bytes.
+    pub(crate) fn add(
+        &mut self,
+        kind: u8,
+        file: u8,
+        at: u64,
+        bytes: &[u8],
+    ) -> Result<(), DeviceError>
+        ensures ok { OnOk result ((since : Story) → planned self.new since
+            ≡ carried kind (which_of file) at bytes.now (planned self.old since)) }
+        ensures err { OnErr result (self.new ≡ self.old) }
+    {
+        if self.calls.is_full() {
+            return Err(DeviceError);
+        }
+        let start = self.bytes.len();
+        let Ok(()) = self.bytes.try_extend_from_slice(bytes) else {
+            return Err(DeviceError);
+        };
+        self.calls.push(Call {
+            at,
+            start: start as u16,
+            count: bytes.len() as u16,
+            kind,
+            file,
+        });
+        Ok(())
+    }
+}

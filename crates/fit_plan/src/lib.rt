@@ -1,0 +1,16 @@
+//! A disk that writes its calls down, for a host that carries them out.
+//!
+//! The two files are elsewhere, such as in the flash of a watch. A recorder over a `Plan` makes its calls of the disk as ever. The
+//! plan answers them at once and keeps writes, cuts and syncs, with their bytes, in order. A host in C carries them out before it
+//! makes the next step (`Calls`). The plan is an honest disk: its story is that of the files after each planned call was carried
+//! out (`specs/Planned`). `laws` says what a host leaves that was cut off in between.
+//!
+//! It knows the length of the data file, and no content. So every read fails, and so does the length of the journal.
+#![tactic(auto)]
+
+mod calls;
+pub mod laws;
+mod plan;
+
+pub use calls::{Call, Calls, MOST_BYTES, MOST_CALLS};
+pub use plan::Plan;

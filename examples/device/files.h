@@ -1,0 +1,21 @@
+/* The two files of a recording in a folder, and the calls that a plan makes on them. */
+
+#ifndef FILES_H
+#define FILES_H
+
+#include "fitrec.h"
+
+struct files {
+    int of[2]; /* the data file and the journal */
+};
+
+/* Opens both files, and makes those that are missing. Answers 0, or -1 where one cannot be opened. */
+int open_files(struct files *files, const char *folder);
+
+/* The length of the data file, or -1. */
+int64_t data_size(const struct files *files);
+
+/* Carries out a plan. Answers 0, or -1 at the first call that fails. */
+int carry_out(const struct files *files, const struct fitrec_plan *plan);
+
+#endif
