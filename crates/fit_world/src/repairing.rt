@@ -1,12 +1,13 @@
 // Repairs a recording, and prints its summary.
 
 ghost use Rattle.std.specs.Io.KnownBytes.{Appends};
-ghost use Rattle.std.specs.Prelude.{◌≡◌, ◌+◌, ◌++◌, codes, Err, IsTrue, IfErr, OnOk, OnErr, IsErrOf};
+ghost use Rattle.std.specs.Prelude.{◌≡◌, ◌⊎◌, ◌+◌, ◌++◌, codes, Err, IsTrue, IfErr, OnOk, OnErr, IsErrOf};
 ghost use Rattle.fit_activity.specs.declared.activity.Summary.{Summary as AnySummary};
 ghost use Rattle.fit_disk.specs.Counts.{HasFailed};
 ghost use Rattle.fit_disk.specs.Runs.{Ran};
 ghost use Rattle.fit_disk.specs.State.{seen_in};
-ghost use Rattle.fit_recorder.specs.Calls.Recovery.{IsRecoveryFault, RecoveryAnswers, recovery_calls, most_body_reads};
+ghost use Rattle.fit_recorder.specs.Calls.Recovery.{InRecovery, IsRecoveryFault, RecoveryAnswers, recovery_calls, most_body_reads};
+ghost use Rattle.fit_recorder.specs.Files.Settled.{IsSettled};
 ghost use Rattle.fit_recorder.specs.declared.fault.RecFault.TheVariants as recording;
 ghost use Rattle.fit_recorder.specs.declared.fault.RecFault.{RecFault as AnyRecFault};
 ghost use Rattle.fit_world.specs.Printed.Repaired.{Repairs, ReportsRecovered, IsRepairFault};
@@ -51,6 +52,10 @@ pub fn repair<D: Disk, O: Write>(disk: &mut D, out: &mut O) -> Result<(), Repair
         → Repairs (seen_in (D.story disk.old).now) (D.story disk.new) (O.contents out.old)
         (O.contents out.new) result }
     ensures fault { IfErr result IsRepairFault }
+    // At each moment, and if it was not recovered, the files are as a recovery leaves them.
+    ensures any_moment { IsTrue D.honest → InRecovery (D.story disk.old) (D.story disk.new) }
+    ensures settled { IsTrue D.honest → (why : AnyRecFault) → result ≡ Err (faults.Recorder why)
+        → (why ≡ recording.Device) ⊎ IsSettled (seen_in (D.story disk.old).now) (D.story disk.new) }
     // Over any disk.
     ensures outcome { OnOk result ((summary : AnySummary)
         × Appends (O.contents out.old) (O.contents out.new) (summary_text summary ++ codes "\n")) }
@@ -69,6 +74,10 @@ pub fn repair_and_read<D: Disk, O: Write>(disk: &mut D, out: &mut O) -> Result<(
         → Repairs (seen_in (D.story disk.old).now) (D.story disk.new) (O.contents out.old)
         (O.contents out.new) result }
     ensures fault { IfErr result IsRepairFault }
+    // At each moment, and if it was not recovered, the files are as a recovery leaves them.
+    ensures any_moment { IsTrue D.honest → InRecovery (D.story disk.old) (D.story disk.new) }
+    ensures settled { IsTrue D.honest → (why : AnyRecFault) → result ≡ Err (faults.Recorder why)
+        → (why ≡ recording.Device) ⊎ IsSettled (seen_in (D.story disk.old).now) (D.story disk.new) }
     // Over any disk.
     ensures outcome { OnOk result ((summary : AnySummary)
         × Appends (O.contents out.old) (O.contents out.new) (summary_text summary ++ codes "\n")) }
@@ -84,6 +93,9 @@ pub fn repair_and_read<D: Disk, O: Write>(disk: &mut D, out: &mut O) -> Result<(
 fn recover_and_read<D: Disk>(disk: &mut D) -> Result<Summary, RecFault>
     ensures decides { IsTrue D.honest
         → RecoveryAnswers (seen_in (D.story disk.old).now) (D.story disk.new) result }
+    ensures any_moment { IsTrue D.honest → InRecovery (D.story disk.old) (D.story disk.new) }
+    ensures settled { IsTrue D.honest → IfErr result (λ fault. (fault ≡ recording.Device)
+        ⊎ IsSettled (seen_in (D.story disk.old).now) (D.story disk.new)) }
     ensures fault { IfErr result IsRecoveryFault }
     ensures cause { IsErrOf result recording.Device
         → HasFailed (D.log disk.old).counts (D.log disk.new).counts }
