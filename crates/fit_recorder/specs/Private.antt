@@ -11,3 +11,4 @@ pub mod BodyHeard
 pub mod Length
 pub mod Ride
 pub mod Closing
+pub mod Closes

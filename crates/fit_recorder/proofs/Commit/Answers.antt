@@ -1,6 +1,6 @@
 -- The answers of a recorder's calls, derived from their parts.
 use Rattle.std.proofs.Common.{◌≡◌, ◌⊎◌, inl, inr, ℕ, ◌+◌, ◌≤◌, Bool, true, false, List, None, Result, Ok, Err, sym, ◌∙◌, subst}
-use Rattle.std.specs.Prelude.{OnOk, OnErr, IfErr}
+use Rattle.std.specs.Prelude.{OnOk, OnErr, IfErr, IsErr}
 use Rattle.fit_activity.specs.declared.recording.entry.Entry.{Entry}
 use Rattle.fit_activity.specs.declared.recording.entry.Entry.TheVariants.{Stop}
 use Rattle.fit_activity.specs.Rides.Recording.{Recorded}
@@ -72,3 +72,8 @@ after_call old new (Err fault) not device going gone = record {
   gone = λ _. gone;
   same = inl device;
 }
+
+-- an error has no value of which anything is to be shown
+pub none_on_ok : {T E : Type 0} (P : Type 0) (result : Result T E) → IsErr result → OnOk result P
+none_on_ok P (Ok x) bad = absurd cc
+none_on_ok P (Err e) bad = tt
