@@ -20,7 +20,7 @@ use denote.Steps.{nothing}
 use denote.Triple.Entry.{on_entry}
 use denote.Triple.Spec.{Meets, triple_of}
 use denote.Triple.Table.{entered}
-use denote.Triple.Walked.{states, ends_at, walked, walk_Meets}
+use denote.Triple.Walked.{says, ends_at, walked, walk_Meets}
 use Rattle.fit_c.specs.declared.tape.Tape.{Tape}
 use Rattle.fit_c.specs.contracts.tape.Tape as T
 use Rattle.fit_c.specs.contracts.tape.Tape.new.Key.{name as #it}
@@ -44,7 +44,7 @@ meets {𝓤 = 𝓤} 𝓛 at_mem run 𝓣 =
     sets ! (agg ! (no_more !)) refl (tt, tt) $ sets ! (agg ! (and_then ! (get ! refl) (no_more !))) refl (tt, (tt, tt)) $
     returns ! (look_at ! 0 refl) $ free_all ! refl $
     pure_i ! ((T.the_row).own_val r (v ∷ [])) ((λ vss. (tt, ((λ uss. (tt, tt)), tt))), tt) (((vstruct vnil ∷ [], tt), (refl, ((tt, (refl, tt)), tt))), tt) $
-    suffices ! _ (ends_at 𝓛 it.ended tt (it.clauses 𝓛 at_mem run) ((κs, qs, bounds, a, tt), g) v r tt tt) $ states ! refl $
+    suffices ! _ (ends_at 𝓛 it.ended tt (it.clauses 𝓛 at_mem run) ((κs, qs, bounds, a, tt), g) v r tt tt) $ says ! refl $
     nothing ! $ join ! $ nothing ! $ done !)))
 
 pub new_spec : {M : Type 1} → stated.statement M
