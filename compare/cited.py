@@ -5,13 +5,14 @@ import re
 
 PATH = re.compile(r"[\w.*-]+(?:/[\w.*-]+)+/?|[\w-]+\.(?:rt|antt|py|sh|md|edit|txt|c|h|fit|frj)")
 NAME = re.compile(r"\w+(?:(?:::|\.)\w+)*")
-# Names of other programs, of a user's files, and names with a part to fill in.
-OTHERS = {"activity.fit", "activity.frj", "message_N", "field_N", "developer_INDEX_NUMBER", "FRJ2"}
+# Names of other programs, of a user's files, names with a part to fill in, and what is built.
+OTHERS = {"activity.fit", "activity.frj", "ride.fit", "message_N", "field_N", "developer_INDEX_NUMBER", "FRJ2", "Xvfb", "out/libfit_c.a",
+          "web/out/fitrec.html", "web/out/fit_c.wasm"}
 
 
 def texts_of(root):
     """The text of each file that may be cited, by its path."""
-    parts = ["crates", "compare", "bench", "examples", "docs", ".ci"]
+    parts = ["crates", "include", "web", "compare", "bench", "examples", "docs", ".ci"]
     files = [it for part in parts for it in (root / part).rglob("*") if it.is_file() and "out" not in it.relative_to(root).parts]
     files += [root / it for it in ("crates.txt", "HANDLES", "fitrec", "build")]
     return {it: it.read_text(errors="replace") for it in files}
@@ -32,7 +33,7 @@ def check(root):
     words = set(re.findall(r"\w+", "\n".join(sources))) | {it for file in files for it in re.split(r"[/.]", file)}
     for page in [root / "README.md", *sorted((root / "docs").glob("*.md"))]:
         # Blocks are examples, which documented.py runs.
-        prose = re.sub(r"(?m)^    .*$|^```.*?^```$", "", page.read_text(), flags=re.S | re.M)
+        prose = re.sub(r"(?m)^    [^\n]*$|^```.*?^```$", "", page.read_text(), flags=re.S | re.M)
         lost = []
         for cited in re.findall(r"`([^`\n]+)`", prose):
             if PATH.fullmatch(cited):

@@ -2,6 +2,8 @@
 
      library repair SPARE DATA JOURNAL OUT   the data file goes to OUT; its buffer has SPARE bytes more than it
      library salvage SPARE IN OUT ALL        the new file goes to OUT; its buffer has SPARE bytes more than IN
+     library save DATA JOURNAL OUT           the plain form goes to OUT; its buffer has just as many bytes, and too few at first
+     library plain IN OUT
      library check IN
      library show IN UTC OUT                 the text goes to OUT; its buffer has just as many bytes, and too few at first
      library lengths DATA JOURNAL            lengths that are greater than their buffers, and buffers of no bytes
@@ -89,6 +91,62 @@ static void repair(char **words) {
     look_at_guards(journal);
 }
 
+/* Saves the recording of these files into a buffer of so many bytes. */
+static unsigned save_in(char **words, size_t size, struct buffer *data, struct buffer *out, struct fitrec_summary *sum) {
+    struct buffer journal = file_at(words[1], 0);
+    *data = file_at(words[0], FITREC_CLOSING_ROOM);
+    *out = room(size);
+    unsigned answer = fitrec_save(data->bytes, data->size, &data->len, journal.bytes, journal.size, &journal.len, out->bytes, out->size, &out->len,
+                                  sum);
+    look_at_guards(journal);
+    return answer;
+}
+
+static void save(char **words) {
+    struct buffer data, out, plain;
+    struct fitrec_summary sum;
+    unsigned answer = save_in(words, 0, &data, &out, &sum);
+    look_at_guards(out);
+    if (answer == FITREC_SAVE_NO_ROOM) {
+        uint64_t needed = out.len, place;
+        plain = room(needed);
+        if (fitrec_plain(data.bytes, data.len, plain.bytes, plain.size, &plain.len, &place) != FITREC_PLAIN || plain.len != needed)
+            fail("another plain form of the repaired file");
+        look_at_guards(data);
+        if (save_in(words, needed - 1, &data, &out, &sum) != FITREC_SAVE_NO_ROOM || out.len != needed)
+            fail("another answer to a buffer that lacks one byte");
+        look_at_guards(data);
+        look_at_guards(out);
+        answer = save_in(words, needed, &data, &out, &sum);
+        if (answer != FITREC_SAVED || memcmp(plain.bytes, out.bytes, needed))
+            fail("another file in a larger buffer");
+        keep(out, words[2]);
+        look_at_guards(out);
+        look_at_guards(plain);
+    }
+    printf("%u\n", answer);
+    if (answer == FITREC_SAVED)
+        print_summary(sum);
+    look_at_guards(data);
+}
+
+static void plain(char **words) {
+    struct buffer in = file_at(words[0], 0), out = room(0);
+    uint64_t place;
+    unsigned answer = fitrec_plain(in.bytes, in.size, out.bytes, 0, &out.len, &place);
+    look_at_guards(out);
+    if (answer == FITREC_PLAIN_NO_ROOM) {
+        out = room(out.len);
+        answer = fitrec_plain(in.bytes, in.size, out.bytes, out.size, &out.len, &place);
+        keep(out, words[1]);
+        look_at_guards(out);
+    }
+    printf("%u\n", answer);
+    if (answer)
+        printf("at %llu\n", (unsigned long long)place);
+    look_at_guards(in);
+}
+
 static void check(char **words) {
     struct buffer in = file_at(words[0], 0);
     struct fitrec_summary sum;
@@ -151,6 +209,8 @@ static void lengths(char **words) {
     printf(" %u", fitrec_repair(data.bytes, data.size, &data.len, journal.bytes, journal.size, &long_journal, &sum));
     printf(" %u", fitrec_repair(data.bytes, data.size, &most, journal.bytes, journal.size, &journal.len, &sum));
     printf(" %u", fitrec_repair(data.bytes, data.size, &none[0], nothing.bytes, nothing.size, &none[1], &sum));
+    printf(" %u", fitrec_save(data.bytes, data.size, &long_data, journal.bytes, journal.size, &journal.len, nothing.bytes, 0, &none[0], &sum));
+    printf(" %u", fitrec_save(data.bytes, data.size, &data.len, journal.bytes, journal.size, &most, nothing.bytes, 0, &none[0], &sum));
     look_at_guards(nothing);
     look_at_guards(data);
     look_at_guards(journal);
@@ -162,6 +222,10 @@ int main(int count, char **words) {
         repair(words + 2);
     else if (count == 6 && !strcmp(words[1], "salvage"))
         salvage(words + 2);
+    else if (count == 5 && !strcmp(words[1], "save"))
+        save(words + 2);
+    else if (count == 4 && !strcmp(words[1], "plain"))
+        plain(words + 2);
     else if (count == 3 && !strcmp(words[1], "check"))
         check(words + 2);
     else if (count == 5 && !strcmp(words[1], "show"))

@@ -81,6 +81,15 @@ def repaired(fitrec, program, folder, spare=CLOSING):
         return differs((mine, bytes_of(out)), (want, bytes_of(pathlib.Path(copy, "activity.fit"))))
 
 
+def saved(fitrec, program, folder):
+    """What differs between a save by the library and one by the program."""
+    with tempfile.TemporaryDirectory() as scratch:
+        out, its = pathlib.Path(scratch, "out.fit"), pathlib.Path(scratch, "its.fit")
+        mine = run(program, "save", *[pathlib.Path(folder, name) for name in NAMES], out)
+        said = run(fitrec, "save", folder, its)
+        return differs((mine, bytes_of(out)), ((0, "%d\n%s" % (answer_of(said), said[1]), ""), bytes_of(its)))
+
+
 def of_recordings(fitrec, program, count, seed):
     """A ride after each of its lines, stopped, repaired and resumed; and pairs of files that are damaged at random."""
     pick = random.Random(seed)
@@ -91,17 +100,19 @@ def of_recordings(fitrec, program, count, seed):
             script.write_text("\n".join(lines[:most]))
             run(fitrec, "replay", script, folder)
             yield "a ride", repaired(fitrec, program, folder)
+            yield "a ride that is saved", saved(fitrec, program, folder)
         whole = holds(folder)
         for _ in range(count):
             for name, content in zip(NAMES, damaged(pick, whole)):
                 pathlib.Path(folder, name).write_bytes(content)
             yield "a damaged pair", repaired(fitrec, program, folder)
+            yield "a damaged pair that is saved", saved(fitrec, program, folder)
         for name, content in zip(NAMES, whole):
             pathlib.Path(folder, name).write_bytes(content)
         said = run(program, "repair", CLOSING - 1, *[pathlib.Path(folder, name) for name in NAMES], pathlib.Path(folder, "out.fit"))
         yield "a buffer with too little room", differs((said, bytes_of(pathlib.Path(folder, "out.fit"))), ((0, "10\n", ""), whole[0]))
         said = run(program, "lengths", *[pathlib.Path(folder, name) for name in NAMES])
-        yield "lengths that do not fit", differs(said, (0, "9 9 9 7\n", ""))
+        yield "lengths that do not fit", differs(said, (0, "9 9 9 7 9 9\n", ""))
 
 
 def of_files(fitrec, program, count, seed):
@@ -138,6 +149,16 @@ def looked_at(fitrec, program, source, mine):
         mine.unlink(missing_ok=True)
 
 
+def plainly(fitrec, program, source, mine, its):
+    """What differs between the plain form by the library and by the program."""
+    said, wanted = run(program, "plain", source, mine), run(fitrec, "plain", source, its)
+    place = re.match(r"fitrec: \w+(?:\(\d+\))? at (\d+)$", wanted[2].strip())
+    difference = differs((said, bytes_of(mine)), ((0, "%d\n%s" % (answer_of(wanted), "at %s\n" % place[1] if place else ""), ""), bytes_of(its)))
+    mine.unlink(missing_ok=True)
+    its.unlink(missing_ok=True)
+    return difference
+
+
 def of_looks(fitrec, program, count, seed):
     """Files that are shown and checked: whole, damaged, cut short and continued."""
     pick = random.Random(seed)
@@ -154,6 +175,7 @@ def of_looks(fitrec, program, count, seed):
             source.write_bytes(content)
             for part, difference in looked_at(fitrec, program, source, mine):
                 yield "a file that is looked at by " + part, difference
+            yield "a plain form", plainly(fitrec, program, source, mine, folder / "its.fit")
         yield "its version", differs(run(program, "version"), (0, "1\n", ""))
 
 

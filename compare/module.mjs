@@ -70,6 +70,44 @@ function salvage([spare, path, out, all]) {
   it.lookAtGuards();
 }
 
+// Saves the recording of these files into a buffer of so many bytes.
+function saveIn([dataPath, journalPath], size) {
+  const data = file(dataPath, CLOSING_ROOM), journal = file(journalPath);
+  const it = place(data, number(data.content.length), journal, number(journal.size), { size }, number(), { size: 28 }), at = it.places;
+  const answer = it.call('fitrec_save', at[0], data.size, at[1], at[2], journal.size, at[3], at[4], size, at[5], at[6]);
+  it.lookAtGuards();
+  return { answer, length: it.long(5), file: it.result(4, size), summary: it.summary(6) };
+}
+
+function save(paths) {
+  let it = saveIn(paths, 0);
+  if (it.answer === 20) {
+    const needed = it.length, less = saveIn(paths, needed - 1);
+    if (less.answer !== 20 || less.length !== needed) throw new Error('another answer to a buffer that lacks one byte');
+    it = saveIn(paths, needed);
+    writeFileSync(paths[2], it.file);
+  }
+  print(String(it.answer));
+  if (it.answer === 0) print(it.summary);
+}
+
+function plain([path, out]) {
+  const source = file(path);
+  const made = size => {
+    const it = place(source, { size }, number(), number()), at = it.places;
+    const answer = it.call('fitrec_plain', at[0], source.size, at[1], size, at[2], at[3]);
+    it.lookAtGuards();
+    return { answer, length: it.long(2), place: it.long(3), file: it.result(1, size) };
+  };
+  let it = made(0);
+  if (it.answer === 20) {
+    it = made(it.length);
+    writeFileSync(out, it.file);
+  }
+  print(String(it.answer));
+  if (it.answer) print('at ' + it.place);
+}
+
 function check([path]) {
   const source = file(path), it = place(source, { size: 28 }, number()), at = it.places;
   const answer = it.call('fitrec_check', at[0], source.size, at[1], at[2]);
@@ -100,15 +138,17 @@ function show([path, utc, out]) {
 
 function lengths([dataPath, journalPath]) {
   const data = file(dataPath, CLOSING_ROOM), journal = file(journalPath);
-  const asked = (dataLength, journalLength, dataSize = data.size, journalSize = journal.size) => {
-    const it = place(data, number(dataLength), journal, number(journalLength), { size: 28 }), at = it.places;
-    const answer = it.call('fitrec_repair', at[0], dataSize, at[1], at[2], journalSize, at[3], at[4]);
+  const asked = (name, dataLength, journalLength, journalSize = journal.size) => {
+    const it = place(data, number(dataLength), journal, number(journalLength), { size: 0 }, number(), { size: 28 }), at = it.places;
+    const room = name === 'fitrec_save' ? [at[4], 0, at[5]] : [];
+    const answer = it.call(name, at[0], data.size, at[1], at[2], journalSize, at[3], ...room, at[6]);
     it.lookAtGuards();
     return answer;
   };
-  print([asked(data.size + 1, journal.size), asked(data.content.length, journal.size + 1), asked(-1, journal.size),
-    asked(0, 0, data.size, 0)].join(' '));
+  const [whole, most] = [data.content.length, -1];
+  print([asked('fitrec_repair', data.size + 1, journal.size), asked('fitrec_repair', whole, journal.size + 1), asked('fitrec_repair', most, journal.size),
+    asked('fitrec_repair', 0, 0, 0), asked('fitrec_save', data.size + 1, journal.size), asked('fitrec_save', whole, most)].join(' '));
 }
 
-const calls = { repair, salvage, check, show, lengths, version: () => print(String(Number(place().call('fitrec_version') === 1))) };
+const calls = { repair, save, salvage, plain, check, show, lengths, version: () => print(String(Number(place().call('fitrec_version') === 1))) };
 calls[word](words);

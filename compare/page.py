@@ -2,6 +2,7 @@
 headless Chromium, for each kind of input and each refusal. It makes web/out/fitrec.html first."""
 
 import json
+import os
 import pathlib
 import shutil
 import subprocess
@@ -36,6 +37,7 @@ def is_there(what, *words):
 
 def of_module(fitrec, count, seed):
     """The module under Node does what the program does, and what the C library does with its buffers."""
+    os.environ["FITREC_MODULE"] = str(WEB / "out/fit_c.wasm")
     for part in (of_recordings(fitrec, HERE / "module.mjs", count, seed), of_files(fitrec, HERE / "module.mjs", count // 2, seed),
                  of_looks(fitrec, HERE / "module.mjs", count // 4, seed)):
         for name, difference in part:
@@ -54,15 +56,16 @@ def inputs(fitrec, folder):
     run(fitrec, "replay", script, longer)
     ride, journal = (torn / name for name in NAMES)
     run(fitrec, "repair", shutil.copytree(torn, folder / "mended"))
+    run(fitrec, "save", torn, folder / "ride.fit")
     whole = (folder / "mended/activity.fit").read_bytes()
     made = lambda name, content: [(folder / name, (folder / name).write_bytes(content))[0]]
-    run(fitrec, "salvage", ride, folder / "salvaged.fit")
+    run(fitrec, "salvage", "--plain", ride, folder / "salvaged.fit")
     salvaged = (folder / "salvaged.fit").read_bytes()
-    run(fitrec, "salvage", *made("cut.fit", whole[:3000]), folder / "kept.fit")
+    run(fitrec, "salvage", "--plain", *made("cut.fit", whole[:3000]), folder / "kept.fit")
     cut = (folder / "kept.fit").read_bytes()
     wrong = bytes([*whole[:-1], whole[-1] ^ 1])
-    run(fitrec, "salvage", *made("wrong.fit", wrong), folder / "mended.fit")
-    yield "a recording", [ride, journal], "The ride is saved", "confirmed", whole
+    run(fitrec, "salvage", "--plain", *made("wrong.fit", wrong), folder / "mended.fit")
+    yield "a recording", [ride, journal], "The ride is saved", "confirmed", (folder / "ride.fit").read_bytes()
     yield "a whole file", made("whole.fit", whole), "The file is whole", "checksum is right", None
     yield "a file that was cut off", made("cut.fit", whole[:3000]), "The readable part is saved", "ends too soon", cut
     yield "a ride without its journal", [ride], "The readable part is saved", "checksum of the file is wrong", salvaged

@@ -8,7 +8,8 @@
    - A buffer has as many bytes as its size argument says, and all of them may be read.
 
    The library takes no memory, keeps none between calls, and calls nothing but memcpy, memmove and memset. So calls on different buffers
-   may run at the same time in any threads. On x86-64 a repair needs 40 KB of stack, a call on one file @STACK@ KB. */
+   may run at the same time in any threads. On x86-64 a repair and a save need 40 KB of stack, a text 80 KB, and the other
+   calls 16 KB. */
 
 #ifndef FITREC_H
 #define FITREC_H
@@ -67,6 +68,23 @@ enum {
 uint8_t fitrec_repair(uint8_t *data, size_t data_size, uint64_t *data_len, uint8_t *journal, size_t journal_size,
                       uint64_t *journal_len, struct fitrec_summary *summary);
 
+/* Repairs a recording as fitrec_repair does, and writes its finished file into out with every time written out, for programs that misread
+   the short form which recorders use.
+
+   data .. journal_len   as for a repair; both buffers are working space, and after 0 and FITREC_SAVE_NO_ROOM they hold the repaired
+                 recording
+   out, out_size the buffer of the new file
+   out_len       how many bytes the new file has, after 0 and FITREC_SAVE_NO_ROOM
+   summary       is filled after 0 and FITREC_SAVE_NO_ROOM
+
+   Answers what a repair answers, or FITREC_SAVE_NO_ROOM. After every other answer than 0 the bytes of out may have changed. */
+enum {
+    FITREC_SAVED = 0,
+    FITREC_SAVE_NO_ROOM = 20 /* the new file has no room in out; give fitrec_plain the data file and out_len bytes of room */
+};
+uint8_t fitrec_save(uint8_t *data, size_t data_size, uint64_t *data_len, uint8_t *journal, size_t journal_size,
+                    uint64_t *journal_len, uint8_t *out, size_t out_size, uint64_t *out_len, struct fitrec_summary *summary);
+
 /* How much of a file a salvage kept, in bytes. */
 struct fitrec_salvage_counts {
     uint64_t kept;          /* bytes of records in the new file */
@@ -96,7 +114,7 @@ enum {
 uint8_t fitrec_salvage(const uint8_t *bytes, size_t size, bool all, uint8_t *out, size_t out_size, uint64_t *out_len,
                        struct fitrec_salvage_counts *counts);
 
-/* Why bytes are no FIT file, as fitrec_check and fitrec_show answer it. Each comes with the place of the fault, an offset in bytes: the
+/* Why bytes are no FIT file, as fitrec_check, fitrec_show and fitrec_plain answer it. Each comes with the place of the fault, an offset in bytes: the
    first item or number that is wrong. If several faults hold, it is the one that the first bytes show. */
 enum {
     FITREC_TRUNCATED = 1,       /* the bytes end before the closing checksum is whole */
@@ -127,6 +145,21 @@ enum {
     FITREC_NO_ACTIVITY = 15
 };
 uint8_t fitrec_check(const uint8_t *bytes, size_t size, struct fitrec_summary *summary, uint64_t *fault_place);
+
+/* Writes the plain form of a FIT file: the same messages, with every time written out.
+
+   bytes, size   the file
+   out, out_size the buffer of the new file
+   out_len       how many bytes the new file has, after 0 and FITREC_PLAIN_NO_ROOM
+   fault_place   the place of the fault, after 1 to 9
+
+   Answers 0, one of 1 to 9 above, or one of these. After every other answer than 0 the bytes of out may have changed. */
+enum {
+    FITREC_PLAIN = 0,
+    FITREC_PLAIN_NO_ROOM = 20, /* the new file has no room in out */
+    FITREC_PLAIN_TOO_LONG = 21 /* the new file would be too large, or a definition in it would have 256 fields */
+};
+uint8_t fitrec_plain(const uint8_t *bytes, size_t size, uint8_t *out, size_t out_size, uint64_t *out_len, uint64_t *fault_place);
 
 /* Writes the text of a FIT file: a line for its header, one for each message, and one that counts them, as docs/FORMAT.md describes it.
    It is ASCII, lines end with a line feed, and no zero byte follows.

@@ -25,17 +25,30 @@ function summaryAt({ number }, at) {
   return { records, laps, sessions, start, elapsed, timer, distance };
 }
 
-// The finished file of a recording, and its summary.
-async function repair(data, journal) {
-  const room = data.length + CLOSING_ROOM;
-  const it = await memoryFor([room, 8, journal.length, 8, 28]);
-  const [atData, atLength, atJournal, atJournalLength, atSummary] = it.places;
+// The ride of a recording, as a file without compressed timestamps.
+async function save(data, journal) {
+  const room = data.length + CLOSING_ROOM, outRoom = 2 * data.length + 1024;
+  const it = await memoryFor([room, 8, journal.length, 8, outRoom, 8, 28]);
+  const [atData, atLength, atJournal, atJournalLength, atNew, atNewLength, atSummary] = it.places;
   it.bytes.set(data, atData);
   it.bytes.set(journal, atJournal);
   it.setLong(atLength, data.length);
   it.setLong(atJournalLength, journal.length);
-  const code = it.call('fitrec_repair', atData, room, atLength, atJournal, journal.length, atJournalLength, atSummary);
-  return { code, file: it.bytes.slice(atData, atData + it.long(atLength)), summary: summaryAt(it, atSummary) };
+  const code = it.call('fitrec_save', atData, room, atLength, atJournal, journal.length, atJournalLength, atNew, outRoom, atNewLength, atSummary);
+  if (code === NO_ROOM) return plain(it.bytes.slice(atData, atData + it.long(atLength)));
+  return { code, file: it.bytes.slice(atNew, code ? atNew : atNew + it.long(atNewLength)) };
+}
+
+// The plain form of a file.
+async function plain(file) {
+  for (let room = 2 * file.length + 1024; ;) {
+    const it = await memoryFor([file.length, room, 8, 8]);
+    const [atFile, atNew, atLength, atPlace] = it.places;
+    it.bytes.set(file, atFile);
+    const code = it.call('fitrec_plain', atFile, file.length, atNew, room, atLength, atPlace);
+    if (code !== NO_ROOM) return { code, file: it.bytes.slice(atNew, code ? atNew : atNew + it.long(atLength)) };
+    room = it.long(atLength);
+  }
 }
 
 // What is readable of a file, as a new file.

@@ -10,7 +10,7 @@ async function bytesOf(file) {
 
 // The two files of a recording.
 async function ofRecording(data, journal) {
-  const { code, file } = await repair(await bytesOf(data), await bytesOf(journal));
+  const { code, file } = await save(await bytesOf(data), await bytesOf(journal));
   if (code === 7) return { heading: 'nothing', reason: text('nothingRecorded'), next: text('nothingRecordedNext') };
   if (code === 8) return { heading: 'nothing', reason: text('damaged'), next: text('damagedNext') };
   if (code) return { heading: 'nothing', reason: text('unexpected', { code }) };
@@ -25,10 +25,11 @@ async function ofFile(chosen) {
   const why = text('fault' + code, { place: place.toLocaleString('en') });
   const made = await salvage(file);
   if (made.code || !made.kept) return { heading: 'nothing', reason: made.code ? text('notFit') + ' ' + why : why, next: text('notFitNext') };
+  const written = await plain(made.file), saved = written.code ? made.file : written.file;
   const [kept, looked, more] = [made.kept, made.looked, made.more].map(n => n.toLocaleString('en'));
   const reason = text('salvagedWhy', { why, kept, looked }) + (made.more ? ' ' + text('salvagedMore', { more }) : '');
-  const next = (await check(made.file)).code ? text('noSummaryNext') : '';
-  return { heading: 'salvaged', reason, next, file: made.file, name: chosen.name.replace(/(\.fit)?$/i, '-saved.fit') };
+  const next = (await check(saved)).code ? text('noSummaryNext') : '';
+  return { heading: 'salvaged', reason, next, file: saved, name: chosen.name.replace(/(\.fit)?$/i, '-saved.fit') };
 }
 
 function answerTo(files) {

@@ -4,6 +4,8 @@ use Rattle.fit_activity.specs.declared.activity.Summary.{Summary}
 use Rattle.fit_activity.specs.declared.activity.ActivityFault.{ActivityFault}
 use Rattle.fit_activity.specs.Files.Activity.{activity_in, activity_fault_code}
 use Rattle.fit_grammar.specs.Calls.FaultCode.{kind_code}
+use Rattle.fit_grammar.specs.Calls.PlainForm.{plain_of}
+use Rattle.fit_grammar.specs.Format.Encoding.{encoded}
 use Rattle.fit_grammar.specs.declared.file.fault.FileFault.{FileFault}
 use Rattle.fit_grammar.specs.Format.File.{FileValue, FileOf}
 use Rattle.fit_grammar.specs.Format.Message.{messages_of}
@@ -30,6 +32,19 @@ pub record NeedsRoomToShow (utc : Bool) (bytes : List ℕ) (room needed : ℕ) :
   pub file : FileValue
   pub is : FileOf bytes file
   pub needed_is : needed ≡ length (text_of utc file)
+  pub short : room < needed
+
+-- the bytes are a file, and these are its plain form
+pub record IsPlainOf (bytes plain : List ℕ) : Type 0 where
+  pub file : FileValue
+  pub is : FileOf bytes file
+  pub plain_is : plain ≡ encoded (plain_of file)
+
+-- the bytes are a file, whose plain form has so many bytes, more than there is room for
+pub record NeedsRoomForPlain (bytes : List ℕ) (room needed : ℕ) : Type 0 where
+  pub file : FileValue
+  pub is : FileOf bytes file
+  pub needed_is : needed ≡ length (encoded (plain_of file))
   pub short : room < needed
 
 -- the bytes are an activity file, and the numbers are those of its summary

@@ -2,3 +2,4 @@ pub mod Files
 pub mod Repaired
 pub mod Room
 pub mod Salvaged
+pub mod Saved

@@ -8,15 +8,19 @@
 ghost use Rattle.std.specs.Prelude.{◌≡◌};
 
 mod checking;
+mod plain;
 mod repairing;
 mod room;
 mod salvaging;
+mod saving;
 mod showing;
 mod tape;
 
 pub use checking::fitrec_check;
+pub use plain::fitrec_plain;
 pub use repairing::{RideSummary, fitrec_repair};
 pub use salvaging::fitrec_salvage;
+pub use saving::fitrec_save;
 pub use showing::fitrec_show;
 
 /// The version of these calls. It grows when one of them changes.

@@ -52,6 +52,7 @@ pub extern "C" fn fitrec_repair(
     ensures code { IsRepairCode result }
     ensures ok { result ≡ 0 → IsRepaired (contents_in data_bytes.old data_len.old journal_bytes.old journal_len.old)
         (contents_in data_bytes.new data_len.new journal_bytes.new journal_len.new) summary.new }
+    ensures within { result ≡ 0 → data_len.new ≤ length data_bytes.new }
     ensures nothing { result ≡ 7 → IsNothing (contents_in data_bytes.old data_len.old journal_bytes.old journal_len.old) }
     ensures damaged { result ≡ 8 → IsDamaged (contents_in data_bytes.old data_len.old journal_bytes.old journal_len.old) }
     ensures too_long { result ≡ 9 → (length data_bytes.old < data_len.old) ⊎ (length journal_bytes.old < journal_len.old) }

@@ -4,4 +4,5 @@ pub mod Timed
 pub mod Messages
 pub mod Unchanged
 pub mod SoFar
+pub mod Written
 pub mod Stood

@@ -5,6 +5,7 @@ pub mod SizedDefinition
 pub mod KeptDefinition
 pub mod FrontPassed
 pub mod PlainSoFar
+pub mod PlainWritten
 pub mod LatestDefinitions
 pub mod ByLookup
 pub mod ItemRow

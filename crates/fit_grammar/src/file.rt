@@ -15,7 +15,7 @@ mod carry;
 mod closing;
 mod decode;
 mod decoder;
-mod encode;
+pub(crate) mod encode;
 mod fault;
 mod frame;
 mod header;

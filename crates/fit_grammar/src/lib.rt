@@ -7,7 +7,8 @@
 //!
 //! `decode_file` reads a whole file into a `File`, or refuses it for what its shortest faulty prefix shows. A `Decoder`
 //! does the same for a file that is fed to it in pieces, wherever they are cut. A `File` can also be built item by item.
-//! It lends its messages one after another, or its items where they are (`FileItem`), and `encode_file` writes it:
+//! It lends its messages one after another, or its items where they are (`FileItem`), and `encode_file` writes it. A `LentFile` does
+//! the same for a file whose bytes are all there, and takes no memory:
 //!
 //!     let frame = Frame { header_size: 14, protocol: 0x10, profile: 100 };
 //!     let mut file = File::new(alloc, frame);
@@ -43,5 +44,7 @@ pub use item::{
     write_data, write_definition, write_native_definition,
 };
 pub use message::{DeveloperField, DeveloperFields, Field, Fields, Message, Messages, message_of};
-pub use plain::{PlainFault, PlainFaultKind, plain_file};
+pub use plain::{
+    PlainFault, PlainFaultKind, WritePlainFault, plain_file, write_plain, write_plain_records,
+};
 pub use to_writer::{WriteFailed, put};

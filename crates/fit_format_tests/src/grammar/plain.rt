@@ -5,8 +5,9 @@ use crate::slow::Slow;
 use arrayvec::ArrayVec;
 use fit_base::{Arch, Crc};
 use fit_grammar::{
-    Decoder, Definition, DeveloperFieldDefinition, FieldDefinition, File, Frame, Places,
-    PlainFault, PlainFaultKind, encode_file, plain_file,
+    Decoder, Definition, DeveloperFieldDefinition, FaultKind, FieldDefinition, File, FileFault,
+    Frame, LentFile, Places, PlainFault, PlainFaultKind, encode_file, plain_file,
+    write_plain_records,
 };
 use std::alloc::Global;
 use std::test::Fail;
@@ -68,6 +69,30 @@ fn times_are_written_out(rt: HostRuntime) -> Result<(), Fail> {
             _ => panic!(rt; "it has a plain form"),
         }
     }
+    Ok(())
+}
+
+#[test]
+fn times_are_written_out_of_a_lent_file(rt: HostRuntime) -> Result<(), Fail> {
+    for (bytes, wanted) in [
+        (COMPRESSED.as_slice(), PLAIN.as_slice()),
+        (DEVELOPER.as_slice(), PLAIN_DEVELOPER.as_slice()),
+    ] {
+        let Ok(file) = LentFile::read(bytes) else {
+            panic!(rt; "it is a file");
+        };
+        let mut out = Slow::new(rt.alloc(), 128, 128);
+        write_plain_records(&file, &mut out)?;
+        assert!(rt; Some(out.written()) == wanted.get(14..wanted.len() - 2));
+    }
+    let mut wrong = PLAIN;
+    wrong[66] = 0;
+    let refused = LentFile::read(&wrong).err();
+    let fault = FileFault {
+        kind: FaultKind::FileCrc,
+        place: 65,
+    };
+    assert!(rt; refused == Some(fault));
     Ok(())
 }
 

@@ -52,7 +52,7 @@ fn put_framed<W: Write>(out: &mut W, frame: Frame, records: &[u8]) -> Result<(),
 }
 
 // The header, with its checksum if it has 14 bytes.
-fn put_header<W: Write>(
+pub(crate) fn put_header<W: Write>(
     out: &mut W,
     checksum: &mut Crc,
     frame: Frame,
@@ -92,7 +92,11 @@ pub fn header_front(frame: Frame, size: u32) -> [u8; 12]
 }
 
 // Hands over the bytes, and adds them to the checksum.
-fn put_checked<W: Write>(out: &mut W, checksum: &mut Crc, bytes: &[u8]) -> Result<(), WriteFailed>
+pub(crate) fn put_checked<W: Write>(
+    out: &mut W,
+    checksum: &mut Crc,
+    bytes: &[u8],
+) -> Result<(), WriteFailed>
     ensures { WritesChecked (W.contents out.old)
         (W.contents out.new) checksum.old checksum.new result bytes.now }
 {

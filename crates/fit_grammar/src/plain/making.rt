@@ -157,7 +157,10 @@ fn plain_size(message: &DataMessage<'_>, time: Option<u32>) -> usize
 }
 
 // The definition of a plain form, with field 253 in front or not. `None` if it would have 256 fields.
-fn plain_definition_of(message: &DefinitionMessage<'_>, timed: bool) -> Option<Definition>
+pub(crate) fn plain_definition_of(
+    message: &DefinitionMessage<'_>,
+    timed: bool,
+) -> Option<Definition>
     ensures definition { IfSome result (λ d. d ≡ timed_definition timed message.now) }
     ensures full { IfNone result (255 < length (timed_definition timed message.now).fields.items) }
 {
@@ -177,7 +180,7 @@ fn plain_definition_of(message: &DefinitionMessage<'_>, timed: bool) -> Option<D
 }
 
 // The four bytes of a time.
-fn bytes_of_time(arch: Arch, time: u32) -> [u8; 4]
+pub(crate) fn bytes_of_time(arch: Arch, time: u32) -> [u8; 4]
     ensures { result ≡ time_bytes_of arch time }
 {
     match arch {

@@ -1,0 +1,175 @@
+// Writing the plain form of a file, item by item and without memory.
+
+ghost use Rattle.std.specs.Prelude.{◌≡◌, ◌<◌, OnOk, slice_set};
+ghost use Rattle.fit_grammar.specs.Format.Encoding.{encoded, encoded_item, encoded_items};
+ghost use Rattle.fit_grammar.specs.Format.Item.{Defines};
+ghost use Rattle.fit_grammar.specs.Format.Records.{data_size};
+ghost use Rattle.fit_grammar.specs.Calls.LentItem.{lent_item};
+ghost use Rattle.fit_grammar.specs.Calls.Output.{WritesText};
+ghost use Rattle.fit_grammar.specs.Calls.PlainForm.{plain_of, plain_items, plain_item, plain_data, timed_after, definitions_before, is_timed, time_front};
+ghost use Rattle.fit_grammar.specs.Private.CheckedOutput.{WritesChecked};
+ghost use Rattle.fit_grammar.specs.Private.PlainSoFar.{lent_data};
+ghost use Rattle.fit_grammar.specs.Private.PlainWritten.{IsWritable};
+
+use crate::definition::Definition;
+use crate::definition::kept::WrittenDefinition;
+use crate::file::LentFile;
+use crate::file::encode::{put_checked, put_header};
+use crate::item::{DataMessage, FileItem};
+use crate::plain::making::{bytes_of_time, plain_definition_of};
+use crate::to_writer::{WriteFailed, put};
+use fit_base::{Arch, Crc};
+use std::io::Write;
+
+/// Why a plain form was not written.
+#[derive(Clone, Copy, Debug, PartialEq, Eq)]
+pub enum WritePlainFault {
+    /// The definition of a message would have 256 fields.
+    TooLong,
+    /// The writer failed.
+    Write,
+}
+
+/// Writes the records of a file's plain form, as `plain_file` makes it; at an `Err`, a prefix of them. It takes no memory.
+pub fn write_plain_records<W: Write>(
+    file: &LentFile<'_>,
+    out: &mut W,
+) -> Result<(), WritePlainFault>
+    ensures { WritesText (W.contents out.old) (W.contents out.new) result (encoded_items (plain_items file.now.items)) }
+{
+    let mut checksum = Crc::new();
+    put_items(out, &mut checksum, file)
+}
+
+/// Writes a file's plain form, whose records have `size` bytes: what `encode_file` writes of the file that `plain_file` makes. At an
+/// `Err`, a prefix of it. It takes no memory.
+pub fn write_plain<W: Write>(
+    file: &LentFile<'_>,
+    size: u32,
+    out: &mut W,
+) -> Result<(), WritePlainFault>
+    requires { size ≡ data_size (plain_items file.now.items) }
+    ensures { WritesText (W.contents out.old) (W.contents out.new) result (encoded (plain_of file.now)) }
+{
+    let mut checksum = Crc::new();
+    put_header(out, &mut checksum, file.frame(), size)?;
+    put_items(out, &mut checksum, file)?;
+    put(out, &checksum.value().to_le_bytes())?;
+    Ok(())
+}
+
+// The records, which are added to the checksum.
+fn put_items<W: Write>(
+    out: &mut W,
+    checksum: &mut Crc,
+    file: &LentFile<'_>,
+) -> Result<(), WritePlainFault>
+    ensures { WritesChecked (W.contents out.old) (W.contents out.new) checksum.old checksum.new result
+        (encoded_items (plain_items file.now.items)) }
+{
+    let mut timed = [false; 16];
+    for item in file.items() {
+        put_item(out, checksum, &mut timed, &item)?;
+    }
+    Ok(())
+}
+
+// What is written for an item.
+fn put_item<W: Write>(
+    out: &mut W,
+    checksum: &mut Crc,
+    timed: &mut [bool; 16],
+    item: &FileItem<'_>,
+) -> Result<(), WritePlainFault>
+    requires { IsWritable (lent_item item.now) }
+    ensures text { WritesChecked (W.contents out.old) (W.contents out.new) checksum.old checksum.new result
+        (encoded_items (plain_item timed.old (lent_item item.now))) }
+    ensures timed { OnOk result (timed.new ≡ timed_after timed.old (lent_item item.now)) }
+{
+    match item {
+        FileItem::Definition(definition) => {
+            put_definition(out, checksum, &definition.read())?;
+            timed[definition.local() as usize] = false;
+        }
+        FileItem::Data(message, time) => {
+            put_definition_before(out, checksum, timed, message, time.is_some())?;
+            put_data(out, checksum, message, *time)?;
+        }
+    }
+    Ok(())
+}
+
+// The definition before a message, with the time in front or not, if the last one of its local number does not fit.
+fn put_definition_before<W: Write>(
+    out: &mut W,
+    checksum: &mut Crc,
+    timed: &mut [bool; 16],
+    message: &DataMessage<'_>,
+    needs: bool,
+) -> Result<(), WritePlainFault>
+    requires { (message.now.local < 16) × (message.now.definition.local ≡ message.now.local) }
+    ensures text { WritesChecked (W.contents out.old) (W.contents out.new) checksum.old checksum.new result
+        (encoded_items (definitions_before (is_timed timed.old message.now.local) needs message.now.definition)) }
+    ensures timed { OnOk result (timed.new ≡ slice_set timed.old message.now.local needs) }
+{
+    if timed[message.local as usize] == needs {
+        return Ok(());
+    }
+    let Some(definition) = plain_definition_of(&message.definition, needs) else {
+        return Err(WritePlainFault::TooLong);
+    };
+    put_definition(out, checksum, &definition)?;
+    timed[message.local as usize] = needs;
+    Ok(())
+}
+
+fn put_definition<W: Write>(
+    out: &mut W,
+    checksum: &mut Crc,
+    definition: &Definition,
+) -> Result<(), WriteFailed>
+    requires { definition.now.local < 16 }
+    ensures { WritesChecked (W.contents out.old) (W.contents out.new) checksum.old checksum.new result
+        (encoded_item (Defines definition.now)) }
+{
+    put_checked(out, checksum, WrittenDefinition::new(definition).bytes())
+}
+
+// The plain form of a message: its local number, its time if it has one, and its content.
+fn put_data<W: Write>(
+    out: &mut W,
+    checksum: &mut Crc,
+    message: &DataMessage<'_>,
+    time: Option<u32>,
+) -> Result<(), WriteFailed>
+    ensures { WritesChecked (W.contents out.old) (W.contents out.new) checksum.old checksum.new result
+        (encoded_item (plain_data (lent_data message.now time))) }
+{
+    put_checked(out, checksum, &[message.local])?;
+    put_time(out, checksum, message.definition.arch(), time)?;
+    put_checked(out, checksum, message.content)
+}
+
+fn put_time<W: Write>(
+    out: &mut W,
+    checksum: &mut Crc,
+    arch: Arch,
+    time: Option<u32>,
+) -> Result<(), WriteFailed>
+    ensures { WritesChecked (W.contents out.old) (W.contents out.new) checksum.old checksum.new result (time_front arch time) }
+{
+    match time {
+        Some(time) => put_checked(out, checksum, &bytes_of_time(arch, time)),
+        None => put_checked(out, checksum, &[]),
+    }
+}
+
+impl From<WriteFailed> for WritePlainFault {
+    ghost use Rattle.fit_grammar.specs.declared.plain.writing.WritePlainFault.TheVariants as faults;
+
+    ghost from_gives = { λ _ e. e ≡ faults.Write };
+
+    fn from(_e: WriteFailed) -> WritePlainFault {
+        WritePlainFault::Write
+    }
+}
