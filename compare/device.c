@@ -3,6 +3,9 @@
      device play SCRIPT FOLDER              over the files of a folder, by the host of examples/device
      device cut SCRIPT FOLDER CALL SEED RULE
                                             over files in memory, whose power goes inside the call of this number (0: after the last)
+     device flash SCRIPT FOLDER CALL SEED
+                                            over an area of flash, whose power goes inside the programming or erasing of this number; after
+                                            that the ride is recovered, and its files are put into the folder
      device random SEED                     steps with handles of random bytes, each of which is to be refused
 
    A script is one of `fitrec replay`. Each answer is printed as that prints it. After a power cut the folder gets what was left: of each
@@ -14,7 +17,9 @@
      5 a sync returns before anything is kept */
 
 #include "../examples/device/files.h"
+#include "../examples/device/flash.h"
 #include <inttypes.h>
+#include <setjmp.h>
 #include <stdio.h>
 #include <stdlib.h>
 #include <string.h>
@@ -33,7 +38,7 @@ struct memory_file {
 
 static struct memory_file memory[2];
 static struct files files;
-static int in_memory, rule;
+static int in_memory, in_flash, rule;
 static long left = -1; /* calls before the power goes, or -1 */
 static const char *folder;
 
@@ -58,12 +63,48 @@ static uint32_t chance(uint32_t below) {
     return (uint32_t)(chance_state >> 33) % below;
 }
 
+static uint8_t flash_bytes[FLASH_BLOCKS * FLASH_BLOCK];
+const uint8_t *const flash_area = flash_bytes;
+static struct flash_files in_area;
+static jmp_buf restart;
+
+/* Programs bytes, or only some of their bits if the power goes. */
+void flash_program(uint32_t at, const void *bytes, uint32_t count) {
+    int goes = left > 0 && --left == 0;
+    for (uint32_t k = 0; k < count; k++) {
+        if (flash_bytes[at + k] != 0xFF)
+            fail("a byte of flash was programmed twice");
+        flash_bytes[at + k] &= ((const uint8_t *)bytes)[k] | (goes ? chance(256) : 0);
+    }
+    if (goes)
+        longjmp(restart, 1);
+}
+
+void flash_erase(uint32_t block) {
+    int goes = left > 0 && --left == 0;
+    for (uint32_t k = 0; k < FLASH_BLOCK; k++)
+        flash_bytes[block * FLASH_BLOCK + k] |= goes ? (uint8_t)chance(256) : 0xFF;
+    if (goes)
+        longjmp(restart, 1);
+}
+
 static void keep_file(const char *name, const uint8_t *bytes, size_t len) {
     char path[4096];
     snprintf(path, sizeof path, "%s/%s", folder, name);
     FILE *file = fopen(path, "wb");
     if (!file || fwrite(bytes, 1, len, file) != len || fclose(file))
         fail("cannot write a file");
+}
+
+/* The bytes of a file in the folder, none if it is not there. */
+static size_t read_file(const char *name, uint8_t *to) {
+    char path[4096];
+    snprintf(path, sizeof path, "%s/%s", folder, name);
+    FILE *file = fopen(path, "rb");
+    size_t len = file ? fread(to, 1, MOST, file) : 0;
+    if (file)
+        fclose(file);
+    return len;
 }
 
 /* What a power cut leaves of a file. */
@@ -87,6 +128,11 @@ static void keep_all(struct memory_file *it) {
     memcpy(it->kept, it->now, it->len);
     memset(it->written, 0, it->greatest);
     it->kept_len = it->least = it->greatest = it->len;
+}
+
+static void find(struct memory_file *it, const char *name) {
+    it->len = it->greatest = read_file(name, it->now);
+    keep_all(it);
 }
 
 static void do_in_memory(const struct fitrec_call *call) {
@@ -117,6 +163,11 @@ static void carry_out_plan(void) {
     struct fitrec_plan *plan = &room.plan;
     if (plan->count > FITREC_MOST_CALLS || plan->used > FITREC_MOST_BYTES)
         fail("a plan that is too long");
+    if (in_flash) {
+        if (flash_carry_out(&in_area, plan))
+            fail("no room in flash");
+        return;
+    }
     if (!in_memory) {
         if (carry_out(&files, plan))
             fail("cannot carry out a call");
@@ -161,6 +212,24 @@ static uint8_t hand_sample(uint32_t time, char *rest) {
     return fitrec_hand_sample(&room.recorder, &sample, &room.plan);
 }
 
+/* A step that reads both files where they lie. */
+static uint8_t step_over_files(const char *word) {
+    static uint8_t read[2][MOST];
+    const uint8_t *bytes[2] = {memory[0].now, memory[1].now};
+    size_t len[2] = {memory[0].len, memory[1].len};
+    if (in_flash) {
+        bytes[0] = flash_area, bytes[1] = in_area.journal;
+        len[0] = in_area.len, len[1] = in_area.journal_len;
+    }
+    for (int k = 0; !in_memory && !in_flash && k < 2; k++) {
+        len[k] = read_file(k ? "activity.frj" : "activity.fit", read[k]);
+        bytes[k] = read[k];
+    }
+    if (!strcmp(word, "recover")) return fitrec_recover(bytes[0], len[0], bytes[1], len[1], &room.plan);
+    if (!strcmp(word, "erase")) return fitrec_erase(bytes[0], len[0], bytes[1], len[1], &room.plan);
+    return fitrec_reopen(&room.recorder, bytes[0], len[0], bytes[1], len[1], &room.plan);
+}
+
 /* Makes the step of a line. */
 static uint8_t step(char *line, char word[16]) {
     struct fitrec_recorder *recorder = &room.recorder;
@@ -168,9 +237,12 @@ static uint8_t step(char *line, char word[16]) {
     char sport[16] = "";
     int used = 0;
     sscanf(line, "%15s %llu %n", word, &time, &used);
+    if (strstr("start recover reopen erase", word))
+        memset(recorder, 0, sizeof *recorder);
+    if (strstr("recover reopen erase", word)) return step_over_files(word);
     if (!strcmp(word, "start")) {
         sscanf(line, "%*s %*u %llu %15s", &serial, sport);
-        recorder->data_size = in_memory ? memory[0].len : (uint64_t)data_size(&files);
+        recorder->data_size = in_flash ? in_area.len : in_memory ? memory[0].len : (uint64_t)data_size(&files);
         return fitrec_start(recorder, (uint32_t)time, (uint32_t)serial, sport[0] == 'g' ? 0 : sport[0] == 'r' ? 1 : 2, &room.plan);
     }
     if (!strcmp(word, "sample")) return hand_sample((uint32_t)time, line + used);
@@ -184,7 +256,7 @@ static uint8_t step(char *line, char word[16]) {
 }
 
 static void report(int number, const char *word, uint8_t answer) {
-    static const char *faults[] = {"ok", "NotEmpty", "", "Full", "JournalFull", "Device", "Failed", "", "", "", "", "NoRecorder"};
+    static const char *faults[] = {"ok", "NotEmpty", "", "Full", "JournalFull", "Device", "Failed", "NothingRecorded", "Damaged", "", "", "NoRecorder"};
     static const char *refused[] = {"", "Time", "Distance", "Value", "TimerStopped", "TimerRunning", "TooLong", "TooManyLaps", "Stopped"};
     if (answer > 32)
         printf("%d %s: Refused(%s)\n", number, word, refused[answer - 32]);
@@ -234,6 +306,31 @@ static void refuse_random(void) {
     printf("ok\n");
 }
 
+/* A ride in flash, whose power goes twice: once in the ride and once after the restart. Then it is recovered. */
+static void play_in_flash(const char *script) {
+    static long cuts[3];
+    static int at;
+    cuts[0] = left, cuts[1] = 1 + chance(8), cuts[2] = 0;
+    memset(flash_bytes, 0xFF, sizeof flash_bytes);
+    int restarted = setjmp(restart);
+    at += restarted;
+    left = cuts[at];
+    flash_find(&in_area);
+    if (!restarted) {
+        play(script);
+    } else if (in_area.len > 0) {
+        step_over_files("recover");
+        carry_out_plan();
+    }
+    left = -1;
+    static uint8_t whole[FLASH_DATA * FLASH_BLOCK];
+    memcpy(whole, flash_area, in_area.len);
+    if (in_area.is_closed)
+        memcpy(whole, in_area.header, FLASH_HEADER);
+    keep_file("activity.fit", whole, in_area.len);
+    keep_file("activity.frj", in_area.journal, in_area.journal_len);
+}
+
 int main(int count, char **words) {
     memset(&room, 0xA5, sizeof room);
     if (count > 2 && !strcmp(words[1], "random")) {
@@ -246,10 +343,19 @@ int main(int count, char **words) {
         fail("words are missing");
     folder = words[3];
     in_memory = !strcmp(words[1], "cut");
+    in_flash = !strcmp(words[1], "flash");
+    if (in_flash) {
+        left = strtol(words[4], NULL, 10);
+        chance_state = strtoull(words[5], NULL, 10);
+        play_in_flash(words[2]);
+        return 0;
+    }
     if (in_memory) {
         left = strtol(words[4], NULL, 10);
         chance_state = strtoull(words[5], NULL, 10);
         rule = atoi(words[6]);
+        find(&memory[0], "activity.fit");
+        find(&memory[1], "activity.frj");
     } else if (open_files(&files, folder)) {
         fail("cannot open the files");
     }

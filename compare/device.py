@@ -6,6 +6,7 @@ import contextlib
 import pathlib
 import random
 import re
+import shutil
 import subprocess
 import tempfile
 
@@ -19,6 +20,8 @@ ROOT = HERE.parent
 # The values that a sample may have: the greatest number of a field is the invalid one.
 VALUES = {"lat": (-2**31, 2**31 - 2), "long": (-2**31, 2**31 - 2), "alt": (0, 65534), "hr": (0, 254), "cad": (0, 254), "speed": (0, 65534),
           "power": (0, 65534), "temp": (-128, 126), "espeed": (0, 2**32 - 2), "ealt": (0, 2**32 - 2)}
+# The lines that have no time.
+BARE = ("commit", "recover", "reopen", "erase")
 # A ride with each kind of line, of which a page is written before a commit.
 RIDE = """start 1000000000 7 cycling
 sample 1000000001 lat=566012345 long=102345678 alt=2655 hr=92 cad=80 dist=310 speed=3100 power=210 temp=-3
@@ -33,6 +36,13 @@ commit
 stop 1000000600
 """ % "\n".join("sample %d lat=%d long=%d hr=%d dist=%d" % (1000000010 + k, 566012345 + 1000 * k, 102345678 - 700 * k, 90 + k, 4000 * k)
                 for k in range(40))
+# What a recorder of 32 bits is built and run with, and the Debian package of each.
+MACHINE = {"wasm-opt": "binaryen", "wasm2c": "wabt", "arm-none-eabi-gcc": "gcc-arm-none-eabi (with libnewlib-arm-none-eabi)",
+           "qemu-system-arm": "qemu-system-arm"}
+QEMU = ["qemu-system-arm", "-M", "mps2-an386", "-display", "none", "-monitor", "none", "-serial", "none", "-semihosting-config",
+        "enable=on,target=native", "-kernel"]
+# The room for the module's stack, and the most bytes that rides take of it and of the machine's, the C library's printing included.
+STACK, MODULE_STACK, MACHINE_STACK = 65536 - 64, 49152, 8192
 # What a host does that breaks a rule, by its number.
 BROKEN = {1: "a call is left out", 2: "the calls are made in another order", 3: "the answer comes before the calls",
           4: "the recording goes on after a failed call", 5: "a sync keeps nothing"}
@@ -46,7 +56,8 @@ def programs(archive):
         for name, words in COMPILERS.items():
             made[name] = "%s/%d" % (folder, len(made))
             cc = ["cc", "-std=gnu11", "-Wall", "-Wextra", "-Werror", "-I", ROOT / "include", *words]
-            subprocess.run([*cc, HERE / "device.c", ROOT / "examples/device/files.c", archive, "-o", made[name]], check=True)
+            subprocess.run([*cc, HERE / "device.c", ROOT / "examples/device/files.c",
+                            ROOT / "examples/device/flash.c", archive, "-o", made[name]], check=True)
         yield made
 
 
@@ -55,12 +66,14 @@ def random_script(pick):
     time, distance, lines = 1000000000, 0, ["start 1000000000 %d %s" % (pick.randrange(2**32), pick.choice(("generic", "running", "cycling")))]
     for _ in range(pick.randrange(80)):
         time += pick.choice((0, 1, 1, 1, 2, 40, 5000)) if pick.randrange(20) else -pick.randrange(9)
-        word = pick.choice(["sample"] * 12 + ["commit"] * 2 + ["lap", "pause", "resume"])
+        word = pick.choice(["sample"] * 60 + ["commit"] * 10 + ["lap", "pause", "resume"] * 5 + ["recover", "reopen", "erase"])
         values = ["%s=%d" % (key, pick.randint(*VALUES[key])) for key in VALUES if pick.randrange(3)] if word == "sample" else []
         if word == "sample" and pick.randrange(2):
             distance = max(0, distance + pick.choice((0, 300, 70000, -1)))
             values.append("dist=%d" % distance)
-        lines.append(" ".join([word, *[str(time)] * (word != "commit"), *values]))
+        lines.append(" ".join([word, *[str(time)] * (word not in BARE), *values]))
+        if word == "erase":
+            lines.append("start %d 7 running" % time)
     return "\n".join([*lines, *["stop %d" % (time + 9)] * pick.randrange(2)]) + "\n"
 
 
@@ -72,13 +85,19 @@ def of_rides(fitrec, program, count, seed):
             script.write_text(RIDE if at == 0 else random_script(pick))
             mine, its = new(), new()
             found, want = run(program, "play", script, mine), run(fitrec, "replay", script, its)
-            yield "a ride by plan", differs((found[0], found[1], holds(mine)), (0, want[1], holds(its)))
+            answers = re.sub(r"ok records.*", "ok", want[1])
+            yield "a ride by plan", differs((found[0], found[1], holds(mine)), (0, answers, holds(its)))
 
 
-def lost(fitrec, program, script, folder, call, seed, rule):
-    """What is lost of a ride whose power goes inside a call, by a host that keeps the rules or breaks one."""
+def lost(fitrec, program, script, folder, call, seed, rule, later=None):
+    """What is lost of a ride whose power goes inside a call, by a host that keeps the rules or breaks one. Then the power goes once more,
+    in the script `later`, which recovers the ride or continues it."""
     answers = run(program, "cut", script, folder, call, seed, rule)
     started, kept, handed = committed(answers[1].splitlines())
+    if later:
+        again = run(program, "cut", later, folder, 1 + (seed + call) % 12, seed, rule)
+        goes_on, more, last = committed(again[1].splitlines())
+        answers, kept, handed = again if again[0] else answers, kept + more, handed + last + 1
     done = run(fitrec, "repair", folder)
     found = re.match(r"ok records=(\d+) ", done[1])
     if answers[0]:
@@ -97,9 +116,83 @@ def of_cuts(fitrec, program, calls, seed):
         for call in range(calls + 1):
             for times in range(4):
                 yield "a power cut inside a call", lost(fitrec, program, script, new(), call, seed + times, 0)
+        later = pathlib.Path(str(script) + "-later")
+        for word in ("recover", "reopen\nsample 1000000700 hr=99\ncommit\nsample 1000000701\nstop 1000000702"):
+            later.write_text(word + "\n")
+            for call in range(calls + 1):
+                for times in range(2):
+                    yield "a second power cut, in a %s" % word.split()[0], lost(fitrec, program, script, new(), call, seed + times, 0, later)
         for rule, name in BROKEN.items():
             seen = sum(lost(fitrec, program, script, new(), call, seed, rule) is not None for call in range(calls + 1))
             yield "a rule is needed: " + name, None if seen else ("nothing was lost", rule)
+
+
+def machine_program(folder):
+    """compare/device.c for an emulated Cortex-M4, over the crate as C of 32 bits."""
+    made, program = folder + "/made", folder + "/device.elf"
+    subprocess.run([ROOT / "device/build", made], check=True, capture_output=True)
+    sources = [made + "/fitrec_module.c", made + "/runtime.c", made + "/adapter.c", HERE / "device.c", ROOT / "examples/device/flash.c",
+               ROOT / "device/arm/start.c"]
+    words = ["-mcpu=cortex-m4", "-mthumb", "-Os", "-w", "-ffunction-sections", "-fdata-sections", "-DMOST=65536", "-DFITREC_STACK=%d" % STACK]
+    words += ["-include", "stdbool.h", "-include", "setjmp.h", "-I", made, "-I", ROOT / "include", *sources]
+    words += ["--specs=rdimon.specs", "-nostartfiles", "-Wl,--gc-sections", "-T", ROOT / "device/arm/link.ld", "-o", program]
+    subprocess.run(["arm-none-eabi-gcc", *words], check=True)
+    return program
+
+
+def of_32_bits(fitrec, count, seed):
+    """The same answers and bytes on an emulated processor of 32 bits, within the stacks that docs/EMBEDDING.md gives."""
+    for word, package in MACHINE.items():
+        if not shutil.which(word):
+            print("skipped: a recorder of 32 bits, since there is no %s here; it is in Debian's package %s" % (word, package))
+            return
+    pick, most = random.Random(seed), [0, 0]
+    with tempfile.TemporaryDirectory() as folder, room() as (script, new):
+        program = machine_program(folder)
+        for at in range(count):
+            script.write_text(RIDE if at == 0 else random_script(pick))
+            mine, its = new(), new()
+            shutil.copy(script, mine + "/script.txt")
+            found, want = run(*QEMU, program, cwd=mine, stdin=subprocess.DEVNULL), run(fitrec, "replay", script, its)
+            answers = re.sub(r"ok records.*", "ok", want[1])
+            yield "a ride by 32 bits", differs((found[1], holds(mine)), (answers, holds(its)))
+            most = [max(pair) for pair in zip(most, map(int, re.findall(r"\d+", found[2] or "0 0")))]
+    yield "the stacks of 32 bits", None if 0 < most[0] <= MACHINE_STACK and 0 < most[1] <= MODULE_STACK else most
+
+
+def of_flash(fitrec, program, calls, seed):
+    """A ride in raw flash, whose power goes inside each programming and erasing, and once more after the restart."""
+    with room() as (script, new):
+        script.write_text(RIDE)
+        for call in range(calls):
+            folder = new()
+            answers = run(program, "flash", script, folder, call, seed + call)
+            started, kept, handed = committed(answers[1].splitlines())
+            done = run(fitrec, "repair", folder)
+            found = re.match(r"ok records=(\d+) ", done[1])
+            is_right = kept <= int(found[1]) <= handed + 1 if found else not started and done[2] == "fitrec: NothingRecorded\n"
+            yield "a ride in raw flash", None if answers[0] == 0 and is_right else (call, answers, done)
+
+
+def of_host(fitrec, archive):
+    """The host of examples/device, which is ended after each of its lines and goes on."""
+    with tempfile.TemporaryDirectory() as folder:
+        program = folder + "/ride"
+        sources = [ROOT / "examples/device/ride.c", ROOT / "examples/device/files.c", archive]
+        subprocess.run(["cc", "-std=gnu11", "-Wall", "-Wextra", "-Werror", "-I", ROOT / "include", *sources, "-o", program], check=True)
+        lines = ["%d %d %d\n" % (1000000000 + k, 90 + k, 300 * k) for k in range(30)]
+        for most in range(0, 30, 7):
+            ride = tempfile.mkdtemp(dir=folder)
+            with subprocess.Popen([program, ride], stdin=subprocess.PIPE, stdout=subprocess.PIPE, text=True) as host:
+                host.stdin.write("".join(lines[:most]))
+                host.stdin.flush()
+                for _ in range(most // 10):
+                    host.stdout.readline()
+                host.kill()
+            done = run(program, ride, input="".join(lines[most:]))
+            found = re.match(r"ok records=(\d+) ", run(fitrec, "check", ride + "/activity.fit")[1])
+            kept = 30 - most + most // 10 * 10
+            yield "the host of examples/device", None if done[0] == 0 and found and kept <= int(found[1]) <= 30 else (most, done, found)
 
 
 def names_of(archive):
@@ -120,5 +213,9 @@ def check(fitrec, count, seed):
             yield from of_rides(fitrec, made["as it is"], count, seed)
             yield from of_rides(fitrec, made["under sanitizers"], count // 20 + 1, seed)
             yield from of_cuts(fitrec, made["as it is"], 60, seed)
+            yield from of_flash(fitrec, made["as it is"], 150, seed)
+            yield from of_flash(fitrec, made["under sanitizers"], 20, seed)
+            yield from of_host(fitrec, archive.name)
+            yield from of_32_bits(fitrec, min(count, 12), seed)
             for name in made:
                 yield "handles of random bytes", differs(run(made[name], "random", seed), (0, "ok\n", ""))

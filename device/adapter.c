@@ -4,6 +4,10 @@
 #include "fitrec_module.h"
 #include <string.h>
 
+#if UINTPTR_MAX > UINT32_MAX
+#error "this is for 32 bits; elsewhere link crates/fit_device/out/libfit_device.a"
+#endif
+
 static Z_fitrec_instance_t module;
 static uint8_t is_ready;
 
@@ -24,13 +28,22 @@ static void lend(uint32_t at, const void *from, size_t count) {
     memcpy(module.w2c_memory.data + at, from, count);
 }
 
-static void begin(const struct fitrec_recorder *recorder) {
+static void make_ready(void) {
     if (!is_ready) {
         Z_fitrec_init_module();
         Z_fitrec_instantiate(&module);
         is_ready = 1;
     }
+}
+
+static void begin(const struct fitrec_recorder *recorder) {
+    make_ready();
     lend(recorder_at(), recorder, sizeof *recorder);
+}
+
+/* A file is read where it lies, so it is outside the memory that the bounds checks know. */
+static uint64_t file_at(const uint8_t *bytes) {
+    return (uint32_t)((uintptr_t)bytes - (uintptr_t)module.w2c_memory.data);
 }
 
 static uint8_t end(struct fitrec_recorder *recorder, struct fitrec_plan *plan, uint32_t answer) {
@@ -73,4 +86,39 @@ uint8_t fitrec_commit(struct fitrec_recorder *recorder, struct fitrec_plan *plan
 uint8_t fitrec_stop(struct fitrec_recorder *recorder, uint32_t time, struct fitrec_plan *plan) {
     begin(recorder);
     return end(recorder, plan, Z_fitrecZ_fitrec_stop(&module, recorder_at(), time, plan_at()));
+}
+
+/* For a step that reads the files, all addresses are within the bounds. */
+static uint8_t over_files(uint32_t (*step)(Z_fitrec_instance_t *, u64, u64, u64, u64, u64), const uint8_t *data, size_t data_size,
+                          const uint8_t *journal, size_t journal_size, struct fitrec_plan *plan) {
+    make_ready();
+    uint64_t size = module.w2c_memory.size;
+    module.w2c_memory.size = UINT32_MAX;
+    uint32_t answer = step(&module, file_at(data), data_size, file_at(journal), journal_size, plan_at());
+    module.w2c_memory.size = size;
+    memcpy(plan, module.w2c_memory.data + plan_at(), sizeof *plan);
+    return (uint8_t)answer;
+}
+
+uint8_t fitrec_recover(const uint8_t *data, size_t data_size, const uint8_t *journal, size_t journal_size, struct fitrec_plan *plan) {
+    return over_files(Z_fitrecZ_fitrec_recover, data, data_size, journal, journal_size, plan);
+}
+
+uint8_t fitrec_erase(const uint8_t *data, size_t data_size, const uint8_t *journal, size_t journal_size, struct fitrec_plan *plan) {
+    return over_files(Z_fitrecZ_fitrec_erase, data, data_size, journal, journal_size, plan);
+}
+
+static struct fitrec_recorder *reopened;
+
+static uint32_t reopen(Z_fitrec_instance_t *instance, u64 data, u64 data_size, u64 journal, u64 journal_size, u64 plan) {
+    lend(recorder_at(), reopened, sizeof *reopened);
+    uint32_t answer = Z_fitrecZ_fitrec_reopen(instance, recorder_at(), data, data_size, journal, journal_size, plan);
+    memcpy(reopened, module.w2c_memory.data + recorder_at(), sizeof *reopened);
+    return answer;
+}
+
+uint8_t fitrec_reopen(struct fitrec_recorder *recorder, const uint8_t *data, size_t data_size, const uint8_t *journal, size_t journal_size,
+                      struct fitrec_plan *plan) {
+    reopened = recorder;
+    return over_files(reopen, data, data_size, journal, journal_size, plan);
 }

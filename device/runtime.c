@@ -3,7 +3,7 @@
 #include "wasm-rt.h"
 
 #ifndef FITREC_STACK
-#define FITREC_STACK 8192 /* how much of the module's own stack there is room for */
+#define FITREC_STACK 45056 /* how much of the module's own stack there is room for; recording alone takes 20480 */
 #endif
 #ifndef FITREC_TABLES
 #define FITREC_TABLES 12288 /* the module's data, and what is lent to a call */

@@ -189,7 +189,8 @@ uint8_t fitrec_show(const uint8_t *bytes, size_t size, bool utc, uint8_t *out, s
    - It carries out each plan whole and in order, before it makes the next step, and before it reports the answer of the step to anybody.
    - A write puts its bytes at its place and touches no byte outside. A cut makes the file as long as it says. A sync returns only when all
      that was written to the file is kept through a power cut, with its length.
-   - At the first call that fails it makes no further step with this handle, and drops it. The ride goes on through a recovery.
+   - At the first call that fails it makes no further step with this handle, and drops it. The ride goes on through fitrec_reopen, or ends
+     with fitrec_recover.
    - Both files keep their names, and nobody else writes them.
    - It changes nothing in the handle but data_size, and that only before a start.
 
@@ -256,6 +257,7 @@ enum {
     FITREC_JOURNAL_FULL = 4, /* never after fitrec_start */
     FITREC_DEVICE = 5,       /* the plan had no room: never seen, and to be handled as a call that failed */
     FITREC_FAILED = 6,       /* an earlier step answered FITREC_DEVICE */
+    /* 7 and 8, as of a repair: FITREC_NOTHING_RECORDED, FITREC_DAMAGED */
     FITREC_NO_RECORDER = 11, /* the handle is none of a recorder */
     FITREC_NO_SPORT = 12,    /* start: no sport has this number */
     /* Refused by a rule; nothing changed. */
@@ -284,6 +286,20 @@ uint8_t fitrec_commit(struct fitrec_recorder *recorder, struct fitrec_plan *plan
 
 /* Ends the ride. At most 12 calls; after them the data file is a finished FIT file. */
 uint8_t fitrec_stop(struct fitrec_recorder *recorder, uint32_t time, struct fitrec_plan *plan);
+
+/* After a power cut. These three read both files where they lie, for example in flash that the processor can address: data and journal are
+   all that reads of the files give. The files may change only by the plan. Each may be cut off anywhere, and begun anew. */
+
+/* Makes the data file the finished file of everything that was committed. At most 6 calls. */
+uint8_t fitrec_recover(const uint8_t *data, size_t data_size, const uint8_t *journal, size_t journal_size, struct fitrec_plan *plan);
+
+/* Makes a recorder that continues the ride as it was committed, and cuts off what comes after that. At most 4 calls. Answers
+   FITREC_REFUSED_STOPPED if the ride has its stop. */
+uint8_t fitrec_reopen(struct fitrec_recorder *recorder, const uint8_t *data, size_t data_size, const uint8_t *journal, size_t journal_size,
+                      struct fitrec_plan *plan);
+
+/* Empties the data file for the next start; the ride is gone. At most 6 calls. */
+uint8_t fitrec_erase(const uint8_t *data, size_t data_size, const uint8_t *journal, size_t journal_size, struct fitrec_plan *plan);
 
 #ifdef __cplusplus
 }

@@ -1,16 +1,13 @@
 -- A step of the recorder in a handle: what it was taken out as, and what it was put back as.
-use Rattle.std.proofs.Common.{◌≡◌, ℕ, ◌+◌, Bool, true, false, List, refl, sym, ap, ◌∙◌, subst, arith, Result, Ok, Err}
+use Rattle.std.proofs.Common.{◌≡◌, ℕ, Bool, true, false, List, sym, ap, ◌∙◌, subst, arith, Result, Ok, Err}
 use Rattle.std.specs.Prelude.{OnOk}
-use Rattle.std.proofs.Math.Logic.{∥∥₁_map}
 use Rattle.fit_activity.specs.Rides.Recording.{Recorded}
 use Rattle.fit_activity.specs.Rides.RunningTotals.{AreTotals}
-use Rattle.fit_activity.specs.Rides.Frozen.{totals_in}
 use Rattle.fit_device.specs.declared.handle.Handle.{Handle}
 use Rattle.fit_device.specs.declared.plan.DevicePlan.{DevicePlan}
 use Rattle.fit_device.specs.Answer.{code_of}
 use Rattle.fit_device.specs.Handle.{story_of, IsRecorder, WasHanded, Stands}
 use Rattle.fit_device.specs.Planned.{carried_out}
-use Rattle.fit_device.specs.Sealed.{GoesOnIn}
 use Rattle.fit_device.specs.Steps.{Steps}
 use Rattle.fit_disk.specs.State.{Contents}
 use Rattle.fit_disk.specs.Story.{Story, Throughout}
@@ -20,10 +17,9 @@ use Rattle.fit_plan.specs.declared.plan.Plan.{Plan}
 use Rattle.fit_plan.specs.Plan.{story_in, since_in}
 use Rattle.fit_recorder.specs.declared.fault.RecFault.{RecFault}
 use Rattle.fit_recorder.specs.declared.fault.RecFault.TheVariants.{NotEmpty, Refused, Full, JournalFull, Device, Failed, NothingRecorded, Damaged}
-use Rattle.fit_recorder.specs.declared.frozen.FrozenRecorder.{FrozenRecorder}
 use Rattle.fit_recorder.specs.declared.recorder.Recorder.{Recorder}
 use Rattle.fit_recorder.specs.Calls.Frozen.{state_in, has_failed_in, GoesOnAt}
-use Rattle.fit_recorder.specs.Calls.Recorder.{GoesOn, StandsAt, state_of, has_failed, disk_of}
+use Rattle.fit_recorder.specs.Calls.Recorder.{StandsAt, state_of, has_failed, disk_of}
 use Rattle.fit_recorder.specs.Private.State.{RecorderState, IsAt}
 
 -- the same of equal numbers
@@ -32,7 +28,7 @@ pub goes_on_at : (state other : RecorderState) (failed too : Bool) (story later 
 goes_on_at state other failed too story later states faileds stories goes_on =
     subst (λ s. GoesOnAt true other too s) stories (subst (λ f. GoesOnAt true other f story) faileds (subst (λ m. GoesOnAt true m failed story) states goes_on))
 
-is_at : (list committed : List Recorded) (state other : RecorderState) (story later : Story) → state ≡ other → story ≡ later
+pub is_at : (list committed : List Recorded) (state other : RecorderState) (story later : Story) → state ≡ other → story ≡ later
     → IsAt true state story list committed → IsAt true other later list committed
 is_at list committed state other story later states stories at =
     subst (λ s. IsAt true other s list committed) stories (subst (λ m. IsAt true m story list committed) states at)

@@ -10,7 +10,7 @@ abbrev pub code_of_fault : RecFault → ℕ
 code_of_fault (Refused refusal) = 32 + refusal_code refusal
 code_of_fault fault = fault_code fault
 
-abbrev pub code_of : Result (Unit {0}) RecFault → ℕ
+abbrev pub code_of : {T : Type 0} → Result T RecFault → ℕ
 code_of (Ok _) = 0
 code_of (Err fault) = code_of_fault fault
 

@@ -6,3 +6,4 @@ pub mod Sampled
 pub mod Answer
 pub mod Steps
 pub mod Starts
+pub mod Recovering

@@ -1,5 +1,5 @@
 -- What the plan in the memory of C does once it was carried out.
-use Rattle.std.specs.Prelude.{ℕ, take}
+use Rattle.std.specs.Prelude.{take}
 use Rattle.std.specs.List.{fold}
 use Rattle.fit_disk.specs.Story.{Story}
 use Rattle.fit_device.specs.declared.plan.DevicePlan.{DevicePlan}

@@ -1,5 +1,5 @@
 -- What a start plans for the two files, of which the handle says how long the data file is.
-use Rattle.std.specs.Prelude.{◌≡◌, ◌⊎◌, ℕ, ◌==◌, if◌then◌else◌, List, [], ◌∷◌}
+use Rattle.std.specs.Prelude.{◌≡◌, ℕ, [], ◌∷◌}
 use Rattle.fit_activity.specs.declared.recording.start.Start.{Start}
 use Rattle.fit_activity.specs.Rides.Recording.{Started}
 use Rattle.fit_device.specs.declared.handle.Handle.{Handle}

@@ -1,21 +1,16 @@
 -- What each call does to the recorder in a handle, and what its plan does to the two files.
-use Rattle.std.specs.Prelude.{◌≡◌, ◌⊎◌, ℕ, ◌≤◌, true, false, List, [], ◌∷◌, ◌++◌, take, Result}
-use Rattle.std.specs.List.{fold}
+use Rattle.std.specs.Prelude.{◌≡◌, ◌⊎◌, ℕ, List, [], ◌∷◌, ◌++◌, Result}
 use Rattle.fit_activity.specs.declared.recording.entry.Entry.{Entry}
 use Rattle.fit_activity.specs.declared.recording.entry.Entry.TheVariants.{Stop}
 use Rattle.fit_activity.specs.Rides.Recording.{Recorded, Added}
-use Rattle.fit_activity.specs.Rides.RunningTotals.{AreTotals}
-use Rattle.fit_activity.specs.Rides.Frozen.{totals_in}
 use Rattle.fit_device.specs.declared.handle.Handle.{Handle}
 use Rattle.fit_device.specs.declared.plan.DevicePlan.{DevicePlan}
 use Rattle.fit_device.specs.Answer.{code_of, no_recorder}
 use Rattle.fit_device.specs.Handle.{story_of, IsRecorder, WasHanded, Stands}
 use Rattle.fit_device.specs.Planned.{carried_out}
-use Rattle.fit_disk.specs.State.{Contents}
 use Rattle.fit_disk.specs.Story.{Throughout}
 use Rattle.fit_journal.specs.Frozen.{slots_in}
 use Rattle.fit_recorder.specs.Calls.Answers.{HandAnswers, CommitAnswers, StopAnswers}
-use Rattle.fit_recorder.specs.Calls.Frozen.{state_in, has_failed_in}
 use Rattle.fit_recorder.specs.Files.Body.{StandsFor}
 use Rattle.fit_recorder.specs.Files.Finished.{IsFinished}
 use Rattle.fit_recorder.specs.declared.fault.RecFault.{RecFault}

@@ -4,6 +4,7 @@ ghost use Rattle.std.specs.Prelude.{◌≡◌, ◌↔◌, true, length, IsSome, 
 ghost use Rattle.fit_disk.specs.Calls.{IsSound};
 ghost use Rattle.fit_device.specs.Planned.{carried_out};
 ghost use Rattle.fit_device.specs.Sealed.{IsSealed, GoesOnIn};
+ghost use Rattle.fit_plan.specs.Lent.{lent_story, lent_since};
 ghost use Rattle.fit_plan.specs.Plan.{story_in, since_in};
 ghost use Rattle.fit_recorder.specs.Calls.Frozen.{state_in, has_failed_in};
 ghost use Rattle.fit_recorder.specs.Calls.Recorder.{GoesOn, state_of, has_failed, disk_of};
@@ -12,7 +13,7 @@ use crate::plan::DevicePlan;
 use crate::seal::seal_of;
 use crate::thawed::Thawed;
 use fit_notes::Notes;
-use fit_plan::Plan;
+use fit_plan::{LentPlan, Plan};
 use fit_recorder::{FrozenRecorder, Recorder};
 use std::mem;
 
@@ -101,13 +102,40 @@ impl Handle {
         ensures story { story_of self.new ≡ story_in (disk_of recorder) }
         ensures planned { carried_out plan.new (since_in (disk_of recorder)) ≡ story_in (disk_of recorder) }
     {
+        self.mark = 0;
         self.recorder = recorder.freeze();
+        self.seal_with(recorder.into_disk(), plan);
+    }
+
+    // Puts a recorder over lent files into the handle, and its calls into the plan.
+    pub(crate) fn put_lent(&mut self, recorder: Recorder<LentPlan<'_, '_>>, plan: &mut DevicePlan)
+        requires { GoesOn true lent_story recorder }
+        ensures recorder { IsRecorder self.new }
+        ensures state { state_in self.new.recorder ≡ state_of recorder.entry }
+        ensures failed { has_failed_in self.new.recorder ≡ has_failed recorder.entry }
+        ensures story { story_of self.new ≡ lent_story (disk_of recorder.entry) }
+        ensures planned { carried_out plan.new (lent_since (disk_of recorder.entry)) ≡ lent_story (disk_of recorder.entry) }
+    {
+        self.mark = 0;
+        self.recorder = recorder.freeze();
+        let LentPlan { plan: files, .. } = recorder.into_disk();
+        self.seal_with(files, plan);
+    }
+
+    // Puts the two files of the recorder with these numbers into the handle, and their calls into the plan.
+    fn seal_with(&mut self, files: Plan, plan: &mut DevicePlan)
+        requires { GoesOnIn self.old.recorder (story_in files) }
+        ensures recorder { IsRecorder self.new }
+        ensures same { self.new.recorder ≡ self.old.recorder }
+        ensures story { story_of self.new ≡ story_in files }
+        ensures planned { carried_out plan.new (since_in files) ≡ story_in files }
+    {
         let Plan {
             calls,
             size,
             notes,
             ..
-        } = recorder.into_disk();
+        } = files;
         plan.fill(&calls);
         self.seal = seal_of(&self.recorder, size);
         self.mark = MARK;

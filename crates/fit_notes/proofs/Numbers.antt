@@ -1,7 +1,5 @@
 -- Stories with the same numbers are the same.
 use Rattle.std.proofs.Common.{◌≡◌, ℕ, List, [], ◌∷◌, refl, ap, ◌∙◌, arith}
-use Rattle.fit_disk.specs.State.{State}
-use Rattle.fit_disk.specs.Stored.{Stored}
 use Rattle.fit_disk.specs.Story.{Story}
 use Rattle.fit_notes.specs.Numbers.{then_all, then_number, then_pair, then_stored, then_state, numbers_of}
 

@@ -1,6 +1,5 @@
 -- What a call of a plan does once it was carried out: its kind is 1 for a write, 2 for a cut, else a sync.
-use Rattle.std.specs.Prelude.{ℕ, ◌==◌, if◌then◌else◌, List, take}
-use Rattle.std.specs.List.{fold}
+use Rattle.std.specs.Prelude.{ℕ, ◌==◌, if◌then◌else◌, List}
 use Rattle.fit_disk.specs.declared.disk.Which.{Which}
 use Rattle.fit_disk.specs.Story.{Story}
 use Rattle.fit_notes.specs.Noted.{wrote, shortened, synced}

@@ -3,3 +3,4 @@ pub mod Within
 pub mod Planned
 pub mod Between
 pub mod Plan
+pub mod Lent

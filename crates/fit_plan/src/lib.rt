@@ -10,7 +10,9 @@
 
 mod calls;
 pub mod laws;
+mod lent;
 mod plan;
 
 pub use calls::{Call, Calls, MOST_BYTES, MOST_CALLS};
+pub use lent::LentPlan;
 pub use plan::Plan;

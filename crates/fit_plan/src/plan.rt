@@ -3,7 +3,7 @@
 ghost use Rattle.std.specs.Prelude.{◌≡◌, ◌<◌, ◌≤◌, true, length, IfOk, IsErr, OnOk, OnErr};
 ghost use Rattle.fit_disk.specs.CallSchedule.{counts_of};
 ghost use Rattle.fit_disk.specs.Calls.{ReadsAt, Wrote, Shortened, Synced, IsSound};
-ghost use Rattle.fit_disk.specs.Counts.{CountsCall, CountsRead, no_calls, with_failure};
+ghost use Rattle.fit_disk.specs.Counts.{CountsCall, CountsRead, no_calls, with_read, with_failure, with_uncounted, last_count};
 ghost use Rattle.fit_disk.specs.Story.{seen_of};
 ghost use Rattle.fit_notes.specs.Noted.{number_of};
 ghost use Rattle.fit_plan.specs.Planned.{planned};
@@ -59,6 +59,17 @@ impl Plan {
             counts: CallCounts::new(),
             notes,
         }
+    }
+
+    // Counts a read, which plans nothing.
+    pub(crate) fn count_read(&mut self, which: Which) -> Result<(), DeviceError>
+        ensures ok { OnOk result (counts_in self.new ≡ with_read which (counts_in self.old)) }
+        ensures err { OnErr result (((counts_in self.old).calls ≡ last_count)
+            × (counts_in self.new ≡ with_uncounted (counts_in self.old))) }
+        ensures story { story_in self.new ≡ story_in self.old }
+        ensures since { since_in self.new ≡ since_in self.old }
+    {
+        self.counts.read(which)
     }
 
     // Lets the last call fail.
@@ -118,7 +129,7 @@ impl Disk for Plan {
         ensures counted { CountsCall result (counts_in self.old) (counts_in self.new) }
         ensures reads { CountsRead which (counts_in self.old) (counts_in self.new) }
     {
-        self.counts.read(which)?;
+        self.count_read(which)?;
         self.failed()
     }
 

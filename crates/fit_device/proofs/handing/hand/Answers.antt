@@ -1,11 +1,8 @@
-use Rattle.std.proofs.Common.{◌≡◌, List, refl, sym, ap, subst, ◌++◌, ◌∷◌, []}
-use Rattle.fit_activity.specs.Rides.Recording.{Recorded, Added}
-use Rattle.fit_disk.specs.Story.{Throughout}
+use Rattle.std.proofs.Common.{refl, ap, subst, ◌++◌, ◌∷◌, []}
+use Rattle.fit_activity.specs.Rides.Recording.{Added}
 use Rattle.fit_recorder.specs.Calls.Answers.{HandAnswers}
 use Rattle.fit_recorder.specs.Files.Body.{StandsFor}
 use Rattle.fit_recorder.specs.Private.State.{RecorderState}
-use Rattle.fit_device.specs.Steps.{Answers}
-use Rattle.fit_device.specs.Handle.{WasHanded, Stands}
 use Rattle.fit_device.proofs.Stepping.{IsTaken, IsPut, stood, was_going, was_handed, stands, steps, throughout, on_ok}
 use Rattle.fit_device.proofs.handing.hand.Goals as goal
 

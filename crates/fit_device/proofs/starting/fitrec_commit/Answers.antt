@@ -1,5 +1,4 @@
-use Rattle.std.proofs.Common.{◌≡◌, ◌⊎◌, List, refl, sym, ap, subst}
-use Rattle.fit_activity.specs.Rides.Recording.{Recorded}
+use Rattle.std.proofs.Common.{◌⊎◌, refl, ap, subst}
 use Rattle.fit_disk.specs.State.{Contents}
 use Rattle.fit_journal.specs.declared.slots.Slots.{Slots}
 use Rattle.fit_recorder.specs.Calls.Answers.{CommitAnswers}

@@ -1,13 +1,11 @@
-use Rattle.std.proofs.Common.{◌≡◌, ℕ, List, [], ◌∷◌, ◌≤◌, refl, sym, ap, ◌∙◌, subst, arith, Err}
+use Rattle.std.proofs.Common.{◌≡◌, [], ◌∷◌, refl, sym, ap, ◌∙◌, subst, Err}
 use Rattle.fit_activity.specs.declared.recording.start.Start.{Start}
 use Rattle.fit_activity.specs.declared.recording.start.Sport.{Sport}
 use Rattle.fit_activity.specs.Rides.Recording.{Started}
 use Rattle.fit_disk.specs.Story.{Story}
 use Rattle.fit_notes.proofs.Numbers.{same_story}
-use Rattle.fit_plan.specs.Plan.{story_in}
-use Rattle.fit_recorder.specs.Calls.Recorder.{disk_of}
 use Rattle.fit_recorder.specs.Calls.Start.{InStart}
-use Rattle.fit_device.specs.Handle.{story_of, Stands}
+use Rattle.fit_device.specs.Handle.{Stands}
 use Rattle.fit_device.specs.Planned.{carried_out}
 use Rattle.fit_device.specs.Starts.{Starts}
 use Rattle.fit_device.proofs.Stepping.{IsPut, stands, on_ok}

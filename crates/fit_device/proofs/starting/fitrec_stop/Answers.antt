@@ -1,9 +1,8 @@
-use Rattle.std.proofs.Common.{◌≡◌, ◌⊎◌, List, ◌++◌, ◌∷◌, [], refl, sym, ap, subst}
+use Rattle.std.proofs.Common.{◌⊎◌, ◌++◌, ◌∷◌, [], refl, sym, subst}
 use Rattle.fit_activity.specs.declared.recording.entry.Entry.TheVariants.{Stop}
-use Rattle.fit_activity.specs.Rides.Recording.{Recorded, Added}
+use Rattle.fit_activity.specs.Rides.Recording.{Added}
 use Rattle.fit_disk.specs.State.{Contents}
 use Rattle.fit_disk.specs.Story.{Story}
-use Rattle.fit_recorder.specs.Calls.Answers.{StopAnswers}
 use Rattle.fit_recorder.specs.Files.Body.{StandsFor}
 use Rattle.fit_recorder.specs.Files.Finished.{IsFinished}
 use Rattle.fit_device.proofs.Stepping.{IsTaken, IsPut, stood, was_going, was_handed, is_handed, steps, throughout, on_ok}

@@ -5,8 +5,7 @@ use Rattle.fit_device.specs.Handle.{IsRecorder}
 use Rattle.fit_device.specs.Sealed.{GoesOnIn}
 use Rattle.fit_plan.specs.Plan.{story_in}
 use Rattle.fit_recorder.specs.Calls.Frozen.{state_in, has_failed_in, IsPossible}
-use Rattle.fit_recorder.specs.declared.frozen.FrozenRecorder.{FrozenRecorder}
-use Rattle.fit_recorder.specs.Calls.Recorder.{state_of, has_failed, disk_of}
+use Rattle.fit_recorder.specs.Calls.Recorder.{state_of, has_failed}
 use Rattle.fit_device.proofs.Stepping.{goes_on_at}
 use Rattle.fit_device.proofs.handle.Handle.take.Goals as goal
 

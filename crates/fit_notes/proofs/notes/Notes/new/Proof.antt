@@ -15,7 +15,7 @@ use sound.WpLaws.{WpFn-mono}
 use types.Kit.{raw, ◌$◌, ◌∵◌, !, qed, keep, join, suffices, done}
 use types.Run.{lit, no_more, and_then, returns, enter}
 use types.Part.{agg}
-use types.ByLocal.{alloc_all, pass_all, free_all, look_at, get, sets}
+use types.ByLocal.{alloc_all, pass_all, free_all, look_at, sets}
 use denote.Shadow.{pure_i}
 use denote.Steps.{nothing}
 use denote.Triple.Entry.{on_entry}

@@ -1,4 +1,4 @@
-use Rattle.std.proofs.Common.{◌≤◌, length, max, refl, subst, sym, ap, ◌∙◌, arith}
+use Rattle.std.proofs.Common.{◌≤◌, length, subst, arith}
 use Rattle.fit_disk.specs.Story.{seen_of}
 use Rattle.fit_disk.proofs.Leaving.{length-over}
 use Rattle.fit_disk.proofs.Sound.{write_sound}

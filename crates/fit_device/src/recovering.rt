@@ -1,0 +1,66 @@
+// What comes after a power cut, over files that C lends: a recovery, a reopening and an erasing.
+
+ghost use Rattle.std.specs.Prelude.{◌≡◌};
+ghost use Rattle.fit_device.specs.Recovering.{Recovers, Reopens, Erases};
+
+use crate::answer::code_of_fault;
+use crate::handle::Handle;
+use crate::plan::DevicePlan;
+use fit_plan::LentPlan;
+use fit_recorder::{erase, recover, resume};
+
+/// Plans the calls that turn the data file into the finished file of everything that was committed. The two slices are the whole
+/// files. A recovery may be cut off anywhere and begun anew.
+#[unsafe(no_mangle)]
+pub extern "C" fn fitrec_recover(
+    data_bytes: &[u8],
+    journal_bytes: &[u8],
+    plan: &mut DevicePlan,
+) -> u8
+    ensures { Recovers data_bytes.now journal_bytes.now plan.new result }
+{
+    let mut files = LentPlan::over(data_bytes, journal_bytes);
+    let answer = recover(&mut files);
+    plan.fill(&files.plan.calls);
+    match answer {
+        Ok(_) => 0,
+        Err(fault) => code_of_fault(&fault),
+    }
+}
+
+/// Puts a recorder into the handle that continues the ride as it was committed, and plans the calls that cut off what comes
+/// after that. The two slices are the whole files.
+#[unsafe(no_mangle)]
+pub extern "C" fn fitrec_reopen(
+    handle: &mut Handle,
+    data_bytes: &[u8],
+    journal_bytes: &[u8],
+    plan: &mut DevicePlan,
+) -> u8
+    ensures { Reopens data_bytes.now journal_bytes.now handle.new plan.new result }
+{
+    match resume(LentPlan::over(data_bytes, journal_bytes)) {
+        Ok(recorder) => {
+            handle.put_lent(recorder, plan);
+            0
+        }
+        Err((files, fault)) => {
+            handle.put_files(files.plan, plan);
+            code_of_fault(&fault)
+        }
+    }
+}
+
+/// Plans the calls that empty the data file for the next start. The two slices are the whole files.
+#[unsafe(no_mangle)]
+pub extern "C" fn fitrec_erase(data_bytes: &[u8], journal_bytes: &[u8], plan: &mut DevicePlan) -> u8
+    ensures { Erases data_bytes.now journal_bytes.now plan.new result }
+{
+    let mut files = LentPlan::over(data_bytes, journal_bytes);
+    let answer = erase(&mut files);
+    plan.fill(&files.plan.calls);
+    match answer {
+        Ok(()) => 0,
+        Err(fault) => code_of_fault(&fault),
+    }
+}
