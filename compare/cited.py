@@ -6,13 +6,14 @@ import re
 PATH = re.compile(r"[\w.*-]+(?:/[\w.*-]+)+/?|[\w-]+\.(?:rt|antt|py|sh|md|edit|txt|c|h|fit|frj)")
 NAME = re.compile(r"\w+(?:(?:::|\.)\w+)*")
 # Names of other programs, of a user's files, names with a part to fill in, and what is built.
-OTHERS = {"activity.fit", "activity.frj", "ride.fit", "message_N", "field_N", "developer_INDEX_NUMBER", "FRJ2", "Xvfb", "out/libfit_c.a",
+OTHERS = {"activity.fit", "activity.frj", "ride.fit", "message_N", "field_N", "developer_INDEX_NUMBER", "FRJ2", "Xvfb", "out/libfit_c.a", "out/libfit_device.a",
+          "fitrec_module.c", "fitrec_module.h",
           "web/out/fitrec.html", "web/out/fit_c.wasm"}
 
 
 def texts_of(root):
     """The text of each file that may be cited, by its path."""
-    parts = ["crates", "include", "web", "compare", "bench", "examples", "docs", ".ci"]
+    parts = ["crates", "include", "web", "device", "compare", "bench", "examples", "docs", ".ci"]
     files = [it for part in parts for it in (root / part).rglob("*") if it.is_file() and "out" not in it.relative_to(root).parts]
     files += [root / it for it in ("crates.txt", "HANDLES", "fitrec", "build")]
     return {it: it.read_text(errors="replace") for it in files}
