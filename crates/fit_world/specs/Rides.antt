@@ -3,3 +3,5 @@ pub mod Ride
 pub mod Replies
 pub mod Standing
 pub mod Played
+pub mod Turns
+pub mod Listening
