@@ -5,6 +5,7 @@ of the sources."""
 import itertools
 import pathlib
 import re
+import subprocess
 import tempfile
 
 from replacing import bytes_of
@@ -74,7 +75,7 @@ class Scratch:
         return run("sh", "-ec", "\n".join(lines), cwd=self.folder)
 
     def program(self, words):
-        return run(self.fitrec, *words, cwd=self.folder)
+        return run(self.fitrec, *words, cwd=self.folder, stdin=subprocess.DEVNULL)
 
     def replayed(self, script):
         """What a replay of this script prints, and the files that it leaves."""
@@ -122,7 +123,7 @@ def forms(command):
     """Yields the words of a command, with each choice of its options."""
     parts = [["", part[1:-1]] if part.startswith("[") else [part] for part in re.findall(r"\[[^]]*\]|\S+", command)]
     for choice in itertools.product(*parts):
-        yield " ".join(choice).replace("HEX", "A5").split()[1:]
+        yield " ".join(choice).replace("HEX", "A5").replace("SECONDS", "10").split()[1:]
 
 
 def cited_commands(fitrec, name, text):
@@ -193,7 +194,7 @@ def messages():
     named = {re.sub(r"\([A-Z]\)", "", name) for row in rows for name in re.findall(r"`([^`]*)`", row)}
     texts = re.findall(r'#\[error\("(.*?)"\)\]', page("crates/fitrec/src/fault.rt"))
     texts = [it.replace("{0}", "N" if "refused" in it else "NAME") for it in texts]
-    wanted = {it for it in texts if "{" not in it and "line" not in it} | {"cannot write -"} | OTHERS
+    wanted = {it for it in texts if "{" not in it and "line" not in it} | {"cannot write -", "cannot read -"} | OTHERS
     left = re.search(r'"fitrec: \{count\} (.*?)"', page("crates/fit_world/src/salvage.rt"))[1]
     wanted |= {"N " + left}
     for file, enum in FAULTS.items():

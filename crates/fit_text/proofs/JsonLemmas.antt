@@ -33,7 +33,7 @@ use Rattle.fit_text.specs.Plan.{field_at, time_definition, IsColumn, AreColumns,
 use Rattle.fit_text.specs.Profile.{FieldNames, message_named, names_of_fields}
 use Rattle.fit_text.specs.Text.{hex_byte, hex_text, is_plain, plain_text, whole_text, IsNumber, field_name}
 use Rattle.fit_text.proofs.FieldLemmas.{bytes_at}
-use Rattle.fit_text.proofs.PlanLemmas.{columns_size}
+use Rattle.fit_text.proofs.PlanLemmas.{columns_size, one_of_type}
 use Rattle.fit_text.proofs.TextLemmas.{whole_signed_at, plain_signed, plain_float32, plain_float64, plain_whole, whole_unsigned, rest_text}
 
 -- ---- strings
@@ -128,6 +128,11 @@ pub row_all : (type : BaseType) (ns : List ℕ) → join_by (number_json type) (
 row_all type ns = refl
 
 -- ---- the values of a field
+
+-- a field that has the size of one value has one
+pub one_value : (field : Field) (type : BaseType) → base_type field.base ≡ Some type → length field.bytes ≡ (row_of type).size → count_of field ≡ 1
+one_value field type known size =
+    ap (λ o. if raw_by o (length field.bytes) then 0 else length field.bytes / size_by o) known ∙ one_of_type type field.bytes size
 
 pub raw_values : (field : Field) → is_raw field ≡ true → bytes_json field.bytes ≡ values_json (base_type field.base) (values_of field)
 raw_values field raw = rw raw refl

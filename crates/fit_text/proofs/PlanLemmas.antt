@@ -119,7 +119,7 @@ value_size_of _ = inl refl
 abbrev count_by : Option BaseType → List ℕ → ℕ
 count_by o bytes = if raw_by o (length bytes) then 0 else length bytes / size_by o
 
-one_of_type : (type : BaseType) (bytes : List ℕ) → length bytes ≡ (row_of type).size → count_by (Some type) bytes ≡ 1
+pub one_of_type : (type : BaseType) (bytes : List ℕ) → length bytes ≡ (row_of type).size → count_by (Some type) bytes ≡ 1
 one_of_type type bytes e =
     let counted = one_count type (length bytes) e in
     let rest : (length bytes % (row_of type).size == 0) ≡ true = eq-eqb _ _ counted.0 in

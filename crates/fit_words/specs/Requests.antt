@@ -1,10 +1,10 @@
 -- The request that the words of a subcommand make.
-use Rattle.std.specs.Prelude.{◌≡◌, ℕ, Bool, true, false, List, [], Some, None, codes, unwrap_or}
+use Rattle.std.specs.Prelude.{◌≡◌, ℕ, Bool, true, false, List, [], Some, None, codes, unwrap_or, option_map}
 use Rattle.std.specs.Borrow.{Bor}
 use Rattle.clap.specs.declared.parser.matches.Found.{Found}
 use Rattle.clap.specs.Words.{first_value, one_text}
 use Rattle.fit_words.specs.declared.request.Request.{Request}
-use Rattle.fit_words.specs.declared.request.Request.TheVariants.{Show, Check, Replay, Save, Repair, Salvage, Plain, Simulate}
+use Rattle.fit_words.specs.declared.request.Request.TheVariants.{Show, Check, Replay, Record, Save, Repair, Salvage, Plain, Simulate, Version}
 
 -- this is the word found under a name
 abbrev pub IsWord : Found → List ℕ → Bor (List ℕ) → Type 0
@@ -23,6 +23,8 @@ IsAskedBy name found (Show file utc json) =
 IsAskedBy name found (Check file) = (name ≡ codes "check") × IsWord found (codes "FILE") file
 IsAskedBy name found (Replay script folder) =
     (name ≡ codes "replay") × IsWord found (codes "SCRIPT") script × IsWord found (codes "FOLDER") folder
+IsAskedBy name found (Record folder every) =
+    (name ≡ codes "record") × IsWord found (codes "FOLDER") folder × (option_map (λ word. word.now) every ≡ first_value found (codes "commit"))
 IsAskedBy name found (Save folder to) = (name ≡ codes "save") × IsWord found (codes "FOLDER") folder × IsWord found (codes "OUT") to
 IsAskedBy name found (Repair folder verify) =
     (name ≡ codes "repair") × IsWord found (codes "FOLDER") folder × IsFlag found (codes "verify") verify
@@ -32,3 +34,4 @@ IsAskedBy name found (Salvage file to all plain) =
 IsAskedBy name found (Plain file to) = (name ≡ codes "plain") × IsWord found (codes "IN") file × IsWord found (codes "OUT") to
 IsAskedBy name found (Simulate script choices) =
     (name ≡ codes "simulate") × IsWord found (codes "SCRIPT") script × (choices.now ≡ unwrap_or (first_value found (codes "choices")) [])
+IsAskedBy name found Version = name ≡ codes "version"

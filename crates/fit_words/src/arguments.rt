@@ -40,6 +40,14 @@ pub(crate) fn plain_option<'a>(alloc: Global) -> Arg<'a> {
         .action(ArgAction::SetTrue)
 }
 
+pub(crate) fn commit_option<'a>(alloc: Global) -> Arg<'a> {
+    Arg::new(alloc, "commit")
+        .long("commit")
+        .value_name("SECONDS")
+        .help("Commits after an entry that comes so many seconds of the ride after the last commit")
+        .action(ArgAction::Set)
+}
+
 pub(crate) fn choices_option<'a>(alloc: Global) -> Arg<'a> {
     Arg::new(alloc, "choices")
         .long("choices")

@@ -37,3 +37,12 @@ pub fn no_choices(alloc: Global, word: &str) -> Result<Error, Error> {
     let mut fitrec = fitrec_command(alloc)?;
     Ok(fitrec.error(ErrorKind::ValueValidation, why.as_str())?)
 }
+
+/// The error for a word of `--commit` that is not a number of seconds.
+pub fn no_seconds(alloc: Global, word: &str) -> Result<Error, Error> {
+    let why = format!(in alloc;
+        "invalid value '{word}' for '--commit <SECONDS>': it is no number from 0 to 4294967295"
+    )?;
+    let mut fitrec = fitrec_command(alloc)?;
+    Ok(fitrec.error(ErrorKind::ValueValidation, why.as_str())?)
+}

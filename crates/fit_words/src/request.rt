@@ -21,6 +21,11 @@ pub enum Request<'a> {
         script: &'a str,
         folder: &'a str,
     },
+    Record {
+        folder: &'a str,
+        /// The word of `--commit`, if it is there.
+        every: Option<&'a str>,
+    },
     Save {
         folder: &'a str,
         to: &'a str,
@@ -43,6 +48,7 @@ pub enum Request<'a> {
         script: &'a str,
         choices: &'a str,
     },
+    Version,
 }
 
 // The request that the words after the program's name make.
@@ -68,6 +74,10 @@ fn request_of<'a>(name: &str, matches: &ArgMatches<'a>) -> Option<Request<'a>>
             script: matches.get_str("SCRIPT")?,
             folder: matches.get_str("FOLDER")?,
         }),
+        "record" => Some(Request::Record {
+            folder: matches.get_str("FOLDER")?,
+            every: matches.get_str("commit"),
+        }),
         "save" => Some(Request::Save {
             folder: matches.get_str("FOLDER")?,
             to: matches.get_str("OUT")?,
@@ -90,6 +100,7 @@ fn request_of<'a>(name: &str, matches: &ArgMatches<'a>) -> Option<Request<'a>>
             script: matches.get_str("SCRIPT")?,
             choices: matches.get_str("choices").unwrap_or(""),
         }),
+        "version" => Some(Request::Version),
         _ => None,
     }
 }

@@ -1,8 +1,8 @@
 // The subcommands, and the words that each takes.
 
 use crate::arguments::{
-    all_option, choices_option, file_argument, folder_argument, in_argument, json_option,
-    out_argument, plain_option, script_argument, utc_option, verify_option,
+    all_option, choices_option, commit_option, file_argument, folder_argument, in_argument,
+    json_option, out_argument, plain_option, script_argument, utc_option, verify_option,
 };
 use clap::{Command, Error};
 use std::alloc::Global;
@@ -18,7 +18,8 @@ pub(crate) fn fitrec_command<'a>(alloc: Global) -> Result<Command<'a>, Error> {
         .subcommand_required(true);
     let fitrec = with_reading(alloc, fitrec)?;
     let fitrec = with_recording(alloc, fitrec)?;
-    with_making(alloc, fitrec)
+    let fitrec = with_making(alloc, fitrec)?;
+    Ok(fitrec.subcommand(version_command(alloc)?)?)
 }
 
 // Adds the subcommands that read a file.
@@ -35,6 +36,7 @@ fn with_recording<'a>(alloc: Global, fitrec: Command<'a>) -> Result<Command<'a>,
     Ok(
         fitrec
             .subcommand(replay_command(alloc)?)?
+            .subcommand(record_command(alloc)?)?
             .subcommand(save_command(alloc)?)?
             .subcommand(repair_command(alloc)?)?,
     )
@@ -73,6 +75,17 @@ fn replay_command<'a>(alloc: Global) -> Result<Command<'a>, Error> {
         Command::new(alloc, "replay")
             .about("Records a ride into a folder, as a script tells it")
             .arg(script_argument(alloc))?
+            .arg(folder_argument(alloc))?,
+    )
+}
+
+fn record_command<'a>(alloc: Global) -> Result<Command<'a>, Error> {
+    Ok(
+        Command::new(alloc, "record")
+            .about(
+                "Records a ride into a folder, as the lines of standard input tell it, and answers each line",
+            )
+            .arg(commit_option(alloc))?
             .arg(folder_argument(alloc))?,
     )
 }
@@ -130,4 +143,10 @@ fn simulate_command<'a>(alloc: Global) -> Result<Command<'a>, Error> {
             .arg(choices_option(alloc))?
             .arg(script_argument(alloc))?,
     )
+}
+
+fn version_command<'a>(alloc: Global) -> Result<Command<'a>, Error> {
+    Ok(Command::new(alloc, "version").about(
+        "Prints the version, and the kit and the logic that it was proved by",
+    ))
 }

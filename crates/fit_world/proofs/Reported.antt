@@ -9,3 +9,5 @@ pub mod Reading
 pub mod Inputs
 pub mod Saved
 pub mod Salvaged
+pub mod Recorded
+pub mod Heard

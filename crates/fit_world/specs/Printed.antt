@@ -9,3 +9,4 @@ pub mod Repaired
 pub mod Salvaged
 pub mod PlainFile
 pub mod Saved
+pub mod FaultyLines

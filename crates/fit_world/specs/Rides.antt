@@ -4,3 +4,5 @@ pub mod Replies
 pub mod Standing
 pub mod Played
 pub mod NeverFull
+pub mod Turns
+pub mod Listening

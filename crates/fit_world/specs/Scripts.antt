@@ -3,3 +3,4 @@ pub mod Words
 pub mod Sample
 pub mod Script
 pub mod Replayed
+pub mod Heard

@@ -115,6 +115,14 @@ IsReplayReported script folder (faults.OnlySimulate line) = Unit {0}
 IsReplayReported script folder (faults.Refused count) = 1 ≤ count
 IsReplayReported script folder _ = ⊥
 
+-- of recording lines into a folder of this name: it was not opened, an answer was not ok, or the input or the output failed, whose
+-- name is `-`
+abbrev pub IsRecordReported : Bor (List ℕ) → Fault → Type 0
+IsRecordReported folder reported =
+    ((why : OpenFault) × (reported ≡ fault_of_open folder why))
+    ⊎ ((count : ℕ) × (1 ≤ count) × (reported ≡ faults.Refused count))
+    ⊎ ((name : Bor (List ℕ)) × (name.now ≡ codes "-") × (why : ReportFault) × IsReportFault name why reported)
+
 -- of writing a file of this name
 abbrev pub IsNotWritten : Bor (List ℕ) → Fault → Type 0
 IsNotWritten out (faults.Write name) = name ≡ out

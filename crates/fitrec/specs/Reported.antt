@@ -17,6 +17,7 @@ use Rattle.fit_world.specs.Printed.ReplyLines.{AreReported}
 use Rattle.fit_world.specs.Printed.Salvaged.{IsSalvage, saved_file, kept_text}
 use Rattle.fit_world.specs.Printed.Saved.{SavesRide}
 use Rattle.fit_world.specs.Printed.Summary.{summary_text}
+use Rattle.fit_world.specs.Rides.Turns.{Finishes}
 use Rattle.fit_world.specs.Scripts.Script.{events_of}
 use Rattle.fit_world.specs.declared.repairing.RepairFault.{RepairFault}
 use Rattle.fit_world.specs.declared.repairing.RepairFault.TheVariants as repairs
@@ -101,3 +102,8 @@ Replays old new refused = (events : List Event) × IsScriptOf events × AreRepor
 abbrev pub PrintsNoLine : Option (List ℕ) → Option (List ℕ) → Fault → Type 0
 PrintsNoLine old new (faults.Refused count) = Unit {0}
 PrintsNoLine old new fault = PrintsNothing old new fault
+
+-- the lines of some bytes were done, and so many answers were not ok
+abbrev pub RecordsLines : Option (List ℕ) → Option (List ℕ) → ℕ → Type 0
+RecordsLines old new refused =
+    (bytes : List ℕ) × (honest : Bool) × (before : Story) × (after : Story) × Finishes honest before after bytes old new (Ok refused)

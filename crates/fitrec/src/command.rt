@@ -13,20 +13,23 @@ mod folder;
 mod input;
 mod json;
 mod plain;
+mod record;
 mod repair;
 mod replay;
 mod salvage;
 mod save;
 mod show;
 mod simulate;
+mod version;
 
 use crate::fault::Fault;
 use check::check_file;
 use clap::error::ErrorKind;
-use fit_words::{Request, no_choices, read_words};
+use fit_words::{Request, no_choices, no_seconds, read_words};
 use fit_world::read_choices;
 use json::show_as_json;
 use plain::make_plain;
+use record::record_folder;
 use repair::{repair_folder, verify_folder};
 use replay::replay_script;
 use salvage::salvage_file;
@@ -35,6 +38,7 @@ use show::show_file;
 use simulate::simulate_script;
 use std::convert::AsStr;
 use std::io::Write;
+use version::print_version;
 
 /// Runs the command of the words after the program's name. Its text goes to `out`. A fault is one line on `err`, and a text on wrong
 /// words, or help, goes there too. Returns the exit status: 0, 1 after a fault, or 2 if the words are no command or request help.
@@ -65,6 +69,7 @@ pub fn command<S: AsStr, O: Write, E: Write>(
         Ok(Request::Replay { script, folder }) => {
             status(replay_script(rt, script, folder, out), err)
         }
+        Ok(Request::Record { folder, every }) => record_chosen(rt, folder, every, out, err),
         Ok(Request::Save { folder, to }) => status(save_folder(rt, folder, to, out), err),
         Ok(
             Request::Repair {
@@ -91,7 +96,30 @@ pub fn command<S: AsStr, O: Write, E: Write>(
         }
         Ok(Request::Plain { file, to }) => status(make_plain(rt, file, to, out), err),
         Ok(Request::Simulate { script, choices }) => simulate_chosen(rt, script, choices, out, err),
+        Ok(Request::Version) => status(print_version(out), err),
         Err(refusal) => refused(refusal, err),
+    }
+}
+
+// Records the lines of standard input. The folder is opened only if the word for the seconds between commits is a number.
+fn record_chosen<O: Write, E: Write>(
+    rt: &HostRuntime,
+    folder: &str,
+    every: Option<&str>,
+    out: &mut O,
+    err: &mut E,
+) -> u8
+    ensures { result ≤ 2 }
+{
+    let Some(word) = every else {
+        return status(record_folder(rt, folder, None, out), err);
+    };
+    match word.parse::<u32>() {
+        Ok(seconds) => status(record_folder(rt, folder, Some(seconds), out), err),
+        Err(_) => match no_seconds(rt.alloc(), word) {
+            Ok(refusal) => refused(refusal, err),
+            Err(refusal) => refused(refusal, err),
+        },
     }
 }
 

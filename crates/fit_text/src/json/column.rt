@@ -44,6 +44,7 @@ pub fn put_columns<'c, W: Write>(
 }
 
 /// A field with its name, after a comma if it is not the first.
+#[inline]
 pub fn put_column<W: Write>(
     pen: &mut Pen<'_, W>,
     dates: &[u8],
@@ -61,6 +62,7 @@ pub fn put_column<W: Write>(
 }
 
 // The name in a label, and a colon.
+#[inline]
 fn put_name<W: Write>(
     pen: &mut Pen<'_, W>,
     label: &Label,

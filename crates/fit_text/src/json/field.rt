@@ -18,6 +18,7 @@ use fit_grammar::WriteFailed;
 use std::io::Write;
 
 /// A date if a field of this number is shown as one, else its values.
+#[inline]
 pub fn put_shown<W: Write>(
     pen: &mut Pen<'_, W>,
     dates: &[u8],
@@ -42,8 +43,21 @@ fn put_quoted_date<W: Write>(pen: &mut Pen<'_, W>, time: u32) -> Result<(), Writ
     pen.put(b"\"")
 }
 
-/// The values of a field.
+// The values of a field. Most fields have the size of one value, which is seen without a division.
+#[inline]
 fn put_value<W: Write>(pen: &mut Pen<'_, W>, value: &FieldValue<'_>) -> Result<(), WriteFailed>
+    ensures { Puts pen.old pen.new result
+        (values_json (base_type value.now.base) (values_of value.now)) }
+{
+    match value.base_type() {
+        Some(base) if value.raw().len() == base.size() => put_some(pen, base, value),
+        _ => put_any(pen, value),
+    }
+}
+
+// The values of any field.
+#[inline(never)]
+fn put_any<W: Write>(pen: &mut Pen<'_, W>, value: &FieldValue<'_>) -> Result<(), WriteFailed>
     ensures { Puts pen.old pen.new result
         (values_json (base_type value.now.base) (values_of value.now)) }
 {
@@ -60,6 +74,7 @@ fn put_value<W: Write>(pen: &mut Pen<'_, W>, value: &FieldValue<'_>) -> Result<(
 }
 
 // The values of a field of this type, at least one.
+#[inline]
 fn put_some<W: Write>(
     pen: &mut Pen<'_, W>,
     base: BaseType,

@@ -14,7 +14,26 @@ use fit_grammar::WriteFailed;
 use std::io::Write;
 
 /// The number of a field of this type, or an array of several.
+#[inline]
 pub fn put_numbers<W: Write>(
+    pen: &mut Pen<'_, W>,
+    base: BaseType,
+    field: &FieldValue<'_>,
+) -> Result<(), WriteFailed>
+    requires known { base_type field.now.base ≡ Some base }
+    ensures { Puts pen.old pen.new result
+        (numbers_json base
+        (numbers field.now.arch (value_size field.now) (count_of field.now) field.now.bytes)) }
+{
+    if field.raw().len() == base.size() {
+        return put_at(pen, base, field, 0);
+    }
+    put_several(pen, base, field)
+}
+
+// An array of the numbers, if there are several.
+#[inline(never)]
+fn put_several<W: Write>(
     pen: &mut Pen<'_, W>,
     base: BaseType,
     field: &FieldValue<'_>,
@@ -67,6 +86,7 @@ fn put_next<W: Write>(
     put_at(pen, base, field, i)
 }
 
+#[inline]
 fn put_at<W: Write>(
     pen: &mut Pen<'_, W>,
     base: BaseType,
@@ -88,6 +108,7 @@ fn put_at<W: Write>(
 }
 
 // A number of a type without a sign; for a float, the hexadecimal digits of its bits.
+#[inline]
 fn put_unsigned<W: Write>(
     pen: &mut Pen<'_, W>,
     base: BaseType,

@@ -1,12 +1,13 @@
 // Reads a whole script.
 
-ghost use Rattle.std.specs.Prelude.{◌≡◌, ◌≢◌, ◌++◌, [], All, map, IfOk, OnOk, IfErr};
+ghost use Rattle.std.specs.Prelude.{◌≡◌, ◌≢◌, ◌++◌, [], Some, All, map, IfOk, OnOk, IfErr};
 ghost use Rattle.std.specs.List.{cons_option};
 ghost use Rattle.std.specs.Str.Lines.{lines};
 ghost use Rattle.fit_world.specs.Scripts.Script.{IsLine, is_silent, meaning_of, event_of, events_of, IsFaultOf};
 ghost use Rattle.fit_world.specs.Histories.Runs.{CanRun};
 ghost use Rattle.fit_world.specs.declared.script.fault.ScriptFaultKind.TheVariants as kinds;
 
+use crate::command::Command;
 use crate::event::Event;
 use crate::script::command::command_of;
 use crate::script::fault::{ScriptFault, ScriptFaultKind};
@@ -62,18 +63,30 @@ fn event_at(alloc: Global, number: usize, line: &str) -> Result<Option<Event>, S
     ensures number { IfErr result (λ fault. fault.line ≡ number) }
     ensures fault { IfErr result (λ fault. fault.kind ≢ kinds.Memory → meaning_of line.now ≡ None) }
 {
-    let Ok(words) = words_of(alloc, line.as_bytes()) else {
-        return Err(out_of_memory(number));
+    match command_at(alloc, line.as_bytes()) {
+        Ok(Some(command)) => Ok(Some(Event {
+            line: number,
+            command,
+        })),
+        Ok(None) => Ok(None),
+        Err(kind) => Err(ScriptFault { kind, line: number }),
+    }
+}
+
+/// The command of a line, if it states one.
+pub(crate) fn command_at(alloc: Global, line: &[u8]) -> Result<Option<Command>, ScriptFaultKind>
+    ensures meaning { IfOk result (λ found. meaning_of line.now ≡ Some found) }
+    ensures fault { IfErr result (λ kind. kind ≢ kinds.Memory → meaning_of line.now ≡ None) }
+{
+    let Ok(words) = words_of(alloc, line) else {
+        return Err(ScriptFaultKind::Memory);
     };
     if is_silent(words.as_slice()) {
         return Ok(None);
     }
     match command_of(words.as_slice()) {
-        Ok(command) => Ok(Some(Event {
-            line: number,
-            command,
-        })),
-        Err(kind) => Err(ScriptFault { kind, line: number }),
+        Ok(command) => Ok(Some(command)),
+        Err(kind) => Err(kind),
     }
 }
 

@@ -1,0 +1,223 @@
+"""Checks `fitrec record`: its answers are those of `replay`, line by line and however the bytes come; a line that cannot be done is answered
+and nothing else; what was committed survives a kill after any line; its memory does not grow."""
+
+import os
+import pathlib
+import random
+import re
+import resource
+import subprocess
+import sys
+import tempfile
+import time
+
+import rides
+from rides import differs
+
+EXAMPLES = pathlib.Path(__file__).resolve().parent.parent / "examples"
+
+
+def record(fitrec, folder, text, *words):
+    """The status, the answers and the errors of a recording that is given these bytes."""
+    text = text.encode() if isinstance(text, str) else text
+    done = subprocess.run([fitrec, "record", *words, folder], input=text, capture_output=True, timeout=60)
+    return done.returncode, done.stdout.decode(), done.stderr.decode()
+
+
+def replayed(fitrec, folder, text):
+    with tempfile.NamedTemporaryFile("w") as script:
+        script.write(text)
+        script.flush()
+        return rides.run(fitrec, "replay", script.name, folder)
+
+
+def scripts():
+    """Scripts whose rides end and do not, are resumed, recovered and erased, with refusals."""
+    yield rides.EXAMPLE.read_text()
+    for every in (1, 7, 50):
+        yield rides.script_of(120, every)
+    ride = rides.script_of(30, 10)
+    yield ride + "restart\n" + rides.script_of(30, 10, 30) + "stop 1000000100\n"
+    yield ride + "recover\nerase\n" + ride + "stop 1000000029\n\n# over\n"
+    yield "commit\nsample 1000000000\nreopen\nrecover\n" + ride + "start 1000000000 1 running\nstop 5\nlap 1000000050\n"
+    pick = random.Random(1)
+    for _ in range(12):
+        yield rides.script_of(pick.randrange(1, 60), pick.randrange(1, 9)) + pick.choice(["", "recover\n", "stop 1000000070\n", "erase\n"])
+
+
+def as_recorded(said, lines, rides_on):
+    """What `record` has to say where `replay` says this: if a recorder still runs, a commit comes after the last line."""
+    status, out, err = said
+    return status, out + "%d commit: ok\n" % (lines + 1) * rides_on, err
+
+
+def as_replays(fitrec):
+    """The answers and the files are those of a replay."""
+    for text in scripts():
+        with tempfile.TemporaryDirectory() as one, tempfile.TemporaryDirectory() as other:
+            said = replayed(fitrec, one, text)
+            words = [line.split()[1] for line in said[1].splitlines() if line.endswith(" ok") or " ok " in line]
+            rides_on = bool(words) and [word for word in words if word in ("start:", "reopen:", "stop:", "recover:", "erase:", "restart:")][-1] in (
+                "start:", "reopen:")
+            yield "lines: as replayed", differs(record(fitrec, other, text), as_recorded(said, text.count("\n"), rides_on))
+            if not rides_on:
+                same = [(pathlib.Path(it) / "activity.fit").read_bytes() for it in (one, other)]
+                yield "lines: the same file", differs(same[0], same[1])
+            else:
+                said = rides.run(fitrec, "repair", other)
+                yield "lines: all is committed at the end", None if said[0] == 0 else said
+
+
+def as_they_come(fitrec):
+    """Each line is answered before the next is sent, also where its bytes come one by one."""
+    lines = rides.script_of(40, 9).splitlines()
+    with tempfile.TemporaryDirectory() as folder:
+        with subprocess.Popen([fitrec, "record", folder], stdin=subprocess.PIPE, stdout=subprocess.PIPE) as running:
+            for number, line in enumerate(lines, 1):
+                for byte in line.encode() + b"\n":
+                    running.stdin.write(bytes([byte]))
+                    running.stdin.flush()
+                said = running.stdout.readline().decode()
+                yield "lines: answered before the next comes", differs(said, "%d %s: ok\n" % (number, line.split()[0]))
+            locked = rides.run(fitrec, "repair", folder)
+            yield "lines: the folder is locked", differs(locked, (1, "", "fitrec: cannot open %s\n" % folder))
+            running.stdin.close()
+            yield "lines: the end", differs((running.stdout.read(), running.wait()), (b"%d commit: ok\n" % (len(lines) + 1), 0))
+        goes_on = record(fitrec, folder, "reopen\nsample 1000000099 hr=90\nstop 1000000100\n")
+        yield "lines: the ride is reopened", differs(goes_on, (0, "1 reopen: ok\n2 sample: ok\n3 stop: ok\n", ""))
+
+
+# Bytes, and the answers to them. The status is 1 if one of them is not ok.
+ODD = [
+    (b"start 1000000000 7 running\r\nsample 1000000001 hr=90\r\nstop 1000000002\r\n", ["1 start: ok", "2 sample: ok", "3 stop: ok"]),
+    (b"start 1000000000 7 running\nstop 1000000002", ["1 start: ok", "2 stop: ok"]),
+    (b"start 1000000000 7 running\nsample 10000000x1\nsample\nsample 1000000001 hr=x\nsample 1000000001 xx=1\nsample 1000000001 hr=1 hr=2\nspeed 1\n"
+     b"commit now\nfail 1\ncut 2\npower\nstop 1000000002\n",
+     ["1 start: ok", "2 line: BadNumber", "3 line: MissingWord", "4 line: BadNumber", "5 line: UnknownKey", "6 line: RepeatedKey", "7 line: UnknownWord",
+      "8 line: ExtraWord", "9 line: OnlySimulate", "10 line: OnlySimulate", "11 line: OnlySimulate", "12 stop: ok"]),
+    (b"start 1000000000 7 running\n\0\n\xff\xfe\nsample 1000000001\0\n# \xff\n\n \t\nstop 1000000002\n",
+     ["1 start: ok", "2 line: UnknownWord", "3 line: UnknownWord", "4 line: BadNumber", "8 stop: ok"]),
+    (b"start 1000000000 7 running\n" + b"#" * 4096 + b"\n" + b"#" * 4097 + b"\n" + b"#" * 4096 + b"\r\n" + b"x" * 1000000 + b"\nstop 1000000002\n",
+     ["1 start: ok", "3 line: TooLong", "5 line: TooLong", "6 stop: ok"]),
+    (b"start 1000000000 7 running\n" + b"9" * 200000, ["1 start: ok", "2 line: TooLong", "3 commit: ok"]),
+    (b"", []),
+    (b"\n\n# nothing\n", []),
+]
+
+
+def of_odd_bytes(fitrec):
+    for text, answers in ODD:
+        with tempfile.TemporaryDirectory() as folder:
+            refused = sum(not line.endswith(" ok") for line in answers)
+            want = (bool(refused), "".join(line + "\n" for line in answers), "fitrec: %d refused\n" % refused * bool(refused))
+            yield "lines: odd bytes", differs(record(fitrec, folder, text), want)
+
+
+def by_itself(fitrec):
+    """With --commit a commit comes after an entry that is so many seconds after the last one, under the number of its line."""
+    for every in (0, 1, 5, 30, 4294967295):
+        pick, second, last, lines, want = random.Random(every), 0, 0, ["start 1000000000 7 running"], ["1 start: ok"]
+        for number in range(2, 60):
+            second += pick.choice([0, 1, 1, 2, 9])
+            word = pick.choice(["sample", "sample", "sample", "lap", "commit", "sample 1 x"])
+            lines.append(word if word in ("commit", "sample 1 x") else "%s %d" % (word, 1000000000 + second))
+            if word == "sample 1 x":
+                want.append("%d line: UnknownKey" % number)
+                continue
+            want.append("%d %s: ok" % (number, word))
+            if word == "commit":
+                last = second
+            elif second - last >= every:
+                want.append("%d commit: ok" % number)
+                last = second
+        lines.append("stop %d" % (1000000000 + second))
+        want.append("%d stop: ok" % len(lines))
+        with tempfile.TemporaryDirectory() as folder:
+            said = record(fitrec, folder, "\n".join(lines) + "\n", "--commit", str(every))
+            yield "lines: commits by itself", differs(said[1].splitlines(), want)
+    with tempfile.TemporaryDirectory() as folder:
+        for word in ("x", "", "-1", "4294967296"):
+            status, out, err = record(fitrec, folder, "start 1000000000 7 running\n", "--commit=" + word)
+            yield "lines: no number of seconds", differs((status, out, "--commit" in err, os.listdir(folder)), (2, "", True, []))
+
+
+def killed(fitrec):
+    """After each answer a recording is killed: at least what was committed is repaired, and no more than was answered."""
+    text = rides.script_of(12, 5)
+    for count in range(1, text.count("\n") + 1):
+        with tempfile.TemporaryDirectory() as folder:
+            with subprocess.Popen([fitrec, "record", folder], stdin=subprocess.PIPE, stdout=subprocess.PIPE, text=True) as running:
+                running.stdin.write("".join(text.splitlines(True)[:count]))
+                running.stdin.flush()
+                answers = [running.stdout.readline().rstrip("\n") for _ in range(count)]
+                running.kill()
+            started, kept, handed = rides.committed(answers)
+            status, line, err = rides.run(fitrec, "repair", folder)
+            found = re.match(r"ok records=(\d+) ", line)
+            yield "lines: killed", None if started and found and kept <= int(found[1]) <= handed else (answers, line, err)
+
+
+def unread(fitrec):
+    """If nobody reads the answers, it ends, and what was committed is kept; so it does if its input cannot be read."""
+    with tempfile.TemporaryDirectory() as folder:
+        with subprocess.Popen([fitrec, "record", folder], stdin=subprocess.PIPE, stdout=subprocess.PIPE, stderr=subprocess.PIPE) as running:
+            running.stdin.write(b"start 1000000000 7 running\nsample 1000000001\ncommit\n")
+            running.stdin.flush()
+            answers = [running.stdout.readline() for _ in range(3)]
+            running.stdout.close()
+            running.stdin.write(b"sample 1000000002\nsample 1000000003\n")
+            running.stdin.close()
+            said = running.stderr.read()
+        yield "lines: unread", differs((answers[-1], running.returncode, said), (b"3 commit: ok\n", 1, b"fitrec: cannot write -\n"))
+        found = re.match(r"ok records=(\d+) ", rides.run(fitrec, "repair", folder)[1])
+        yield "lines: unread and kept", None if found and 1 <= int(found[1]) <= 2 else found
+    with tempfile.TemporaryDirectory() as folder, open(os.devnull, "rb") as null:
+        where = os.open(folder, os.O_RDONLY)
+        said = rides.run(fitrec, "record", folder, stdin=where)
+        os.close(where)
+        yield "lines: input that cannot be read", differs(said, (1, "", "fitrec: cannot read -\n"))
+        said = rides.run(fitrec, "record", folder + "/none", stdin=null)
+        yield "lines: no folder", differs(said, (1, "", "fitrec: cannot open %s/none\n" % folder))
+
+
+def peak(fitrec, text):
+    """The status of a recording of these bytes and its peak memory, in KiB."""
+    with tempfile.TemporaryDirectory() as folder, tempfile.TemporaryFile() as script, open(os.devnull, "wb") as null:
+        script.write(text.encode())
+        script.seek(0)
+        running = os.posix_spawn(fitrec, [fitrec, "record", "--commit", "60", folder], os.environ,
+                                 file_actions=[(os.POSIX_SPAWN_DUP2, script.fileno(), 0), (os.POSIX_SPAWN_DUP2, null.fileno(), 1)])
+        _, status, usage = os.wait4(running, 0)
+        return os.waitstatus_to_exitcode(status), usage.ru_maxrss
+
+
+def of_long_rides(fitrec):
+    """A ride of 8 hours, and one of 4,000,000 seconds, take as much memory as one of a minute."""
+    least = peak(fitrec, rides.script_of(60, 30))
+    long = "start 1000000000 7 cycling\n" + "".join("sample %d hr=120\n" % (1000000000 + second) for second in range(0, 4000001, 100))
+    for text in (rides.script_of(8 * 3600, 60), long):
+        most = peak(fitrec, text)
+        yield "lines: memory", None if most[0] == 0 and most[1] <= least[1] + 256 else (least, most)
+
+
+def of_the_example(fitrec):
+    """The client of examples/, which is killed: its ride is saved."""
+    with tempfile.TemporaryDirectory() as folder:
+        words = [sys.executable, EXAMPLES / "heart_rate.py", folder, "1000", "0.001"]
+        with subprocess.Popen(words, stdout=subprocess.PIPE, text=True) as running:
+            answers = [running.stdout.readline().rstrip("\n") for _ in range(60)]
+            running.kill()
+        # its recorder ends when its input does
+        for _ in range(100):
+            said = rides.run(fitrec, "save", folder, folder + "/saved.fit")
+            if said[0] == 0:
+                break
+            time.sleep(0.1)
+        found = re.match(r"ok records=(\d+) ", said[1])
+        kept = rides.committed(answers)[1]
+        yield "lines: the client of a strap", None if answers[0] == "1 start: ok" and found and kept <= int(found[1]) else (answers[:3], said)
+
+
+def check(fitrec):
+    for part in (as_replays, as_they_come, of_odd_bytes, by_itself, killed, unread, of_long_rides, of_the_example):
+        yield from part(fitrec)

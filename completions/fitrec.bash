@@ -1,0 +1,26 @@
+# Completes the words of fitrec in bash.
+_fitrec() {
+    local word=${COMP_WORDS[COMP_CWORD]} options=
+    if [ "$COMP_CWORD" -eq 1 ]; then
+        COMPREPLY=($(compgen -W 'show check replay record save repair salvage plain simulate version help --help' -- "$word"))
+        return
+    fi
+    case ${COMP_WORDS[1]} in
+        help) COMPREPLY=($(compgen -W 'show check replay record save repair salvage plain simulate version' -- "$word")); return ;;
+        show) options='--utc --json --help' ;;
+        check) options='--help' ;;
+        replay) options='--help' ;;
+        record) options='--commit --help' ;;
+        save) options='--help' ;;
+        repair) options='--verify --help' ;;
+        salvage) options='--all --plain --help' ;;
+        plain) options='--help' ;;
+        simulate) options='--choices --help' ;;
+        version) options='--help' ;;
+    esac
+    case $word in
+        -*) COMPREPLY=($(compgen -W "$options" -- "$word")) ;;
+        *) compopt -o filenames; COMPREPLY=($(compgen -f -- "$word")) ;;
+    esac
+}
+complete -F _fitrec fitrec

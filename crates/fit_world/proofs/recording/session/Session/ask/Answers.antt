@@ -1,0 +1,16 @@
+use Rattle.std.proofs.Common.{arith}
+use Rattle.fit_text.proofs.PenLemmas.{puts_written}
+use Rattle.fit_world.specs.Rides.Turns.{Asked}
+use Rattle.fit_world.proofs.Reported.Recorded.{prints_one, so_far_asked}
+use Rattle.fit_world.proofs.recording.session.Session.ask.Goals as goal
+
+pub returns-clause-asked : goal.returns-clause-asked
+returns-clause-asked g c = λ old turns known.
+    let ran = c.ask-ride.ensures in
+    let reply = c.ask-ride.result.1 in (
+      reply,
+      so_far_asked g.D.Disk.honest g.D.Disk.story old turns c.args.self _ c.args.event.now reply known ran.reply ran.riding
+          (omega (arith, c.refusals.ensures.count c.args.event.now)) ran.step,
+      prints_one _ _ _ (Asked c.args.event.now reply)
+          (puts_written _ _ _ _ c.requires.waits c.print-printed.ensures.none c.print-printed.ensures.line),
+    )
