@@ -11,7 +11,8 @@ import subprocess
 import tempfile
 
 import library
-from library import COMPILERS, run
+import told
+from library import COMPILERS
 from rides import committed, differs
 from told import holds, room
 
@@ -46,6 +47,11 @@ STACK, MODULE_STACK, MACHINE_STACK = 65536 - 64, 49152, 8192
 # What a host does that breaks a rule, by its number.
 BROKEN = {1: "a call is left out", 2: "the calls are made in another order", 3: "the answer comes before the calls",
           4: "the recording goes on after a failed call", 5: "a sync keeps nothing"}
+
+
+def run(*words, **how):
+    """What a run prints, given words and numbers."""
+    return told.run(*[str(it) for it in words], **how)
 
 
 @contextlib.contextmanager

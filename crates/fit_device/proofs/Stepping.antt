@@ -1,14 +1,14 @@
 -- A step of the recorder in a handle: what it was taken out as, and what it was put back as.
-use Rattle.std.proofs.Common.{◌≡◌, ℕ, Bool, true, false, List, sym, ap, ◌∙◌, subst, arith, Result, Ok, Err}
+use Rattle.std.proofs.Common.{⊎_elim, ◌≡◌, ℕ, Bool, true, false, List, sym, ap, ◌∙◌, subst, arith, Result, Ok, Err}
 use Rattle.std.specs.Prelude.{OnOk}
 use Rattle.fit_activity.specs.Rides.Recording.{Recorded}
 use Rattle.fit_activity.specs.Rides.RunningTotals.{AreTotals}
 use Rattle.fit_device.specs.declared.handle.Handle.{Handle}
 use Rattle.fit_device.specs.declared.plan.DevicePlan.{DevicePlan}
-use Rattle.fit_device.specs.Answer.{code_of}
+use Rattle.fit_device.specs.Answer.{code_of, code_of_fault}
 use Rattle.fit_device.specs.Handle.{story_of, IsRecorder, WasHanded, Stands}
 use Rattle.fit_device.specs.Planned.{carried_out}
-use Rattle.fit_device.specs.Steps.{Steps}
+use Rattle.fit_device.specs.Steps.{Steps, IsSame}
 use Rattle.fit_disk.specs.State.{Contents}
 use Rattle.fit_disk.specs.Story.{Story, Throughout}
 use Rattle.fit_notes.proofs.Numbers.{same_story}
@@ -18,8 +18,9 @@ use Rattle.fit_plan.specs.Plan.{story_in, since_in}
 use Rattle.fit_recorder.specs.declared.fault.RecFault.{RecFault}
 use Rattle.fit_recorder.specs.declared.fault.RecFault.TheVariants.{NotEmpty, Refused, Full, JournalFull, Device, Failed, NothingRecorded, Damaged}
 use Rattle.fit_recorder.specs.declared.recorder.Recorder.{Recorder}
+use Rattle.fit_recorder.specs.Calls.FaultCode.{fault_code}
 use Rattle.fit_recorder.specs.Calls.Frozen.{state_in, has_failed_in, GoesOnAt}
-use Rattle.fit_recorder.specs.Calls.Recorder.{StandsAt, state_of, has_failed, disk_of}
+use Rattle.fit_recorder.specs.Calls.Recorder.{AfterCall, StandsAt, state_of, has_failed, disk_of}
 use Rattle.fit_recorder.specs.Private.State.{RecorderState, IsAt}
 
 -- the same of equal numbers
@@ -87,11 +88,26 @@ module _ (new : Handle) (plan : DevicePlan) (after : Recorder Plan) (put : IsPut
   }
 
   module _ (old : Handle) (before : Recorder Plan) (taken : IsTaken old before) where
-    pub steps : (code : ℕ) → numbers_of (since_in (disk_of after)) ≡ numbers_of (since_in (disk_of before)) → Steps old new plan code
-    steps code same = record {
+    unchanged : after ≡ before → IsSame old new
+    unchanged is = record {
+      state = put.state ∙ ap state_of is ∙ taken.state;
+      failed = put.failed ∙ ap has_failed is ∙ taken.failed;
+      story = put.story ∙ ap (λ (recorder : Recorder Plan). story_in (disk_of recorder)) is ∙ taken.story;
+    }
+
+    refused : (result : Result (Unit {0}) RecFault) (code : ℕ) → code ≡ code_of result → AfterCall result before after
+        → (code ≡ 0 → ⊥) → (code ≡ fault_code Device → ⊥) → IsSame old new
+    refused (Ok _) code is after no_zero no_device = absurd (no_zero is)
+    refused (Err fault) code is after no_zero no_device =
+        ⊎_elim (λ (device : fault ≡ Device). absurd (no_device (is ∙ ap code_of_fault device))) (λ (same : after ≡ before). unchanged same) after.same
+
+    pub steps : (result : Result (Unit {0}) RecFault) (code : ℕ) → code ≡ code_of result → AfterCall result before after
+        → numbers_of (since_in (disk_of after)) ≡ numbers_of (since_in (disk_of before)) → Steps old new plan code
+    steps result code is after same = record {
       planned = put.story ∙ sym put.planned ∙ ap (carried_out plan) (same_story _ _ same ∙ taken.since);
       none = λ no. absurd (no taken.is_recorder);
       known = λ _. put.is_recorder;
+      refused = λ _ no_zero no_device. refused result code is after no_zero no_device;
     }
 
     pub throughout : (P : Contents → Type 0) → Throughout P (story_in (disk_of before)) (story_in (disk_of after)) → Throughout P (story_of old) (story_of new)

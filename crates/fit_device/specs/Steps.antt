@@ -10,20 +10,30 @@ use Rattle.fit_device.specs.Handle.{story_of, IsRecorder, WasHanded, Stands}
 use Rattle.fit_device.specs.Planned.{carried_out}
 use Rattle.fit_disk.specs.Story.{Throughout}
 use Rattle.fit_journal.specs.Frozen.{slots_in}
+use Rattle.fit_recorder.specs.Calls.FaultCode.{fault_code}
+use Rattle.fit_recorder.specs.Calls.Frozen.{state_in, has_failed_in}
 use Rattle.fit_recorder.specs.Calls.Answers.{HandAnswers, CommitAnswers, StopAnswers}
 use Rattle.fit_recorder.specs.Files.Body.{StandsFor}
 use Rattle.fit_recorder.specs.Files.Finished.{IsFinished}
 use Rattle.fit_recorder.specs.declared.fault.RecFault.{RecFault}
+use Rattle.fit_recorder.specs.declared.fault.RecFault.TheVariants.{Device}
 
 -- the answer with this number
 abbrev pub Answers : (Result (Unit {0}) RecFault → Type 0) → ℕ → Type 0
 Answers Is code = (answer : Result (Unit {0}) RecFault) × (Is answer × (code ≡ code_of answer))
 
--- The files are those before with the planned calls. A handle that is none of a recorder stays as it is, and nothing is planned.
+-- the same recorder over the same files
+pub record IsSame (old new : Handle) : Type 0 where
+  pub state : state_in new.recorder ≡ state_in old.recorder
+  pub failed : has_failed_in new.recorder ≡ has_failed_in old.recorder
+  pub story : story_of new ≡ story_of old
+
+-- The files are those before with the planned calls. After a refusal nothing changed. A handle that is none of a recorder stays as it is, and nothing is planned.
 pub record Steps (old new : Handle) (plan : DevicePlan) (code : ℕ) : Type 0 where
   pub planned : story_of new ≡ carried_out plan (story_of old)
   pub none : (IsRecorder old → ⊥) → (code ≡ no_recorder) × (new ≡ old)
   pub known : IsRecorder old → IsRecorder new
+  pub refused : IsRecorder old → (code ≡ 0 → ⊥) → (code ≡ fault_code Device → ⊥) → IsSame old new
 
 -- An entry is handed. A host that carries out any part of the plan leaves what was committed.
 pub record Hands (e : Entry) (old new : Handle) (plan : DevicePlan) (code : ℕ) : Type 0 where

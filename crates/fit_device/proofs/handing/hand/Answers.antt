@@ -29,7 +29,7 @@ returns c =
       planned = c.put.ensures.planned;
     } in
     record {
-      steps = steps new plan after put old before taken c.code_of.result did.ran.memory;
+      steps = steps new plan after put old before taken c.hand-answer.result c.code_of.result c.code_of.ensures did.after did.ran.memory;
       answers = λ list handed. (
         c.hand-answer.result,
         (

@@ -31,7 +31,7 @@ returns c =
       planned = c.put.ensures.planned;
     } in
     record {
-      steps = steps new plan after put old before taken c.code_of.result did.ran.memory;
+      steps = steps new plan after put old before taken c.stop-answer.result c.code_of.result c.code_of.ensures did.after did.ran.memory;
       answers = λ list handed.
           (c.stop-answer.result, (did.answers list (was_handed old before taken list handed) (was_going old before taken list handed), c.code_of.ensures));
       ended = λ list handed zero.
