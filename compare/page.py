@@ -1,11 +1,17 @@
+#!/usr/bin/env -S python3 -B
 """Compares the page and its WebAssembly module with the program: the module under Node, as the library for C is compared, and the page in
-headless Chromium, for each kind of input and each refusal. It makes web/out/fitrec.html first."""
+headless Chromium, for each kind of input and each refusal. It makes web/out/fitrec.html first.
+
+    compare/page.py FOLDER
+
+puts a screenshot of each visit into a new folder, to be looked at: wide and light, narrow and dark."""
 
 import json
 import os
 import pathlib
 import shutil
 import subprocess
+import sys
 import tempfile
 
 from library import of_files, of_looks, of_recordings
@@ -79,16 +85,18 @@ def inputs(fitrec, folder):
     yield "two FIT files", [ride, folder / "whole.fit"], NOTHING, "either one FIT file", None
 
 
-def visits(cases):
+def visits(cases, shots):
     """Each input by the file input on a wide window, and by a drop on a narrow and dark one; the first one by keys too."""
     for name, files, *wanted in cases:
         for drop in (False, True):
-            yield (name, drop), wanted, {"files": [str(it) for it in files], "drop": drop, "width": 360 if drop else 900, "dark": drop, "keyboard": not drop}
+            shot = shots and str(shots / ("%s-%s.png" % (name.replace(" ", "-"), "narrow" if drop else "wide")))
+            yield (name, drop), wanted, {"files": [str(it) for it in files], "drop": drop, "width": 360 if drop else 900, "dark": drop,
+                                         "keyboard": not drop, "screenshot": shot}
 
 
-def of_page(fitrec, folder):
+def of_page(fitrec, folder, shots=None):
     """The page in a browser."""
-    planned = list(visits(list(inputs(fitrec, folder))))
+    planned = list(visits(list(inputs(fitrec, folder)), shots))
     words = [HERE / "browser.mjs", WEB / "out/fitrec.html", folder]
     said = subprocess.run(words, input=json.dumps([it for _, _, it in planned]), capture_output=True, text=True, timeout=600)
     yield "page: opened", said.stderr[-2000:] or differs(said.returncode, 0)
@@ -118,3 +126,10 @@ def check(fitrec, count, seed):
     if is_there("the page in a browser", "chromium"):
         with tempfile.TemporaryDirectory() as folder:
             yield from of_page(fitrec, pathlib.Path(folder))
+
+
+if __name__ == "__main__":
+    to = pathlib.Path(sys.argv[1]).resolve()
+    to.mkdir()
+    with tempfile.TemporaryDirectory() as scratch:
+        print(sum(difference is not None for _, difference in of_page(HERE.parent / "crates/fitrec/out/fitrec", pathlib.Path(scratch), to)), "differences")

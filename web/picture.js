@@ -7,16 +7,16 @@ const CURVES = [
   { name: 'power', fields: ['power'], value: raw => raw, unit: 'watts' },
 ];
 
-// The fields of some samples, at most so many, evenly spread over all of them.
+// The fields of some samples, at most so many, evenly spread over the text. What lies between them is not looked at.
 function samplesOf(shown) {
-  const lines = [], decoder = new TextDecoder('latin1');
-  for (let at = 0, end; (end = shown.indexOf(10, at)) >= 0; at = end + 1) {
+  const step = shown.length / POINTS, decoder = new TextDecoder('latin1'), samples = [];
+  for (let at = 0, end; (end = shown.indexOf(10, at)) >= 0;) {
     // after the number of the message: "record "
-    const blank = shown.indexOf(32, at);
-    if (shown[blank + 1] === 114 && shown[blank + 3] === 99 && shown[blank + 7] === 32 && blank + 8 < end) lines.push([blank + 8, end]);
+    const blank = shown.indexOf(32, at), isRecord = shown[blank + 1] === 114 && shown[blank + 3] === 99 && shown[blank + 7] === 32 && blank + 8 < end;
+    if (isRecord) samples.push(fieldsOf(decoder.decode(shown.subarray(blank + 8, end))));
+    at = isRecord && at + step > end ? shown.indexOf(10, at + step) + 1 || shown.length : end + 1;
   }
-  const stride = Math.max(1, Math.ceil(lines.length / POINTS));
-  return lines.filter((_, i) => i % stride === 0).map(([from, to]) => fieldsOf(decoder.decode(shown.subarray(from, to))));
+  return samples;
 }
 
 // Each field that holds one whole number.
