@@ -97,17 +97,17 @@ module _ (new : Handle) (plan : DevicePlan) (after : Recorder Plan) (put : IsPut
 
     refused : (result : Result (Unit {0}) RecFault) (code : ℕ) → code ≡ code_of result → AfterCall result before after
         → (code ≡ 0 → ⊥) → (code ≡ fault_code Device → ⊥) → IsSame old new
-    refused (Ok _) code is after no_zero no_device = absurd (no_zero is)
-    refused (Err fault) code is after no_zero no_device =
-        ⊎_elim (λ (device : fault ≡ Device). absurd (no_device (is ∙ ap code_of_fault device))) (λ (same : after ≡ before). unchanged same) after.same
+    refused (Ok _) code is called no_zero no_device = absurd (no_zero is)
+    refused (Err fault) code is called no_zero no_device =
+        ⊎_elim (λ (device : fault ≡ Device). absurd (no_device (is ∙ ap code_of_fault device))) (λ (same : after ≡ before). unchanged same) called.same
 
     pub steps : (result : Result (Unit {0}) RecFault) (code : ℕ) → code ≡ code_of result → AfterCall result before after
         → numbers_of (since_in (disk_of after)) ≡ numbers_of (since_in (disk_of before)) → Steps old new plan code
-    steps result code is after same = record {
+    steps result code is called same = record {
       planned = put.story ∙ sym put.planned ∙ ap (carried_out plan) (same_story _ _ same ∙ taken.since);
       none = λ no. absurd (no taken.is_recorder);
       known = λ _. put.is_recorder;
-      refused = λ _ no_zero no_device. refused result code is after no_zero no_device;
+      refused = λ _ no_zero no_device. refused result code is called no_zero no_device;
     }
 
     pub throughout : (P : Contents → Type 0) → Throughout P (story_in (disk_of before)) (story_in (disk_of after)) → Throughout P (story_of old) (story_of new)

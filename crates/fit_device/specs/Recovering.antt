@@ -11,7 +11,7 @@ use Rattle.fit_disk.specs.State.{Contents}
 use Rattle.fit_disk.specs.Stored.{at_rest}
 use Rattle.fit_disk.specs.Story.{Story, Throughout}
 use Rattle.fit_plan.specs.Lent.{rests}
-use Rattle.fit_recorder.specs.Calls.Erasing.{LeftOrNothing}
+use Rattle.fit_recorder.specs.Calls.Erasing.{LeftOrErased}
 use Rattle.fit_recorder.specs.Calls.Recovery.{RecoveryAnswers, InRecovery}
 use Rattle.fit_recorder.specs.Calls.Resume.{IsRefusedFor}
 use Rattle.fit_recorder.specs.Files.Body.{StandsFor}
@@ -44,7 +44,7 @@ pub record Reopens (in_data in_journal : List ℕ) (new : Handle) (plan : Device
       ⊎ ((fault : RecFault) × ((code ≡ code_of_fault fault) × IsRefusedFor (both in_data in_journal) fault))
   pub any_moment : InRecovery (rests in_data in_journal) (left_by plan in_data in_journal)
 
--- After 0 the data file is empty. Any part of the plan leaves the files, or nothing recorded.
+-- After 0 the data file is empty. Any part of the plan leaves the files, or a recording that is forgotten.
 pub record Erases (in_data in_journal : List ℕ) (plan : DevicePlan) (code : ℕ) : Type 0 where
   pub ok : code ≡ 0 → (left_by plan in_data in_journal).now.data_file ≡ at_rest []
-  pub any_moment : Throughout (LeftOrNothing (rests in_data in_journal).now) (rests in_data in_journal) (left_by plan in_data in_journal)
+  pub any_moment : Throughout (LeftOrErased (rests in_data in_journal).now) (rests in_data in_journal) (left_by plan in_data in_journal)
