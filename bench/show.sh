@@ -1,5 +1,5 @@
 #!/bin/sh
-# Speed and peak memory of `fitrec show` and `fitrec plain` over an activity file of 64 MiB, compared with gpsbabel on the same file.
+# Speed and peak memory of `fitrec show`, with --json too, and `fitrec plain` over an activity file of 64 MiB, compared with gpsbabel on the same file.
 # A small proved program writes the file with the workspace's own encoder. That program is proved and built in a temporary folder. The
 # repository stays as it is, except that the launcher builds the program fitrec if it is not there.
 set -eu
@@ -82,6 +82,10 @@ echo "$size $text $messages" | awk '{
 shown=$(measure 3 0 "$program" show "$file")
 report 'fitrec show' "$size" $shown
 
+json=$(measure 3 0 "$program" show --json "$file")
+report 'fitrec show --json' "$size" $json
+[ "$("$program" show --json "$file" | tail -n 1)" = "{\"messages\":$messages}" ] || { echo "the JSON ends otherwise"; exit 1; }
+
 # A file whose closing checksum is wrong is read and checked whole, and then refused: reading without showing.
 wrong=$work/wrong.fit
 head -c -1 "$file" > "$wrong"
@@ -114,6 +118,7 @@ report 'gpsbabel, reading' "$size" $read
 rows=$(measure 1 0 gpsbabel -t -i garmin_fit -f "$file" -o unicsv -F /dev/null)
 report 'gpsbabel, with rows' "$size" $rows
 
+compare 'json to show' $json $shown
 compare 'show to reading' $shown $read
 compare 'reading to reading' $judged $read
 compare 'show to rows' $shown $rows

@@ -5,7 +5,6 @@ import os
 import pathlib
 import random
 import re
-import resource
 import subprocess
 import sys
 import tempfile
@@ -51,14 +50,24 @@ def as_recorded(said, lines, rides_on):
     return status, out + "%d commit: ok\n" % (lines + 1) * rides_on, err
 
 
+def still_rides(answers):
+    """Whether a recorder runs after these answers."""
+    rides_on = False
+    for answer in answers:
+        word, is_ok = answer.split()[1], answer.endswith(" ok")
+        if word in ("start:", "reopen:"):
+            rides_on = is_ok
+        elif word in ("restart:", "recover:", "erase:") or word == "stop:" and is_ok:
+            rides_on = False
+    return rides_on
+
+
 def as_replays(fitrec):
     """The answers and the files are those of a replay."""
     for text in scripts():
         with tempfile.TemporaryDirectory() as one, tempfile.TemporaryDirectory() as other:
             said = replayed(fitrec, one, text)
-            words = [line.split()[1] for line in said[1].splitlines() if line.endswith(" ok") or " ok " in line]
-            rides_on = bool(words) and [word for word in words if word in ("start:", "reopen:", "stop:", "recover:", "erase:", "restart:")][-1] in (
-                "start:", "reopen:")
+            rides_on = still_rides(said[1].splitlines())
             yield "lines: as replayed", differs(record(fitrec, other, text), as_recorded(said, text.count("\n"), rides_on))
             if not rides_on:
                 same = [(pathlib.Path(it) / "activity.fit").read_bytes() for it in (one, other)]
@@ -118,8 +127,9 @@ def by_itself(fitrec):
     for every in (0, 1, 5, 30, 4294967295):
         pick, second, last, lines, want = random.Random(every), 0, 0, ["start 1000000000 7 running"], ["1 start: ok"]
         for number in range(2, 60):
-            second += pick.choice([0, 1, 1, 2, 9])
             word = pick.choice(["sample", "sample", "sample", "lap", "commit", "sample 1 x"])
+            # the time of the ride is that of its last entry
+            second += pick.choice([0, 1, 1, 2, 9]) * (word in ("sample", "lap"))
             lines.append(word if word in ("commit", "sample 1 x") else "%s %d" % (word, 1000000000 + second))
             if word == "sample 1 x":
                 want.append("%d line: UnknownKey" % number)
@@ -181,21 +191,25 @@ def unread(fitrec):
 
 
 def peak(fitrec, text):
-    """The status of a recording of these bytes and its peak memory, in KiB."""
-    with tempfile.TemporaryDirectory() as folder, tempfile.TemporaryFile() as script, open(os.devnull, "wb") as null:
-        script.write(text.encode())
-        script.seek(0)
-        running = os.posix_spawn(fitrec, [fitrec, "record", "--commit", "60", folder], os.environ,
-                                 file_actions=[(os.POSIX_SPAWN_DUP2, script.fileno(), 0), (os.POSIX_SPAWN_DUP2, null.fileno(), 1)])
-        _, status, usage = os.wait4(running, 0)
-        return os.waitstatus_to_exitcode(status), usage.ru_maxrss
+    """The peak memory of a recording of these lines, in KiB, once the last one is answered."""
+    with tempfile.TemporaryDirectory() as folder, tempfile.TemporaryFile() as answers:
+        words = [fitrec, "record", "--commit", "200000", folder]
+        with subprocess.Popen(words, stdin=subprocess.PIPE, stdout=answers, text=True) as running:
+            running.stdin.write(text + "restart\n")
+            running.stdin.flush()
+            last = b"restart: ok\n"
+            while answers.seek(0, os.SEEK_END) < len(last) or os.pread(answers.fileno(), 99, answers.tell() - len(last)) != last:
+                time.sleep(0.05)
+            status = pathlib.Path("/proc/%d/status" % running.pid).read_text()
+            running.stdin.close()
+        return running.returncode, int(re.search(r"VmHWM:\s+(\d+)", status)[1])
 
 
 def of_long_rides(fitrec):
     """A ride of 8 hours, and one of 4,000,000 seconds, take as much memory as one of a minute."""
     least = peak(fitrec, rides.script_of(60, 30))
     long = "start 1000000000 7 cycling\n" + "".join("sample %d hr=120\n" % (1000000000 + second) for second in range(0, 4000001, 100))
-    for text in (rides.script_of(8 * 3600, 60), long):
+    for text in (rides.script_of(8 * 3600, 600), long):
         most = peak(fitrec, text)
         yield "lines: memory", None if most[0] == 0 and most[1] <= least[1] + 256 else (least, most)
 
@@ -204,7 +218,7 @@ def of_the_example(fitrec):
     """The client of examples/, which is killed: its ride is saved."""
     with tempfile.TemporaryDirectory() as folder:
         words = [sys.executable, EXAMPLES / "heart_rate.py", folder, "1000", "0.001"]
-        with subprocess.Popen(words, stdout=subprocess.PIPE, text=True) as running:
+        with subprocess.Popen(words, stdout=subprocess.PIPE, stderr=subprocess.DEVNULL, text=True) as running:
             answers = [running.stdout.readline().rstrip("\n") for _ in range(60)]
             running.kill()
         # its recorder ends when its input does

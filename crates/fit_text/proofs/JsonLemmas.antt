@@ -1,9 +1,8 @@
 -- JSON by the cases that the code distinguishes, and by its parts: for `json`.
-use Rattle.std.proofs.Common.{◌≡◌, ◌≢◌, ℕ, zero, suc, ◌+◌, ◌-◌, ◌*◌, ◌/◌, ◌%◌, ◌^◌, ◌<◌, ◌≤◌, ◌==◌, Bool, true, false, List, [], ◌∷◌, ◌++◌, length, get_or, take, drop, sum_by, refl, sym, ap, ◌∙◌, append_assoc, append-nil, eq-eqb, codes, decimal, Option, Some, None, IfSome, arith, rules, if◌then◌else◌}
+use Rattle.std.proofs.Common.{◌≡◌, ◌≢◌, ℕ, zero, suc, ◌-◌, ◌/◌, ◌%◌, ◌^◌, ◌<◌, ◌≤◌, ◌==◌, Bool, true, false, List, [], ◌∷◌, ◌++◌, length, get_or, take, drop, sum_by, refl, sym, ap, ◌∙◌, append_assoc, eq-eqb, codes, decimal, Option, Some, None, IfSome, arith, rules, if◌then◌else◌}
 use Rattle.std.specs.Prelude.{◌||◌, ◌&&◌, ◌↔◌, IsSome, nat_le, not}
 use Rattle.std.proofs.lemmas.List.{take_all, length-append}
 use Rattle.std.proofs.Math.Seq.{take-append_seam}
-use Rattle.std.specs.Fmt.{signed_decimal}
 use Rattle.std.specs.Int.{to_be_bytes, to_le_bytes, w32, w64}
 use Rattle.std.specs.List.{flat_map, list_all, before_first, join_by}
 use Rattle.std.specs.Option.{is_some, is_none}
@@ -13,16 +12,16 @@ use Rattle.fit_base.specs.declared.order.Arch.{Arch}
 use Rattle.fit_base.specs.declared.order.Arch.TheVariants.{Little}
 use Rattle.fit_base.specs.declared.base.BaseType.{BaseType}
 use Rattle.fit_base.specs.declared.base.BaseType.TheVariants.{Float32, Float64, String, Byte}
-use Rattle.fit_base.specs.Number.{twos_complement, low_first}
+use Rattle.fit_base.specs.Number.{low_first}
 use Rattle.fit_base.specs.Base.{row_of, base_type, has_sign}
-use Rattle.fit_base.specs.Value.{Field, Values, Numbers, Raw, size_by, value_size, is_raw, raw_by, count_of, values_of, unsigned_at, signed_at, numbers}
+use Rattle.fit_base.specs.Value.{Field, Numbers, Raw, size_by, value_size, is_raw, raw_by, count_of, values_of, numbers}
 use Rattle.fit_grammar.specs.declared.definition.Definition.{Definition}
 use Rattle.fit_grammar.specs.declared.definition.FieldDefinition.{FieldDefinition}
 use Rattle.fit_grammar.specs.declared.definition.DeveloperFieldDefinition.{DeveloperFieldDefinition}
 use Rattle.fit_grammar.specs.declared.file.frame.Frame.{Frame}
 use Rattle.fit_grammar.specs.Format.File.{FileValue}
 use Rattle.fit_grammar.specs.Format.Item.{fields_size}
-use Rattle.fit_grammar.specs.Format.Message.{Message, MessageField, MessageDeveloperField, developer_of, fields_of, time_field, time_fields, message_under, messages_of}
+use Rattle.fit_grammar.specs.Format.Message.{Message, MessageDeveloperField, developer_of, fields_of, time_field, time_fields, message_under, messages_of}
 use Rattle.fit_grammar.specs.Format.Records.{data_size}
 use Rattle.fit_text.specs.declared.showing.plan.Column.{Column}
 use Rattle.fit_text.specs.declared.showing.plan.Plan.{Plan}
@@ -31,10 +30,10 @@ use Rattle.fit_text.specs.Json.{quoted, string_byte, string_json, bytes_json, by
 use Rattle.fit_text.specs.Members.{separator, joined, inner, json_at, column_json, columns_json, time_json}
 use Rattle.fit_text.specs.Plan.{field_at, time_definition, IsColumn, AreColumns, IsPlanOf}
 use Rattle.fit_text.specs.Profile.{FieldNames, message_named, names_of_fields}
-use Rattle.fit_text.specs.Text.{hex_byte, hex_text, is_plain, plain_text, whole_text, IsNumber, field_name}
+use Rattle.fit_text.specs.Text.{hex_byte, is_plain, plain_text, IsNumber, field_name}
 use Rattle.fit_text.proofs.FieldLemmas.{bytes_at}
 use Rattle.fit_text.proofs.PlanLemmas.{columns_size, one_of_type}
-use Rattle.fit_text.proofs.TextLemmas.{whole_signed_at, plain_signed, plain_float32, plain_float64, plain_whole, whole_unsigned, rest_text}
+use Rattle.fit_text.proofs.TextLemmas.{plain_float32, plain_float64, rest_text}
 
 -- ---- strings
 

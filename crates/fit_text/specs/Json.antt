@@ -1,6 +1,6 @@
 -- A file as JSON: a line for its header, a line for each message, and a line that counts them. Each line is a JSON object (RFC 8259).
 -- The names, the dates and the numbers are those of the shown text.
-use Rattle.std.specs.Prelude.{ℕ, Bool, true, false, ◌/◌, ◌%◌, List, [], ◌∷◌, ◌++◌, length, codes, decimal, Option, Some, None, ◌==◌, ◌&&◌, ◌||◌, nat_le, if◌then◌else◌}
+use Rattle.std.specs.Prelude.{ℕ, Bool, ◌/◌, ◌%◌, List, [], ◌∷◌, ◌++◌, length, codes, decimal, Option, Some, None, ◌==◌, ◌&&◌, ◌||◌, nat_le, if◌then◌else◌}
 use Rattle.std.specs.List.{flat_map, list_all, before_first, join_by, enumerate_from}
 use Rattle.std.specs.Str.{is_utf8}
 use Rattle.fit_base.specs.declared.base.BaseType.{BaseType}

@@ -11,13 +11,10 @@ mod session;
 
 use crate::fault::ReportFault;
 use crate::reading::{CHUNK, ReadFault, read_piece};
-pub use clock::Clock;
 use fit_disk::Disk;
 use fit_text::Pen;
-pub use held::{Held, MOST_LINE};
 pub use line_fault::LineFault;
-pub use listener::Listener;
-pub use session::Session;
+use listener::Listener;
 use std::alloc::Global;
 use std::io::{Read, Write};
 

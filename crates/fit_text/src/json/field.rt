@@ -18,7 +18,7 @@ use fit_grammar::WriteFailed;
 use std::io::Write;
 
 /// A date if a field of this number is shown as one, else its values.
-#[inline]
+#[inline(always)]
 pub fn put_shown<W: Write>(
     pen: &mut Pen<'_, W>,
     dates: &[u8],
@@ -35,6 +35,8 @@ pub fn put_shown<W: Write>(
     }
 }
 
+// Not inlined, since the text of a date takes stack.
+#[inline(never)]
 fn put_quoted_date<W: Write>(pen: &mut Pen<'_, W>, time: u32) -> Result<(), WriteFailed>
     ensures { Puts pen.old pen.new result (quoted (date_text time)) }
 {
@@ -44,7 +46,7 @@ fn put_quoted_date<W: Write>(pen: &mut Pen<'_, W>, time: u32) -> Result<(), Writ
 }
 
 // The values of a field. Most fields have the size of one value, which is seen without a division.
-#[inline]
+#[inline(always)]
 fn put_value<W: Write>(pen: &mut Pen<'_, W>, value: &FieldValue<'_>) -> Result<(), WriteFailed>
     ensures { Puts pen.old pen.new result
         (values_json (base_type value.now.base) (values_of value.now)) }
@@ -74,7 +76,7 @@ fn put_any<W: Write>(pen: &mut Pen<'_, W>, value: &FieldValue<'_>) -> Result<(),
 }
 
 // The values of a field of this type, at least one.
-#[inline]
+#[inline(always)]
 fn put_some<W: Write>(
     pen: &mut Pen<'_, W>,
     base: BaseType,

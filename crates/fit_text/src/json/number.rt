@@ -14,7 +14,7 @@ use fit_grammar::WriteFailed;
 use std::io::Write;
 
 /// The number of a field of this type, or an array of several.
-#[inline]
+#[inline(always)]
 pub fn put_numbers<W: Write>(
     pen: &mut Pen<'_, W>,
     base: BaseType,
@@ -86,7 +86,7 @@ fn put_next<W: Write>(
     put_at(pen, base, field, i)
 }
 
-#[inline]
+#[inline(always)]
 fn put_at<W: Write>(
     pen: &mut Pen<'_, W>,
     base: BaseType,
@@ -108,7 +108,7 @@ fn put_at<W: Write>(
 }
 
 // A number of a type without a sign; for a float, the hexadecimal digits of its bits.
-#[inline]
+#[inline(always)]
 fn put_unsigned<W: Write>(
     pen: &mut Pen<'_, W>,
     base: BaseType,

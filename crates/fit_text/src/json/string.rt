@@ -15,6 +15,7 @@ use fit_grammar::WriteFailed;
 use std::io::Write;
 
 /// Bytes as a string of hexadecimal digits after `0x`.
+#[inline(never)]
 pub fn put_bytes<W: Write>(pen: &mut Pen<'_, W>, bytes: &[u8]) -> Result<(), WriteFailed>
     ensures { Puts pen.old pen.new result (bytes_json bytes.now) }
 {
@@ -24,6 +25,7 @@ pub fn put_bytes<W: Write>(pen: &mut Pen<'_, W>, bytes: &[u8]) -> Result<(), Wri
 }
 
 /// The bytes of a field of type byte: `null` if all of them are FF.
+#[inline(never)]
 pub fn put_byte_field<W: Write>(pen: &mut Pen<'_, W>, bytes: &[u8]) -> Result<(), WriteFailed>
     ensures { Puts pen.old pen.new result (byte_json bytes.now) }
 {
@@ -35,6 +37,7 @@ pub fn put_byte_field<W: Write>(pen: &mut Pen<'_, W>, bytes: &[u8]) -> Result<()
 }
 
 /// A string, up to its first zero byte. One that is no UTF-8 is read as Latin-1.
+#[inline(never)]
 pub fn put_string<W: Write>(pen: &mut Pen<'_, W>, field: &FieldValue<'_>) -> Result<(), WriteFailed>
     ensures { Puts pen.old pen.new result (string_json field.now.bytes) }
 {

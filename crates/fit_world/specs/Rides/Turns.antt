@@ -149,8 +149,8 @@ Finishes honest old new bytes before after (Err fault) = BrokenOff honest old ne
 
 -- so it went with all bytes that were read
 abbrev pub Records : Bool → Story → Story → Option (List ℕ) → Option (List ℕ) → Option (List ℕ) → Option (List ℕ) → Result ℕ ReportFault → Type 0
-Records honest old new from after before after result =
-    (bytes : List ℕ) × Consumes from after bytes × OnOk result (IsAtEnd after) × Finishes honest old new bytes before after result
+Records honest old new from left before after result =
+    (bytes : List ℕ) × Consumes from left bytes × OnOk result (IsAtEnd left) × Finishes honest old new bytes before after result
 
 -- ---- for the calls
 

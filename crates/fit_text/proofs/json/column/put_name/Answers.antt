@@ -1,6 +1,4 @@
-use Rattle.std.proofs.Common.{ℕ, ap, length, length-append, arith}
-use Rattle.fit_text.proofs.PenLemmas.{puts_stop, puts_same, puts_more}
-use Rattle.fit_text.proofs.JsonLemmas.{name_parts}
+use Rattle.fit_text.proofs.PenLemmas.{puts_stop}
 use Rattle.fit_text.proofs.json.column.put_name.Goals as goal
 
 pub returns-in_err-room : goal.returns-in_err-room

@@ -1,4 +1,4 @@
-use Rattle.std.proofs.Common.{sym, ap, ◌∙◌}
+use Rattle.std.proofs.Common.{ap}
 use Rattle.fit_text.specs.Json.{name_json}
 use Rattle.fit_text.proofs.PenLemmas.{puts_then, puts_stop, puts_same}
 use Rattle.fit_text.proofs.json.message.put_message_name.Goals as goal

@@ -1,5 +1,5 @@
 use Rattle.std.proofs.Common.{◌≡◌, sym, ap, ◌∙◌, arith}
-use Rattle.fit_base.specs.Value.{numbers, value_size, count_of}
+use Rattle.fit_base.specs.Value.{value_size, count_of}
 use Rattle.fit_base.proofs.Values.{length-numbers_of, get_or-numbers_of}
 use Rattle.fit_text.specs.Json.{number_json}
 use Rattle.fit_text.proofs.PenLemmas.{puts_then, puts_stop, puts_same}
