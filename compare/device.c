@@ -2,7 +2,8 @@
 
      device play SCRIPT FOLDER              over the files of a folder, by the host of examples/device
      device cut SCRIPT FOLDER CALL SEED RULE
-                                            over files in memory, whose power goes inside the call of this number (0: after the last)
+                                            over files in memory, whose power goes inside the call of this number (0: after the last,
+                                            -1: not at all)
      device flash SCRIPT FOLDER CALL SEED
                                             over an area of flash, whose power goes inside the programming or erasing of this number; after
                                             that the ride is recovered, and its files are put into the folder
@@ -361,7 +362,12 @@ int main(int count, char **words) {
     }
     play(words[2]);
     look_at_guards();
-    if (in_memory)
+    if (in_memory) {
+        if (left < 0) {
+            keep_all(&memory[0]);
+            keep_all(&memory[1]);
+        }
         power_goes();
+    }
     return 0;
 }

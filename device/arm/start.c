@@ -55,7 +55,7 @@ static void report(void) {
 }
 
 static void run(void) {
-    static char *words[] = {"device", "cut", "script.txt", ".", "0", "1", "0", NULL};
+    static char *words[] = {"device", "cut", "script.txt", ".", "-1", "1", "0", NULL};
     uint8_t here;
     top = &here;
     for (uint8_t *at = (uint8_t *)&_estack_low; at < top - 256; at++)

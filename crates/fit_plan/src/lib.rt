@@ -5,7 +5,8 @@
 //! makes the next step (`Calls`). The plan is an honest disk: its story is that of the files after each planned call was carried
 //! out (`specs/Planned`). `laws` says what a host leaves that was cut off in between.
 //!
-//! It knows the length of the data file, and no content. So every read fails, and so does the length of the journal.
+//! It knows the length of the data file, and no content. So every read fails, and so does the length of the journal. A `LentPlan`
+//! also reads two files that lie in memory, until their first write or cut.
 #![tactic(auto)]
 
 mod calls;
