@@ -8,7 +8,7 @@ async function memoryFor(sizes) {
   const { exports } = await WebAssembly.instantiate(await library);
   let end = Number(exports.__heap_base.value);
   const places = sizes.map(size => {
-    const at = (end + 15) & ~15;
+    const at = 16 * Math.ceil(end / 16);
     end = at + size;
     return at;
   });
@@ -25,7 +25,7 @@ function summaryAt({ number }, at) {
   return { records, laps, sessions, start, elapsed, timer, distance };
 }
 
-// The ride of a recording, as a file without compressed timestamps.
+// The ride of a recording, as a file without compressed timestamps, and its summary.
 async function save(data, journal) {
   const room = data.length + CLOSING_ROOM, outRoom = 2 * data.length + 1024;
   const it = await memoryFor([room, 8, journal.length, 8, outRoom, 8, 28]);
@@ -35,8 +35,9 @@ async function save(data, journal) {
   it.setLong(atLength, data.length);
   it.setLong(atJournalLength, journal.length);
   const code = it.call('fitrec_save', atData, room, atLength, atJournal, journal.length, atJournalLength, atNew, outRoom, atNewLength, atSummary);
-  if (code === NO_ROOM) return plain(it.bytes.slice(atData, atData + it.long(atLength)));
-  return { code, file: it.bytes.slice(atNew, code ? atNew : atNew + it.long(atNewLength)) };
+  const summary = summaryAt(it, atSummary);
+  if (code === NO_ROOM) return { ...await plain(it.bytes.slice(atData, atData + it.long(atLength))), summary };
+  return { code, summary, file: it.bytes.slice(atNew, code ? atNew : atNew + it.long(atNewLength)) };
 }
 
 // The plain form of a file.

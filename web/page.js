@@ -10,17 +10,17 @@ async function bytesOf(file) {
 
 // The two files of a recording.
 async function ofRecording(data, journal) {
-  const { code, file } = await save(await bytesOf(data), await bytesOf(journal));
+  const { code, file, summary } = await save(await bytesOf(data), await bytesOf(journal));
   if (code === 7) return { heading: 'nothing', reason: text('nothingRecorded'), next: text('nothingRecordedNext') };
   if (code === 8) return { heading: 'nothing', reason: text('damaged'), next: text('damagedNext') };
   if (code) return { heading: 'nothing', reason: text('unexpected', { code }) };
-  return { heading: 'saved', reason: text('savedWhy'), file, name: 'ride.fit' };
+  return { heading: 'saved', reason: text('savedWhy'), file, summary, name: 'ride.fit' };
 }
 
 // One file.
 async function ofFile(chosen) {
-  const file = await bytesOf(chosen), { code, place } = await check(file);
-  if (code === 0) return { heading: 'whole', reason: text('wholeWhy'), shown: file };
+  const file = await bytesOf(chosen), { code, place, summary } = await check(file);
+  if (code === 0) return { heading: 'whole', reason: text('wholeWhy'), shown: file, summary };
   if (code > 10) return { heading: 'noActivity', reason: text('fault' + code), shown: file };
   const why = text('fault' + code, { place: place.toLocaleString('en') });
   const made = await salvage(file);
@@ -28,8 +28,8 @@ async function ofFile(chosen) {
   const written = await plain(made.file), saved = written.code ? made.file : written.file;
   const [kept, looked, more] = [made.kept, made.looked, made.more].map(n => n.toLocaleString('en'));
   const reason = text('salvagedWhy', { why, kept, looked }) + (made.more ? ' ' + text('salvagedMore', { more }) : '');
-  const next = (await check(saved)).code ? text('noSummaryNext') : '';
-  return { heading: 'salvaged', reason, next, file: saved, name: chosen.name.replace(/(\.fit)?$/i, '-saved.fit') };
+  const found = await check(saved), next = found.code ? text('noSummaryNext') : '';
+  return { heading: 'salvaged', reason, next, file: saved, summary: found.code ? null : found.summary, name: chosen.name.replace(/(\.fit)?$/i, '-saved.fit') };
 }
 
 function answerTo(files) {
@@ -59,12 +59,12 @@ function numbersOf({ records, laps, start, elapsed, timer, distance }) {
   };
 }
 
-async function present({ heading, reason, next, file, name, shown }) {
-  const ride = file || shown, found = ride && await check(ride);
+async function present({ heading, reason, next, file, name, shown, summary }) {
+  const ride = file || shown;
   byId('heading').textContent = text(heading);
   byId('reason').textContent = reason;
   byId('next').textContent = next || '';
-  byId('numbers').replaceChildren(...(found && found.code === 0 ? Object.entries(numbersOf(found.summary)).map(pair) : []));
+  byId('numbers').replaceChildren(...(summary ? Object.entries(numbersOf(summary)).map(pair) : []));
   byId('pictures').replaceChildren(...(ride ? picturesOf(await show(ride)) : []));
   offer(file, name);
   byId('result').hidden = false;

@@ -26,8 +26,9 @@ pub struct SalvageCounts {
 }
 
 /// Writes a new file into `out`: the longest row of whole items after the header of `bytes`, as `salvage_bytes` of `fit_world`
-/// finds it. Returns 0; 1 to 4 if `bytes` begins with no header (the code of the `FaultKind`); 20 if the file does not fit into
-/// `out`, with its length in `out_len`; 22 if `bytes` has 4294967296 bytes or more. An `out` that is 16 bytes longer than `bytes` is always large enough.
+/// finds it. Returns 0, and the length of the file in `out_len`; 1 to 4 if `bytes` begins with no header (the code of the
+/// `FaultKind`); 20 if the file does not fit into `out`, with its length in `out_len`; 22 if `bytes` has 4294967296 bytes or more. An
+/// `out` that is 16 bytes longer than `bytes` is always large enough.
 #[unsafe(no_mangle)]
 pub extern "C" fn fitrec_salvage(
     bytes: &[u8],
@@ -36,7 +37,9 @@ pub extern "C" fn fitrec_salvage(
     out_len: &mut u64,
     counts: &mut SalvageCounts,
 ) -> u8
+    ensures code { (result ≤ 10) ⊎ ((20 ≤ result) × (result ≤ 22)) }
     ensures ok { result ≡ 0 → IsSalvaged all bytes.now (take out_len.new out.new) counts.new }
+    ensures within { result ≡ 0 → out_len.new ≤ length out.new }
     ensures refused { 1 ≤ result → result ≤ 10
         → (fault : FileFault) × IsNotSalvaged bytes.now fault × (result ≡ kind_code fault.kind) }
     ensures no_room { result ≡ 20 → NeedsRoomToSalvage all bytes.now (length out.old) out_len.new }
@@ -62,6 +65,7 @@ pub extern "C" fn fitrec_salvage(
 fn write_out(salvage: &Salvage<'_>, out: &mut [u8], out_len: &mut u64) -> u8
     ensures code { (result ≡ 0) ⊎ (result ≡ 20) ⊎ (result ≡ 21) }
     ensures ok { result ≡ 0 → take out_len.new out.new ≡ saved_file salvage.now }
+    ensures within { result ≡ 0 → out_len.new ≤ length out.new }
     ensures needed { result ≡ 20 → out_len.new ≡ length (saved_file salvage.now) }
     ensures no_room { result ≡ 20 → length out.old < out_len.new }
 {
