@@ -22,7 +22,8 @@ HERE = pathlib.Path(__file__).resolve().parent
 CLOSING, FRAME = 254, 16
 # The answer that each line of the program on standard error stands for: of a recording, and of a file.
 ANSWERS = {"NothingRecorded": 7, "Damaged": 8, "Truncated": 1, "HeaderSize": 2, "Magic": 3, "Protocol": 4, "HeaderCrc": 5, "UndefinedLocal": 6,
-           "SplitMessage": 7, "FileCrc": 8, "TrailingBytes": 9, "NoFileId": 11, "NotActivity": 12, "NoLap": 13, "NoSession": 14, "NoActivity": 15}
+           "SplitMessage": 7, "FileCrc": 8, "TrailingBytes": 9, "NoFileId": 11, "NotActivity": 12, "NoLap": 13, "NoSession": 14, "NoActivity": 15,
+           "TooLong": 21}
 COMPILERS = {"as it is": ["-O2"], "under sanitizers": ["-g", "-fsanitize=address,undefined", "-fno-sanitize-recover=all"]}
 
 
@@ -150,10 +151,12 @@ def looked_at(fitrec, program, source, mine):
 
 
 def plainly(fitrec, program, source, mine, its):
-    """What differs between the plain form by the library and by the program."""
+    """What differs between the plain form by the library, which gives a place only for a fault of the file, and by the program."""
     said, wanted = run(program, "plain", source, mine), run(fitrec, "plain", source, its)
+    answer = answer_of(wanted)
     place = re.match(r"fitrec: \w+(?:\(\d+\))? at (\d+)$", wanted[2].strip())
-    difference = differs((said, bytes_of(mine)), ((0, "%d\n%s" % (answer_of(wanted), "at %s\n" % place[1] if place else ""), ""), bytes_of(its)))
+    lines = "%d\n%s" % (answer, "at %s\n" % place[1] if 1 <= answer <= 9 else "")
+    difference = differs((said, bytes_of(mine)), ((0, lines, ""), bytes_of(its)))
     mine.unlink(missing_ok=True)
     its.unlink(missing_ok=True)
     return difference
