@@ -142,7 +142,7 @@ static void plain(char **words) {
         look_at_guards(out);
     }
     printf("%u\n", answer);
-    if (answer)
+    if (answer && answer <= FITREC_TRAILING_BYTES)
         printf("at %llu\n", (unsigned long long)place);
     look_at_guards(in);
 }
