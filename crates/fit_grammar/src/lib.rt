@@ -33,7 +33,7 @@ mod plain;
 mod to_writer;
 
 pub use definition::{
-    Definition, DefinitionMessage, DeveloperFieldDefinition, FieldDefinition, Table,
+    Definition, DefinitionMessage, Definitions, DeveloperFieldDefinition, FieldDefinition, ShortDefinition, ShortTable, Table,
 };
 pub use file::{
     Decoder, EncodeFault, FaultKind, File, FileFault, Frame, Header, LentFile, Places, PutFault,
