@@ -1,7 +1,7 @@
 use Rattle.std.proofs.Common.{ℕ, ◌≡◌, ◌+◌, ◌-◌, ◌*◌, ◌/◌, ◌≤◌, take, drop, length, length-drop, take_all, refl, ap, ◌∙◌, arith}
 use Rattle.fit_base.specs.Checksum.{crc_from}
 use Rattle.fit_base.proofs.Register.{crc_from-take, crc_from-drop}
-use Rattle.fit_base.proofs.checksum.after_bytes.Goals as goal
+use Rattle.fit_base.proofs.checksum.after_blocks.Goals as goal
 
 pub loop-k-init : goal.loop-k-init
 unfolding crc_from
