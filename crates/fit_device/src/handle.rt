@@ -1,6 +1,6 @@
 // A recorder in the memory of C.
 
-ghost use Rattle.std.specs.Prelude.{◌≡◌, ◌↔◌, true, length, IsSome, IsTrue, IfSome, IfNone};
+ghost use Rattle.std.specs.Prelude.{◌≡◌, ◌↔◌, true, false, length, IsTrue};
 ghost use Rattle.fit_disk.specs.Calls.{IsSound};
 ghost use Rattle.fit_device.specs.Planned.{carried_out};
 ghost use Rattle.fit_device.specs.Sealed.{IsSealed, GoesOnIn};
@@ -62,35 +62,35 @@ impl Handle {
         ensures story { story_of self.new ≡ story_in files }
         ensures planned { carried_out plan.new (since_in files) ≡ story_in files }
     {
-        let Plan {
-            calls,
-            size,
-            notes,
-            ..
-        } = files;
-        plan.fill(&calls);
+        plan.fill(&files.calls);
+        let Plan { size, notes, .. } = files;
         self.mark = 0;
         self.data_size = size;
         self.notes = notes;
     }
 
-    // Takes the recorder out of the handle, which is none of a recorder then. `None` if it was none before.
-    pub(crate) fn take(&mut self) -> Option<Recorder<Plan>>
-        ensures some { IsSome result ↔ IsRecorder self.old }
-        ensures none { IfNone result (self.new ≡ self.old) }
-        ensures state { IfSome result (λ recorder. state_of recorder ≡ state_in self.old.recorder) }
-        ensures failed { IfSome result (λ recorder. has_failed recorder ≡ has_failed_in self.old.recorder) }
-        ensures story { IfSome result (λ recorder. story_in (disk_of recorder) ≡ story_of self.old) }
-        ensures since { IfSome result (λ recorder. since_in (disk_of recorder) ≡ story_of self.old) }
-        ensures goes_on { IfSome result (GoesOn true story_in) }
+    // Makes this recorder the one in the handle, which is none of a recorder then. Reports whether it was one before.
+    pub(crate) fn take(&mut self, recorder: &mut Recorder<Plan>) -> bool
+        ensures was { IsTrue result ↔ IsRecorder self.old }
+        ensures none { result ≡ false → self.new ≡ self.old }
+        ensures state { result ≡ true → state_of recorder.new ≡ state_in self.old.recorder }
+        ensures failed { result ≡ true → has_failed recorder.new ≡ has_failed_in self.old.recorder }
+        ensures story { result ≡ true → story_in (disk_of recorder.new) ≡ story_of self.old }
+        ensures since { result ≡ true → since_in (disk_of recorder.new) ≡ story_of self.old }
+        ensures goes_on { result ≡ true → GoesOn true story_in recorder.new }
     {
         if !self.is_recorder() {
-            return None;
+            return false;
         }
-        match Recorder::thaw(self.take_files(), &self.recorder) {
-            Ok(recorder) => Some(Thawed { recorder }.into_recorder()),
-            Err(_) => None,
+        recorder.put_disk(self.take_files());
+        if !recorder.thaw(&self.recorder) {
+            return false;
         }
+        Thawed {
+            recorder: &*recorder,
+        }
+        .reveal();
+        true
     }
 
     // Puts a recorder into the handle, and its calls into the plan.
@@ -103,7 +103,7 @@ impl Handle {
         ensures planned { carried_out plan.new (since_in (disk_of recorder)) ≡ story_in (disk_of recorder) }
     {
         self.mark = 0;
-        self.recorder = recorder.freeze();
+        recorder.freeze(&mut self.recorder);
         self.seal_with(recorder.into_disk(), plan);
     }
 
@@ -117,7 +117,7 @@ impl Handle {
         ensures planned { carried_out plan.new (lent_since (disk_of recorder.entry)) ≡ lent_story (disk_of recorder.entry) }
     {
         self.mark = 0;
-        self.recorder = recorder.freeze();
+        recorder.freeze(&mut self.recorder);
         let LentPlan { plan: files, .. } = recorder.into_disk();
         self.seal_with(files, plan);
     }
@@ -130,16 +130,16 @@ impl Handle {
         ensures story { story_of self.new ≡ story_in files }
         ensures planned { carried_out plan.new (since_in files) ≡ story_in files }
     {
-        let Plan {
-            calls,
-            size,
-            notes,
-            ..
-        } = files;
-        plan.fill(&calls);
+        plan.fill(&files.calls);
+        let Plan { size, notes, .. } = files;
         self.seal = seal_of(&self.recorder, size);
         self.mark = MARK;
         self.data_size = size;
         self.notes = notes;
     }
+}
+
+// Two empty files, for a recorder that has none yet.
+pub(crate) fn no_files() -> Plan {
+    Plan::over(0, Notes::new())
 }

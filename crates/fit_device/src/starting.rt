@@ -7,7 +7,7 @@ ghost use Rattle.fit_device.specs.Starts.{Starts};
 ghost use Rattle.fit_device.specs.Steps.{Commits, Stops};
 
 use crate::answer::{NO_RECORDER, NO_SPORT, code_of, code_of_fault};
-use crate::handle::Handle;
+use crate::handle::{Handle, no_files};
 use crate::plan::DevicePlan;
 use fit_activity::{Sport, Start};
 use fit_recorder::Recorder;
@@ -52,10 +52,11 @@ pub extern "C" fn fitrec_start(
 pub extern "C" fn fitrec_commit(handle: &mut Handle, plan: &mut DevicePlan) -> u8
     ensures { Commits handle.old handle.new plan.new result }
 {
-    let Some(mut recorder) = handle.take() else {
+    let mut recorder = Recorder::idle(no_files());
+    if !handle.take(&mut recorder) {
         plan.clear();
         return NO_RECORDER;
-    };
+    }
     let answer = recorder.commit();
     handle.put(recorder, plan);
     code_of(&answer)
@@ -67,10 +68,11 @@ pub extern "C" fn fitrec_commit(handle: &mut Handle, plan: &mut DevicePlan) -> u
 pub extern "C" fn fitrec_stop(handle: &mut Handle, time: u32, plan: &mut DevicePlan) -> u8
     ensures { Stops time handle.old handle.new plan.new result }
 {
-    let Some(mut recorder) = handle.take() else {
+    let mut recorder = Recorder::idle(no_files());
+    if !handle.take(&mut recorder) {
         plan.clear();
         return NO_RECORDER;
-    };
+    }
     let answer = recorder.stop(time);
     handle.put(recorder, plan);
     code_of(&answer)

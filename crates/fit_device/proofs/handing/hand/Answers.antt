@@ -1,4 +1,4 @@
-use Rattle.std.proofs.Common.{refl, ap, subst, ◌++◌, ◌∷◌, []}
+use Rattle.std.proofs.Common.{rules, refl, ap, subst, ◌++◌, ◌∷◌, []}
 use Rattle.fit_activity.specs.Rides.Recording.{Added}
 use Rattle.fit_recorder.specs.Calls.Answers.{HandAnswers}
 use Rattle.fit_recorder.specs.Files.Body.{StandsFor}
@@ -11,15 +11,15 @@ returns c =
     let old = c.args.handle.now in
     let new = c.put.new.self in
     let plan = c.put.new.plan in
-    let before = c.in-Some.recorder in
+    let before = c.take.new.recorder in
     let after = c.hand-answer.new.self in
     let did = c.hand-answer.ensures in
     let taken : IsTaken old before = record {
-      is_recorder = c.in-Some.ensures.some.0 refl;
-      state = c.in-Some.ensures.state;
-      failed = c.in-Some.ensures.failed;
-      story = c.in-Some.ensures.story;
-      since = c.in-Some.ensures.since;
+      is_recorder = c.if-not-take.ensures.was.0 refl;
+      state = c.if-not-take.ensures.state refl;
+      failed = c.if-not-take.ensures.failed refl;
+      story = c.if-not-take.ensures.story refl;
+      since = c.if-not-take.ensures.since refl;
     } in
     let put : IsPut new plan after = record {
       is_recorder = c.put.ensures.recorder;
@@ -44,3 +44,6 @@ returns c =
       any_moment = λ list committed held.
           throughout new plan after put old before taken (StandsFor committed) (did.any_moment refl list committed (stood old before taken list committed held));
     }
+
+pub returns-then-not-take : goal.returns-then-not-take
+returns-then-not-take c = search rules

@@ -1,4 +1,4 @@
-use Rattle.std.proofs.Common.{◌⊎◌, ◌++◌, ◌∷◌, [], refl, sym, subst}
+use Rattle.std.proofs.Common.{rules, ◌⊎◌, ◌++◌, ◌∷◌, [], refl, sym, subst}
 use Rattle.fit_activity.specs.declared.recording.entry.Entry.TheVariants.{Stop}
 use Rattle.fit_activity.specs.Rides.Recording.{Added}
 use Rattle.fit_disk.specs.State.{Contents}
@@ -13,15 +13,15 @@ returns c =
     let old = c.args.handle.now in
     let new = c.put.new.self in
     let plan = c.put.new.plan in
-    let before = c.in-Some.recorder in
+    let before = c.take.new.recorder in
     let after = c.stop-answer.new.self in
     let did = c.stop-answer.ensures in
     let taken : IsTaken old before = record {
-      is_recorder = c.in-Some.ensures.some.0 refl;
-      state = c.in-Some.ensures.state;
-      failed = c.in-Some.ensures.failed;
-      story = c.in-Some.ensures.story;
-      since = c.in-Some.ensures.since;
+      is_recorder = c.if-not-take.ensures.was.0 refl;
+      state = c.if-not-take.ensures.state refl;
+      failed = c.if-not-take.ensures.failed refl;
+      story = c.if-not-take.ensures.story refl;
+      since = c.if-not-take.ensures.since refl;
     } in
     let put : IsPut new plan after = record {
       is_recorder = c.put.ensures.recorder;
@@ -44,3 +44,6 @@ returns c =
           throughout new plan after put old before taken (λ (contents : Contents). StandsFor committed contents ⊎ StandsFor (list ++ Added (Stop c.args.time) ∷ []) contents)
           (did.any_moment refl list committed (stood old before taken list committed held));
     }
+
+pub returns-then-not-take : goal.returns-then-not-take
+returns-then-not-take c = search rules
