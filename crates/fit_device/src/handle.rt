@@ -82,7 +82,8 @@ impl Handle {
         if !self.is_recorder() {
             return false;
         }
-        recorder.put_disk(self.take_files());
+        let mut files = self.take_files();
+        recorder.swap_disk(&mut files);
         if !recorder.thaw(&self.recorder) {
             return false;
         }
@@ -93,18 +94,20 @@ impl Handle {
         true
     }
 
-    // Puts a recorder into the handle, and its calls into the plan.
-    pub(crate) fn put(&mut self, recorder: Recorder<Plan>, plan: &mut DevicePlan)
-        requires { GoesOn true story_in recorder }
+    // Puts a recorder into the handle, and its calls into the plan. It takes the files out of the recorder.
+    pub(crate) fn put(&mut self, recorder: &mut Recorder<Plan>, plan: &mut DevicePlan)
+        requires { GoesOn true story_in recorder.old }
         ensures recorder { IsRecorder self.new }
-        ensures state { state_in self.new.recorder ≡ state_of recorder }
-        ensures failed { has_failed_in self.new.recorder ≡ has_failed recorder }
-        ensures story { story_of self.new ≡ story_in (disk_of recorder) }
-        ensures planned { carried_out plan.new (since_in (disk_of recorder)) ≡ story_in (disk_of recorder) }
+        ensures state { state_in self.new.recorder ≡ state_of recorder.old }
+        ensures failed { has_failed_in self.new.recorder ≡ has_failed recorder.old }
+        ensures story { story_of self.new ≡ story_in (disk_of recorder.old) }
+        ensures planned { carried_out plan.new (since_in (disk_of recorder.old)) ≡ story_in (disk_of recorder.old) }
     {
         self.mark = 0;
         recorder.freeze(&mut self.recorder);
-        self.seal_with(recorder.into_disk(), plan);
+        let mut files = no_files();
+        recorder.swap_disk(&mut files);
+        self.seal_with(files, plan);
     }
 
     // Puts a recorder over lent files into the handle, and its calls into the plan.

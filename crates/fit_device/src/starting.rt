@@ -36,8 +36,8 @@ pub extern "C" fn fitrec_start(
         sport,
     };
     match Recorder::start(handle.take_files(), start) {
-        Ok(recorder) => {
-            handle.put(recorder, plan);
+        Ok(mut recorder) => {
+            handle.put(&mut recorder, plan);
             0
         }
         Err((disk, fault)) => {
@@ -58,7 +58,7 @@ pub extern "C" fn fitrec_commit(handle: &mut Handle, plan: &mut DevicePlan) -> u
         return NO_RECORDER;
     }
     let answer = recorder.commit();
-    handle.put(recorder, plan);
+    handle.put(&mut recorder, plan);
     code_of(&answer)
 }
 
@@ -74,7 +74,7 @@ pub extern "C" fn fitrec_stop(handle: &mut Handle, time: u32, plan: &mut DeviceP
         return NO_RECORDER;
     }
     let answer = recorder.stop(time);
-    handle.put(recorder, plan);
+    handle.put(&mut recorder, plan);
     code_of(&answer)
 }
 

@@ -14,6 +14,7 @@ use fit_activity::{FrozenTotals, Speech, Sport, Start, Totals};
 use fit_base::Crc;
 use fit_disk::Disk;
 use fit_journal::{FrozenJournal, Journal};
+use std::mem;
 
 /// A definition in force: the first so many bytes spell it.
 #[repr(C)]
@@ -60,6 +61,16 @@ impl<D: Disk> Recorder<D> {
         }
     }
 
+    /// Swaps the disk of the recorder and this one.
+    pub fn swap_disk(&mut self, disk: &mut D)
+        ensures disk { disk_of self.new ≡ disk.old }
+        ensures old { disk.new ≡ disk_of self.old }
+        ensures state { state_of self.new ≡ state_of self.old }
+        ensures failed { has_failed self.new ≡ has_failed self.old }
+    {
+        mem::swap(&mut self.files.disk, disk);
+    }
+
     /// Writes the recorder as plain numbers, without its disk.
     pub fn freeze(&self, numbers: &mut FrozenRecorder)
         ensures state { state_in numbers.new ≡ state_of self.now }
@@ -100,17 +111,6 @@ impl<D: Disk> Recorder<D> {
         thaw_page(&numbers.page, numbers.page_len, &mut self.files.page);
         thaw_definitions(&numbers.definitions, &mut self.spelling.slots);
         true
-    }
-}
-
-impl<D: Disk + Drop> Recorder<D> {
-    /// Gives the recorder another disk.
-    pub fn put_disk(&mut self, disk: D)
-        ensures disk { disk_of self.new ≡ disk }
-        ensures state { state_of self.new ≡ state_of self.old }
-        ensures failed { has_failed self.new ≡ has_failed self.old }
-    {
-        self.files.disk = disk;
     }
 }
 

@@ -11,13 +11,13 @@ pub invariant_of-reveal : goal.invariant_of-reveal
 invariant_of-reveal c =
     let old = c.args.self.now in
     let sealed : IsRecorder old = c.if-not-is_recorder.ensures.0 refl in
-    let same = c.take_files.ensures.recorder in
+    let same = c.take_files-files.ensures.recorder in
     let thawed = c.if-not-thaw.ensures in
     record {
       goes_on = ∥∥₁_map (old.believed sealed) (λ (believed : GoesOnIn old.recorder old.notes.story).
           goes_on_at _ _ _ _ _ _
           (sym (thawed.state refl ∙ ap state_in same))
           (sym (thawed.failed refl ∙ ap has_failed_in same))
-          (sym (ap story_in (thawed.disk ∙ c.put_disk.ensures.disk) ∙ c.take_files.ensures.story))
+          (sym (ap story_in (thawed.disk ∙ c.swap_disk.ensures.disk) ∙ c.take_files-files.ensures.story))
           believed.goes_on);
     }
