@@ -43,7 +43,7 @@ MACHINE = {"wasm-opt": "binaryen", "wasm2c": "wabt", "arm-none-eabi-gcc": "gcc-a
 QEMU = ["qemu-system-arm", "-M", "mps2-an386", "-display", "none", "-monitor", "none", "-serial", "none", "-semihosting-config",
         "enable=on,target=native", "-kernel"]
 # The room for the module's stack, and the most bytes that rides take of it and of the machine's, the C library's printing included.
-STACK, MODULE_STACK, MACHINE_STACK = 65536 - 64, 49152, 8192
+STACK, MODULE_STACK, MACHINE_STACK = 65536 - 64, 16384, 8192
 # What a host does that breaks a rule, by its number.
 BROKEN = {1: "a call is left out", 2: "the calls are made in another order", 3: "the answer comes before the calls",
           4: "the recording goes on after a failed call", 5: "a sync keeps nothing"}

@@ -2,6 +2,7 @@
 
 ghost use Rattle.std.specs.Prelude.{◌≡◌, ◌<◌, ◌≤◌};
 
+mod frozen;
 pub(crate) mod kept;
 pub(crate) mod latest;
 pub(crate) mod lent;
@@ -10,6 +11,7 @@ mod table;
 
 use arrayvec::ArrayVec;
 use fit_base::Arch;
+pub use frozen::FrozenShort;
 pub use lent::DefinitionMessage;
 pub use short::{ShortDefinition, ShortTable};
 pub use table::{Definitions, Table};

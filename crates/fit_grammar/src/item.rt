@@ -119,7 +119,7 @@ pub(crate) fn least_under(
 }
 
 // The least number of bytes of a definition: six, then those of its fields, then those of its developer fields.
-fn definition_length(window: &[u8], announced: bool) -> usize
+pub(crate) fn definition_length(window: &[u8], announced: bool) -> usize
     ensures length { result ≡ definition_length_of announced window.now }
     ensures bound { result ≤ 1537 }
 {

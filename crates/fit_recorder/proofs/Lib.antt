@@ -5,4 +5,3 @@ pub mod FinishedFile
 pub mod RecoveredList
 mod ResumedRide
 mod ErasedFiles
-mod Filled

@@ -1,10 +1,13 @@
 -- How many bytes a definition has, and how many it is written as: for `DefinitionMessage::size` and short definitions.
-use Rattle.std.proofs.Common.{◌≡◌, ◌≢◌, ℕ, ◌+◌, ◌*◌, ◌≤◌, Bool, true, false, List, [], ◌∷◌, length, refl, arith}
+use Rattle.std.proofs.Common.{◌≡◌, ◌≢◌, ℕ, ◌+◌, ◌*◌, ◌%◌, ◌≤◌, Bool, true, false, cond, List, [], ◌∷◌, length, refl, sym, ap, ◌∙◌, subst, arith}
 use Rattle.std.specs.Prelude.{slice_index}
 use Rattle.fit_grammar.specs.declared.definition.DeveloperFieldDefinition.{DeveloperFieldDefinition}
-use Rattle.fit_grammar.specs.Format.Item.{Defines, item_size, part_size, has_any}
+use Rattle.std.proofs.lemmas.Bool.{lt-ltb}
+use Rattle.std.proofs.lemmas.List.{take_all}
+use Rattle.fit_grammar.specs.Format.Item.{Defines, DefinitionHead, head_of, item_size, part_size, has_any}
+use Rattle.fit_grammar.specs.Calls.Step.{after_fields, definition_length_of}
 use Rattle.fit_grammar.specs.Private.DefinitionBytes.{definition_at, AreDefinition}
-use Rattle.fit_grammar.proofs.OneItem.DefinitionRead.{definition_spelled}
+use Rattle.fit_grammar.proofs.OneItem.DefinitionRead.{definition_spelled, front_is, all_fields}
 use Rattle.fit_grammar.proofs.OneItem.Spelling.{definition_length, definition_count}
 
 -- the part for developer fields has one byte, for their number, exactly if it announces none
@@ -42,3 +45,23 @@ spelled_length bytes are =
     let spelled = definition_spelled bytes are in
     let whole = definition_length d bytes spelled in
     at_most spelled.announced d.developer.items spelled.none (6 + 3 * length d.fields.items) (length bytes) whole
+
+-- bytes are those of a definition exactly if they have its length
+pub definition_whole : (bytes : List ℕ) (l : ℕ) (announced : Bool) → head_of (slice_index bytes 0) ≡ DefinitionHead l announced
+    → 1 ≤ length bytes → definition_length_of announced bytes ≡ length bytes → AreDefinition bytes
+definition_whole bytes l announced head some whole =
+    subst AreDefinition (take_all (length bytes) bytes (omega arith))
+    (front_is bytes l (length bytes) announced head some (sym whole) (omega arith))
+
+after_whole : (announced : Bool) (end : ℕ) (bytes : List ℕ) → length bytes ≡ end + part_size announced (slice_index bytes end)
+    → after_fields announced end bytes ≡ length bytes
+after_whole false end bytes whole = omega (arith, whole)
+after_whole true end bytes whole = ap (λ (t : Bool). cond t (end + part_size true (slice_index bytes end)) (end + part_size true 0)) (lt-ltb end (length bytes) (omega (arith, whole))) ∙ sym whole
+
+pub whole_definition : (bytes : List ℕ) (l : ℕ) (announced : Bool) → head_of (slice_index bytes 0) ≡ DefinitionHead l announced
+    → AreDefinition bytes → definition_length_of announced bytes ≡ length bytes
+whole_definition bytes l announced head are =
+    let same : DefinitionHead (slice_index bytes 0 % 16) are.announced ≡ DefinitionHead l announced = sym are.head ∙ head in
+    let announces : are.announced ≡ announced = cc in
+    all_fields announced bytes (omega (arith, are.fields))
+    ∙ after_whole announced (6 + 3 * slice_index bytes 5) bytes (subst (λ (a : Bool). length bytes ≡ 6 + 3 * slice_index bytes 5 + part_size a (slice_index bytes (6 + 3 * slice_index bytes 5))) announces are.whole)

@@ -2,7 +2,7 @@ use Rattle.std.proofs.Common.{◌+◌, take, ap, ◌∙◌, rules, arith}
 use Rattle.std.proofs.lemmas.List.{map-set}
 use Rattle.std.proofs.lemmas.List.{length-map}
 use Rattle.fit_recorder.specs.Calls.Frozen.{definition_in, definitions_in}
-use Rattle.fit_recorder.proofs.Filled.{next_filled, all_filled}
+use Rattle.fit_grammar.proofs.Filled.{next_filled, all_filled}
 use Rattle.fit_recorder.proofs.frozen.freeze_definitions.Goals as goal
 
 pub loop-k-preserved : goal.loop-k-preserved
