@@ -1,5 +1,5 @@
 -- A list made of eight elements, one after another.
-use Rattle.std.proofs.Common.{◌≡◌, ℕ, List, [], ◌∷◌, length, get_or, arith}
+use Rattle.std.proofs.Common.{◌≡◌, List, [], ◌∷◌, length, get_or, arith}
 use Rattle.std.specs.Prelude.{map}
 
 module _ {X Y : Type 0} (f : X → Y) (d0 d1 d2 d3 d4 d5 d6 d7 : X) where
