@@ -39,6 +39,7 @@ pub struct Handle {
 
 impl Handle {
     ghost use Rattle.fit_device.specs.Handle.{story_of, IsRecorder};
+    ghost use Rattle.fit_device.specs.Taken.{IsTaken, IsPut};
 
     fn is_recorder(&self) -> bool
         ensures { IsTrue result ↔ IsRecorder self.now }
@@ -78,10 +79,7 @@ impl Handle {
     pub(crate) fn take(&mut self) -> Option<Recorder<Plan>>
         ensures some { IsSome result ↔ IsRecorder self.old }
         ensures none { IfNone result (self.new ≡ self.old) }
-        ensures state { IfSome result (λ recorder. state_of recorder ≡ state_in self.old.recorder) }
-        ensures failed { IfSome result (λ recorder. has_failed recorder ≡ has_failed_in self.old.recorder) }
-        ensures story { IfSome result (λ recorder. story_in (disk_of recorder) ≡ story_of self.old) }
-        ensures since { IfSome result (λ recorder. since_in (disk_of recorder) ≡ story_of self.old) }
+        ensures taken { IfSome result (IsTaken self.old) }
         ensures goes_on { IfSome result (GoesOn true story_in) }
     {
         if !self.is_recorder() {
@@ -96,11 +94,7 @@ impl Handle {
     // Puts a recorder into the handle, and its calls into the plan.
     pub(crate) fn put(&mut self, recorder: Recorder<Plan>, plan: &mut DevicePlan)
         requires { GoesOn true story_in recorder }
-        ensures recorder { IsRecorder self.new }
-        ensures state { state_in self.new.recorder ≡ state_of recorder }
-        ensures failed { has_failed_in self.new.recorder ≡ has_failed recorder }
-        ensures story { story_of self.new ≡ story_in (disk_of recorder) }
-        ensures planned { carried_out plan.new (since_in (disk_of recorder)) ≡ story_in (disk_of recorder) }
+        ensures { IsPut self.new plan.new recorder }
     {
         self.mark = 0;
         self.recorder = recorder.freeze();
@@ -114,7 +108,8 @@ impl Handle {
         ensures state { state_in self.new.recorder ≡ state_of recorder.entry }
         ensures failed { has_failed_in self.new.recorder ≡ has_failed recorder.entry }
         ensures story { story_of self.new ≡ lent_story (disk_of recorder.entry) }
-        ensures planned { carried_out plan.new (lent_since (disk_of recorder.entry)) ≡ lent_story (disk_of recorder.entry) }
+        ensures planned { carried_out plan.new (lent_since (disk_of recorder.entry))
+            ≡ lent_story (disk_of recorder.entry) }
     {
         self.mark = 0;
         self.recorder = recorder.freeze();

@@ -3,9 +3,11 @@ use Rattle.std.proofs.Math.Logic.{∥∥₁_map}
 use Rattle.std.proofs.lemmas.Grind.{not_there}
 use Rattle.fit_device.specs.Handle.{IsRecorder}
 use Rattle.fit_device.specs.Sealed.{GoesOnIn}
-use Rattle.fit_plan.specs.Plan.{story_in}
+use Rattle.fit_plan.specs.declared.plan.Plan.{Plan}
+use Rattle.fit_plan.specs.Plan.{story_in, since_in}
+use Rattle.fit_recorder.specs.declared.recorder.Recorder.{Recorder}
 use Rattle.fit_recorder.specs.Calls.Frozen.{state_in, has_failed_in, IsPossible}
-use Rattle.fit_recorder.specs.Calls.Recorder.{state_of, has_failed}
+use Rattle.fit_recorder.specs.Calls.Recorder.{state_of, has_failed, disk_of}
 use Rattle.fit_device.proofs.Stepping.{goes_on_at}
 use Rattle.fit_device.proofs.handle.Handle.take.Goals as goal
 
@@ -23,11 +25,17 @@ invariant_of-into_recorder c =
           believed.goes_on);
     }
 
-pub returns-in-Ok-clause-state : goal.returns-in-Ok-clause-state
-returns-in-Ok-clause-state c = ap state_of c.into_recorder.ensures.same ∙ c.in-Ok.ensures.state ∙ ap state_in c.take_files.ensures.recorder
-
-pub returns-in-Ok-clause-failed : goal.returns-in-Ok-clause-failed
-returns-in-Ok-clause-failed c = ap has_failed c.into_recorder.ensures.same ∙ c.in-Ok.ensures.failed ∙ ap has_failed_in c.take_files.ensures.recorder
+pub returns-in-Ok-clause-taken : goal.returns-in-Ok-clause-taken
+returns-in-Ok-clause-taken c =
+    let same = c.into_recorder.ensures.same in
+    let disk = c.in-Ok.ensures.disk in
+    record {
+      is_recorder = c.if-not-is_recorder.ensures.0 refl;
+      state = ap state_of same ∙ c.in-Ok.ensures.state ∙ ap state_in c.take_files.ensures.recorder;
+      failed = ap has_failed same ∙ c.in-Ok.ensures.failed ∙ ap has_failed_in c.take_files.ensures.recorder;
+      story = ap (λ (recorder : Recorder Plan). story_in (disk_of recorder)) same ∙ ap story_in disk ∙ c.take_files.ensures.story;
+      since = ap (λ (recorder : Recorder Plan). since_in (disk_of recorder)) same ∙ ap since_in disk ∙ c.take_files.ensures.since;
+    }
 
 never : goal.In-Err → ⊥
 never c =
