@@ -1,9 +1,10 @@
 -- Turns with one turn more, the lines with one byte more, and what is left at the end: for `recording`.
-use Rattle.std.proofs.Common.{◌≡◌, ◌≢◌, ◌+◌, ◌==◌, ℕ, Bool, true, false, List, [], ◌∷◌, ◌++◌, Option, Some, None, Result, Ok, Err, length, refl, ◌∙◌, ap, append-nil, append_assoc, subst, arith, sym, rules}
-use Rattle.std.specs.Prelude.{IsTrue, IfSome, IsSome}
+use Rattle.std.proofs.Common.{◌≡◌, ◌≢◌, ◌<◌, ◌≤◌, ◌+◌, ◌*◌, ◌==◌, ℕ, Bool, true, false, List, [], ◌∷◌, ◌++◌, Option, Some, None, Result, Ok, Err, OnOk, OnErr, length, refl, ◌∙◌, ap, append-nil, append_assoc, length-append, subst, arith, codes, sym, inl, inr, eq-eqb, rules, if◌then◌else◌}
+use Rattle.std.specs.Prelude.{IsTrue, IfErr, IfSome, IsSome}
 use Rattle.std.specs.Borrow.{Bor}
 use Rattle.fit_world.specs.declared.command.Command.{Command}
 use Rattle.fit_world.specs.Scripts.Script.{meaning_of}
+use Rattle.std.specs.List.{flat_map}
 use Rattle.std.proofs.KnownBytes.{Appends-trans, Appends-nil}
 use Rattle.std.proofs.lemmas.Grind.{flat_map-append}
 use Rattle.std.specs.Io.KnownBytes.{Appends}
@@ -11,16 +12,20 @@ use Rattle.fit_disk.specs.Story.{Story}
 use Rattle.fit_grammar.specs.Calls.Output.{WritesText}
 use Rattle.fit_world.specs.declared.event.Event.{Event}
 use Rattle.fit_world.specs.declared.fault.ReportFault.{ReportFault}
+use Rattle.fit_world.specs.declared.fault.ReportFault.TheVariants.{File, Activity, Output, Input, Plain}
 use Rattle.fit_world.specs.declared.recording.line_fault.LineFault.{LineFault}
 use Rattle.fit_world.specs.declared.recording.session.Session.{Session}
 use Rattle.fit_world.specs.declared.reply.Reply.{Reply}
+use Rattle.fit_world.specs.declared.ride.Ride.{Ride}
+use Rattle.fit_world.specs.Histories.Claims.{Claim}
 use Rattle.fit_world.specs.Histories.Table.{History, Idle, Step, ended}
+use Rattle.fit_world.specs.Printed.Shown.{IsOutputFault}
 use Rattle.fit_world.specs.Rides.Played.{GoesTo, LeavesAfter}
-use Rattle.fit_world.specs.Rides.Replies.{MayReply, MayReplyAll, rides_on}
+use Rattle.fit_world.specs.Rides.Replies.{MayReply, MayReplyAll, is_ok, rides_on}
 use Rattle.fit_world.specs.Rides.Ride.{is_riding}
 use Rattle.fit_world.specs.Rides.Standing.{StandsIn, GoesBy, Rests, content_of, outcome}
-use Rattle.fit_world.specs.Rides.Turns.{commit_at, Turn, Asked, Faulty, turn_text, turns_text, events_in, replies_in, count_of, refused_in, rides_after, AnswersLine, AnswersLines, IsEnd, CutShort, Prints, SoFar, Ended}
-use Rattle.fit_world.specs.Scripts.Heard.{Heard, after_byte, after_bytes, heard_in, line_of}
+use Rattle.fit_world.specs.Rides.Turns.{commit_at, Turn, Asked, Faulty, turn_text, turns_text, events_in, replies_in, count_of, refused_in, rides_after, AnswersLine, AnswersLines, IsByItself, IsEnd, CutShort, Prints, Does, BrokenOff, Finishes, SoFar, Ended}
+use Rattle.fit_world.specs.Scripts.Heard.{Heard, after_byte, after_bytes, heard_in, line_of, lines_in, last_line}
 
 -- ---- one turn more
 

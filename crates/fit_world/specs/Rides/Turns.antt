@@ -19,7 +19,7 @@ use Rattle.fit_world.specs.Printed.FaultyLines.{faulty_text}
 use Rattle.fit_world.specs.Printed.ReplyLines.{line_text}
 use Rattle.fit_world.specs.Rides.Played.{GoesTo, LeavesAfter}
 use Rattle.fit_world.specs.Rides.Replies.{MayReplyAll, is_ok, rides_on}
-use Rattle.fit_world.specs.Rides.Ride.{is_riding}
+use Rattle.fit_world.specs.Rides.Ride.{CanGoOn, is_riding}
 use Rattle.fit_world.specs.Rides.Standing.{StandsIn, Rests}
 use Rattle.fit_world.specs.Scripts.Heard.{lines_in}
 use Rattle.fit_world.specs.Scripts.Replayed.{is_simulated}

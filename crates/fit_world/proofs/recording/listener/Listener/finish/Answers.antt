@@ -1,4 +1,4 @@
-use Rattle.std.proofs.Common.{◌++◌}
+use Rattle.std.proofs.Common.{◌++◌, arith}
 use Rattle.fit_world.proofs.Reported.Heard.{finished_whole, finished_last, failed_last}
 use Rattle.fit_world.proofs.recording.listener.Listener.finish.Goals as goal
 

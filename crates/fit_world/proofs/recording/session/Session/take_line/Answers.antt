@@ -1,4 +1,4 @@
-use Rattle.std.proofs.Common.{◌≡◌, ◌+◌, Some, None, [], ◌∷◌, append-nil, refl, ◌∙◌, inl, inr, sym, arith}
+use Rattle.std.proofs.Common.{◌≡◌, ◌+◌, Some, None, [], ◌∷◌, append-nil, refl, ap, ◌∙◌, inl, inr, sym, arith}
 use Rattle.fit_world.specs.Rides.Turns.{Asked, Faulty}
 use Rattle.fit_world.proofs.Reported.Recorded.{line_means, prints_none, so_far_same, so_far_faulty}
 use Rattle.fit_world.proofs.recording.session.Session.take_line.Goals as goal
