@@ -2,6 +2,7 @@ pub mod Seal
 pub mod Sealed
 pub mod Handle
 pub mod Planned
+pub mod Taken
 pub mod Sampled
 pub mod Answer
 pub mod Steps

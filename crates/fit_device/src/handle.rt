@@ -39,6 +39,7 @@ pub struct Handle {
 
 impl Handle {
     ghost use Rattle.fit_device.specs.Handle.{story_of, IsRecorder};
+    ghost use Rattle.fit_device.specs.Taken.{IsTaken, IsPut};
 
     fn is_recorder(&self) -> bool
         ensures { IsTrue result ↔ IsRecorder self.now }
@@ -57,6 +58,7 @@ impl Handle {
         self.mark = 0;
         plan
     }
+
     // Puts the two files into the handle, which is none of a recorder, and their calls into the plan.
     pub(crate) fn put_files(&mut self, files: Plan, plan: &mut DevicePlan)
         ensures story { story_of self.new ≡ story_in files }
@@ -73,10 +75,7 @@ impl Handle {
     pub(crate) fn take(&mut self, recorder: &mut Recorder<Plan>) -> bool
         ensures was { IsTrue result ↔ IsRecorder self.old }
         ensures none { result ≡ false → self.new ≡ self.old }
-        ensures state { result ≡ true → state_of recorder.new ≡ state_in self.old.recorder }
-        ensures failed { result ≡ true → has_failed recorder.new ≡ has_failed_in self.old.recorder }
-        ensures story { result ≡ true → story_in (disk_of recorder.new) ≡ story_of self.old }
-        ensures since { result ≡ true → since_in (disk_of recorder.new) ≡ story_of self.old }
+        ensures taken { result ≡ true → IsTaken self.old recorder.new }
         ensures goes_on { result ≡ true → GoesOn true story_in recorder.new }
     {
         if !self.is_recorder() {
@@ -97,11 +96,7 @@ impl Handle {
     // Puts a recorder into the handle, and its calls into the plan. It takes the files out of the recorder.
     pub(crate) fn put(&mut self, recorder: &mut Recorder<Plan>, plan: &mut DevicePlan)
         requires { GoesOn true story_in recorder.old }
-        ensures recorder { IsRecorder self.new }
-        ensures state { state_in self.new.recorder ≡ state_of recorder.old }
-        ensures failed { has_failed_in self.new.recorder ≡ has_failed recorder.old }
-        ensures story { story_of self.new ≡ story_in (disk_of recorder.old) }
-        ensures planned { carried_out plan.new (since_in (disk_of recorder.old)) ≡ story_in (disk_of recorder.old) }
+        ensures { IsPut self.new plan.new recorder.old }
     {
         self.mark = 0;
         recorder.freeze(&mut self.recorder);
@@ -117,7 +112,8 @@ impl Handle {
         ensures state { state_in self.new.recorder ≡ state_of recorder.entry }
         ensures failed { has_failed_in self.new.recorder ≡ has_failed recorder.entry }
         ensures story { story_of self.new ≡ lent_story (disk_of recorder.entry) }
-        ensures planned { carried_out plan.new (lent_since (disk_of recorder.entry)) ≡ lent_story (disk_of recorder.entry) }
+        ensures planned { carried_out plan.new (lent_since (disk_of recorder.entry))
+            ≡ lent_story (disk_of recorder.entry) }
     {
         self.mark = 0;
         recorder.freeze(&mut self.recorder);

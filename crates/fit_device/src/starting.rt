@@ -23,7 +23,8 @@ pub extern "C" fn fitrec_start(
     plan: &mut DevicePlan,
 ) -> u8
     ensures starts { sport ≤ 2
-        → Starts (record { time = time; serial = serial; sport = sport_in sport }) handle.old handle.new plan.new result }
+        → Starts (record { time = time; serial = serial; sport = sport_in sport })
+        handle.old handle.new plan.new result }
     ensures no_sport { 2 < sport → (result ≡ no_sport) × (handle.new ≡ handle.old) }
 {
     let Some(sport) = sport_of(sport) else {

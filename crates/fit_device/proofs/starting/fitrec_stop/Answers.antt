@@ -5,7 +5,7 @@ use Rattle.fit_disk.specs.State.{Contents}
 use Rattle.fit_disk.specs.Story.{Story}
 use Rattle.fit_recorder.specs.Files.Body.{StandsFor}
 use Rattle.fit_recorder.specs.Files.Finished.{IsFinished}
-use Rattle.fit_device.proofs.Stepping.{IsTaken, IsPut, stood, was_going, was_handed, is_handed, steps, throughout, on_ok}
+use Rattle.fit_device.proofs.Stepping.{stood, was_going, was_handed, is_handed, steps, throughout, on_ok}
 use Rattle.fit_device.proofs.starting.fitrec_stop.Goals as goal
 
 pub returns : goal.returns
@@ -16,20 +16,8 @@ returns c =
     let before = c.take.new.recorder in
     let after = c.stop-answer.new.self in
     let did = c.stop-answer.ensures in
-    let taken : IsTaken old before = record {
-      is_recorder = c.if-not-take.ensures.was.0 refl;
-      state = c.if-not-take.ensures.state refl;
-      failed = c.if-not-take.ensures.failed refl;
-      story = c.if-not-take.ensures.story refl;
-      since = c.if-not-take.ensures.since refl;
-    } in
-    let put : IsPut new plan after = record {
-      is_recorder = c.put.ensures.recorder;
-      state = c.put.ensures.state;
-      failed = c.put.ensures.failed;
-      story = c.put.ensures.story;
-      planned = c.put.ensures.planned;
-    } in
+    let taken = c.if-not-take.ensures.taken refl in
+    let put = c.put.ensures in
     record {
       steps = steps new plan after put old before taken c.stop-answer.result c.code_of.result c.code_of.ensures did.after did.ran.memory;
       answers = λ list handed.
