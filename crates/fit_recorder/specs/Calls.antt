@@ -5,6 +5,7 @@ pub mod Counts
 pub mod Answers
 pub mod Start
 pub mod Recovery
+pub mod Windows
 pub mod Resume
 pub mod Erasing
 pub mod FaultCode

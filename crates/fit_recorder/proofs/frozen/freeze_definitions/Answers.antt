@@ -13,7 +13,7 @@ loop-k-preserved c =
     let long = c.loop-k.invariant.0 in (
       search rules,
       ap (take (k + 1)) (map-set definition_in numbers k _)
-      ∙ next_filled (definitions_in numbers) slots k _ _ c.loop-k.invariant.1
+          ∙ next_filled (definitions_in numbers) slots k _ _ c.loop-k.invariant.1
           (omega (arith, long, length-map numbers definition_in, c.loop-k-test.true)) (omega (arith, c.type_inv.slots, c.loop-k-test.true))
           c.freeze_definition.ensures,
     )

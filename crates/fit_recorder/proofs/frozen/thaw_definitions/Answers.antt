@@ -11,8 +11,8 @@ loop-k-preserved c =
     let below = c.loop-k-test.true in (
       search rules,
       next_filled c.loop-k.slots (definitions_in numbers) c.loop-k.k _ _ c.loop-k.invariant.1 (omega (arith, c.loop-k.invariant.0, below))
-      (omega (arith, length-map numbers definition_in, c.told-numbers, below))
-      (c.thaw_definition.ensures ∙ sym (get_or-map definition_in numbers c.loop-k.k _ (record { items = [] }) (omega (arith, c.told-numbers, below)))),
+          (omega (arith, length-map numbers definition_in, c.told-numbers, below))
+          (c.thaw_definition.ensures ∙ sym (get_or-map definition_in numbers c.loop-k.k _ (record { items = [] }) (omega (arith, c.told-numbers, below)))),
     )
 
 pub returns : goal.returns
