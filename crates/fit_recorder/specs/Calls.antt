@@ -6,6 +6,7 @@ pub mod Answers
 pub mod Start
 pub mod Recovery
 pub mod Windows
+pub mod FrozenRecovery
 pub mod Resume
 pub mod Erasing
 pub mod FaultCode
