@@ -5,3 +5,4 @@ pub mod FinishedFile
 pub mod RecoveredList
 mod ResumedRide
 mod ErasedFiles
+pub mod Windowed

@@ -39,6 +39,6 @@ pub use frozen::{FrozenDefinition, FrozenRecorder};
 pub use limits::CLOSING_ROOM;
 pub use recorder::Recorder;
 pub use recovery::frozen::FrozenRecovery;
-pub use recovery::recover;
 pub use recovery::windows::Recovery;
+pub use recovery::{recover, settle};
 pub use resuming::resume;
