@@ -1,10 +1,11 @@
 // A plan over a window of one file.
 
-ghost use Rattle.std.specs.Prelude.{◌≡◌, ◌≤◌, true, false, length, IsTrue, IfOk, OnErr};
+ghost use Rattle.std.specs.Prelude.{◌≡◌, ◌+◌, ◌≤◌, ℕ, true, false, length, IsTrue, IfOk, OnErr};
 ghost use Rattle.fit_disk.specs.Calls.{ReadsAt, Wrote, Shortened, Synced};
 ghost use Rattle.fit_disk.specs.Counts.{CountsCall, CountsRead, last_count};
 ghost use Rattle.fit_disk.specs.Story.{seen_of};
-ghost use Rattle.fit_plan.specs.Part.{IsPartOf, IsOther};
+ghost use Rattle.fit_disk.specs.declared.disk.Which.{Which};
+ghost use Rattle.fit_plan.specs.Part.{IsPartOf, IsOther, Covers, most_read};
 
 use crate::plan::Plan;
 use fit_disk::{DeviceError, Disk, Which, copy_from};
@@ -27,15 +28,24 @@ pub struct WindowPlan<'a> {
 
 impl<'a> WindowPlan<'a> {
     ghost use Rattle.fit_plan.specs.Plan.{story_in, since_in, counts_in};
-    ghost use Rattle.fit_plan.specs.Window.{window_story, window_since, window_counts, asked, HasAll};
+    ghost use Rattle.fit_plan.specs.Window.{window_story, window_since, window_counts, HasAll};
 
     /// The plan, with these bytes of a file from a place on. Of the journal, whose length a plan does not know, `reaches_end` says
     /// that they reach the end. Of the data file it may be false.
-    pub fn over(plan: Plan, file: Which, at: u64, window: &'a [u8], reaches_end: bool) -> WindowPlan<'a>
+    pub fn over(
+        plan: Plan,
+        file: Which,
+        at: u64,
+        window: &'a [u8],
+        reaches_end: bool,
+    ) -> WindowPlan<'a>
         requires { IsPartOf (seen_of file (story_in plan)) at window.now reaches_end }
         ensures story { window_story result ≡ story_in plan }
         ensures since { window_since result ≡ since_in plan }
         ensures counts { window_counts result ≡ counts_in plan }
+        ensures gives { (start room : ℕ)
+            → Covers file plan.size at (at + length window.now) reaches_end start room
+            → HasAll result file start room }
     {
         WindowPlan {
             plan,
@@ -48,8 +58,8 @@ impl<'a> WindowPlan<'a> {
     }
 
     // How many bytes a read of the window's file may give.
-    fn asked(&self, at: u64, room: usize) -> u64
-        ensures { result ≡ asked self.now.plan self.now.file at room }
+    fn most_read(&self, at: u64, room: usize) -> u64
+        ensures { result ≡ most_read self.now.file self.now.plan.size at room }
     {
         match self.file {
             Which::Data => self.plan.size.saturating_sub(at).min(room as u64),
@@ -66,7 +76,7 @@ impl<'a> WindowPlan<'a> {
             return false;
         }
         let held = (self.window.len() as u64).saturating_sub(at - self.at);
-        self.reaches_end || self.asked(at, room) <= held
+        self.reaches_end || self.most_read(at, room) <= held
     }
 
     // Whether the window is lent, and stays so when this file changes.
@@ -79,7 +89,7 @@ impl<'a> WindowPlan<'a> {
 }
 
 impl Disk for WindowPlan<'_> {
-    ghost use Rattle.fit_plan.specs.Window.{window_story, window_since, window_counts, window_log, HasAll};
+    ghost use Rattle.fit_plan.specs.Window.{window_story, window_since, window_counts, window_log, HasAll, Keeps};
 
     ghost honest = { true };
 
@@ -93,6 +103,7 @@ impl Disk for WindowPlan<'_> {
         ensures size { IfOk result (λ size. size ≡ length (seen_of which (window_story self.old))) }
         ensures same { window_story self.new ≡ window_story self.old }
         ensures since { window_since self.new ≡ window_since self.old }
+        ensures keeps { (file : Which) → Keeps file self.old self.new }
         ensures counted { CountsCall result (window_counts self.old) (window_counts self.new) }
         ensures reads { (window_counts self.new).data_reads ≡ (window_counts self.old).data_reads }
     {
@@ -107,6 +118,7 @@ impl Disk for WindowPlan<'_> {
             → OnErr result ((window_counts self.old).calls ≡ last_count) }
         ensures same { window_story self.new ≡ window_story self.old }
         ensures since { window_since self.new ≡ window_since self.old }
+        ensures keeps { (file : Which) → Keeps file self.old self.new }
         ensures counted { CountsCall result (window_counts self.old) (window_counts self.new) }
         ensures reads { CountsRead which (window_counts self.old) (window_counts self.new) }
     {
@@ -121,6 +133,7 @@ impl Disk for WindowPlan<'_> {
         requires { at ≤ length (seen_of which (window_story self.old)) }
         ensures wrote { Wrote which at bytes.now result (window_story self.old) (window_story self.new) }
         ensures since { window_since self.new ≡ window_since self.old }
+        ensures keeps { (file : Which) → IsOther which file → Keeps file self.old self.new }
         ensures counted { CountsCall result (window_counts self.old) (window_counts self.new) }
         ensures reads { (window_counts self.new).data_reads ≡ (window_counts self.old).data_reads }
     {
@@ -132,6 +145,7 @@ impl Disk for WindowPlan<'_> {
         requires { len ≤ length (seen_of which (window_story self.old)) }
         ensures shortened { Shortened which len result (window_story self.old) (window_story self.new) }
         ensures since { window_since self.new ≡ window_since self.old }
+        ensures keeps { (file : Which) → IsOther which file → Keeps file self.old self.new }
         ensures counted { CountsCall result (window_counts self.old) (window_counts self.new) }
         ensures reads { (window_counts self.new).data_reads ≡ (window_counts self.old).data_reads }
     {
@@ -142,6 +156,7 @@ impl Disk for WindowPlan<'_> {
     fn sync(&mut self, which: Which) -> Result<(), DeviceError>
         ensures synced { Synced which result (window_story self.old) (window_story self.new) }
         ensures since { window_since self.new ≡ window_since self.old }
+        ensures keeps { (file : Which) → Keeps file self.old self.new }
         ensures counted { CountsCall result (window_counts self.old) (window_counts self.new) }
         ensures reads { (window_counts self.new).data_reads ≡ (window_counts self.old).data_reads }
     {

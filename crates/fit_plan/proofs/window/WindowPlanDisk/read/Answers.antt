@@ -1,4 +1,3 @@
-use Rattle.std.proofs.Common.{rules}
 use Rattle.fit_plan.proofs.Windowed.{reads_window}
 use Rattle.fit_plan.proofs.window.WindowPlanDisk.read.Goals as goal
 
