@@ -8,3 +8,5 @@ pub mod Answer
 pub mod Steps
 pub mod Starts
 pub mod Recovering
+pub mod Asking
+pub mod Windowed
