@@ -1,17 +1,18 @@
 /* Records a script by the plans of fit_device, for compare/device.py:
 
-     device play SCRIPT FOLDER              over the files of a folder, by the host of examples/device
+     device play SCRIPT FOLDER SEED         over the files of a folder, by the host of examples/device
      device cut SCRIPT FOLDER CALL SEED RULE
                                             over files in memory, whose power goes inside the call of this number (0: after the last,
                                             -1: not at all)
      device flash SCRIPT FOLDER CALL SEED
                                             over an area of flash, whose power goes inside the programming or erasing of this number; after
-                                            that the ride is recovered, and its files are put into the folder
+                                            that the ride is recovered, as line 0, and its files are put into the folder
      device random SEED                     steps with handles of random bytes, each of which is to be refused
 
-   A script is one of `fitrec replay`. Each answer is printed as that prints it. After a power cut the folder gets what was left: of each
-   byte that was written since the last sync of its file the old or the new one or any other, by SEED, and a length between the least and
-   the greatest since. RULE is 0, or the number of a rule of the header that the host breaks:
+   A script is one of `fitrec replay`. Each answer is printed as that prints it. A ride is recovered over whole files or by windows, as SEED
+   picks it. After a power cut the folder gets what was left: of each byte that was written since the last sync of its file the old or the
+   new one or any other, by SEED, and a length between the least and the greatest since. RULE is 0, or the number of a rule of the header
+   that the host breaks:
 
      1 a call of each plan is left out    2 the calls of each plan in reverse      3 the answer comes before the calls are carried out
      4 it goes on after the call of this number failed
@@ -43,13 +44,15 @@ static int in_memory, in_flash, rule;
 static long left = -1; /* calls before the power goes, or -1 */
 static const char *folder;
 
-/* A recorder and a plan between two rows of known bytes, which no step may change. */
+/* A recorder, a plan and a recovery between rows of known bytes, which no step may change. */
 static struct {
     uint8_t before[GUARD];
     struct fitrec_recorder recorder;
     uint8_t between[GUARD];
     struct fitrec_plan plan;
     uint8_t after[GUARD];
+    struct fitrec_recovery recovery;
+    uint8_t behind[GUARD];
 } room;
 
 static void fail(const char *why) {
@@ -184,7 +187,7 @@ static void carry_out_plan(void) {
 
 static void look_at_guards(void) {
     for (size_t at = 0; at < GUARD; at++)
-        if (room.before[at] != 0xA5 || room.between[at] != 0xA5 || room.after[at] != 0xA5)
+        if (room.before[at] != 0xA5 || room.between[at] != 0xA5 || room.after[at] != 0xA5 || room.behind[at] != 0xA5)
             fail("a byte outside was written");
 }
 
@@ -231,19 +234,73 @@ static uint8_t step_over_files(const char *word) {
     return fitrec_reopen(&room.recorder, bytes[0], len[0], bytes[1], len[1], &room.plan);
 }
 
+static uint64_t size_of_data(void) {
+    return in_flash ? in_area.len : in_memory ? memory[0].len : (uint64_t)data_size(&files);
+}
+
+/* Fills the window that the recovery asks for. The rest of it gets any byte. */
+static void fill_window(void) {
+    struct fitrec_recovery *it = &room.recovery;
+    if (it->file > FITREC_JOURNAL_FILE || it->count > sizeof it->window)
+        fail("a window that is none");
+    memset(it->window, (int)chance(256), sizeof it->window);
+    if (in_flash) {
+        flash_read_window(&in_area, it);
+    } else if (in_memory) {
+        const struct memory_file *file = &memory[it->file];
+        size_t left = it->at < file->len ? file->len - it->at : 0;
+        it->filled = left < it->count ? (uint16_t)left : it->count;
+        if (left)
+            memcpy(it->window, file->now + it->at, it->filled);
+    } else if (read_window(&files, it)) {
+        fail("cannot read a window");
+    }
+}
+
+/* A window of the data file that has too few bytes is asked for again. One of the journal is not tried: too few bytes would be its end. */
+static void give_too_few(void) {
+    struct fitrec_recovery before = room.recovery, *it = &room.recovery;
+    it->filled = (uint16_t)chance(it->filled);
+    uint8_t answer = fitrec_recover_on(it, &room.plan);
+    if (answer != FITREC_WANTS || it->file != before.file || it->at != before.at || it->count != before.count || room.plan.count)
+        fail("a window with too few bytes was believed");
+    fill_window();
+}
+
+/* A recovery by windows. Its last plan is still to be carried out. */
+static uint8_t recover_by_windows(void) {
+    struct fitrec_recovery *it = &room.recovery;
+    memset(it, 0, sizeof *it);
+    it->data_size = size_of_data();
+    uint8_t answer = fitrec_recover_begin(it, &room.plan);
+    for (uint32_t most = 2; answer == FITREC_WANTS; most = 0) {
+        for (uint32_t k = 0; k < room.plan.count; k++)
+            if (k >= most || room.plan.calls[k].kind != FITREC_SYNC)
+                fail("a call before the end of a recovery");
+        carry_out_plan();
+        fill_window();
+        if (it->file == FITREC_DATA_FILE && it->filled && chance(4) == 0)
+            give_too_few();
+        answer = fitrec_recover_on(it, &room.plan);
+    }
+    return answer;
+}
+
 /* Makes the step of a line. */
 static uint8_t step(char *line, char word[16]) {
     struct fitrec_recorder *recorder = &room.recorder;
     unsigned long long time = 0, serial = 0;
     char sport[16] = "";
-    int used = 0;
+    /* Drawn for each line, so it differs with the place of a recovery in its script. */
+    int used = 0, is_by_windows = (int)chance(2);
     sscanf(line, "%15s %llu %n", word, &time, &used);
     if (strstr("start recover reopen erase", word))
         memset(recorder, 0, sizeof *recorder);
+    if (!strcmp(word, "recover") && is_by_windows) return recover_by_windows();
     if (strstr("recover reopen erase", word)) return step_over_files(word);
     if (!strcmp(word, "start")) {
         sscanf(line, "%*s %*u %llu %15s", &serial, sport);
-        recorder->data_size = in_flash ? in_area.len : in_memory ? memory[0].len : (uint64_t)data_size(&files);
+        recorder->data_size = size_of_data();
         return fitrec_start(recorder, (uint32_t)time, (uint32_t)serial, sport[0] == 'g' ? 0 : sport[0] == 'r' ? 1 : 2, &room.plan);
     }
     if (!strcmp(word, "sample")) return hand_sample((uint32_t)time, line + used);
@@ -284,12 +341,32 @@ static void play(const char *script) {
     fclose(file);
 }
 
+static void fill_at_random(uint8_t *bytes, size_t count) {
+    while (count > 0)
+        bytes[--count] = (uint8_t)chance(256);
+}
+
+/* A recovery of random bytes is refused, and stays as it is. */
+static void refuse_random_recovery(int has_marks) {
+    static uint8_t before[sizeof room.recovery];
+    uint8_t *bytes = (uint8_t *)&room.recovery;
+    fill_at_random(bytes, sizeof before);
+    /* Where the mark stands is the library's own. */
+    for (size_t at = 0; has_marks && at < sizeof before; at += 4)
+        if (chance(2))
+            memcpy(bytes + at, "fitr", 4);
+    memcpy(before, bytes, sizeof before);
+    if (fitrec_recover_on(&room.recovery, &room.plan) != FITREC_NO_RECORDER)
+        fail("a recovery of random bytes was believed");
+    if (memcmp(before, bytes, sizeof before) || room.plan.count)
+        fail("a refused recovery was changed");
+}
+
 /* Handles of random bytes are refused by every step, and stay as they are. */
 static void refuse_random(void) {
     for (int times = 0; times < 20000; times++) {
         uint8_t *bytes = (uint8_t *)&room.recorder;
-        for (size_t at = 0; at < sizeof room.recorder; at++)
-            bytes[at] = (uint8_t)chance(256);
+        fill_at_random(bytes, sizeof room.recorder);
         /* Some have the mark of a recorder, so that only the check code is wrong. */
         if (times % 100 == 0)
             memcpy(bytes + 1496, "fitr", 4);
@@ -303,6 +380,7 @@ static void refuse_random(void) {
                 fail("a handle of random bytes was believed");
         if (memcmp(&before, &room.recorder, sizeof before) || room.plan.count)
             fail("a refused handle was changed");
+        refuse_random_recovery(times % 100 == 0);
     }
     printf("ok\n");
 }
@@ -320,8 +398,10 @@ static void play_in_flash(const char *script) {
     if (!restarted) {
         play(script);
     } else if (in_area.len > 0) {
-        step_over_files("recover");
+        char recovering[] = "recover\n", word[16];
+        uint8_t answer = step(recovering, word);
         carry_out_plan();
+        report(0, word, answer);
     }
     left = -1;
     static uint8_t whole[FLASH_DATA * FLASH_BLOCK];
@@ -340,7 +420,7 @@ int main(int count, char **words) {
         look_at_guards();
         return 0;
     }
-    if (count < 4)
+    if (count < 5)
         fail("words are missing");
     folder = words[3];
     in_memory = !strcmp(words[1], "cut");
@@ -357,8 +437,10 @@ int main(int count, char **words) {
         rule = atoi(words[6]);
         find(&memory[0], "activity.fit");
         find(&memory[1], "activity.frj");
-    } else if (open_files(&files, folder)) {
-        fail("cannot open the files");
+    } else {
+        chance_state = strtoull(words[4], NULL, 10);
+        if (open_files(&files, folder))
+            fail("cannot open the files");
     }
     play(words[2]);
     look_at_guards();

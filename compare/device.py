@@ -1,6 +1,6 @@
-"""Compares rides that are recorded by the plans of fit_device (include/fitrec.h, examples/device) with those of the program, byte for byte;
-lets the power go inside each call of each plan; and shows what is lost where a host breaks a rule of the header. The C program is
-compiled with all warnings as errors, without and with sanitizers."""
+"""Compares rides that are recorded by the plans of fit_device (include/fitrec.h, examples/device) with those of the program, byte for byte,
+and recovers them over whole files or by windows; lets the power go inside each call of each plan; and shows what is lost where a host breaks
+a rule of the header. The C program is compiled with all warnings as errors, without and with sanitizers."""
 
 import contextlib
 import pathlib
@@ -13,6 +13,7 @@ import tempfile
 import library
 import told
 from library import COMPILERS
+from replacing import bytes_of
 from rides import committed, differs
 from told import holds, room
 
@@ -37,13 +38,15 @@ commit
 stop 1000000600
 """ % "\n".join("sample %d lat=%d long=%d hr=%d dist=%d" % (1000000010 + k, 566012345 + 1000 * k, 102345678 - 700 * k, 90 + k, 4000 * k)
                 for k in range(40))
+# A ride without its end, which is recovered again and again: over whole files and by windows, as the C program picks it.
+RECOVERED = RIDE[:RIDE.index("stop")] + "recover\n" * 8
 # What a recorder of 32 bits is built and run with, and the Debian package of each.
 MACHINE = {"wasm-opt": "binaryen", "wasm2c": "wabt", "arm-none-eabi-gcc": "gcc-arm-none-eabi (with libnewlib-arm-none-eabi)",
            "qemu-system-arm": "qemu-system-arm"}
 QEMU = ["qemu-system-arm", "-M", "mps2-an386", "-display", "none", "-monitor", "none", "-serial", "none", "-semihosting-config",
         "enable=on,target=native", "-kernel"]
 # The room for the module's stack, and the most bytes that rides take of it and of the machine's, the C library's printing included.
-STACK, MODULE_STACK, MACHINE_STACK = 65536 - 64, 49152, 8192
+STACK, MODULE_STACK, MACHINE_STACK = 65536 - 64, 16384, 8192
 # What a host does that breaks a rule, by its number.
 BROKEN = {1: "a call is left out", 2: "the calls are made in another order", 3: "the answer comes before the calls",
           4: "the recording goes on after a failed call", 5: "a sync keeps nothing"}
@@ -83,14 +86,19 @@ def random_script(pick):
     return "\n".join([*lines, *["stop %d" % (time + 9)] * pick.randrange(2)]) + "\n"
 
 
-def of_rides(fitrec, program, count, seed):
-    """The same answers and the same bytes, whichever way a ride is recorded."""
+def scripts(count, seed):
+    """So many rides: one with each kind of line, one that is recovered, and random ones."""
     pick = random.Random(seed)
+    return [RIDE, RECOVERED, *(random_script(pick) for _ in range(count - 2))][:count]
+
+
+def of_rides(fitrec, program, count, seed):
+    """The same answers and the same bytes, whichever way a ride is recorded and recovered."""
     with room() as (script, new):
-        for at in range(count):
-            script.write_text(RIDE if at == 0 else random_script(pick))
+        for at, text in enumerate(scripts(count, seed)):
+            script.write_text(text)
             mine, its = new(), new()
-            found, want = run(program, "play", script, mine), run(fitrec, "replay", script, its)
+            found, want = run(program, "play", script, mine, seed + at), run(fitrec, "replay", script, its)
             answers = re.sub(r"ok records.*", "ok", want[1])
             yield "a ride by plan", differs((found[0], found[1], holds(mine)), (0, answers, holds(its)))
 
@@ -101,7 +109,8 @@ def lost(fitrec, program, script, folder, call, seed, rule, later=None):
     answers = run(program, "cut", script, folder, call, seed, rule)
     started, kept, handed = committed(answers[1].splitlines())
     if later:
-        again = run(program, "cut", later, folder, 1 + (seed + call) % 12, seed, rule)
+        # Every place comes with several seeds, so with both ways of a recovery.
+        again = run(program, "cut", later, folder, 1 + (seed + call) % 12, seed + call // 12, rule)
         goes_on, more, last = committed(again[1].splitlines())
         answers, kept, handed = again if again[0] else answers, kept + more, handed + last + 1
     done = run(fitrec, "repair", folder)
@@ -152,11 +161,11 @@ def of_32_bits(fitrec, count, seed):
         if not shutil.which(word):
             print("skipped: a recorder of 32 bits, since there is no %s here; it is in Debian's package %s" % (word, package))
             return
-    pick, most = random.Random(seed), [0, 0]
+    most = [0, 0]
     with tempfile.TemporaryDirectory() as folder, room() as (script, new):
         program = machine_program(folder)
-        for at in range(count):
-            script.write_text(RIDE if at == 0 else random_script(pick))
+        for text in scripts(count, seed):
+            script.write_text(text)
             mine, its = new(), new()
             shutil.copy(script, mine + "/script.txt")
             found, want = run(*QEMU, program, cwd=mine, stdin=subprocess.DEVNULL), run(fitrec, "replay", script, its)
@@ -174,9 +183,13 @@ def of_flash(fitrec, program, calls, seed):
             folder = new()
             answers = run(program, "flash", script, folder, call, seed + call)
             started, kept, handed = committed(answers[1].splitlines())
+            file = pathlib.Path(folder, "activity.fit")
+            recovered, before = re.search(r"^0 recover: (\w+)$", answers[1], re.M), bytes_of(file)
             done = run(fitrec, "repair", folder)
             found = re.match(r"ok records=(\d+) ", done[1])
             is_right = kept <= int(found[1]) <= handed + 1 if found else not started and done[2] == "fitrec: NothingRecorded\n"
+            # A repair finds nothing left to do.
+            is_right &= recovered is None or (recovered[1], before) == ("ok" if found else "NothingRecorded", bytes_of(file))
             yield "a ride in raw flash", None if answers[0] == 0 and is_right else (call, answers, done)
 
 
@@ -195,6 +208,10 @@ def of_host(fitrec, archive):
                 for _ in range(most // 10):
                     host.stdout.readline()
                 host.kill()
+            if most >= 10:
+                mine, its = (shutil.copytree(ride, ride + name) for name in ("-mine", "-its"))
+                found, want = run(program, mine, input=""), run(fitrec, "repair", its)
+                yield "the host of examples/device recovers", differs((found, holds(mine)), ((want[0], "recovered: 0\n", ""), holds(its)))
             done = run(program, ride, input="".join(lines[most:]))
             found = re.match(r"ok records=(\d+) ", run(fitrec, "check", ride + "/activity.fit")[1])
             kept = 30 - most + most // 10 * 10

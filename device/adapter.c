@@ -11,14 +11,16 @@
 static Z_fitrec_instance_t module;
 static uint8_t is_ready;
 
-/* Where the arguments lie in the module's memory: after its data. */
+/* Where the arguments lie in the module's memory: after its data. A recorder and a recovery are never lent at the same time. */
 static uint32_t recorder_at(void) {
     return ((uint32_t)module.w2c___heap_base + 15) & ~15u;
 }
 
 static uint32_t plan_at(void) {
-    return recorder_at() + (uint32_t)sizeof(struct fitrec_recorder);
+    return recorder_at() + (uint32_t)sizeof(struct fitrec_recovery);
 }
+
+_Static_assert(sizeof(struct fitrec_recovery) >= sizeof(struct fitrec_recorder), "the plan comes after the larger of the two");
 
 static uint32_t sample_at(void) {
     return plan_at() + (uint32_t)sizeof(struct fitrec_plan);
@@ -48,6 +50,16 @@ static uint64_t file_at(const uint8_t *bytes) {
 
 static uint8_t end(struct fitrec_recorder *recorder, struct fitrec_plan *plan, uint32_t answer) {
     memcpy(recorder, module.w2c_memory.data + recorder_at(), sizeof *recorder);
+    memcpy(plan, module.w2c_memory.data + plan_at(), sizeof *plan);
+    return (uint8_t)answer;
+}
+
+/* For a step of a recovery by windows, which lies where a recorder does. */
+static uint8_t by_windows(uint32_t (*step)(Z_fitrec_instance_t *, u64, u64), struct fitrec_recovery *recovery, struct fitrec_plan *plan) {
+    make_ready();
+    lend(recorder_at(), recovery, sizeof *recovery);
+    uint32_t answer = step(&module, recorder_at(), plan_at());
+    memcpy(recovery, module.w2c_memory.data + recorder_at(), sizeof *recovery);
     memcpy(plan, module.w2c_memory.data + plan_at(), sizeof *plan);
     return (uint8_t)answer;
 }
@@ -86,6 +98,14 @@ uint8_t fitrec_commit(struct fitrec_recorder *recorder, struct fitrec_plan *plan
 uint8_t fitrec_stop(struct fitrec_recorder *recorder, uint32_t time, struct fitrec_plan *plan) {
     begin(recorder);
     return end(recorder, plan, Z_fitrecZ_fitrec_stop(&module, recorder_at(), time, plan_at()));
+}
+
+uint8_t fitrec_recover_begin(struct fitrec_recovery *recovery, struct fitrec_plan *plan) {
+    return by_windows(Z_fitrecZ_fitrec_recover_begin, recovery, plan);
+}
+
+uint8_t fitrec_recover_on(struct fitrec_recovery *recovery, struct fitrec_plan *plan) {
+    return by_windows(Z_fitrecZ_fitrec_recover_on, recovery, plan);
 }
 
 /* For a step that reads the files, all addresses are within the bounds. */

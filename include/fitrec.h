@@ -229,6 +229,18 @@ struct fitrec_recorder {
     uint64_t numbers[187];
 };
 
+/* A recovery that reads both files by windows. */
+struct fitrec_recovery {
+    uint64_t data_size;    /* the length of the data file in bytes; set it before fitrec_recover_begin */
+    uint64_t at;           /* what is asked for: count bytes of file from at on; fewer only where the file ends */
+    uint8_t file;          /* 0: the data file, 1: the journal */
+    uint8_t phase;         /* the library's own */
+    uint16_t count;
+    uint16_t filled;       /* how many bytes you read into the window */
+    uint8_t window[512];
+    uint64_t numbers[222]; /* the library's own */
+};
+
 /* The values of the sensors at one time. A sensor without a value has the greatest number of its type, such as UINT16_MAX. */
 struct fitrec_sample {
     uint32_t time;              /* seconds since 1989-12-31 00:00 UTC */
@@ -271,6 +283,10 @@ enum {
     FITREC_REFUSED_STOPPED = 40        /* the ride has ended */
 };
 
+/* The answer of a recovery by windows that goes on: read count bytes of file from at on into window, say in filled how many there were, and
+   call fitrec_recover_on. */
+#define FITREC_WANTS 13
+
 /* Begins a ride on an empty data file. time in seconds since 1989-12-31 00:00 UTC; serial of the device, or 0; sport 0 generic, 1 running,
    2 cycling. At most 11 calls; after them the start is committed. */
 uint8_t fitrec_start(struct fitrec_recorder *recorder, uint32_t time, uint32_t serial, uint8_t sport, struct fitrec_plan *plan);
@@ -300,6 +316,27 @@ uint8_t fitrec_reopen(struct fitrec_recorder *recorder, const uint8_t *data, siz
 
 /* Empties the data file for the next start; the ride is gone. At most 6 calls. */
 uint8_t fitrec_erase(const uint8_t *data, size_t data_size, const uint8_t *journal, size_t journal_size, struct fitrec_plan *plan);
+
+/* After a power cut, where the processor cannot address the files: a recovery that needs only a window of 512 bytes at a time.
+
+   The host sets the recovery to zeros and data_size to the length of the data file. It calls fitrec_recover_begin, and then fitrec_recover_on
+   again and again. After each call it carries out the plan, whole and in order. As long as the answer is FITREC_WANTS, it then reads the
+   window that is asked for, and calls on. Any other answer is the end, and that of fitrec_recover. The host keeps these rules too:
+
+   - The recovery stays as it is between two calls, but for window and filled.
+   - The files change only by the plans.
+   - A read gives fewer bytes than are asked for only where the file ends.
+   - A read that fails ends the recovery, and it is begun anew.
+
+   It may be cut off anywhere, and begun anew. A journal of more than 512 bytes is answered with FITREC_DEVICE. Only a row of slots of an older
+   recorder is so long: recover it with fitrec_recover. */
+
+/* Begins a recovery. The plan syncs both files. */
+uint8_t fitrec_recover_begin(struct fitrec_recovery *recovery, struct fitrec_plan *plan);
+
+/* Goes on with the window. The plan is empty after FITREC_WANTS; at the end it finishes the data file. Answers FITREC_NO_RECORDER, and changes
+   nothing, if the recovery is none that was begun. */
+uint8_t fitrec_recover_on(struct fitrec_recovery *recovery, struct fitrec_plan *plan);
 
 #ifdef __cplusplus
 }

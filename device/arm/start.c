@@ -34,6 +34,11 @@ int carry_out(const struct files *files, const struct fitrec_plan *plan) {
     return -1;
 }
 
+int read_window(const struct files *files, struct fitrec_recovery *recovery) {
+    (void)files, (void)recovery;
+    return -1;
+}
+
 void fitrec_trap(void) {
     printf("a trap of the module\n");
     exit(3);

@@ -56,3 +56,16 @@ int carry_out(const struct files *files, const struct fitrec_plan *plan) {
             return -1;
     return 0;
 }
+
+int read_window(const struct files *files, struct fitrec_recovery *recovery) {
+    for (recovery->filled = 0; recovery->filled < recovery->count;) {
+        size_t more = (size_t)(recovery->count - recovery->filled);
+        ssize_t done = pread(files->of[recovery->file], recovery->window + recovery->filled, more, (off_t)(recovery->at + recovery->filled));
+        if (done < 0)
+            return -1;
+        if (done == 0)
+            break;
+        recovery->filled += (uint16_t)done;
+    }
+    return 0;
+}

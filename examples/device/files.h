@@ -18,4 +18,7 @@ int64_t data_size(const struct files *files);
 /* Carries out a plan. Answers 0, or -1 at the first call that fails. */
 int carry_out(const struct files *files, const struct fitrec_plan *plan);
 
+/* Reads the window that a recovery asks for. Answers 0, or -1 where it cannot be read. */
+int read_window(const struct files *files, struct fitrec_recovery *recovery);
+
 #endif

@@ -4,7 +4,7 @@
      ride FOLDER
 
    On a system such as this a plan is carried out by pwrite, ftruncate and fsync (files.c). A folder that holds a ride without its end, as
-   after a power cut, continues it. */
+   after a power cut, continues it. If no line comes, the ride is finished as it was committed. */
 
 #include "files.h"
 #include <stdio.h>
@@ -42,13 +42,26 @@ static uint8_t *all_of(int file, size_t *size) {
     return bytes;
 }
 
-/* Continues the ride that the files hold. */
+/* Continues the ride that the files hold. This has no windows, so it is lent whole files. */
 static uint8_t reopen(void) {
     size_t data_size, journal_size;
     uint8_t *data = all_of(files.of[FITREC_DATA_FILE], &data_size), *journal = all_of(files.of[FITREC_JOURNAL_FILE], &journal_size);
     uint8_t answer = done(fitrec_reopen(&recorder, data, data_size, journal, journal_size, &plan));
     free(data);
     free(journal);
+    return answer;
+}
+
+/* Finishes the ride that the files hold. Only a window of them is in memory. */
+static uint8_t recover(void) {
+    static struct fitrec_recovery recovery;
+    recovery.data_size = (uint64_t)data_size(&files);
+    uint8_t answer = done(fitrec_recover_begin(&recovery, &plan));
+    while (answer == FITREC_WANTS) {
+        if (read_window(&files, &recovery))
+            give_up("a file cannot be read", answer);
+        answer = done(fitrec_recover_on(&recovery, &plan));
+    }
     return answer;
 }
 
@@ -77,9 +90,7 @@ int main(int count, char **words) {
             printf("committed %u\n", samples + 1);
         fflush(stdout);
     }
-    if (samples == 0)
-        give_up("there are no samples", 0);
-    uint8_t answer = done(fitrec_stop(&recorder, time, &plan));
-    printf("stopped: %u\n", answer);
+    uint8_t answer = samples ? done(fitrec_stop(&recorder, time, &plan)) : recover();
+    printf("%s: %u\n", samples ? "stopped" : "recovered", answer);
     return answer ? 1 : 0;
 }

@@ -7,3 +7,4 @@ pub mod MessageBytes
 pub mod Compressed
 pub mod EntryOf
 pub mod Replay
+pub mod FrozenReplay

@@ -16,6 +16,7 @@ pub use recording::entry::{Entry, Sample};
 pub use recording::refusal::Refusal;
 pub use recording::start::{Sport, Start};
 pub use recording::table::{FIELDS, FieldRow, SAMPLE_FIELDS};
+pub use replay::frozen::FrozenReplay;
 pub use replay::{NotNext, Replay};
 pub use speaking::speech::{Speech, SpokenMessage};
 pub use speaking::{speak, speak_closing, speak_compressed, speak_start};

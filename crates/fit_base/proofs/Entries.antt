@@ -3,16 +3,20 @@ use Rattle.std.proofs.Common.{◌≡◌, ℕ, zero, suc, ◌+◌, ◌*◌, ◌<�
 use Rattle.std.specs.List.{range_with_len}
 use Rattle.std.proofs.lemmas.List.{get_or-map}
 use Rattle.std.proofs.lemmas.List.FromFn.{get_or-map-range_with_len}
-use Rattle.fit_base.specs.declared.checksum.tables.TheConstants.{AFTER}
+use Rattle.fit_base.specs.declared.checksum.tables.TheConstants.{FIRST, LATER}
 use Rattle.fit_base.proofs.Register.{tap, shift, shifts, shifts-add}
 
 -- each entry of the first table is its index after eight bits
-first_table : (none : List ℕ) → get_or AFTER 0 none ≡ map (shifts 8) (range_with_len 0 256)
+first_table : FIRST ≡ map (shifts 8) (range_with_len 0 256)
 unfolding shifts shift tap
-first_table none = refl
+first_table = refl
 
--- and each table is the one before it after eight more bits
-next_table : (none : List ℕ) (k : ℕ) → k < 15 → get_or AFTER (suc k) none ≡ map (shifts 8) (get_or AFTER k none)
+-- each later table is the one before it after eight more bits
+second_table : (none : List ℕ) → get_or LATER 0 none ≡ map (shifts 8) FIRST
+unfolding shifts shift tap
+second_table none = refl
+
+next_table : (none : List ℕ) (k : ℕ) → k < 14 → get_or LATER (suc k) none ≡ map (shifts 8) (get_or LATER k none)
 unfolding shifts shift tap
 next_table none zero below = refl
 next_table none (suc zero) below = refl
@@ -28,10 +32,9 @@ next_table none (suc (suc (suc (suc (suc (suc (suc (suc (suc (suc zero))))))))))
 next_table none (suc (suc (suc (suc (suc (suc (suc (suc (suc (suc (suc zero))))))))))) below = refl
 next_table none (suc (suc (suc (suc (suc (suc (suc (suc (suc (suc (suc (suc zero)))))))))))) below = refl
 next_table none (suc (suc (suc (suc (suc (suc (suc (suc (suc (suc (suc (suc (suc zero))))))))))))) below = refl
-next_table none (suc (suc (suc (suc (suc (suc (suc (suc (suc (suc (suc (suc (suc (suc zero)))))))))))))) below = refl
-next_table none (suc (suc (suc (suc (suc (suc (suc (suc (suc (suc (suc (suc (suc (suc (suc k))))))))))))))) below = absurd (omega arith)
+next_table none (suc (suc (suc (suc (suc (suc (suc (suc (suc (suc (suc (suc (suc (suc k)))))))))))))) below = absurd (omega arith)
 
-length-table : (none : List ℕ) (k : ℕ) → k < 16 → length (get_or AFTER k none) ≡ 256
+length-table : (none : List ℕ) (k : ℕ) → k < 15 → length (get_or LATER k none) ≡ 256
 length-table none zero below = refl
 length-table none (suc zero) below = refl
 length-table none (suc (suc zero)) below = refl
@@ -47,18 +50,21 @@ length-table none (suc (suc (suc (suc (suc (suc (suc (suc (suc (suc (suc zero)))
 length-table none (suc (suc (suc (suc (suc (suc (suc (suc (suc (suc (suc (suc zero)))))))))))) below = refl
 length-table none (suc (suc (suc (suc (suc (suc (suc (suc (suc (suc (suc (suc (suc zero))))))))))))) below = refl
 length-table none (suc (suc (suc (suc (suc (suc (suc (suc (suc (suc (suc (suc (suc (suc zero)))))))))))))) below = refl
-length-table none (suc (suc (suc (suc (suc (suc (suc (suc (suc (suc (suc (suc (suc (suc (suc zero))))))))))))))) below = refl
-length-table none (suc (suc (suc (suc (suc (suc (suc (suc (suc (suc (suc (suc (suc (suc (suc (suc k)))))))))))))))) below = absurd (omega arith)
+length-table none (suc (suc (suc (suc (suc (suc (suc (suc (suc (suc (suc (suc (suc (suc (suc k))))))))))))))) below = absurd (omega arith)
 
-pub get_or-AFTER : (none : List ℕ) (k i : ℕ) → k < 16 → i < 256 → get_or (get_or AFTER k none) i 0 ≡ shifts (8 * suc k) i
-get_or-AFTER none zero i below in_table =
-    ap (λ xs. get_or xs i 0) (first_table none) ∙ get_or-map-range_with_len (shifts 8) 0 256 i i 0 in_table (omega arith)
-get_or-AFTER none (suc k) i below in_table =
-    let len : i < length (get_or AFTER k none) = omega (arith, length-table none k (omega arith)) in
-    let ih = get_or-AFTER none k i (omega arith) in_table in
-    let more : 8 * suc k + 8 ≡ 8 * suc (suc k) = omega arith in
-    ap (λ xs. get_or xs i 0) (next_table none k (omega arith))
-    ∙ get_or-map (shifts 8) (get_or AFTER k none) i 0 0 len
-    ∙ ap (shifts 8) ih
-    ∙ sym (shifts-add (8 * suc k) 8 i)
+pub get_or-FIRST : (i : ℕ) → i < 256 → get_or FIRST i 0 ≡ shifts 8 i
+get_or-FIRST i in_table = ap (λ xs. get_or xs i 0) first_table ∙ get_or-map-range_with_len (shifts 8) 0 256 i i 0 in_table (omega arith)
+
+-- eight more bits of an entry are the entry of the next table
+eight_more : (table next : List ℕ) (i n : ℕ) → next ≡ map (shifts 8) table → i < length table → get_or table i 0 ≡ shifts n i
+    → get_or next i 0 ≡ shifts (n + 8) i
+eight_more table next i n is in_table entry =
+    ap (λ xs. get_or xs i 0) is ∙ get_or-map (shifts 8) table i 0 0 in_table ∙ ap (shifts 8) entry ∙ sym (shifts-add n 8 i)
+
+pub get_or-LATER : (none : List ℕ) (k i : ℕ) → k < 15 → i < 256 → get_or (get_or LATER k none) i 0 ≡ shifts (8 * (k + 2)) i
+get_or-LATER none zero i below in_table = eight_more FIRST _ i 8 (second_table none) in_table (get_or-FIRST i in_table)
+get_or-LATER none (suc k) i below in_table =
+    let more : 8 * (k + 2) + 8 ≡ 8 * (suc k + 2) = omega arith in
+    let len : i < length (get_or LATER k none) = omega (arith, length-table none k (omega arith)) in
+    eight_more _ _ i (8 * (k + 2)) (next_table none k (omega arith)) len (get_or-LATER none k i (omega arith) in_table)
     ∙ ap (λ (n : ℕ). shifts n i) more

@@ -3,10 +3,12 @@
 ghost use Rattle.std.specs.Prelude.{◌≡◌, ◌/◌, ◌%◌, ◌<◌, [], ◌∷◌, length, replicate};
 ghost use Rattle.fit_base.specs.Checksum.{crc_from, crc};
 
+mod choice;
 mod tables;
 
+use choice::HAS_ALL_TABLES;
 use std::marker::Model;
-use tables::AFTER;
+use tables::{FIRST, LATER};
 
 /// The checksum of a FIT file (CRC-16, reflected polynomial 0xA001), over the bytes added so far. Contracts see its register.
 #[derive(Clone, Copy, Debug, PartialEq, Eq)]
@@ -61,8 +63,18 @@ impl Crc {
     }
 }
 
+fn after_bytes(register: u16, bytes: &[u8]) -> u16
+    ensures { result ≡ crc_from register bytes.now }
+{
+    if HAS_ALL_TABLES {
+        after_blocks(register, bytes)
+    } else {
+        after_few(register, bytes)
+    }
+}
+
 // Sixteen bytes at a time, and then the rest one by one.
-fn after_bytes(mut register: u16, bytes: &[u8]) -> u16
+fn after_blocks(mut register: u16, bytes: &[u8]) -> u16
     ensures { result ≡ crc_from register bytes.now }
 {
     let blocks = bytes.len() / 16;
@@ -112,12 +124,16 @@ fn after_block(register: u16, block: &[u8]) -> u16
 }
 
 // The register after this byte and this many zero bytes, starting at zero.
-#[inline]
+#[inline(always)]
 fn entry(zeros: usize, byte: u8) -> u16
     requires { zeros < 16 }
     ensures { result ≡ crc (byte ∷ replicate zeros 0) }
 {
-    AFTER[zeros][byte as usize]
+    if zeros == 0 {
+        FIRST[byte as usize]
+    } else {
+        LATER[zeros - 1][byte as usize]
+    }
 }
 
 #[inline]

@@ -60,7 +60,8 @@ impl<'a, 'b> Buffers<'a, 'b> {
         requires data_fits { data_len ≤ length data_bytes.old }
         requires journal_fits { journal_len ≤ length journal_bytes.old }
         ensures data_rests { (story_in result).now.data_file ≡ at_rest (take data_len data_bytes.old) }
-        ensures journal_rests { (story_in result).now.journal_file ≡ at_rest (take journal_len journal_bytes.old) }
+        ensures journal_rests { (story_in result).now.journal_file
+            ≡ at_rest (take journal_len journal_bytes.old) }
         ensures data_room { room_of Data result ≡ length data_bytes.old }
         ensures journal_room { room_of Journal result ≡ length journal_bytes.old }
         ensures counts { counts_in result ≡ no_calls }

@@ -1,5 +1,5 @@
 -- What a repair of two files in memory leaves and returns.
-use Rattle.std.specs.Prelude.{◌≡◌, ◌⊎◌, ℕ, ◌++◌, List, take, Option, Some, None, Ok}
+use Rattle.std.specs.Prelude.{◌≡◌, ◌⊎◌, ℕ, ◌+◌, ◌<◌, ◌++◌, List, length, take, Option, Some, None, Ok}
 use Rattle.fit_activity.specs.declared.activity.Summary.{Summary}
 use Rattle.fit_activity.specs.Files.Activity.{activity_in}
 use Rattle.fit_activity.specs.Files.Finished.{summary_of_list}
@@ -9,6 +9,9 @@ use Rattle.fit_disk.specs.State.{Contents}
 use Rattle.fit_grammar.specs.Format.File.{File}
 use Rattle.fit_recorder.specs.Files.Body.{StandsFor}
 use Rattle.fit_recorder.specs.Files.Finished.{finished}
+use Rattle.fit_recorder.specs.Files.Limits.{longest_end}
+use Rattle.fit_recorder.specs.Files.NothingRecorded.{IsNothing}
+use Rattle.fit_recorder.specs.Files.Settled.{IsDamaged}
 use Rattle.fit_c.specs.declared.repairing.RideSummary.{RideSummary}
 
 -- the files are the first bytes of the two buffers
@@ -41,6 +44,13 @@ pub record IsRepaired (before after : Contents) (numbers : RideSummary) : Type 0
   pub activity : activity_in (spoken list ++ closing list) ≡ Ok (summary_of_list list)
   pub stands : StandsFor list after
   pub sums_up : numbers ≡ numbers_of (summary_of_list list)
+
+-- what the code of a refused repair says of the two buffers and the lengths of the files in them
+pub record IsRefused (code : ℕ) (data_bytes : List ℕ) (data_len : ℕ) (journal_bytes : List ℕ) (journal_len : ℕ) : Type 0 where
+  pub nothing : code ≡ 7 → IsNothing (contents_in data_bytes data_len journal_bytes journal_len)
+  pub damaged : code ≡ 8 → IsDamaged (contents_in data_bytes data_len journal_bytes journal_len)
+  pub too_long : code ≡ 9 → (length data_bytes < data_len) ⊎ (length journal_bytes < journal_len)
+  pub no_room : code ≡ 10 → length data_bytes < data_len + longest_end
 
 -- the codes that a repair returns
 abbrev pub IsRepairCode : ℕ → Type 0

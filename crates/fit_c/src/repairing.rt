@@ -6,11 +6,10 @@ ghost use Rattle.fit_disk.specs.Counts.{no_calls};
 ghost use Rattle.fit_disk.specs.State.{seen_in};
 ghost use Rattle.fit_disk.specs.declared.disk.Which.TheVariants.{Data, Journal};
 ghost use Rattle.fit_recorder.specs.Calls.Recovery.{RecoveryAnswers, IsRecoveryFault};
-ghost use Rattle.fit_recorder.specs.Files.Limits.{longest_closing};
-ghost use Rattle.fit_recorder.specs.Files.NothingRecorded.{IsNothing};
-ghost use Rattle.fit_recorder.specs.Files.Settled.{IsDamaged, IsSettled};
+ghost use Rattle.fit_recorder.specs.Files.Limits.{longest_end};
+ghost use Rattle.fit_recorder.specs.Files.Settled.{IsSettled};
 ghost use Rattle.fit_recorder.specs.declared.fault.RecFault.TheVariants as faults;
-ghost use Rattle.fit_c.specs.Repaired.{IsRepaired, IsRepairCode, contents_in, number_or, numbers_of};
+ghost use Rattle.fit_c.specs.Repaired.{IsRefused, IsRepaired, IsRepairCode, contents_in, number_or, numbers_of};
 
 use fit_activity::Summary;
 use fit_buffers::Buffers;
@@ -50,13 +49,11 @@ pub extern "C" fn fitrec_repair(
     summary: &mut RideSummary,
 ) -> u8
     ensures code { IsRepairCode result }
-    ensures ok { result ≡ 0 → IsRepaired (contents_in data_bytes.old data_len.old journal_bytes.old journal_len.old)
+    ensures ok { result ≡ 0
+        → IsRepaired (contents_in data_bytes.old data_len.old journal_bytes.old journal_len.old)
         (contents_in data_bytes.new data_len.new journal_bytes.new journal_len.new) summary.new }
     ensures within { result ≡ 0 → data_len.new ≤ length data_bytes.new }
-    ensures nothing { result ≡ 7 → IsNothing (contents_in data_bytes.old data_len.old journal_bytes.old journal_len.old) }
-    ensures damaged { result ≡ 8 → IsDamaged (contents_in data_bytes.old data_len.old journal_bytes.old journal_len.old) }
-    ensures too_long { result ≡ 9 → (length data_bytes.old < data_len.old) ⊎ (length journal_bytes.old < journal_len.old) }
-    ensures no_room { result ≡ 10 → length data_bytes.old < data_len.old + (longest_closing + 2) }
+    ensures why { IsRefused result data_bytes.old data_len.old journal_bytes.old journal_len.old }
     ensures same { 7 ≤ result → contents_in data_bytes.new data_len.new journal_bytes.new journal_len.new
         ≡ contents_in data_bytes.old data_len.old journal_bytes.old journal_len.old }
 {
@@ -87,11 +84,13 @@ pub extern "C" fn fitrec_repair(
 // Recovers over these two buffers, and leaves them the same two. No call of the disk fails.
 fn recovered(buffers: &mut Buffers<'_, '_>) -> Result<Summary, RecFault>
     requires fresh { counts_in buffers.old ≡ no_calls }
-    requires data_room { (story_in buffers.old).now.data_file.greatest + (longest_closing + 2) ≤ room_of Data buffers.old }
+    requires data_room { (story_in buffers.old).now.data_file.greatest + longest_end
+        ≤ room_of Data buffers.old }
     requires journal_room { (story_in buffers.old).now.journal_file.greatest ≤ room_of Journal buffers.old }
     ensures decides { RecoveryAnswers (seen_in (story_in buffers.old).now) (story_in buffers.new) result }
     ensures no_device { IsErrOf result faults.Device → ⊥ }
-    ensures settled { IfErr result (λ _. IsSettled (seen_in (story_in buffers.old).now) (story_in buffers.new)) }
+    ensures settled { IfErr result
+        (λ _. IsSettled (seen_in (story_in buffers.old).now) (story_in buffers.new)) }
     ensures known_fault { IfErr result IsRecoveryFault }
     ensures same_data { buffers.new.data_bytes.ghost_name ≡ buffers.old.data_bytes.ghost_name }
     ensures same_journal { buffers.new.journal_bytes.ghost_name ≡ buffers.old.journal_bytes.ghost_name }

@@ -1,10 +1,7 @@
 // Saves the ride of a recording as a file without compressed timestamps.
 
 ghost use Rattle.std.specs.Prelude.{◌≡◌, ◌≤◌, ◌<◌, ◌+◌, ◌⊎◌, length, take};
-ghost use Rattle.fit_recorder.specs.Files.Limits.{longest_closing};
-ghost use Rattle.fit_recorder.specs.Files.NothingRecorded.{IsNothing};
-ghost use Rattle.fit_recorder.specs.Files.Settled.{IsDamaged};
-ghost use Rattle.fit_c.specs.Repaired.{IsRepaired, contents_in};
+ghost use Rattle.fit_c.specs.Repaired.{IsRefused, IsRepaired, contents_in};
 ghost use Rattle.fit_c.specs.Saved.{IsSaved, IsSaveCode, NeedsRoomToSave};
 
 use crate::plain::write_file;
@@ -25,19 +22,19 @@ pub extern "C" fn fitrec_save(
     summary: &mut RideSummary,
 ) -> u8
     ensures code { IsSaveCode result }
-    ensures ok { result ≡ 0 → IsSaved (contents_in data_bytes.old data_len.old journal_bytes.old journal_len.old)
+    ensures ok { result ≡ 0
+        → IsSaved (contents_in data_bytes.old data_len.old journal_bytes.old journal_len.old)
         (take out_len.new out.new) summary.new }
     ensures within { result ≡ 0 → out_len.new ≤ length out.new }
-    ensures no_room { result ≡ 20 → NeedsRoomToSave (contents_in data_bytes.old data_len.old journal_bytes.old journal_len.old)
+    ensures no_room { result ≡ 20
+        → NeedsRoomToSave (contents_in data_bytes.old data_len.old journal_bytes.old journal_len.old)
         (length out.old) out_len.new }
     ensures repaired { (result ≡ 0) ⊎ (20 ≤ result)
         → IsRepaired (contents_in data_bytes.old data_len.old journal_bytes.old journal_len.old)
         (contents_in data_bytes.new data_len.new journal_bytes.new journal_len.new) summary.new }
-    ensures nothing { result ≡ 7 → IsNothing (contents_in data_bytes.old data_len.old journal_bytes.old journal_len.old) }
-    ensures damaged { result ≡ 8 → IsDamaged (contents_in data_bytes.old data_len.old journal_bytes.old journal_len.old) }
-    ensures too_long { result ≡ 9 → (length data_bytes.old < data_len.old) ⊎ (length journal_bytes.old < journal_len.old) }
-    ensures no_closing_room { result ≡ 10 → length data_bytes.old < data_len.old + (longest_closing + 2) }
-    ensures same { 7 ≤ result → result ≤ 10 → contents_in data_bytes.new data_len.new journal_bytes.new journal_len.new
+    ensures why { IsRefused result data_bytes.old data_len.old journal_bytes.old journal_len.old }
+    ensures same { 7 ≤ result → result ≤ 10
+        → contents_in data_bytes.new data_len.new journal_bytes.new journal_len.new
         ≡ contents_in data_bytes.old data_len.old journal_bytes.old journal_len.old }
 {
     let answer = fitrec_repair(data_bytes, data_len, journal_bytes, journal_len, summary);

@@ -1,2 +1,3 @@
 mod Stepping
 mod Lending
+mod ByWindows

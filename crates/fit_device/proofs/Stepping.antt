@@ -6,9 +6,10 @@ use Rattle.fit_activity.specs.Rides.RunningTotals.{AreTotals}
 use Rattle.fit_device.specs.declared.handle.Handle.{Handle}
 use Rattle.fit_device.specs.declared.plan.DevicePlan.{DevicePlan}
 use Rattle.fit_device.specs.Answer.{code_of, code_of_fault}
-use Rattle.fit_device.specs.Handle.{story_of, IsRecorder, WasHanded, Stands}
+use Rattle.fit_device.specs.Handle.{story_of, WasHanded, Stands}
 use Rattle.fit_device.specs.Planned.{carried_out}
 use Rattle.fit_device.specs.Steps.{Steps, IsSame}
+use Rattle.fit_device.specs.Taken.{IsTaken, IsPut}
 use Rattle.fit_disk.specs.State.{Contents}
 use Rattle.fit_disk.specs.Story.{Story, Throughout}
 use Rattle.fit_notes.proofs.Numbers.{same_story}
@@ -19,8 +20,9 @@ use Rattle.fit_recorder.specs.declared.fault.RecFault.{RecFault}
 use Rattle.fit_recorder.specs.declared.fault.RecFault.TheVariants.{NotEmpty, Refused, Full, JournalFull, Device, Failed, NothingRecorded, Damaged}
 use Rattle.fit_recorder.specs.declared.recorder.Recorder.{Recorder}
 use Rattle.fit_recorder.specs.Calls.FaultCode.{fault_code}
-use Rattle.fit_recorder.specs.Calls.Frozen.{state_in, has_failed_in, GoesOnAt}
-use Rattle.fit_recorder.specs.Calls.Recorder.{AfterCall, StandsAt, state_of, has_failed, disk_of}
+use Rattle.fit_recorder.specs.Calls.Frozen.{GoesOnAt}
+use Rattle.fit_recorder.specs.Calls.After.{AfterCall}
+use Rattle.fit_recorder.specs.Calls.Recorder.{StandsAt, state_of, has_failed, disk_of}
 use Rattle.fit_recorder.specs.Private.State.{RecorderState, IsAt}
 
 -- the same of equal numbers
@@ -45,22 +47,6 @@ on_ok (Err Device) code is zero holds = let no : ⊥ = omega (arith, is, zero) i
 on_ok (Err Failed) code is zero holds = let no : ⊥ = omega (arith, is, zero) in absurd no
 on_ok (Err NothingRecorded) code is zero holds = let no : ⊥ = omega (arith, is, zero) in absurd no
 on_ok (Err Damaged) code is zero holds = let no : ⊥ = omega (arith, is, zero) in absurd no
-
--- a recorder that was taken out of a handle
-pub record IsTaken (old : Handle) (recorder : Recorder Plan) : Type 0 where
-  pub is_recorder : IsRecorder old
-  pub state : state_of recorder ≡ state_in old.recorder
-  pub failed : has_failed recorder ≡ has_failed_in old.recorder
-  pub story : story_in (disk_of recorder) ≡ story_of old
-  pub since : since_in (disk_of recorder) ≡ story_of old
-
--- a recorder that was put into a handle, and its calls into a plan
-pub record IsPut (new : Handle) (plan : DevicePlan) (recorder : Recorder Plan) : Type 0 where
-  pub is_recorder : IsRecorder new
-  pub state : state_in new.recorder ≡ state_of recorder
-  pub failed : has_failed_in new.recorder ≡ has_failed recorder
-  pub story : story_of new ≡ story_in (disk_of recorder)
-  pub planned : carried_out plan (since_in (disk_of recorder)) ≡ story_in (disk_of recorder)
 
 module _ (old : Handle) (before : Recorder Plan) (taken : IsTaken old before) where
   pub stood : (list committed : List Recorded) → Stands old list committed → StandsAt true story_in before list committed
@@ -95,13 +81,13 @@ module _ (new : Handle) (plan : DevicePlan) (after : Recorder Plan) (put : IsPut
       story = put.story ∙ ap (λ (recorder : Recorder Plan). story_in (disk_of recorder)) is ∙ taken.story;
     }
 
-    refused : (result : Result (Unit {0}) RecFault) (code : ℕ) → code ≡ code_of result → AfterCall result before after
+    refused : (result : Result (Unit {0}) RecFault) (code : ℕ) → code ≡ code_of result → AfterCall true story_in result before after
         → (code ≡ 0 → ⊥) → (code ≡ fault_code Device → ⊥) → IsSame old new
     refused (Ok _) code is called no_zero no_device = absurd (no_zero is)
     refused (Err fault) code is called no_zero no_device =
         ⊎_elim (λ (device : fault ≡ Device). absurd (no_device (is ∙ ap code_of_fault device))) (λ (same : after ≡ before). unchanged same) called.same
 
-    pub steps : (result : Result (Unit {0}) RecFault) (code : ℕ) → code ≡ code_of result → AfterCall result before after
+    pub steps : (result : Result (Unit {0}) RecFault) (code : ℕ) → code ≡ code_of result → AfterCall true story_in result before after
         → numbers_of (since_in (disk_of after)) ≡ numbers_of (since_in (disk_of before)) → Steps old new plan code
     steps result code is called same = record {
       planned = put.story ∙ sym put.planned ∙ ap (carried_out plan) (same_story _ _ same ∙ taken.since);

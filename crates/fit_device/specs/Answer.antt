@@ -21,3 +21,7 @@ no_recorder = 11
 -- no sport has this number
 abbrev pub no_sport : ℕ
 no_sport = 12
+
+-- a window is asked for
+abbrev pub wants : ℕ
+wants = 13

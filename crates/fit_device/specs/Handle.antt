@@ -6,8 +6,7 @@ use Rattle.fit_activity.specs.Rides.RunningTotals.{AreTotals}
 use Rattle.fit_device.specs.declared.handle.Handle.{Handle}
 use Rattle.fit_device.specs.Sealed.{IsSealed}
 use Rattle.fit_disk.specs.Story.{Story}
-use Rattle.fit_recorder.specs.Calls.Frozen.{state_in, has_failed_in}
-use Rattle.fit_recorder.specs.Private.State.{IsAt}
+use Rattle.fit_recorder.specs.Calls.Frozen.{StandsFrozen, has_failed_in}
 
 -- the story of the two files, once the last plan was carried out
 abbrev pub story_of : Handle → Story
@@ -27,4 +26,4 @@ pub record WasHanded (h : Handle) (list : List Recorded) : Type 0 where
 pub record Stands (h : Handle) (list committed : List Recorded) : Type 0 where
   pub recorder : IsRecorder h
   pub going : has_failed_in h.recorder ≡ false
-  pub at : IsAt true (state_in h.recorder) (story_of h) list committed
+  pub at : StandsFrozen true h.recorder (story_of h) list committed

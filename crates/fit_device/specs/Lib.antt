@@ -2,8 +2,11 @@ pub mod Seal
 pub mod Sealed
 pub mod Handle
 pub mod Planned
+pub mod Taken
 pub mod Sampled
 pub mod Answer
 pub mod Steps
 pub mod Starts
 pub mod Recovering
+pub mod Asking
+pub mod Windowed

@@ -11,6 +11,9 @@ pub(crate) const NO_RECORDER: u8 = 11;
 // No sport has this number.
 pub(crate) const NO_SPORT: u8 = 12;
 
+// A window of a file is asked for.
+pub(crate) const WANTS: u8 = 13;
+
 pub(crate) fn code_of(answer: &Result<(), RecFault>) -> u8
     ensures { result ≡ number_of answer.now }
 {

@@ -7,10 +7,11 @@ ghost use Rattle.fit_device.specs.Sampled.{sample_of as sample_in};
 ghost use Rattle.fit_device.specs.Steps.{Hands};
 
 use crate::answer::{NO_RECORDER, code_of};
-use crate::handle::Handle;
+use crate::handle::{Handle, no_files};
 use crate::plan::DevicePlan;
 use crate::sample::{DeviceSample, sample_of};
 use fit_activity::Entry;
+use fit_recorder::Recorder;
 
 /// Hands a sample to the recorder, and plans at most one call. A crash loses the sample unless it is committed.
 #[unsafe(no_mangle)]
@@ -52,11 +53,12 @@ fn hand(handle: &mut Handle, entry: &Entry, plan: &mut DevicePlan) -> u8
     requires { is_stop (Added entry.now) ≡ false }
     ensures { Hands entry.now handle.old handle.new plan.new result }
 {
-    let Some(mut recorder) = handle.take() else {
+    let mut recorder = Recorder::idle(no_files());
+    if !handle.take(&mut recorder) {
         plan.clear();
         return NO_RECORDER;
-    };
+    }
     let answer = recorder.hand(entry);
-    handle.put(recorder, plan);
+    handle.put(&mut recorder, plan);
     code_of(&answer)
 }

@@ -1,6 +1,6 @@
 // A recorder in the memory of C.
 
-ghost use Rattle.std.specs.Prelude.{◌≡◌, ◌↔◌, true, length, IsSome, IsTrue, IfSome, IfNone};
+ghost use Rattle.std.specs.Prelude.{◌≡◌, ◌↔◌, true, false, length, IsTrue};
 ghost use Rattle.fit_disk.specs.Calls.{IsSound};
 ghost use Rattle.fit_device.specs.Planned.{carried_out};
 ghost use Rattle.fit_device.specs.Sealed.{IsSealed, GoesOnIn};
@@ -39,6 +39,7 @@ pub struct Handle {
 
 impl Handle {
     ghost use Rattle.fit_device.specs.Handle.{story_of, IsRecorder};
+    ghost use Rattle.fit_device.specs.Taken.{IsTaken, IsPut};
 
     fn is_recorder(&self) -> bool
         ensures { IsTrue result ↔ IsRecorder self.now }
@@ -57,54 +58,51 @@ impl Handle {
         self.mark = 0;
         plan
     }
+
     // Puts the two files into the handle, which is none of a recorder, and their calls into the plan.
     pub(crate) fn put_files(&mut self, files: Plan, plan: &mut DevicePlan)
         ensures story { story_of self.new ≡ story_in files }
         ensures planned { carried_out plan.new (since_in files) ≡ story_in files }
     {
-        let Plan {
-            calls,
-            size,
-            notes,
-            ..
-        } = files;
-        plan.fill(&calls);
+        plan.fill(&files.calls);
+        let Plan { size, notes, .. } = files;
         self.mark = 0;
         self.data_size = size;
         self.notes = notes;
     }
 
-    // Takes the recorder out of the handle, which is none of a recorder then. `None` if it was none before.
-    pub(crate) fn take(&mut self) -> Option<Recorder<Plan>>
-        ensures some { IsSome result ↔ IsRecorder self.old }
-        ensures none { IfNone result (self.new ≡ self.old) }
-        ensures state { IfSome result (λ recorder. state_of recorder ≡ state_in self.old.recorder) }
-        ensures failed { IfSome result (λ recorder. has_failed recorder ≡ has_failed_in self.old.recorder) }
-        ensures story { IfSome result (λ recorder. story_in (disk_of recorder) ≡ story_of self.old) }
-        ensures since { IfSome result (λ recorder. since_in (disk_of recorder) ≡ story_of self.old) }
-        ensures goes_on { IfSome result (GoesOn true story_in) }
+    // Makes this recorder the one in the handle, which is none of a recorder then. Reports whether it was one before.
+    pub(crate) fn take(&mut self, recorder: &mut Recorder<Plan>) -> bool
+        ensures was { IsTrue result ↔ IsRecorder self.old }
+        ensures none { result ≡ false → self.new ≡ self.old }
+        ensures taken { result ≡ true → IsTaken self.old recorder.new }
+        ensures goes_on { result ≡ true → GoesOn true story_in recorder.new }
     {
         if !self.is_recorder() {
-            return None;
+            return false;
         }
-        match Recorder::thaw(self.take_files(), &self.recorder) {
-            Ok(recorder) => Some(Thawed { recorder }.into_recorder()),
-            Err(_) => None,
+        let mut files = self.take_files();
+        recorder.swap_disk(&mut files);
+        if !recorder.thaw(&self.recorder) {
+            return false;
         }
+        Thawed {
+            recorder: &*recorder,
+        }
+        .reveal();
+        true
     }
 
-    // Puts a recorder into the handle, and its calls into the plan.
-    pub(crate) fn put(&mut self, recorder: Recorder<Plan>, plan: &mut DevicePlan)
-        requires { GoesOn true story_in recorder }
-        ensures recorder { IsRecorder self.new }
-        ensures state { state_in self.new.recorder ≡ state_of recorder }
-        ensures failed { has_failed_in self.new.recorder ≡ has_failed recorder }
-        ensures story { story_of self.new ≡ story_in (disk_of recorder) }
-        ensures planned { carried_out plan.new (since_in (disk_of recorder)) ≡ story_in (disk_of recorder) }
+    // Puts a recorder into the handle, and its calls into the plan. It takes the files out of the recorder.
+    pub(crate) fn put(&mut self, recorder: &mut Recorder<Plan>, plan: &mut DevicePlan)
+        requires { GoesOn true story_in recorder.old }
+        ensures { IsPut self.new plan.new recorder.old }
     {
         self.mark = 0;
-        self.recorder = recorder.freeze();
-        self.seal_with(recorder.into_disk(), plan);
+        recorder.freeze(&mut self.recorder);
+        let mut files = no_files();
+        recorder.swap_disk(&mut files);
+        self.seal_with(files, plan);
     }
 
     // Puts a recorder over lent files into the handle, and its calls into the plan.
@@ -114,10 +112,11 @@ impl Handle {
         ensures state { state_in self.new.recorder ≡ state_of recorder.entry }
         ensures failed { has_failed_in self.new.recorder ≡ has_failed recorder.entry }
         ensures story { story_of self.new ≡ lent_story (disk_of recorder.entry) }
-        ensures planned { carried_out plan.new (lent_since (disk_of recorder.entry)) ≡ lent_story (disk_of recorder.entry) }
+        ensures planned { carried_out plan.new (lent_since (disk_of recorder.entry))
+            ≡ lent_story (disk_of recorder.entry) }
     {
         self.mark = 0;
-        self.recorder = recorder.freeze();
+        recorder.freeze(&mut self.recorder);
         let LentPlan { plan: files, .. } = recorder.into_disk();
         self.seal_with(files, plan);
     }
@@ -130,16 +129,16 @@ impl Handle {
         ensures story { story_of self.new ≡ story_in files }
         ensures planned { carried_out plan.new (since_in files) ≡ story_in files }
     {
-        let Plan {
-            calls,
-            size,
-            notes,
-            ..
-        } = files;
-        plan.fill(&calls);
+        plan.fill(&files.calls);
+        let Plan { size, notes, .. } = files;
         self.seal = seal_of(&self.recorder, size);
         self.mark = MARK;
         self.data_size = size;
         self.notes = notes;
     }
+}
+
+// Two empty files, for a recorder that has none yet.
+pub(crate) fn no_files() -> Plan {
+    Plan::over(0, Notes::new())
 }

@@ -5,6 +5,8 @@
 #![tactic(auto)]
 
 mod answer;
+mod believed;
+mod by_windows;
 mod handing;
 mod handle;
 mod plan;
@@ -13,10 +15,13 @@ mod sample;
 mod seal;
 mod starting;
 mod thawed;
+mod windowed;
 
+pub use by_windows::{fitrec_recover_begin, fitrec_recover_on};
 pub use handing::{fitrec_hand_sample, fitrec_lap, fitrec_pause, fitrec_resume};
 pub use handle::Handle;
 pub use plan::DevicePlan;
 pub use recovering::{fitrec_erase, fitrec_recover, fitrec_reopen};
 pub use sample::DeviceSample;
 pub use starting::{fitrec_commit, fitrec_start, fitrec_stop};
+pub use windowed::RecoveryHandle;

@@ -7,7 +7,7 @@ ghost use Rattle.fit_device.specs.Starts.{Starts};
 ghost use Rattle.fit_device.specs.Steps.{Commits, Stops};
 
 use crate::answer::{NO_RECORDER, NO_SPORT, code_of, code_of_fault};
-use crate::handle::Handle;
+use crate::handle::{Handle, no_files};
 use crate::plan::DevicePlan;
 use fit_activity::{Sport, Start};
 use fit_recorder::Recorder;
@@ -23,7 +23,8 @@ pub extern "C" fn fitrec_start(
     plan: &mut DevicePlan,
 ) -> u8
     ensures starts { sport ≤ 2
-        → Starts (record { time = time; serial = serial; sport = sport_in sport }) handle.old handle.new plan.new result }
+        → Starts (record { time = time; serial = serial; sport = sport_in sport })
+        handle.old handle.new plan.new result }
     ensures no_sport { 2 < sport → (result ≡ no_sport) × (handle.new ≡ handle.old) }
 {
     let Some(sport) = sport_of(sport) else {
@@ -36,8 +37,8 @@ pub extern "C" fn fitrec_start(
         sport,
     };
     match Recorder::start(handle.take_files(), start) {
-        Ok(recorder) => {
-            handle.put(recorder, plan);
+        Ok(mut recorder) => {
+            handle.put(&mut recorder, plan);
             0
         }
         Err((disk, fault)) => {
@@ -52,12 +53,13 @@ pub extern "C" fn fitrec_start(
 pub extern "C" fn fitrec_commit(handle: &mut Handle, plan: &mut DevicePlan) -> u8
     ensures { Commits handle.old handle.new plan.new result }
 {
-    let Some(mut recorder) = handle.take() else {
+    let mut recorder = Recorder::idle(no_files());
+    if !handle.take(&mut recorder) {
         plan.clear();
         return NO_RECORDER;
-    };
+    }
     let answer = recorder.commit();
-    handle.put(recorder, plan);
+    handle.put(&mut recorder, plan);
     code_of(&answer)
 }
 
@@ -67,12 +69,13 @@ pub extern "C" fn fitrec_commit(handle: &mut Handle, plan: &mut DevicePlan) -> u
 pub extern "C" fn fitrec_stop(handle: &mut Handle, time: u32, plan: &mut DevicePlan) -> u8
     ensures { Stops time handle.old handle.new plan.new result }
 {
-    let Some(mut recorder) = handle.take() else {
+    let mut recorder = Recorder::idle(no_files());
+    if !handle.take(&mut recorder) {
         plan.clear();
         return NO_RECORDER;
-    };
+    }
     let answer = recorder.stop(time);
-    handle.put(recorder, plan);
+    handle.put(&mut recorder, plan);
     code_of(&answer)
 }
 

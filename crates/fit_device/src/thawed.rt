@@ -8,17 +8,14 @@ use fit_plan::Plan;
 use fit_recorder::Recorder;
 
 #[derive(Drop)]
-pub(crate) struct Thawed {
-    pub(crate) recorder: Recorder<Plan>,
-    pub(crate) ghost goes_on: { ∥ GoesOn true story_in recorder ∥₁ },
+pub(crate) struct Thawed<'a> {
+    pub(crate) recorder: &'a Recorder<Plan>,
+    pub(crate) ghost goes_on: { ∥ GoesOn true story_in recorder.now ∥₁ },
 }
 
-impl Thawed {
-    pub(crate) fn into_recorder(self) -> Recorder<Plan>
-        ensures same { result ≡ self.recorder }
-        ensures goes_on { GoesOn true story_in result }
-    {
-        let Thawed { recorder } = self;
-        recorder
-    }
+impl Thawed<'_> {
+    // What is known of the recorder. It does nothing.
+    pub(crate) fn reveal(&self)
+        ensures { GoesOn true story_in self.now.recorder.now }
+    {}
 }

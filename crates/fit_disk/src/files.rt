@@ -154,7 +154,8 @@ impl<W: Witness> Disk for Files<W> {
 
     ghost story = { λ files. W.story (witness_of files) };
 
-    ghost log = { λ files. record { counts = files_counts files; schedule = unplanned no_calls; memory = [] } };
+    ghost log = { λ files.
+        record { counts = files_counts files; schedule = unplanned no_calls; memory = [] } };
 
     ghost sound = { λ files. W.sound (witness_of files) };
 

@@ -44,7 +44,8 @@ impl<W: Witness> Reported<W> {
     ) -> Result<Option<usize>, DeviceError>
         ensures within { IfOk result (λ part. IfSome part (λ count. count ≤ length buffer.old)) }
         ensures bytes { IsTrue W.honest → IfOk result (λ part. IfSome part (λ count.
-            IsPart (seen_of which (W.story self.now.witness)) at (length buffer.old) (take count buffer.new))) }
+            IsPart (seen_of which (W.story self.now.witness)) at (length buffer.old)
+            (take count buffer.new))) }
     {
         match self.file(which).read_at(buffer, at) {
             Ok(count) => {

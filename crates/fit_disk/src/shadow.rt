@@ -37,7 +37,8 @@ impl Shadow {
     // Lets the next call in memory fail if the system's call has.
     fn fail_with(&mut self, answer: Result<(), DeviceError>)
         ensures story { shadow_story self.new ≡ shadow_story self.old }
-        ensures failed { IsErr answer → must_fail (memory_counts self.new.memory) (memory_schedule self.new.memory) ≡ true }
+        ensures failed { IsErr answer
+            → must_fail (memory_counts self.new.memory) (memory_schedule self.new.memory) ≡ true }
     {
         if answer.is_err() {
             self.memory.fail_at(1);
@@ -53,7 +54,10 @@ impl Witness for Shadow {
     ghost story = { shadow_story };
 
     ghost sound = { λ shadow _.
-        record { data_left = shadow.memory.store.in_data.sound; journal_left = shadow.memory.store.in_journal.sound } };
+        record {
+          data_left = shadow.memory.store.in_data.sound;
+          journal_left = shadow.memory.store.in_journal.sound;
+        } };
 
     fn sized(&self, which: Which, size: u64) -> Result<(), DeviceError>
         ensures passed { OnOk result (size ≡ length (seen_of which (shadow_story self.now))) }
@@ -64,7 +68,8 @@ impl Witness for Shadow {
 
     fn gave(&self, which: Which, at: u64, room: usize, bytes: &[u8]) -> Result<(), DeviceError>
         ensures passed { OnOk result (IsPart (seen_of which (shadow_story self.now)) at room bytes.now) }
-        ensures refused { OnErr result (IsPart (seen_of which (shadow_story self.now)) at room bytes.now → ⊥) }
+        ensures refused { OnErr result
+            (IsPart (seen_of which (shadow_story self.now)) at room bytes.now → ⊥) }
     {
         passed(is_part(self.memory.content(which), at, room, bytes))
     }

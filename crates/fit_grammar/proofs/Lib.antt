@@ -5,6 +5,7 @@ pub mod Decoding
 mod Pieces
 pub mod Encoder
 pub mod KeptRow
+pub mod Filled
 mod LentRow
 pub mod PlainForm
 mod StatedTime

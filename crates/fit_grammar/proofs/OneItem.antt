@@ -4,3 +4,4 @@ pub mod DefinitionRead
 pub mod Steps
 pub mod Lengths
 pub mod Least
+pub mod DefinitionSize

@@ -1,5 +1,6 @@
 -- What public contracts use beside the format.
 pub mod Table
+pub mod FrozenTable
 pub mod Step
 pub mod LentMessage
 pub mod LentField

@@ -3,6 +3,7 @@ pub mod FirstByte
 pub mod DefinitionBytes
 pub mod SizedDefinition
 pub mod KeptDefinition
+pub mod ShortDefinition
 pub mod FrontPassed
 pub mod PlainSoFar
 pub mod PlainWritten

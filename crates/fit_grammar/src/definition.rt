@@ -2,15 +2,19 @@
 
 ghost use Rattle.std.specs.Prelude.{◌≡◌, ◌<◌, ◌≤◌};
 
+mod frozen;
 pub(crate) mod kept;
 pub(crate) mod latest;
 pub(crate) mod lent;
+mod short;
 mod table;
 
 use arrayvec::ArrayVec;
 use fit_base::Arch;
+pub use frozen::FrozenShort;
 pub use lent::DefinitionMessage;
-pub use table::Table;
+pub use short::{ShortDefinition, ShortTable};
+pub use table::{Definitions, Table};
 
 /// A field as a definition gives it: its number in the profile, its size in bytes, and its base type byte. It has three bytes
 /// in a definition message.

@@ -26,7 +26,7 @@ mod reading;
 mod taking;
 
 use crate::definition::kept::WrittenDefinition;
-use crate::definition::{Definition, Table};
+use crate::definition::{Definition, Definitions, Table};
 use crate::item::writing::data_byte;
 use crate::item::{ItemFault, Items, least_length};
 use crate::message::Messages;

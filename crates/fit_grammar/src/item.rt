@@ -4,7 +4,6 @@ ghost use Rattle.std.specs.Prelude.{◌≡◌, ◌<◌, ◌≤◌, ◌+◌, ◌*
 ghost use Rattle.fit_grammar.specs.declared.definition.Definition.{Definition as AnyDefinition};
 ghost use Rattle.fit_grammar.specs.Format.Item.{Item as AnyItem, Spells, head_of, DefinitionHead, DataHead};
 ghost use Rattle.fit_grammar.specs.Format.Records.{IsDefinedBy};
-ghost use Rattle.fit_grammar.specs.Calls.Table.{definition_in};
 ghost use Rattle.fit_grammar.specs.Calls.Step.{IsLeastLength, IsStep, IsStepItem, ItemAtFront, ItemBegun, ShowsUndefined, least_length_of, after_fields, definition_length_of};
 ghost use Rattle.fit_grammar.specs.Private.FirstByte.{local_of};
 
@@ -14,7 +13,7 @@ mod front;
 mod row;
 pub(crate) mod writing;
 
-use crate::definition::{DefinitionMessage, Table};
+use crate::definition::{DefinitionMessage, Definitions};
 pub use data_message::DataMessage;
 use first_byte::{Head, first_local, read_head};
 pub use front::longest_front;
@@ -76,21 +75,21 @@ pub enum Step<'a> {
 
 /// The least number of bytes that the item at the front of the window has, as far as the window shows. If the window has that
 /// many, it is the item's exact length.
-pub fn least_length(window: &[u8], table: &Table) -> Result<usize, ItemFault>
-    ensures answer { result ≡ least_length_of (definition_in table.now) window.now }
+pub fn least_length<T: Definitions>(window: &[u8], table: &T) -> Result<usize, ItemFault>
+    ensures answer { result ≡ least_length_of (T.definition_for table.now) window.now }
     // No item is longer than this.
     ensures bound { IfOk result (λ n. n ≤ 130051) }
     // What the number means for each item that the window may begin.
     ensures holds { (i : AnyItem) (rest : List ℕ) → Spells i (window.now ++ rest)
-        → IsDefinedBy (definition_in table.now) i
+        → IsDefinedBy (T.definition_for table.now) i
         → IfOk result (λ n. IsLeastLength n (length window.now) (length (window.now ++ rest))) }
 {
     length_at(window, table)
 }
 
 // The same, by the first byte.
-fn length_at(window: &[u8], table: &Table) -> Result<usize, ItemFault>
-    ensures answer { result ≡ least_length_of (definition_in table.now) window.now }
+fn length_at<T: Definitions>(window: &[u8], table: &T) -> Result<usize, ItemFault>
+    ensures answer { result ≡ least_length_of (T.definition_for table.now) window.now }
     ensures bound { IfOk result (λ n. n ≤ 130051) }
 {
     match window {
@@ -120,7 +119,7 @@ pub(crate) fn least_under(
 }
 
 // The least number of bytes of a definition: six, then those of its fields, then those of its developer fields.
-fn definition_length(window: &[u8], announced: bool) -> usize
+pub(crate) fn definition_length(window: &[u8], announced: bool) -> usize
     ensures length { result ≡ definition_length_of announced window.now }
     ensures bound { result ≤ 1537 }
 {
@@ -148,22 +147,22 @@ fn developer_count(window: &[u8], at: usize) -> usize
 }
 
 /// Reads the item at the front of the window under these definitions. It takes no memory.
-pub fn next_item<'a>(window: &'a [u8], table: &'a Table) -> Step<'a>
+pub fn next_item<'a, T: Definitions>(window: &'a [u8], table: &'a T) -> Step<'a>
     // What each answer states about the window.
-    ensures step { IsStep (definition_in table.now) window.now result }
+    ensures step { IsStep (T.definition_for table.now) window.now result }
     // When each answer comes.
-    ensures item { (i : AnyItem) (used : ℕ) → ItemAtFront (definition_in table.now) window.now i used
+    ensures item { (i : AnyItem) (used : ℕ) → ItemAtFront (T.definition_for table.now) window.now i used
         → IsStepItem result i used }
-    ensures more { ItemBegun (definition_in table.now) window.now → result ≡ Step.NeedMore }
-    ensures undefined { (l : ℕ) → ShowsUndefined (definition_in table.now) window.now l
+    ensures more { ItemBegun (T.definition_for table.now) window.now → result ≡ Step.NeedMore }
+    ensures undefined { (l : ℕ) → ShowsUndefined (T.definition_for table.now) window.now l
         → result ≡ Step.Refused (ItemFault.UndefinedLocal l) }
 {
     step_at(window, table)
 }
 
 // The same, by the first byte. Since no two answers are right for a window, an answer also comes whenever it is right.
-fn step_at<'a>(window: &'a [u8], table: &'a Table) -> Step<'a>
-    ensures { IsStep (definition_in table.now) window.now result }
+fn step_at<'a, T: Definitions>(window: &'a [u8], table: &'a T) -> Step<'a>
+    ensures { IsStep (T.definition_for table.now) window.now result }
 {
     match window {
         [first, ..] => step_under(window, table.get(first_local(*first))),

@@ -33,7 +33,8 @@ mod plain;
 mod to_writer;
 
 pub use definition::{
-    Definition, DefinitionMessage, DeveloperFieldDefinition, FieldDefinition, Table,
+    Definition, DefinitionMessage, Definitions, DeveloperFieldDefinition, FieldDefinition,
+    FrozenShort, ShortDefinition, ShortTable, Table,
 };
 pub use file::{
     Decoder, EncodeFault, FaultKind, File, FileFault, Frame, Header, LentFile, Places, PutFault,

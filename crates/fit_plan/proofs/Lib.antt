@@ -1,2 +1,3 @@
 mod Planning
 pub mod Prefix
+mod Windowed

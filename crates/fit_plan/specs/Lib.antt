@@ -4,3 +4,5 @@ pub mod Planned
 pub mod Between
 pub mod Plan
 pub mod Lent
+pub mod Part
+pub mod Window

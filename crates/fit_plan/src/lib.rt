@@ -6,14 +6,16 @@
 //! out (`specs/Planned`). `laws` says what a host leaves that was cut off in between.
 //!
 //! It knows the length of the data file, and no content. So every read fails, and so does the length of the journal. A `LentPlan`
-//! also reads two files that lie in memory, until their first write or cut.
+//! also reads two files that lie in memory, until their first write or cut. A `WindowPlan` reads a window of one of them.
 #![tactic(auto)]
 
 mod calls;
 pub mod laws;
 mod lent;
 mod plan;
+mod window;
 
 pub use calls::{Call, Calls, MOST_BYTES, MOST_CALLS};
 pub use lent::LentPlan;
 pub use plan::Plan;
+pub use window::WindowPlan;

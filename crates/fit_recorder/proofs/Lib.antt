@@ -5,4 +5,4 @@ pub mod FinishedFile
 pub mod RecoveredList
 mod ResumedRide
 mod ErasedFiles
-mod Eight
+pub mod Windowed

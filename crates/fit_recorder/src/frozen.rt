@@ -1,6 +1,6 @@
 // A recorder as plain numbers, which C can keep between two calls.
 
-ghost use Rattle.std.specs.Prelude.{◌≡◌, ◌↔◌, List, IsOk, IfOk, IfErr, take};
+ghost use Rattle.std.specs.Prelude.{◌≡◌, ◌↔◌, true, false, IsTrue, List, map, take};
 ghost use Rattle.arrayvec.specs.ArrayVec.{ArrayVec as AnyArrayVec};
 ghost use Rattle.fit_recorder.specs.Calls.Recorder.{state_of, has_failed, disk_of};
 ghost use Rattle.fit_recorder.specs.Calls.Frozen.{definition_in, definitions_in, state_in, has_failed_in, IsPossible};
@@ -10,10 +10,11 @@ use crate::recorder::Recorder;
 use crate::recording_files::RecordingFiles;
 use crate::spelling::Spelling;
 use arrayvec::ArrayVec;
-use fit_activity::{FrozenTotals, Speech, Totals};
+use fit_activity::{FrozenTotals, Speech, Sport, Start, Totals};
 use fit_base::Crc;
 use fit_disk::Disk;
 use fit_journal::{FrozenJournal, Journal};
+use std::mem;
 
 /// A definition in force: the first so many bytes spell it.
 #[repr(C)]
@@ -39,123 +40,130 @@ pub struct FrozenRecorder {
 }
 
 impl<D: Disk> Recorder<D> {
-    /// The recorder as plain numbers, without its disk.
-    pub fn freeze(&self) -> FrozenRecorder
-        ensures state { state_in result ≡ state_of self.now }
-        ensures failed { has_failed_in result ≡ has_failed self.now }
-        ensures possible { IsPossible result }
+    /// A recorder of no ride over a disk, which every call refuses with `Failed`.
+    #[inline(never)]
+    pub fn idle(disk: D) -> Recorder<D>
+        ensures disk { disk_of result ≡ disk }
+        ensures failed { has_failed result ≡ true }
     {
-        let (page, page_len) = frozen_page(&self.files.page);
-        FrozenRecorder {
-            totals: self.totals.freeze(),
-            journal: self.files.journal.freeze(),
-            len: self.files.len,
-            checksum: self.files.checksum.value(),
-            page_len,
-            turn: self.spelling.turn,
-            failed: u8::from(self.failed),
-            definitions: frozen_definitions(&self.spelling.slots),
-            page,
+        Recorder {
+            files: RecordingFiles {
+                disk,
+                journal: Journal::unused(),
+                page: ArrayVec::new(),
+                len: 0,
+                checksum: Crc::new(),
+            },
+            totals: Totals::start(&NO_RIDE),
+            speech: Speech::new(),
+            spelling: Spelling::new(),
+            failed: true,
         }
     }
 
-    /// The recorder with these numbers over a disk. Gives the disk back if no recorder has such numbers.
-    pub fn thaw(disk: D, numbers: &FrozenRecorder) -> Result<Recorder<D>, D>
-        ensures state { IfOk result (λ recorder. state_of recorder ≡ state_in numbers.now) }
-        ensures failed { IfOk result (λ recorder. has_failed recorder ≡ has_failed_in numbers.now) }
-        ensures disk { IfOk result (λ recorder. disk_of recorder ≡ disk) }
-        ensures same { IfErr result (λ given_back. given_back ≡ disk) }
-        ensures possible { IsOk result ↔ IsPossible numbers.now }
+    /// Swaps the disk of the recorder and this one.
+    pub fn swap_disk(&mut self, disk: &mut D)
+        ensures disk { disk_of self.new ≡ disk.old }
+        ensures old { disk.new ≡ disk_of self.old }
+        ensures state { state_of self.new ≡ state_of self.old }
+        ensures failed { has_failed self.new ≡ has_failed self.old }
+    {
+        mem::swap(&mut self.files.disk, disk);
+    }
+
+    /// Writes the recorder as plain numbers, without its disk.
+    pub fn freeze(&self, numbers: &mut FrozenRecorder)
+        ensures state { state_in numbers.new ≡ state_of self.now }
+        ensures failed { has_failed_in numbers.new ≡ has_failed self.now }
+        ensures possible { IsPossible numbers.new }
+    {
+        numbers.totals = self.totals.freeze();
+        numbers.journal = self.files.journal.freeze();
+        numbers.len = self.files.len;
+        numbers.checksum = self.files.checksum.value();
+        numbers.turn = self.spelling.turn;
+        numbers.failed = u8::from(self.failed);
+        numbers.page_len = freeze_page(&self.files.page, &mut numbers.page);
+        freeze_definitions(&self.spelling.slots, &mut numbers.definitions);
+    }
+
+    /// Makes this the recorder with these numbers, and keeps its disk. If no recorder has such numbers, it reports `false` and
+    /// changes nothing.
+    pub fn thaw(&mut self, numbers: &FrozenRecorder) -> bool
+        ensures possible { IsTrue result ↔ IsPossible numbers.now }
+        ensures state { result ≡ true → state_of self.new ≡ state_in numbers.now }
+        ensures failed { result ≡ true → has_failed self.new ≡ has_failed_in numbers.now }
+        ensures disk { disk_of self.new ≡ disk_of self.old }
+        ensures same { result ≡ false → self.new ≡ self.old }
     {
         let (Some(totals), Some(journal)) = (
             Totals::thaw(&numbers.totals),
             Journal::thaw(&numbers.journal),
         ) else {
-            return Err(disk);
+            return false;
         };
-        Ok(Recorder {
-            files: RecordingFiles {
-                disk,
-                journal,
-                page: thawed_page(&numbers.page, numbers.page_len),
-                len: numbers.len,
-                checksum: Crc::with_value(numbers.checksum),
-            },
-            totals,
-            speech: Speech::new(),
-            spelling: Spelling {
-                slots: thawed_definitions(&numbers.definitions),
-                turn: numbers.turn,
-            },
-            failed: numbers.failed == 1,
-        })
+        self.totals = totals;
+        self.files.journal = journal;
+        self.files.len = numbers.len;
+        self.files.checksum = Crc::with_value(numbers.checksum);
+        self.spelling.turn = numbers.turn;
+        self.failed = numbers.failed == 1;
+        thaw_page(&numbers.page, numbers.page_len, &mut self.files.page);
+        thaw_definitions(&numbers.definitions, &mut self.spelling.slots);
+        true
     }
 }
 
-fn frozen_page(page: &ArrayVec<u8, PAGE>) -> ([u8; PAGE], u16)
-    ensures { take result.1 result.0 ≡ page.now.items }
+// Begins the totals of a recorder that has no ride.
+const NO_RIDE: Start = Start {
+    time: 0x1000_0000,
+    serial: 1,
+    sport: Sport::Generic,
+};
+
+fn freeze_page(page: &ArrayVec<u8, PAGE>, bytes: &mut [u8; PAGE]) -> u16
+    ensures { take result bytes.new ≡ page.now.items }
 {
-    let mut bytes = [0; PAGE];
     bytes[..page.len()].copy_from_slice(page.as_slice());
-    (bytes, page.len() as u16)
+    page.len() as u16
 }
 
-fn thawed_page(bytes: &[u8; PAGE], len: u16) -> ArrayVec<u8, PAGE>
-    ensures { result.items ≡ take len bytes.now }
+fn thaw_page(bytes: &[u8; PAGE], len: u16, page: &mut ArrayVec<u8, PAGE>)
+    ensures { page.new.items ≡ take len bytes.now }
 {
-    let mut page = ArrayVec::new();
+    page.clear();
     page.try_extend_from_slice(&bytes[..usize::from(len).min(PAGE)])
         .unwrap();
-    page
 }
 
-fn frozen_definition(definition: &ArrayVec<u8, LONGEST_ITEM>) -> FrozenDefinition
-    ensures { definition_in result ≡ definition.now }
+fn freeze_definition(definition: &ArrayVec<u8, LONGEST_ITEM>, numbers: &mut FrozenDefinition)
+    ensures { definition_in numbers.new ≡ definition.now }
 {
-    let mut bytes = [0; LONGEST_ITEM];
-    bytes[..definition.len()].copy_from_slice(definition.as_slice());
-    FrozenDefinition {
-        len: definition.len() as u8,
-        bytes,
-    }
+    numbers.len = definition.len() as u8;
+    numbers.bytes[..definition.len()].copy_from_slice(definition.as_slice());
 }
 
-fn thawed_definition(numbers: &FrozenDefinition) -> ArrayVec<u8, LONGEST_ITEM>
-    ensures { result ≡ definition_in numbers.now }
+fn thaw_definition(numbers: &FrozenDefinition, definition: &mut ArrayVec<u8, LONGEST_ITEM>)
+    ensures { definition.new ≡ definition_in numbers.now }
 {
-    let mut definition = ArrayVec::new();
+    definition.clear();
     definition
         .try_extend_from_slice(&numbers.bytes[..usize::from(numbers.len).min(LONGEST_ITEM)])
         .unwrap();
-    definition
 }
 
-fn frozen_definitions(slots: &[ArrayVec<u8, LONGEST_ITEM>; 8]) -> [FrozenDefinition; 8]
-    ensures { definitions_in result ≡ slots.now }
+fn freeze_definitions(slots: &[ArrayVec<u8, LONGEST_ITEM>; 8], numbers: &mut [FrozenDefinition; 8])
+    ensures { definitions_in numbers.new ≡ slots.now }
 {
-    [
-        frozen_definition(&slots[0]),
-        frozen_definition(&slots[1]),
-        frozen_definition(&slots[2]),
-        frozen_definition(&slots[3]),
-        frozen_definition(&slots[4]),
-        frozen_definition(&slots[5]),
-        frozen_definition(&slots[6]),
-        frozen_definition(&slots[7]),
-    ]
+    for k in 0..8 {
+        freeze_definition(&slots[k], &mut numbers[k]);
+    }
 }
 
-fn thawed_definitions(numbers: &[FrozenDefinition; 8]) -> [ArrayVec<u8, LONGEST_ITEM>; 8]
-    ensures { result ≡ definitions_in numbers.now }
+fn thaw_definitions(numbers: &[FrozenDefinition; 8], slots: &mut [ArrayVec<u8, LONGEST_ITEM>; 8])
+    ensures { slots.new ≡ definitions_in numbers.now }
 {
-    [
-        thawed_definition(&numbers[0]),
-        thawed_definition(&numbers[1]),
-        thawed_definition(&numbers[2]),
-        thawed_definition(&numbers[3]),
-        thawed_definition(&numbers[4]),
-        thawed_definition(&numbers[5]),
-        thawed_definition(&numbers[6]),
-        thawed_definition(&numbers[7]),
-    ]
+    for k in 0..8 {
+        thaw_definition(&numbers[k], &mut slots[k]);
+    }
 }

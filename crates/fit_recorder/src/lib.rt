@@ -38,5 +38,7 @@ pub use fault::RecFault;
 pub use frozen::{FrozenDefinition, FrozenRecorder};
 pub use limits::CLOSING_ROOM;
 pub use recorder::Recorder;
-pub use recovery::recover;
+pub use recovery::frozen::FrozenRecovery;
+pub use recovery::windows::Recovery;
+pub use recovery::{recover, settle};
 pub use resuming::resume;

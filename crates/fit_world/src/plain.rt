@@ -70,7 +70,8 @@ impl fmt::Display for MessagesLine {
 /// Prints the number of messages. If the output fails, a prefix of that line is written.
 pub fn print_messages<O: Write>(count: usize, out: &mut O) -> Result<(), ReportFault>
     ensures fault { IfErr result IsOutputFault }
-    ensures line { WritesText (O.contents out.old) (O.contents out.new) result (messages_text count ++ codes "\n") }
+    ensures line { WritesText (O.contents out.old) (O.contents out.new) result
+        (messages_text count ++ codes "\n") }
 {
     print_line(&MessagesLine(count), out)
 }

@@ -73,7 +73,8 @@ pub fn print_line<L: Display, O: io::Write>(line: &L, out: &mut O) -> Result<(),
 /// Prints the line of a summary. If the output fails, a prefix of it is written.
 pub fn print_summary<O: io::Write>(summary: Summary, out: &mut O) -> Result<(), ReportFault>
     ensures fault { IfErr result IsOutputFault }
-    ensures line { WritesText (O.contents out.old) (O.contents out.new) result (summary_text summary ++ codes "\n") }
+    ensures line { WritesText (O.contents out.old) (O.contents out.new) result
+        (summary_text summary ++ codes "\n") }
 {
     print_line(&SummaryLine(summary), out)
 }

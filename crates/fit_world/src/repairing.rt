@@ -6,7 +6,8 @@ ghost use Rattle.fit_activity.specs.declared.activity.Summary.{Summary as AnySum
 ghost use Rattle.fit_disk.specs.Counts.{HasFailed};
 ghost use Rattle.fit_disk.specs.Runs.{Ran};
 ghost use Rattle.fit_disk.specs.State.{seen_in};
-ghost use Rattle.fit_recorder.specs.Calls.Recovery.{InRecovery, IsRecoveryFault, RecoveryAnswers, recovery_calls, most_body_reads};
+ghost use Rattle.fit_recorder.specs.Calls.Recovery.{InRecovery, IsRecoveryFault, RecoveryAnswers};
+ghost use Rattle.fit_recorder.specs.Calls.Counts.{recovery_calls, most_body_reads};
 ghost use Rattle.fit_recorder.specs.Files.Settled.{IsSettled};
 ghost use Rattle.fit_recorder.specs.declared.fault.RecFault.TheVariants as recording;
 ghost use Rattle.fit_recorder.specs.declared.fault.RecFault.{RecFault as AnyRecFault};

@@ -62,12 +62,11 @@ impl<D: Disk> Ride<D> {
     pub fn hand(&mut self, entry: &Entry) -> Reply
         requires goes_on { CanGoOn D.honest D.story self.old }
         requires no_stop { is_stop (Added entry.now) ≡ false }
-        ensures goes_on { CanGoOn D.honest D.story self.new }
         ensures replies { (list : List Recorded) → Handed self.old list
             → Replies (HandAnswers list (encoded_len self.old) entry.now) result }
         ensures handed { (list : List Recorded) → Handed self.old list → result ≡ Done
             → Handed self.new (list ++ Added entry.now ∷ []) }
-        ensures answered { Answered result self.old self.new }
+        ensures answered { Answered D.honest D.story result self.old self.new }
         ensures riding { is_riding self.new ≡ is_riding self.old }
         ensures step { IsTrue D.honest → (before : History) → StandsIn D.honest D.story self.old before
             → GoesBy D.honest D.story before (commands.Entry entry.now) result self.new }
@@ -83,14 +82,13 @@ impl<D: Disk> Ride<D> {
     /// Commits what was handed in.
     pub fn commit(&mut self) -> Reply
         requires { CanGoOn D.honest D.story self.old }
-        ensures goes_on { CanGoOn D.honest D.story self.new }
         ensures replies { (list : List Recorded) → Handed self.old list
             → Replies (CommitAnswers list (slots_of self.old)) result }
         ensures handed { (list : List Recorded) → Handed self.old list → result ≡ Done
             → Handed self.new list }
         ensures made { result ≡ Done
             → slots_of self.new ≡ committed_slots (slots_of self.old) (encoded_len self.old) }
-        ensures answered { Answered result self.old self.new }
+        ensures answered { Answered D.honest D.story result self.old self.new }
         ensures riding { is_riding self.new ≡ is_riding self.old }
         ensures step { IsTrue D.honest → (before : History) → StandsIn D.honest D.story self.old before
             → GoesBy D.honest D.story before commands.Commit result self.new }
@@ -107,11 +105,10 @@ impl<D: Disk> Ride<D> {
     /// other reply the one that ran still runs.
     pub fn stop(self, time: u32) -> (Ride<D>, Reply)
         requires { CanGoOn D.honest D.story self }
-        ensures goes_on { CanGoOn D.honest D.story result.0 }
         ensures replies { (list : List Recorded) → Handed self list
             → Replies (StopAnswers list time) result.1 }
         ensures not_done { result.1 ≢ Done }
-        ensures answered { Answered result.1 self result.0 }
+        ensures answered { Answered D.honest D.story result.1 self result.0 }
         ensures riding { is_riding result.0 ≡ outlives_stop (is_riding self) result.1 }
         ensures step { IsTrue D.honest → (before : History) → StandsIn D.honest D.story self before
             → GoesBy D.honest D.story before (commands.Entry (Stop time)) result.1 result.0 }

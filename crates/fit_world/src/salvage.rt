@@ -70,7 +70,8 @@ impl Salvage<'_> {
     /// Prints how many of the bytes looked at were kept. If the output fails, a prefix of that line is written.
     pub fn print<O: Write>(&self, out: &mut O) -> Result<(), ReportFault>
         ensures fault { IfErr result IsOutputFault }
-        ensures line { WritesText (O.contents out.old) (O.contents out.new) result (kept_text self.now ++ codes "\n") }
+        ensures line { WritesText (O.contents out.old) (O.contents out.new) result
+            (kept_text self.now ++ codes "\n") }
     {
         print_line(self, out)
     }

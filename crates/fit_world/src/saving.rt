@@ -9,7 +9,7 @@ ghost use Rattle.fit_grammar.specs.Calls.Output.{WritesText};
 ghost use Rattle.fit_grammar.specs.Format.Encoding.{encoded};
 ghost use Rattle.fit_grammar.specs.Format.File.{FileOf};
 ghost use Rattle.fit_recorder.specs.Calls.Recovery.{RecoveryAnswers};
-ghost use Rattle.fit_recorder.specs.Files.Limits.{longest_closing};
+ghost use Rattle.fit_recorder.specs.Files.Limits.{longest_end};
 ghost use Rattle.fit_recorder.specs.declared.fault.RecFault.TheVariants as recording;
 ghost use Rattle.fit_world.specs.Printed.Saved.{FinishesRide, SavesRide};
 
@@ -89,7 +89,7 @@ fn finished_of(
 // The same over buffers with room for what closes the data file.
 fn finished_in(alloc: Global, disk: &mut Buffers<'_, '_>) -> Result<(File, Summary), SaveFault>
     requires fresh { counts_in disk.old ≡ no_calls }
-    requires data_room { (story_in disk.old).now.data_file.greatest + (longest_closing + 2) ≤ room_of Data disk.old }
+    requires data_room { (story_in disk.old).now.data_file.greatest + longest_end ≤ room_of Data disk.old }
     requires journal_room { (story_in disk.old).now.journal_file.greatest ≤ room_of Journal disk.old }
     ensures { FinishesRide (seen_in (story_in disk.old).now) result }
 {
@@ -107,7 +107,7 @@ fn finished_in(alloc: Global, disk: &mut Buffers<'_, '_>) -> Result<(File, Summa
 // Recovers the recording. No call of the disk fails.
 fn recover_in(disk: &mut Buffers<'_, '_>) -> Result<Summary, RecFault>
     requires fresh { counts_in disk.old ≡ no_calls }
-    requires data_room { (story_in disk.old).now.data_file.greatest + (longest_closing + 2) ≤ room_of Data disk.old }
+    requires data_room { (story_in disk.old).now.data_file.greatest + longest_end ≤ room_of Data disk.old }
     requires journal_room { (story_in disk.old).now.journal_file.greatest ≤ room_of Journal disk.old }
     ensures decides { RecoveryAnswers (seen_in (story_in disk.old).now) (story_in disk.new) result }
     ensures no_device { IsErrOf result recording.Device → ⊥ }

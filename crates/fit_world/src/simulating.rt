@@ -81,7 +81,8 @@ fn print_replies<O: Write>(
     replies: &[Reply],
     out: &mut O,
 ) -> Result<(), ReportFault>
-    ensures lines { WritesText (O.contents out.old) (O.contents out.new) result (lines_text events.now replies.now) }
+    ensures lines { WritesText (O.contents out.old) (O.contents out.new) result
+        (lines_text events.now replies.now) }
 {
     let mut pen = Pen::new(out);
     let done = put_replies(events, replies, &mut pen);

@@ -188,7 +188,7 @@ fn keeps_time(clock: &Clock) -> bool
         && u64::from(clock.lap) + u64::from(clock.lap_timer) <= end
 }
 
-fn sport_number(sport: Sport) -> u8
+pub(crate) fn sport_number(sport: Sport) -> u8
     ensures { sport_in result ≡ sport }
 {
     match sport {
@@ -198,7 +198,7 @@ fn sport_number(sport: Sport) -> u8
     }
 }
 
-fn thawed_sport(number: u8) -> Sport
+pub(crate) fn thawed_sport(number: u8) -> Sport
     ensures { result ≡ sport_in number }
 {
     match number {

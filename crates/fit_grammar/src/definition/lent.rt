@@ -129,7 +129,14 @@ impl<'a> DefinitionMessage<'a> {
     pub(crate) fn size(&self) -> usize
         ensures { result ≡ item_size (Defines self.now) }
     {
-        self.read().size()
+        let bytes = self.sized.bytes;
+        let end = 6 + fields_size(bytes[5]);
+        // Without developer fields their number is left out.
+        if bytes.len() == end + 1 {
+            end
+        } else {
+            bytes.len()
+        }
     }
 
     /// Reads the whole definition.

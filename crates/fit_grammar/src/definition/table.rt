@@ -7,6 +7,19 @@ use crate::definition::kept::WrittenDefinition;
 use crate::definition::{Definition, DefinitionMessage};
 use std::marker::Model;
 
+/// The definitions in force, looked up by local number.
+pub trait Definitions {
+    ghost use Rattle.std.specs.Prelude.{Option};
+    ghost use Rattle.fit_grammar.specs.declared.definition.Definition.{Definition};
+
+    /// The definition of a local number, if one exists.
+    ghost definition_for: { Self → ℕ → Option Definition };
+
+    /// The definition of a local number, if one exists.
+    fn get(&self, local: u8) -> Option<DefinitionMessage<'_>>
+        ensures { result ≡ definition_for self.now local };
+}
+
 /// The definition in force for each of the sixteen local numbers, or none.
 #[derive(Drop)]
 pub struct Table {
@@ -53,11 +66,12 @@ impl Table {
         let local = written.lend().local() as usize;
         self.slots[local] = Some(written);
     }
+}
 
-    /// The definition of a local number, if one exists.
-    pub fn get(&self, local: u8) -> Option<DefinitionMessage<'_>>
-        ensures { result ≡ definition_in self.now local }
-    {
+impl Definitions for Table {
+    ghost definition_for = { definition_in };
+
+    fn get(&self, local: u8) -> Option<DefinitionMessage<'_>> {
         match self.slots.get(local as usize) {
             Some(Some(written)) => Some(written.lend()),
             _ => None,

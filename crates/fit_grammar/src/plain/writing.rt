@@ -35,7 +35,8 @@ pub fn write_plain_records<W: Write>(
     file: &LentFile<'_>,
     out: &mut W,
 ) -> Result<(), WritePlainFault>
-    ensures { WritesText (W.contents out.old) (W.contents out.new) result (encoded_items (plain_items file.now.items)) }
+    ensures { WritesText (W.contents out.old) (W.contents out.new) result
+        (encoded_items (plain_items file.now.items)) }
 {
     let mut checksum = Crc::new();
     put_items(out, &mut checksum, file)
@@ -109,7 +110,8 @@ fn put_definition_before<W: Write>(
 ) -> Result<(), WritePlainFault>
     requires { (message.now.local < 16) × (message.now.definition.local ≡ message.now.local) }
     ensures text { WritesChecked (W.contents out.old) (W.contents out.new) checksum.old checksum.new result
-        (encoded_items (definitions_before (is_timed timed.old message.now.local) needs message.now.definition)) }
+        (encoded_items
+        (definitions_before (is_timed timed.old message.now.local) needs message.now.definition)) }
     ensures timed { OnOk result (timed.new ≡ slice_set timed.old message.now.local needs) }
 {
     if timed[message.local as usize] == needs {
@@ -156,7 +158,8 @@ fn put_time<W: Write>(
     arch: Arch,
     time: Option<u32>,
 ) -> Result<(), WriteFailed>
-    ensures { WritesChecked (W.contents out.old) (W.contents out.new) checksum.old checksum.new result (time_front arch time) }
+    ensures { WritesChecked (W.contents out.old) (W.contents out.new) checksum.old checksum.new result
+        (time_front arch time) }
 {
     match time {
         Some(time) => put_checked(out, checksum, &bytes_of_time(arch, time)),

@@ -14,7 +14,8 @@ use Rattle.fit_recorder.proofs.Commit.Standing.{going_on}
 use Rattle.fit_disk.specs.Story.{Story}
 use Rattle.fit_recorder.specs.Private.State.{RecorderState, IsAt}
 use Rattle.fit_recorder.specs.declared.recorder.Recorder.{Recorder}
-use Rattle.fit_recorder.specs.Calls.Recorder.{AfterCall, has_failed}
+use Rattle.fit_recorder.specs.Calls.After.{AfterCall}
+use Rattle.fit_recorder.specs.Calls.Recorder.{GoesOn, has_failed}
 use Rattle.fit_recorder.specs.Calls.Answers.{HandAnswers, CommitAnswers, StopAnswers}
 
 -- a recorder in which no call failed has ended or stands at some list
@@ -53,20 +54,23 @@ commit_answers list journal_slots (Ok done) going room device = (going, room)
 commit_answers list journal_slots (Err fault) going room device = subst (λ fault. CommitAnswers list journal_slots (Err fault)) (sym device) (going, room)
 
 -- after an Ok a recorder continues, and after a fault it has failed
-pub goes_by : {T E : Type 0} (A P Q G : Type 0) (result : Result T E) → OnOk result (A × P) → OnErr result Q → (P → G) → (Q → G) → G
-goes_by A P Q G (Ok x) ok err on_ok on_err = on_ok ok.1
-goes_by A P Q G (Err e) ok err on_ok on_err = on_err err
+pub goes_by : {T E : Type 0} (P Q G : Type 0) (result : Result T E) → OnOk result P → OnErr result Q → (P → G) → (Q → G) → G
+goes_by P Q G (Ok x) ok err on_ok on_err = on_ok ok
+goes_by P Q G (Err e) ok err on_ok on_err = on_err err
 
 -- what holds after a call that only the device can refuse
-pub after_call : {D : Type 0} (old new : Recorder D) (result : Result (Unit {0}) RecFault) → has_failed old ≡ false → IfErr result (λ fault. fault ≡ Device)
-    → OnOk result (has_failed new ≡ false) → OnErr result (has_failed new ≡ true) → AfterCall result old new
-after_call old new (Ok done) not device going gone = record {
+pub after_call : {D : Type 0} (honest : Bool) (story : D → Story) (old new : Recorder D) (result : Result (Unit {0}) RecFault) → GoesOn honest story new
+    → has_failed old ≡ false → IfErr result (λ fault. fault ≡ Device) → OnOk result (has_failed new ≡ false) → OnErr result (has_failed new ≡ true)
+    → AfterCall honest story result old new
+after_call honest story old new (Ok done) goes_on not device going gone = record {
+  goes_on = goes_on;
   failed = λ failed. (let clash : false ≡ true = sym not ∙ failed in absurd cc);
   going = going;
   gone = λ none. absurd cc;
   same = tt;
 }
-after_call old new (Err fault) not device going gone = record {
+after_call honest story old new (Err fault) goes_on not device going gone = record {
+  goes_on = goes_on;
   failed = λ failed. (let clash : false ≡ true = sym not ∙ failed in absurd cc);
   going = going;
   gone = λ _. gone;

@@ -7,6 +7,7 @@ use Rattle.fit_activity.specs.Rides.Refusal.{has_stopped}
 use Rattle.fit_activity.specs.Rides.RunningTotals.{AreTotals}
 use Rattle.fit_disk.specs.Story.{Story}
 use Rattle.fit_journal.specs.Frozen.{slots_in}
+use Rattle.fit_journal.specs.Slots.{row_slots}
 use Rattle.fit_journal.specs.Turn.{open_gates}
 use Rattle.fit_recorder.specs.declared.frozen.FrozenDefinition.{FrozenDefinition}
 use Rattle.fit_recorder.specs.declared.frozen.FrozenRecorder.{FrozenRecorder}
@@ -36,9 +37,13 @@ has_failed_in f = f.failed == 1
 -- a recorder may have these numbers
 pub record IsPossible (f : FrozenRecorder) : Type 0 where
   pub totals : ArePossible f.totals
-  pub journal : open_gates (slots_in f.journal) ≤ 4096
+  pub journal : open_gates (slots_in f.journal) ≤ row_slots
 
--- `GoesOn` of a recorder with this state over a disk with this story
+-- `StandsAt` of a recorder with these numbers over a disk with this story
+abbrev pub StandsFrozen : Bool → FrozenRecorder → Story → List Recorded → List Recorded → Type 0
+StandsFrozen honest f story list committed = IsAt honest (state_in f) story list committed
+
+-- and `GoesOn` of a recorder with this state
 abbrev pub HasEndedAt : RecorderState → List Recorded → Type 0
 HasEndedAt state list = AreTotals state.totals list × (has_stopped list ≡ true)
 

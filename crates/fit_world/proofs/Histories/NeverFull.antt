@@ -1,6 +1,6 @@
 -- The journal of a ride over files that no older recorder wrote never fills: the calls of a ride keep the mark of slots that take turns.
-use Rattle.std.proofs.Common.{◌≡◌, ◌≢◌, inl, inr, ⊎_elim, ℕ, ◌+◌, ◌≤◌, Bool, true, false, true≢false, List, [], ◌∷◌, None, length, drop, get_or, Result, Ok, Err, refl, sym, ◌∙◌, ap, subst, arith}
-use Rattle.std.specs.Prelude.{IsTrue, OnOk, IfErr, IsErrOf}
+use Rattle.std.proofs.Common.{◌≡◌, inl, inr, ⊎_elim, ℕ, ◌≤◌, Bool, true, false, true≢false, List, [], ◌∷◌, None, length, get_or, Result, Ok, Err, refl, sym, ◌∙◌, ap, subst, arith}
+use Rattle.std.specs.Prelude.{IsTrue, OnOk, IfErr}
 use Rattle.std.proofs.lemmas.List.{get_or-drop}
 use Rattle.fit_activity.specs.declared.activity.Summary.{Summary}
 use Rattle.fit_activity.specs.declared.recording.start.Start.{Start}
@@ -22,7 +22,8 @@ use Rattle.fit_recorder.specs.Files.Committed.{Commits}
 use Rattle.fit_recorder.specs.Files.NeverFull.{NeverFills}
 use Rattle.fit_recorder.specs.Calls.Answers.{StartAnswers}
 use Rattle.fit_recorder.specs.Calls.Erasing.{Erased, LeftOrErased}
-use Rattle.fit_recorder.specs.Calls.Recorder.{StandsAt, WasHanded, AfterCall, disk_of, has_failed, journal_slots}
+use Rattle.fit_recorder.specs.Calls.After.{AfterCall}
+use Rattle.fit_recorder.specs.Calls.Recorder.{StandsAt, WasHanded, disk_of, has_failed, journal_slots}
 use Rattle.fit_recorder.specs.Calls.Recovery.{Rebuilds, unchanged, standing, InRecovery, IsRecoveryFault, KeepsJournal}
 use Rattle.fit_recorder.specs.Calls.Resume.{IsResumed, IsRefusedFor, HasNoRoom}
 use Rattle.fit_recorder.proofs.Commit.Head.{rest_head, stands_rest, recorder_fills}
@@ -144,7 +145,7 @@ module _ {D : Type 0} (honest : Bool) (story : D → Story) (so : IsTrue honest)
   ended_fills (rides.Idle idle) before disk is stands never = subst (λ disk. LeavesOnly NeverFills (story disk).now) (sym is) never
   ended_fills (rides.Riding recorder) before disk is stands never = subst (λ disk. LeavesOnly NeverFills (story disk).now) (sym is) (running_fills recorder before stands never)
 
-  module _ (old new : Recorder D) (result : Result (Unit {0}) RecFault) (after : AfterCall result old new)
+  module _ (old new : Recorder D) (result : Result (Unit {0}) RecFault) (after : AfterCall honest story result old new)
       (head : (list committed : List Recorded) → StandsAt honest story old list committed → KeepsHead (story (disk_of old)) (story (disk_of new)))
       (before : History) (stands : StandsIn honest story (rides.Riding old) before) (never : NeverFull story (rides.Riding old))
     where

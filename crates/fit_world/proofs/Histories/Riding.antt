@@ -22,6 +22,7 @@ use Rattle.fit_recorder.specs.Calls.Answers.{HandAnswers, CommitAnswers, IsLastS
 use Rattle.fit_recorder.specs.Files.Body.{StandsFor}
 use Rattle.fit_recorder.specs.Files.Finished.{IsFinished}
 use Rattle.fit_recorder.specs.Calls.Resume.{IsResumed}
+use Rattle.fit_recorder.specs.Calls.After.{CommittedAll, Took}
 use Rattle.fit_recorder.specs.Calls.Recorder.{StandsAt, WasHanded, HasEnded, disk_of, has_failed, data_len, journal_slots}
 use Rattle.fit_recorder.proofs.Commit.Standing.{has_stopped-push}
 use Rattle.fit_world.specs.declared.command.Command.{Command}
@@ -147,7 +148,7 @@ module _ {D : Type 0} (honest : Bool) (story : D → Story) where
 
     module _ (entry : Entry) (other : is_stop (Added entry) ≡ false) (slots : journal_slots new ≡ journal_slots old)
         (answers : (list : List Recorded) → WasHanded old list → has_failed old ≡ false → HandAnswers list (data_len old) entry result)
-        (ok : (list committed : List Recorded) → StandsAt honest story old list committed → OnOk result ((has_failed new ≡ false) × StandsAt honest story new (list ++ Added entry ∷ []) committed))
+        (going : OnOk result (has_failed new ≡ false)) (ok : OnOk result (Took honest story entry old new))
         (moments : (list committed : List Recorded) → StandsAt honest story old list committed → Throughout (StandsFor committed) (story (disk_of old)) (story (disk_of new))) where
       hand_refused : (list : List Recorded) (promise : ℕ) (reopened : Bool) → RidesOn honest story old list promise reopened → (fault : RecFault) → result ≡ Err fault → HandAnswers list (data_len old) entry (Err fault)
           → GoesBy honest story (Riding list promise reopened false) (commands.Entry entry) (replies.Refused fault) (rides.Riding new)
@@ -174,18 +175,19 @@ module _ {D : Type 0} (honest : Bool) (story : D → Story) where
       hand_on : (list : List Recorded) (promise : ℕ) (reopened : Bool) → RidesOn honest story old list promise reopened → (r : Result (Unit {0}) RecFault) → result ≡ r
           → GoesBy honest story (Riding list promise reopened false) (commands.Entry entry) (reply_of r) (rides.Riding new)
       hand_on list promise reopened on (Ok done) is =
-          let now = rw is at ok list on.committed on.stands in
+          let took : Took honest story entry old new = rw is at ok in
+          let now = took.stands list on.committed on.stands in
           let more : List Recorded = list ++ Added entry ∷ [] in
           record {
             after = Riding more promise reopened false;
-            step = entry_step (Riding list promise reopened false) (Riding more promise reopened false) entry Done other (now.1.totals.allowed, refl);
+            step = entry_step (Riding list promise reopened false) (Riding more promise reopened false) entry Done other (now.totals.allowed, refl);
             stands = record {
               committed = on.committed;
               rest = on.rest ++ Added entry ∷ [];
               begins = ap (λ (list : List Recorded). list ++ Added entry ∷ []) on.begins ∙ append_assoc on.committed on.rest (Added entry ∷ []);
               promised = on.promised;
-              stands = now.1;
-              going = now.0;
+              stands = now;
+              going = rw is at going;
               no_stop = has_stopped-push list (Added entry) ∙ other;
               turns = λ anew. ap slots_left slots ∙ on.turns anew;
             };
@@ -202,7 +204,7 @@ module _ {D : Type 0} (honest : Bool) (story : D → Story) where
 
     module _ (answers : (list : List Recorded) → WasHanded old list → has_failed old ≡ false → CommitAnswers list (journal_slots old) result)
         (turns : slots_left (journal_slots old) ≡ None → OnOk result (slots_left (journal_slots new) ≡ None))
-        (ok : (list committed : List Recorded) → StandsAt honest story old list committed → OnOk result ((has_failed new ≡ false) × StandsAt honest story new list list))
+        (going : OnOk result (has_failed new ≡ false)) (ok : OnOk result (CommittedAll honest story old new))
         (moments : (list committed : List Recorded) → StandsAt honest story old list committed → Throughout (λ c. StandsFor committed c ⊎ StandsFor list c) (story (disk_of old)) (story (disk_of new))) where
       commit_refused : (list : List Recorded) (promise : ℕ) (reopened : Bool) → RidesOn honest story old list promise reopened → (fault : RecFault) → result ≡ Err fault → CommitAnswers list (journal_slots old) (Err fault)
           → GoesBy honest story (Riding list promise reopened false) commands.Commit (replies.Refused fault) (rides.Riding new)
@@ -228,11 +230,11 @@ module _ {D : Type 0} (honest : Bool) (story : D → Story) where
       commit_on : (list : List Recorded) (promise : ℕ) (reopened : Bool) → RidesOn honest story old list promise reopened → (r : Result (Unit {0}) RecFault) → result ≡ r
           → GoesBy honest story (Riding list promise reopened false) commands.Commit (reply_of r) (rides.Riding new)
       commit_on list promise reopened on (Ok done) is =
-          let now = rw is at ok list on.committed on.stands in
+          let all : CommittedAll honest story old new = rw is at ok in
           record {
             after = Riding list (length list) reopened false;
             step = refl;
-            stands = record { committed = list; rest = []; begins = sym (append-nil list); promised = refl; stands = now.1; going = now.0; no_stop = on.no_stop; turns = λ anew. rw is at turns (on.turns anew) };
+            stands = record { committed = list; rest = []; begins = sym (append-nil list); promised = refl; stands = all.stands list on.committed on.stands; going = rw is at going; no_stop = on.no_stop; turns = λ anew. rw is at turns (on.turns anew) };
           }
       commit_on list promise reopened on (Err fault) is = commit_refused list promise reopened on fault is (rw is at answers list on.stands.totals on.going)
 

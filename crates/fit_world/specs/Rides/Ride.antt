@@ -40,17 +40,18 @@ module _ {D : Type 0} where
     pub counted : IsCounted reply (log (disk_in old)).counts (log (disk_in new)).counts
     pub planned : (log (disk_in new)).schedule ≡ (log (disk_in old)).schedule
 
-  -- What holds after a call that only a recorder answers: the reply is `NoRecorder` if and only if none runs, and after `Device` every
-  -- reply is `Failed`.
-  pub record Answered (reply : Reply) (old new : Ride D) : Type 0 where
-    pub none : (reply ≡ NoRecorder) ↔ (is_riding old ≡ false)
-    pub failed : is_broken old ≡ true → reply ≡ Refused Failed
-    pub broken : is_riding old ≡ true → reply ≡ Refused Device → is_broken new ≡ true
-
   -- every call of the recorder that runs may be made
   abbrev pub CanGoOn : Bool → (D → Story) → Ride D → Type 0
   CanGoOn honest story (Idle disk) = Unit {0}
   CanGoOn honest story (Riding recorder) = GoesOn honest story recorder
+
+  -- What holds after a call that only a recorder answers: the next call may be made, the reply is `NoRecorder` if and only if none runs,
+  -- and after `Device` every reply is `Failed`.
+  pub record Answered (honest : Bool) (story : D → Story) (reply : Reply) (old new : Ride D) : Type 0 where
+    pub goes_on : CanGoOn honest story new
+    pub none : (reply ≡ NoRecorder) ↔ (is_riding old ≡ false)
+    pub failed : is_broken old ≡ true → reply ≡ Refused Failed
+    pub broken : is_riding old ≡ true → reply ≡ Refused Device → is_broken new ≡ true
 
   -- a recorder runs that was handed this list, and no call failed in it
   abbrev pub Handed : Ride D → List Recorded → Type 0

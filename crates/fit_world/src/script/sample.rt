@@ -90,7 +90,8 @@ fn with_setting(
 ) -> Result<[Option<u32>; FIELDS], ScriptFaultKind>
     requires { ValuesFit sample_rows values }
     ensures value { result_ok result
-        ≡ (if has_number key.now value.now then Some (with_setting sample_rows values key.now value.now) else None) }
+        ≡ (if has_number key.now value.now
+        then Some (with_setting sample_rows values key.now value.now) else None) }
     ensures fit { IfOk result (λ more. ValuesFit sample_rows more) }
 {
     if !has_number(&SAMPLE_FIELDS, key, value) {

@@ -73,7 +73,8 @@ pub fn repair_files<'a, W: Witness, O: Write>(
     out: &mut O,
 ) -> Result<(W, Result<(), RepairFault>), Fault<'a>>
     ensures repaired { IsTrue W.honest → IfOk result (λ done.
-        Repairs (seen_in (W.story witness).now) (W.story done.0) (O.contents out.old) (O.contents out.new) done.1) }
+        Repairs (seen_in (W.story witness).now) (W.story done.0)
+        (O.contents out.old) (O.contents out.new) done.1) }
     ensures fault { IfOk result (λ done. IfErr done.1 IsRepairFault) }
     ensures printed { IfOk result (λ done. ReportsRepair (O.contents out.old) (O.contents out.new) done.1) }
     ensures reported { IfErr result (IsOpenReported name.entry) }

@@ -58,7 +58,8 @@ pub fn replay_files<'a, W: Witness, O: Write>(
         BreaksOff W.honest (W.story witness) (W.story done.0) events.now (O.contents out.old)
         (O.contents out.new))) }
     ensures fault { IfOk result (λ done. IfErr done.1 IsOutputFault) }
-    ensures reported { IfErr result (λ reported. (why : WhyNotOpen) × (reported ≡ fault_of_open folder.entry why)) }
+    ensures reported { IfErr result
+        (λ reported. (why : WhyNotOpen) × (reported ≡ fault_of_open folder.entry why)) }
     ensures quiet { IfErr result (λ _. O.contents out.new ≡ O.contents out.old) }
 {
     let files = open_folder(rt, folder, witness)?;

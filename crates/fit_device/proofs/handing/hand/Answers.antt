@@ -1,9 +1,9 @@
-use Rattle.std.proofs.Common.{refl, ap, subst, ◌++◌, ◌∷◌, []}
+use Rattle.std.proofs.Common.{rules, refl, ap, subst, ◌++◌, ◌∷◌, []}
 use Rattle.fit_activity.specs.Rides.Recording.{Added}
 use Rattle.fit_recorder.specs.Calls.Answers.{HandAnswers}
 use Rattle.fit_recorder.specs.Files.Body.{StandsFor}
 use Rattle.fit_recorder.specs.Private.State.{RecorderState}
-use Rattle.fit_device.proofs.Stepping.{IsTaken, IsPut, stood, was_going, was_handed, stands, steps, throughout, on_ok}
+use Rattle.fit_device.proofs.Stepping.{stood, was_going, was_handed, stands, steps, throughout, on_ok}
 use Rattle.fit_device.proofs.handing.hand.Goals as goal
 
 pub returns : goal.returns
@@ -11,23 +11,11 @@ returns c =
     let old = c.args.handle.now in
     let new = c.put.new.self in
     let plan = c.put.new.plan in
-    let before = c.in-Some.recorder in
+    let before = c.take.new.recorder in
     let after = c.hand-answer.new.self in
     let did = c.hand-answer.ensures in
-    let taken : IsTaken old before = record {
-      is_recorder = c.in-Some.ensures.some.0 refl;
-      state = c.in-Some.ensures.state;
-      failed = c.in-Some.ensures.failed;
-      story = c.in-Some.ensures.story;
-      since = c.in-Some.ensures.since;
-    } in
-    let put : IsPut new plan after = record {
-      is_recorder = c.put.ensures.recorder;
-      state = c.put.ensures.state;
-      failed = c.put.ensures.failed;
-      story = c.put.ensures.story;
-      planned = c.put.ensures.planned;
-    } in
+    let taken = c.if-not-take.ensures.taken refl in
+    let put = c.put.ensures in
     record {
       steps = steps new plan after put old before taken c.hand-answer.result c.code_of.result c.code_of.ensures did.after did.ran.memory;
       answers = λ list handed. (
@@ -39,8 +27,11 @@ returns c =
         ),
       );
       ok = λ list committed held zero.
-          let went = on_ok c.hand-answer.result c.code_of.result c.code_of.ensures zero (did.ok list committed (stood old before taken list committed held)) in
-          stands new plan after put (list ++ Added c.args.entry.now ∷ []) committed went.0 went.1;
+          stands new plan after put (list ++ Added c.args.entry.now ∷ []) committed (on_ok c.hand-answer.result c.code_of.result c.code_of.ensures zero did.after.going)
+          ((on_ok c.hand-answer.result c.code_of.result c.code_of.ensures zero did.ok).stands list committed (stood old before taken list committed held));
       any_moment = λ list committed held.
           throughout new plan after put old before taken (StandsFor committed) (did.any_moment refl list committed (stood old before taken list committed held));
     }
+
+pub returns-then-not-take : goal.returns-then-not-take
+returns-then-not-take c = search rules

@@ -8,7 +8,7 @@ use Rattle.fit_recorder.specs.Calls.Start.{InStart}
 use Rattle.fit_device.specs.Handle.{Stands}
 use Rattle.fit_device.specs.Planned.{carried_out}
 use Rattle.fit_device.specs.Starts.{Starts}
-use Rattle.fit_device.proofs.Stepping.{IsPut, stands, on_ok}
+use Rattle.fit_device.proofs.Stepping.{stands, on_ok}
 use Rattle.fit_device.proofs.starting.fitrec_start.Goals as goal
 
 in_start : (start : Start) (old earlier new later : Story) → old ≡ earlier → new ≡ later → InStart start old new → InStart start earlier later
@@ -22,13 +22,7 @@ returns-in-Ok-clause-starts c = λ _.
     let plan = c.put.new.plan in
     let recorder = c.in-Ok.recorder in
     let start : Start = record { time = c.args.time; serial = c.args.serial; sport = c.in-Some.sport } in
-    let put : IsPut new plan recorder = record {
-      is_recorder = c.put.ensures.recorder;
-      state = c.put.ensures.state;
-      failed = c.put.ensures.failed;
-      story = c.put.ensures.story;
-      planned = c.put.ensures.planned;
-    } in
+    let put = c.put.ensures in
     let did = c.in-Ok.ensures in
     let starts : Starts start old new plan 0 = record {
       planned = put.story ∙ sym put.planned ∙ ap (carried_out plan) (same_story _ _ did.ran.memory ∙ c.take_files.ensures.since);

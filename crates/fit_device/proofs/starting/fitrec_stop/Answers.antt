@@ -1,11 +1,11 @@
-use Rattle.std.proofs.Common.{◌⊎◌, ◌++◌, ◌∷◌, [], refl, sym, subst}
+use Rattle.std.proofs.Common.{rules, ◌⊎◌, ◌++◌, ◌∷◌, [], refl, sym, subst}
 use Rattle.fit_activity.specs.declared.recording.entry.Entry.TheVariants.{Stop}
 use Rattle.fit_activity.specs.Rides.Recording.{Added}
 use Rattle.fit_disk.specs.State.{Contents}
 use Rattle.fit_disk.specs.Story.{Story}
 use Rattle.fit_recorder.specs.Files.Body.{StandsFor}
 use Rattle.fit_recorder.specs.Files.Finished.{IsFinished}
-use Rattle.fit_device.proofs.Stepping.{IsTaken, IsPut, stood, was_going, was_handed, is_handed, steps, throughout, on_ok}
+use Rattle.fit_device.proofs.Stepping.{stood, was_going, was_handed, is_handed, steps, throughout, on_ok}
 use Rattle.fit_device.proofs.starting.fitrec_stop.Goals as goal
 
 pub returns : goal.returns
@@ -13,23 +13,11 @@ returns c =
     let old = c.args.handle.now in
     let new = c.put.new.self in
     let plan = c.put.new.plan in
-    let before = c.in-Some.recorder in
+    let before = c.take.new.recorder in
     let after = c.stop-answer.new.self in
     let did = c.stop-answer.ensures in
-    let taken : IsTaken old before = record {
-      is_recorder = c.in-Some.ensures.some.0 refl;
-      state = c.in-Some.ensures.state;
-      failed = c.in-Some.ensures.failed;
-      story = c.in-Some.ensures.story;
-      since = c.in-Some.ensures.since;
-    } in
-    let put : IsPut new plan after = record {
-      is_recorder = c.put.ensures.recorder;
-      state = c.put.ensures.state;
-      failed = c.put.ensures.failed;
-      story = c.put.ensures.story;
-      planned = c.put.ensures.planned;
-    } in
+    let taken = c.if-not-take.ensures.taken refl in
+    let put = c.put.ensures in
     record {
       steps = steps new plan after put old before taken c.stop-answer.result c.code_of.result c.code_of.ensures did.after did.ran.memory;
       answers = λ list handed.
@@ -44,3 +32,6 @@ returns c =
           throughout new plan after put old before taken (λ (contents : Contents). StandsFor committed contents ⊎ StandsFor (list ++ Added (Stop c.args.time) ∷ []) contents)
           (did.any_moment refl list committed (stood old before taken list committed held));
     }
+
+pub returns-then-not-take : goal.returns-then-not-take
+returns-then-not-take c = search rules

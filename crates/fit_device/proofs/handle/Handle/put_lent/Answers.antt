@@ -5,6 +5,6 @@ use Rattle.fit_device.proofs.handle.Handle.put_lent.Goals as goal
 
 pub seal_with-requires : goal.seal_with-requires
 seal_with-requires c = record {
-  possible = c.freeze-self.ensures.possible;
-  goes_on = goes_on_at _ _ _ _ _ _ (sym c.freeze-self.ensures.state) (sym c.freeze-self.ensures.failed) (ap lent_story (sym c.into_disk-files.ensures.disk)) c.requires;
+  possible = c.freeze.ensures.possible;
+  goes_on = goes_on_at _ _ _ _ _ _ (sym c.freeze.ensures.state) (sym c.freeze.ensures.failed) (ap lent_story (sym c.into_disk-files.ensures.disk)) c.requires;
 }

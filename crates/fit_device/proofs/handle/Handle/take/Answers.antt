@@ -1,44 +1,23 @@
-use Rattle.std.proofs.Common.{◌≡◌, sym, ap, ◌∙◌, refl, subst, true, false}
+use Rattle.std.proofs.Common.{sym, ap, ◌∙◌, refl}
 use Rattle.std.proofs.Math.Logic.{∥∥₁_map}
-use Rattle.std.proofs.lemmas.Grind.{not_there}
 use Rattle.fit_device.specs.Handle.{IsRecorder}
 use Rattle.fit_device.specs.Sealed.{GoesOnIn}
 use Rattle.fit_plan.specs.Plan.{story_in}
-use Rattle.fit_recorder.specs.Calls.Frozen.{state_in, has_failed_in, IsPossible}
-use Rattle.fit_recorder.specs.Calls.Recorder.{state_of, has_failed}
+use Rattle.fit_recorder.specs.Calls.Frozen.{state_in, has_failed_in}
 use Rattle.fit_device.proofs.Stepping.{goes_on_at}
 use Rattle.fit_device.proofs.handle.Handle.take.Goals as goal
 
-pub invariant_of-into_recorder : goal.invariant_of-into_recorder
-invariant_of-into_recorder c =
+pub invariant_of-reveal : goal.invariant_of-reveal
+invariant_of-reveal c =
     let old = c.args.self.now in
     let sealed : IsRecorder old = c.if-not-is_recorder.ensures.0 refl in
-    let same = c.take_files.ensures.recorder in
+    let same = c.take_files-files.ensures.recorder in
+    let thawed = c.if-not-thaw.ensures in
     record {
       goes_on = ∥∥₁_map (old.believed sealed) (λ (believed : GoesOnIn old.recorder old.notes.story).
           goes_on_at _ _ _ _ _ _
-          (sym (c.in-Ok.ensures.state ∙ ap state_in same))
-          (sym (c.in-Ok.ensures.failed ∙ ap has_failed_in same))
-          (sym (ap story_in c.in-Ok.ensures.disk ∙ c.take_files.ensures.story))
+          (sym (thawed.state refl ∙ ap state_in same))
+          (sym (thawed.failed refl ∙ ap has_failed_in same))
+          (sym (ap story_in (thawed.disk ∙ c.swap_disk.ensures.disk) ∙ c.take_files-files.ensures.story))
           believed.goes_on);
     }
-
-pub returns-in-Ok-clause-state : goal.returns-in-Ok-clause-state
-returns-in-Ok-clause-state c = ap state_of c.into_recorder.ensures.same ∙ c.in-Ok.ensures.state ∙ ap state_in c.take_files.ensures.recorder
-
-pub returns-in-Ok-clause-failed : goal.returns-in-Ok-clause-failed
-returns-in-Ok-clause-failed c = ap has_failed c.into_recorder.ensures.same ∙ c.in-Ok.ensures.failed ∙ ap has_failed_in c.take_files.ensures.recorder
-
-never : goal.In-Err → ⊥
-never c =
-    let old = c.args.self.now in
-    let sealed : IsRecorder old = c.if-not-is_recorder.ensures.0 refl in
-    not_there (old.believed sealed) (λ (believed : GoesOnIn old.recorder old.notes.story).
-    let is_true : false ≡ true = c.in-Err.ensures.possible.1 (subst IsPossible (sym c.take_files.ensures.recorder) believed.possible) in
-    cc)
-
-pub returns-in-Err-clause-some : goal.returns-in-Err-clause-some
-returns-in-Err-clause-some c = absurd (never c)
-
-pub returns-in-Err-clause-none : goal.returns-in-Err-clause-none
-returns-in-Err-clause-none c = absurd (never c)

@@ -3,7 +3,7 @@ use Rattle.std.proofs.lemmas.Result.{on_ok_weaker}
 use Rattle.fit_journal.specs.Turn.{slots_left}
 use Rattle.fit_recorder.specs.Calls.Answers.{CommitAnswers}
 use Rattle.fit_recorder.specs.Calls.Recorder.{journal_slots}
-use Rattle.fit_world.proofs.Reported.Replies.{replies_of_call, done_of_call}
+use Rattle.fit_world.proofs.Reported.Replies.{answered_by, replies_of_call, done_of_call}
 use Rattle.fit_recorder.proofs.Commit.Slots.{committed_turns}
 use Rattle.fit_world.proofs.Histories.NeverFull.{rides_on}
 use Rattle.fit_world.proofs.Histories.Riding.{commit_goes, never_full}
@@ -19,7 +19,7 @@ returns-in-Riding-clause-replies g c list handed =
 pub returns-in-Riding-clause-handed : goal.returns-in-Riding-clause-handed
 returns-in-Riding-clause-handed g c list handed done =
     let known = rw c.in-Riding.is at handed in (
-      done_of_call c.commit.result c.into.result _ c.into.ensures (c.commit.ensures.handed list known.0) done,
+      (done_of_call c.commit.result c.into.result _ c.into.ensures c.commit.ensures.ok done).handed list known.0,
       done_of_call c.commit.result c.into.result _ c.into.ensures c.commit.ensures.after.going done,
     )
 
@@ -33,7 +33,7 @@ returns-in-Riding-clause-step g c honest before stands =
     let done = c.commit.ensures in
     rw c.into.ensures
     (commit_goes g.D.Disk.honest g.D.Disk.story c.in-Riding.recorder c.commit.new.self c.commit.result done.after.same done.after.failed done.after.gone
-    done.answers (λ none. on_ok_weaker c.commit.result (λ slots. ap slots_left slots ∙ committed_turns _ _ none) done.slots) done.ok (done.any_moment honest) before here)
+    done.answers (λ none. on_ok_weaker c.commit.result (λ slots. ap slots_left slots ∙ committed_turns _ _ none) done.slots) done.after.going done.ok (done.any_moment honest) before here)
 
 pub returns-in-Riding-clause-never_full : goal.returns-in-Riding-clause-never_full
 returns-in-Riding-clause-never_full g c honest before stands never =
@@ -43,3 +43,6 @@ returns-in-Riding-clause-never_full g c honest before stands never =
     rides_on g.D.Disk.honest g.D.Disk.story honest c.in-Riding.recorder c.commit.new.self c.commit.result done.after (done.head honest) before here full
     (λ list result. CommitAnswers list (journal_slots c.in-Riding.recorder) result) done.answers (λ none list full. never_full (journal_slots c.in-Riding.recorder) none full.1)
     (on_ok_weaker c.commit.result (λ slots none. ap slots_left slots ∙ committed_turns _ _ none) done.slots) c.into.result c.into.ensures
+
+pub returns-in-Riding-clause-answered : goal.returns-in-Riding-clause-answered
+returns-in-Riding-clause-answered g c = rw c.in-Riding.is (answered_by _ _ _ _ c.commit.result c.commit.ensures.after c.into.result c.into.ensures)

@@ -9,7 +9,7 @@ pub returns-in-Ok-clause-step : goal.returns-in-Ok-clause-step
 returns-in-Ok-clause-step g c honest before stands =
     let begun = c.in-Ok.ensures in
     started_goes g.D.Disk.honest g.D.Disk.story before c.args.start c.in-Ok.recorder
-    (empty_there before (g.D.Disk.story c.into_disk.result) (c.into_disk.ensures.rests honest before stands) (g.met.D.Disk.sound c.into_disk.result honest) (begun.empty honest)) begun.answers begun.ok.1 begun.ok.0 (ap slots_left begun.slots)
+    (empty_there before (g.D.Disk.story c.into_disk.result) (c.into_disk.ensures.rests honest before stands) (g.met.D.Disk.sound c.into_disk.result honest) (begun.empty honest)) begun.answers begun.ok.1 begun.ok.0 (ap slots_left begun.begun.turns)
 
 pub returns-in-Err-clause-step : goal.returns-in-Err-clause-step
 returns-in-Err-clause-step g c honest before stands =
@@ -21,7 +21,7 @@ returns-in-Err-clause-step g c honest before stands =
 pub returns-in-Ok-clause-never_full : goal.returns-in-Ok-clause-never_full
 returns-in-Ok-clause-never_full g c honest before stands never = record {
   not_full = λ is. absurd cc;
-  never_full = (λ _. ap slots_left c.in-Ok.ensures.slots, λ broken. absurd (true≢false (sym broken ∙ c.in-Ok.ensures.ok.0)));
+  never_full = (λ _. ap slots_left c.in-Ok.ensures.begun.turns, λ broken. absurd (true≢false (sym broken ∙ c.in-Ok.ensures.ok.0)));
 }
 
 pub returns-in-Err-clause-never_full : goal.returns-in-Err-clause-never_full

@@ -1,0 +1,16 @@
+use Rattle.std.proofs.Common.{sym, arith}
+use Rattle.fit_recorder.proofs.Windowed.{reads_on_in}
+use Rattle.fit_device.proofs.windowed.RecoveryHandle.ask_for_body.Goals as goal
+
+pub ask-requires-clause-within : goal.ask-requires-clause-within
+ask-requires-clause-within c =
+    let long = c.requires.reads.1.committed.long in
+    let within = c.args.recovery.now.reader.within in
+    omega (arith, long, within, c.place.ensures)
+
+pub ask-requires-clause-reads : goal.ask-requires-clause-reads
+ask-requires-clause-reads c =
+    let reading = c.freeze.ensures in (
+      λ first. absurd (omega (arith, first)),
+      λ _. reads_on_in c.args.recovery.now c.freeze.new.numbers _ (sym reading.reading) (sym reading.replay) reading.possible c.requires.reads.0 c.requires.reads.1,
+    )

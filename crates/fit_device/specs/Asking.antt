@@ -1,0 +1,22 @@
+-- What is known of the numbers of a recovery by windows that asks for one.
+use Rattle.std.specs.Prelude.{◌≡◌, ℕ, List, [], ◌∷◌}
+use Rattle.fit_disk.specs.State.{seen_in}
+use Rattle.fit_disk.specs.Story.{Story}
+use Rattle.fit_recorder.specs.Files.Settled.{IsSettled}
+use Rattle.fit_recorder.specs.Calls.FrozenRecovery.{ReadsOnIn}
+use Rattle.fit_recorder.specs.declared.recovery.frozen.FrozenRecovery.{FrozenRecovery}
+use Rattle.fit_device.specs.Seal.{recovery_seal}
+
+-- the bytes "fitw", low byte first
+abbrev pub recovery_mark : ℕ
+recovery_mark = 0x77746966
+
+abbrev pub asked_numbers : (data_size journal_size at file phase count : ℕ) → List ℕ
+asked_numbers data_size journal_size at file phase count = data_size ∷ journal_size ∷ at ∷ file ∷ phase ∷ count ∷ []
+
+abbrev pub IsAsking : ℕ → ℕ → FrozenRecovery → List ℕ → Type 0
+IsAsking mark seal reading asked = (mark ≡ recovery_mark) × (seal ≡ recovery_seal reading asked)
+
+-- in the first phase both files are at rest; in the second the recovery reads on over them
+abbrev pub ReadsBy : ℕ → FrozenRecovery → Story → Type 0
+ReadsBy phase reading story = (phase ≡ 1 → IsSettled (seen_in story.now) story) × ((phase ≡ 1 → ⊥) → ReadsOnIn reading story)

@@ -1,0 +1,27 @@
+-- A recorder that is taken out of a handle for one call, and put back after it.
+use Rattle.std.specs.Prelude.{◌≡◌}
+use Rattle.fit_device.specs.declared.handle.Handle.{Handle}
+use Rattle.fit_device.specs.declared.plan.DevicePlan.{DevicePlan}
+use Rattle.fit_device.specs.Handle.{story_of, IsRecorder}
+use Rattle.fit_device.specs.Planned.{carried_out}
+use Rattle.fit_plan.specs.declared.plan.Plan.{Plan}
+use Rattle.fit_plan.specs.Plan.{story_in, since_in}
+use Rattle.fit_recorder.specs.declared.recorder.Recorder.{Recorder}
+use Rattle.fit_recorder.specs.Calls.Frozen.{state_in, has_failed_in}
+use Rattle.fit_recorder.specs.Calls.Recorder.{state_of, has_failed, disk_of}
+
+-- it has the numbers of the handle, over the files of the handle, and nothing is planned yet
+pub record IsTaken (old : Handle) (recorder : Recorder Plan) : Type 0 where
+  pub is_recorder : IsRecorder old
+  pub state : state_of recorder ≡ state_in old.recorder
+  pub failed : has_failed recorder ≡ has_failed_in old.recorder
+  pub story : story_in (disk_of recorder) ≡ story_of old
+  pub since : since_in (disk_of recorder) ≡ story_of old
+
+-- the handle has its numbers and its files, and C has its calls
+pub record IsPut (new : Handle) (plan : DevicePlan) (recorder : Recorder Plan) : Type 0 where
+  pub is_recorder : IsRecorder new
+  pub state : state_in new.recorder ≡ state_of recorder
+  pub failed : has_failed_in new.recorder ≡ has_failed recorder
+  pub story : story_of new ≡ story_in (disk_of recorder)
+  pub planned : carried_out plan (since_in (disk_of recorder)) ≡ story_in (disk_of recorder)

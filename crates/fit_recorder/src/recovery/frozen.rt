@@ -1,0 +1,56 @@
+// A recovery by windows as plain numbers, which C can keep between two of them.
+
+ghost use Rattle.std.specs.Prelude.{◌≡◌, true};
+ghost use Rattle.fit_recorder.specs.Private.BodyRead.{reading_of};
+
+use crate::recovery::windows::Recovery;
+use fit_activity::FrozenReplay;
+use fit_base::Crc;
+use fit_grammar::FrozenShort;
+
+/// A recovery by windows as plain numbers.
+#[repr(C)]
+#[derive(Clone, Copy)]
+pub struct FrozenRecovery {
+    pub heard: FrozenReplay,
+    pub time: u32,
+    pub at: u32,
+    pub len: u32,
+    pub checksum: u16,
+    pub definitions: [FrozenShort; 16],
+}
+
+impl Recovery {
+    ghost use Rattle.fit_recorder.specs.Calls.FrozenRecovery.{reading_in, replay_of, IsPossible};
+
+    /// Writes the recovery as plain numbers.
+    pub fn freeze(&self, numbers: &mut FrozenRecovery)
+        ensures reading { reading_in numbers.new ≡ reading_of self.now.reader }
+        ensures replay { replay_of numbers.new ≡ self.now.replay }
+        ensures possible { IsPossible numbers.new }
+    {
+        numbers.time = self.reader.time;
+        numbers.at = self.reader.at;
+        numbers.len = self.reader.len;
+        numbers.checksum = self.reader.checksum.value();
+        self.reader.table.freeze(&mut numbers.definitions);
+        self.replay.freeze(&mut numbers.heard);
+    }
+
+    /// Makes this the recovery with these numbers. Reports `false` if no recovery has them.
+    pub fn thaw(&mut self, numbers: &FrozenRecovery) -> bool
+        ensures reading { result ≡ true → reading_of self.new.reader ≡ reading_in numbers.now }
+        ensures replay { result ≡ true → self.new.replay ≡ replay_of numbers.now }
+        ensures possible { IsPossible numbers.now → result ≡ true }
+    {
+        if numbers.at > numbers.len {
+            return false;
+        }
+        self.reader.time = numbers.time;
+        self.reader.at = 0; // At each moment the place is within the body.
+        self.reader.len = numbers.len;
+        self.reader.at = numbers.at;
+        self.reader.checksum = Crc::with_value(numbers.checksum);
+        self.reader.table.thaw(&numbers.definitions) && self.replay.thaw(&numbers.heard)
+    }
+}
