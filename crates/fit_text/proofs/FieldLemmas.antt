@@ -8,10 +8,11 @@ use Rattle.fit_base.specs.declared.base.BaseType.TheVariants.{Enum, String, Byte
 use Rattle.fit_base.specs.Base.{row_of, base_type}
 use Rattle.fit_base.specs.Value.{Field, Values, Numbers, Raw, raw_by, size_by, value_size, count_of, values_of, numbers}
 use Rattle.fit_grammar.specs.declared.file.frame.Frame.{Frame}
-use Rattle.fit_grammar.specs.Format.Message.{messages_of}
+use Rattle.fit_grammar.specs.Format.Message.{Message, messages_of}
 use Rattle.fit_grammar.specs.Format.Records.{data_size}
 use Rattle.fit_grammar.specs.Format.File.{FileValue}
-use Rattle.fit_text.specs.Text.{hex_text, string_text, byte_text, numbers_text, IsNumber, some_text, values_text, header_text, messages_text, text_of}
+use Rattle.fit_text.specs.Form.{numbered, lines_of}
+use Rattle.fit_text.specs.Text.{hex_text, string_text, byte_text, numbers_text, IsNumber, some_text, values_text, header_text}
 use Rattle.fit_text.proofs.TextLemmas.{hex_none, numbers_bytes, some_numbers}
 
 size_some : (type : BaseType) → 0 < (row_of type).size
@@ -108,15 +109,9 @@ pub header_parts : (frame : Frame) (size a b c d e : ℕ) → a ≡ frame.header
     ++ ((codes " profile " ++ decimal d) ++ ((codes " data " ++ decimal e) ++ codes "\n")))) ≡ header_text frame size
 header_parts frame size a b c d e is_a is_b is_c is_d is_e = rw (is_a, is_b, is_c, is_d, is_e) (simp append_assoc)
 
-regrouped : (a b c d e : List ℕ) → a ++ (b ++ ((c ++ d) ++ e)) ≡ a ++ b ++ c ++ d ++ e
-regrouped a b c d e = simp append_assoc
-
--- the parts of a file's text
-pub file_parts : (utc : Bool) (v : FileValue) (frame : Frame) (size count : ℕ) → frame ≡ v.frame → size ≡ data_size v.items →
-    count ≡ length (messages_of v.items) →
-    header_text frame size ++ (messages_text utc (messages_of v.items) ++ ((codes "messages " ++ decimal count) ++ codes "\n")) ≡ text_of utc v
-unfolding text_of
-file_parts utc v frame size count is_frame is_size is_count =
-    rw (is_frame, is_size, is_count)
-    (regrouped (header_text v.frame (data_size v.items)) (messages_text utc (messages_of v.items)) (codes "messages ")
-    (decimal (length (messages_of v.items))) (codes "\n"))
+-- the parts of a file
+pub file_parts : (header : Frame → ℕ → List ℕ) (line : ℕ → Message → List ℕ) (last : ℕ → List ℕ) (v : FileValue) (frame : Frame)
+    (size count : ℕ) → frame ≡ v.frame → size ≡ data_size v.items → count ≡ length (messages_of v.items) →
+    header frame size ++ (numbered line (messages_of v.items) ++ last count) ≡ lines_of header line last v
+file_parts header line last v frame size count is_frame is_size is_count =
+    rw (is_frame, is_size, is_count) (sym (append_assoc (header v.frame (data_size v.items)) (numbered line (messages_of v.items)) (last (length (messages_of v.items)))))
