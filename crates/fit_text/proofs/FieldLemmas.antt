@@ -11,8 +11,8 @@ use Rattle.fit_grammar.specs.declared.file.frame.Frame.{Frame}
 use Rattle.fit_grammar.specs.Format.Message.{Message, messages_of}
 use Rattle.fit_grammar.specs.Format.Records.{data_size}
 use Rattle.fit_grammar.specs.Format.File.{FileValue}
-use Rattle.fit_text.specs.Form.{numbered, lines_of}
-use Rattle.fit_text.specs.Text.{hex_text, string_text, byte_text, numbers_text, IsNumber, some_text, values_text, header_text}
+use Rattle.fit_text.specs.Form.{header_by, numbered, lines_of}
+use Rattle.fit_text.specs.Text.{hex_text, string_text, byte_text, numbers_text, IsNumber, some_text, values_text}
 use Rattle.fit_text.proofs.TextLemmas.{hex_none, numbers_bytes, some_numbers}
 
 size_some : (type : BaseType) → 0 < (row_of type).size
@@ -103,11 +103,18 @@ is_number Byte no_string no_byte = no_byte refl
 is_number type no_string no_byte = tt
 
 -- the parts of a header's line
-pub header_parts : (frame : Frame) (size a b c d e : ℕ) → a ≡ frame.header_size → b ≡ frame.protocol / 16 → c ≡ frame.protocol % 16 →
-    d ≡ frame.profile → e ≡ size →
-    (codes "header " ++ decimal a) ++ ((codes " protocol " ++ decimal b) ++ ((codes "." ++ decimal c)
-    ++ ((codes " profile " ++ decimal d) ++ ((codes " data " ++ decimal e) ++ codes "\n")))) ≡ header_text frame size
-header_parts frame size a b c d e is_a is_b is_c is_d is_e = rw (is_a, is_b, is_c, is_d, is_e) (simp append_assoc)
+regrouped_header : (a b c d e f g h i j k : List ℕ) →
+    (a ++ b) ++ ((c ++ d) ++ ((e ++ f) ++ ((g ++ h) ++ ((i ++ j) ++ k)))) ≡ a ++ b ++ c ++ d ++ e ++ f ++ g ++ h ++ i ++ j ++ k
+regrouped_header a b c d e f g h i j k = simp append_assoc
+
+pub header_parts : (header protocol profile records last : List ℕ) (frame : Frame) (size a b c d e : ℕ) → a ≡ frame.header_size →
+    b ≡ frame.protocol / 16 → c ≡ frame.protocol % 16 → d ≡ frame.profile → e ≡ size →
+    (header ++ decimal a) ++ ((protocol ++ decimal b) ++ ((codes "." ++ decimal c)
+    ++ ((profile ++ decimal d) ++ ((records ++ decimal e) ++ last)))) ≡ header_by header protocol profile records last frame size
+header_parts header protocol profile records last frame size a b c d e is_a is_b is_c is_d is_e =
+    rw (is_a, is_b, is_c, is_d, is_e)
+    (regrouped_header header (decimal frame.header_size) protocol (decimal (frame.protocol / 16)) (codes ".") (decimal (frame.protocol % 16))
+    profile (decimal frame.profile) records (decimal size) last)
 
 -- the parts of a file
 pub file_parts : (header : Frame → ℕ → List ℕ) (line : ℕ → Message → List ℕ) (last : ℕ → List ℕ) (v : FileValue) (frame : Frame)

@@ -1,5 +1,5 @@
--- JSON by its parts: for `json/column`, `json/developer`, `json/message` and `json/file`.
-use Rattle.std.proofs.Common.{◌≡◌, ℕ, ◌-◌, ◌/◌, ◌%◌, ◌^◌, ◌<◌, ◌≤◌, Bool, true, false, List, [], ◌∷◌, ◌++◌, length, get_or, take, drop, sum_by, refl, sym, ap, ◌∙◌, append_assoc, codes, decimal, Option, Some, None, IfSome, arith}
+-- JSON by its parts: for `json/column`, `json/developer` and `json/message`.
+use Rattle.std.proofs.Common.{◌≡◌, ℕ, ◌-◌, ◌^◌, ◌<◌, ◌≤◌, Bool, true, false, List, [], ◌∷◌, ◌++◌, length, get_or, take, drop, sum_by, refl, sym, ap, ◌∙◌, append_assoc, codes, decimal, Option, Some, None, IfSome, arith}
 use Rattle.std.specs.Prelude.{not}
 use Rattle.std.proofs.lemmas.List.{take_all, length-append}
 use Rattle.std.proofs.Math.Seq.{take-append_seam}
@@ -12,13 +12,12 @@ use Rattle.fit_base.specs.Number.{low_first}
 use Rattle.fit_grammar.specs.declared.definition.Definition.{Definition}
 use Rattle.fit_grammar.specs.declared.definition.FieldDefinition.{FieldDefinition}
 use Rattle.fit_grammar.specs.declared.definition.DeveloperFieldDefinition.{DeveloperFieldDefinition}
-use Rattle.fit_grammar.specs.declared.file.frame.Frame.{Frame}
 use Rattle.fit_grammar.specs.Format.Item.{fields_size}
 use Rattle.fit_grammar.specs.Format.Message.{Message, MessageDeveloperField, developer_of, fields_of, time_field, time_fields, message_under}
 use Rattle.fit_text.specs.declared.showing.plan.Column.{Column}
 use Rattle.fit_text.specs.declared.showing.plan.Plan.{Plan}
 use Rattle.fit_text.specs.Date.{dates_of}
-use Rattle.fit_text.specs.Json.{quoted, bytes_json, field_json, developer_json, name_json, message_json, header_json}
+use Rattle.fit_text.specs.Json.{quoted, bytes_json, field_json, developer_json, name_json, message_json}
 use Rattle.fit_text.specs.Members.{separator, joined, inner, column_json, columns_json, time_json}
 use Rattle.fit_text.specs.Plan.{field_at, json_at, time_definition, IsColumn, AreColumns, IsPlanOf}
 use Rattle.fit_text.specs.Profile.{FieldNames, message_named, names_of_fields}
@@ -225,11 +224,3 @@ pub no_column : (is_first : Bool) (dates : List ℕ) (arch : Arch) (columns : Li
     columns_json is_first dates arch columns content ≡ []
 no_column is_first dates arch [] content none = refl
 no_column is_first dates arch (column ∷ columns) content none = absurd (omega arith)
-
--- ---- files
-
-pub header_parts : (frame : Frame) (size a b c d e : ℕ) → a ≡ frame.header_size → b ≡ frame.protocol / 16 → c ≡ frame.protocol % 16 →
-    d ≡ frame.profile → e ≡ size →
-    (codes "{\"header\":" ++ decimal a) ++ ((codes ",\"protocol\":\"" ++ decimal b) ++ ((codes "." ++ decimal c)
-    ++ ((codes "\",\"profile\":" ++ decimal d) ++ ((codes ",\"data\":" ++ decimal e) ++ codes "}\n")))) ≡ header_json frame size
-header_parts frame size a b c d e is_a is_b is_c is_d is_e = rw (is_a, is_b, is_c, is_d, is_e) (simp append_assoc)

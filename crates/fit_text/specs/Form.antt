@@ -1,5 +1,5 @@
 -- What the text and the JSON of a file share: how values are written, and how the lines follow one another.
-use Rattle.std.specs.Prelude.{ℕ, List, ◌++◌, length, codes, decimal, ◌==◌, if◌then◌else◌}
+use Rattle.std.specs.Prelude.{ℕ, ◌/◌, ◌%◌, List, ◌++◌, length, codes, decimal, ◌==◌, if◌then◌else◌}
 use Rattle.std.specs.Fmt.{signed_decimal}
 use Rattle.std.specs.Int.{to_be_bytes, w32, w64}
 use Rattle.std.specs.List.{flat_map, join_by, enumerate_from}
@@ -34,11 +34,17 @@ numbers_as none written type numbers = join_by (number_as none written type) (co
 
 -- ---- files
 
+-- the line of a header and of the number of bytes of records, with what is in front of each number, and what is at its end
+abbrev pub header_by : (header protocol profile records last : List ℕ) → Frame → ℕ → List ℕ
+header_by header protocol profile records last frame size =
+    header ++ decimal frame.header_size ++ protocol ++ decimal (frame.protocol / 16) ++ codes "." ++ decimal (frame.protocol % 16)
+    ++ profile ++ decimal frame.profile ++ records ++ decimal size ++ last
+
 -- the lines of the messages, numbered from 0
 abbrev pub numbered : (ℕ → Message → List ℕ) → List Message → List ℕ
 numbered line messages = flat_map (λ row. line row.0 row.1) (enumerate_from 0 messages)
 
--- a whole file: the line of its header and of the number of bytes of records, the lines of its messages, and one that counts them
+-- a whole file: the line of its header, the lines of its messages, and one that counts them
 abbrev pub lines_of : (Frame → ℕ → List ℕ) → (ℕ → Message → List ℕ) → (ℕ → List ℕ) → FileValue → List ℕ
 lines_of header line count v =
     header v.frame (data_size v.items) ++ numbered line (messages_of v.items) ++ count (length (messages_of v.items))

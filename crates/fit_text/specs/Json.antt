@@ -1,6 +1,6 @@
 -- A file as JSON: a line for its header, a line for each message, and a line that counts them. Each line is a JSON object (RFC 8259).
 -- The names, the dates and the numbers are those of the shown text.
-use Rattle.std.specs.Prelude.{ℕ, Bool, ◌/◌, ◌%◌, List, [], ◌∷◌, ◌++◌, codes, decimal, Option, Some, None, ◌==◌, ◌&&◌, ◌||◌, nat_le, if◌then◌else◌}
+use Rattle.std.specs.Prelude.{ℕ, Bool, List, [], ◌∷◌, ◌++◌, codes, decimal, Option, Some, None, ◌==◌, ◌&&◌, ◌||◌, nat_le, if◌then◌else◌}
 use Rattle.std.specs.List.{flat_map, list_all, before_first, join_by}
 use Rattle.std.specs.Str.{is_utf8}
 use Rattle.fit_base.specs.declared.base.BaseType.{BaseType}
@@ -11,7 +11,7 @@ use Rattle.fit_grammar.specs.declared.file.frame.Frame.{Frame}
 use Rattle.fit_grammar.specs.Format.Message.{Message, MessageField, MessageDeveloperField}
 use Rattle.fit_grammar.specs.Format.File.{FileValue}
 use Rattle.fit_text.specs.Date.{dates_of, date_in, date_text}
-use Rattle.fit_text.specs.Form.{number_as, numbers_as, lines_of}
+use Rattle.fit_text.specs.Form.{number_as, numbers_as, header_by, lines_of}
 use Rattle.fit_text.specs.Profile.{FieldNames, message_named, names_of_fields}
 use Rattle.fit_text.specs.Text.{hex_byte, hex_text, is_plain, field_name}
 
@@ -98,9 +98,7 @@ message_json utc number message =
 -- the first line: what the header states, and the number of bytes of records
 abbrev pub header_json : Frame → ℕ → List ℕ
 header_json frame size =
-    codes "{\"header\":" ++ decimal frame.header_size ++ codes ",\"protocol\":\"" ++ decimal (frame.protocol / 16)
-    ++ codes "." ++ decimal (frame.protocol % 16) ++ codes "\",\"profile\":" ++ decimal frame.profile
-    ++ codes ",\"data\":" ++ decimal size ++ codes "}\n"
+    header_by (codes "{\"header\":") (codes ",\"protocol\":\"") (codes "\",\"profile\":") (codes ",\"data\":") (codes "}\n") frame size
 
 -- the last line
 abbrev pub count_json : ℕ → List ℕ

@@ -11,7 +11,7 @@ use Rattle.fit_grammar.specs.declared.file.frame.Frame.{Frame}
 use Rattle.fit_grammar.specs.Format.Message.{Message, MessageField, MessageDeveloperField}
 use Rattle.fit_grammar.specs.Format.File.{FileValue}
 use Rattle.fit_text.specs.Date.{dates_of, date_in, date_text}
-use Rattle.fit_text.specs.Form.{number_as, numbers_as, lines_of}
+use Rattle.fit_text.specs.Form.{number_as, numbers_as, header_by, lines_of}
 use Rattle.fit_text.specs.Profile.{FieldNames, message_named, names_of_fields, field_named}
 
 -- ---- values
@@ -107,10 +107,7 @@ message_text utc number message =
 
 -- the first line: what the header states, and the number of bytes of records
 abbrev pub header_text : Frame → ℕ → List ℕ
-header_text frame size =
-    codes "header " ++ decimal frame.header_size ++ codes " protocol " ++ decimal (frame.protocol / 16)
-    ++ codes "." ++ decimal (frame.protocol % 16) ++ codes " profile " ++ decimal frame.profile
-    ++ codes " data " ++ decimal size ++ codes "\n"
+header_text frame size = header_by (codes "header ") (codes " protocol ") (codes " profile ") (codes " data ") (codes "\n") frame size
 
 -- the last line
 abbrev pub count_text : ℕ → List ℕ

@@ -6,7 +6,6 @@ pub(crate) mod date;
 mod developer;
 mod field;
 mod file;
-pub(crate) mod header;
 mod message;
 mod notation;
 pub(crate) mod plan;

@@ -7,8 +7,8 @@ ghost use Rattle.fit_text.specs.Pen.{Puts};
 ghost use Rattle.fit_text.specs.Json.{developer_json};
 ghost use Rattle.fit_text.specs.Members.{separator};
 
+use crate::form::header::put_labelled;
 use crate::json::string::put_quoted_bytes;
-use crate::showing::header::put_labelled;
 use crate::writing::Pen;
 use fit_grammar::{DeveloperFieldDefinition, WriteFailed};
 use std::io::Write;

@@ -1,13 +1,12 @@
 // A whole file as JSON.
 
 ghost use Rattle.fit_grammar.specs.Calls.Output.{WritesText};
-ghost use Rattle.fit_text.specs.Pen.{Puts};
-ghost use Rattle.fit_text.specs.Json.{header_json, json_of};
+ghost use Rattle.fit_text.specs.Json.{json_of};
 
 use crate::form::file::{Form, ShowFault, write_file};
+use crate::form::header::{HeaderWords, put_header_by, put_labelled};
 use crate::json::message::put_message;
 use crate::json::notation::AsJson;
-use crate::showing::header::put_labelled;
 use crate::showing::plan::{Column, Plan};
 use crate::writing::Pen;
 use fit_grammar::{DataMessage, DeveloperFieldDefinition, Frame, LentFile, WriteFailed};
@@ -38,7 +37,14 @@ impl Form for AsJson {
         frame: Frame,
         size: u32,
     ) -> Result<(), WriteFailed> {
-        put_header(pen, frame, size)
+        let words = HeaderWords {
+            header: b"{\"header\":",
+            protocol: b",\"protocol\":\"",
+            profile: b"\",\"profile\":",
+            records: b",\"data\":",
+            end: b"}\n",
+        };
+        put_header_by(pen, &words, frame, size)
     }
 
     fn put_line<W: Write>(
@@ -57,16 +63,4 @@ impl Form for AsJson {
         put_labelled(pen, b"{\"messages\":", messages)?;
         pen.put(b"}\n")
     }
-}
-
-// The line of a header, for this many bytes of records.
-fn put_header<W: Write>(pen: &mut Pen<'_, W>, frame: Frame, size: u32) -> Result<(), WriteFailed>
-    ensures { Puts pen.old pen.new result (header_json frame size) }
-{
-    put_labelled(pen, b"{\"header\":", u64::from(frame.header_size))?;
-    put_labelled(pen, b",\"protocol\":\"", u64::from(frame.protocol / 16))?;
-    put_labelled(pen, b".", u64::from(frame.protocol % 16))?;
-    put_labelled(pen, b"\",\"profile\":", u64::from(frame.profile))?;
-    put_labelled(pen, b",\"data\":", u64::from(size))?;
-    pen.put(b"}\n")
 }

@@ -4,7 +4,7 @@ ghost use Rattle.fit_grammar.specs.Calls.Output.{WritesText};
 ghost use Rattle.fit_text.specs.Text.{text_of};
 
 use crate::form::file::{Form, ShowFault, write_file};
-use crate::showing::header::{put_header, put_labelled};
+use crate::form::header::{HeaderWords, put_header_by, put_labelled};
 use crate::showing::message::put_message;
 use crate::showing::notation::AsText;
 use crate::showing::plan::{Column, Plan};
@@ -37,7 +37,14 @@ impl Form for AsText {
         frame: Frame,
         size: u32,
     ) -> Result<(), WriteFailed> {
-        put_header(pen, frame, size)
+        let words = HeaderWords {
+            header: b"header ",
+            protocol: b" protocol ",
+            profile: b" profile ",
+            records: b" data ",
+            end: b"\n",
+        };
+        put_header_by(pen, &words, frame, size)
     }
 
     fn put_line<W: Write>(
