@@ -12,8 +12,13 @@ use fit_text::show_json;
 use std::alloc::Global;
 use std::test::Fail;
 
-// A definition of local number 0 with these fields, each a number, a size and a base type.
-fn definition(global: u16, fields: &[(u8, u8, u8)]) -> Result<Definition, Fail>
+// A definition of local number 0 with these fields, each a number, a size and a base type, and with these developer fields, each a number,
+// a size and an index.
+fn definition(
+    global: u16,
+    fields: &[(u8, u8, u8)],
+    developer: &[(u8, u8, u8)],
+) -> Result<Definition, Fail>
     ensures { IfOk result (λ d. d.local ≡ 0) }
 {
     let mut own = ArrayVec::new();
@@ -24,12 +29,20 @@ fn definition(global: u16, fields: &[(u8, u8, u8)]) -> Result<Definition, Fail>
             base: *base,
         })?;
     }
+    let mut more = ArrayVec::new();
+    for (number, size, index) in developer {
+        more.try_push(DeveloperFieldDefinition {
+            number: *number,
+            size: *size,
+            index: *index,
+        })?;
+    }
     Ok(Definition {
         local: 0,
         arch: Arch::Little,
         global,
         fields: own,
-        developer: ArrayVec::new(),
+        developer: more,
     })
 }
 
@@ -37,7 +50,7 @@ fn definition(global: u16, fields: &[(u8, u8, u8)]) -> Result<Definition, Fail>
 fn file_of(alloc: Global, global: u16, number: u8, base: u8, bytes: &[u8]) -> Result<File, Fail> {
     let size = u8::try_from(bytes.len())?;
     let mut file = empty_file(alloc);
-    file.define(&definition(global, &[(number, size, base)])?)?;
+    file.define(&definition(global, &[(number, size, base)], &[])?)?;
     file.data(0, None, bytes)?;
     Ok(file)
 }
@@ -180,22 +193,14 @@ fn writes_dates_and_names(rt: HostRuntime) -> Result<(), Fail> {
 // A record with a heart rate and two developer fields. With a compressed timestamp its time comes first. After it one without fields,
 // and one whose field is there twice.
 fn ride(alloc: Global) -> Result<File, Fail> {
-    let mut both = definition(20, &[(3, 1, 0x02)])?;
-    for (number, size, index) in [(0, 2, 0), (7, 0, 250)] {
-        both.developer.try_push(DeveloperFieldDefinition {
-            number,
-            size,
-            index,
-        })?;
-    }
     let mut file = empty_file(alloc);
-    file.define(&both)?;
+    file.define(&definition(20, &[(3, 1, 0x02)], &[(0, 2, 0), (7, 0, 250)])?)?;
     file.data(0, None, &[0x64, 0xAB, 0x0C])?;
     file.data(0, Some(3), &[0xFF, 0xFF, 0xFF])?;
-    file.define(&definition(21, &[])?)?;
+    file.define(&definition(21, &[], &[])?)?;
     file.data(0, None, &[])?;
     file.data(0, Some(4), &[])?;
-    file.define(&definition(20, &[(4, 1, 0x02), (4, 1, 0x01)])?)?;
+    file.define(&definition(20, &[(4, 1, 0x02), (4, 1, 0x01)], &[])?)?;
     file.data(0, None, &[0x50, 0x80])?;
     Ok(file)
 }
