@@ -8,10 +8,11 @@ use Rattle.fit_base.specs.declared.base.BaseType.TheVariants.{Enum, String, Byte
 use Rattle.fit_base.specs.Base.{row_of, base_type}
 use Rattle.fit_base.specs.Value.{Field, Values, Numbers, Raw, raw_by, size_by, value_size, count_of, values_of, numbers}
 use Rattle.fit_grammar.specs.declared.file.frame.Frame.{Frame}
-use Rattle.fit_grammar.specs.Format.Message.{messages_of}
+use Rattle.fit_grammar.specs.Format.Message.{Message, messages_of}
 use Rattle.fit_grammar.specs.Format.Records.{data_size}
 use Rattle.fit_grammar.specs.Format.File.{FileValue}
-use Rattle.fit_text.specs.Text.{hex_text, string_text, byte_text, numbers_text, IsNumber, some_text, values_text, header_text, messages_text, text_of}
+use Rattle.fit_text.specs.Form.{header_by, numbered, lines_of}
+use Rattle.fit_text.specs.Text.{hex_text, string_text, byte_text, numbers_text, IsNumber, some_text, values_text}
 use Rattle.fit_text.proofs.TextLemmas.{hex_none, numbers_bytes, some_numbers}
 
 size_some : (type : BaseType) → 0 < (row_of type).size
@@ -102,21 +103,22 @@ is_number Byte no_string no_byte = no_byte refl
 is_number type no_string no_byte = tt
 
 -- the parts of a header's line
-pub header_parts : (frame : Frame) (size a b c d e : ℕ) → a ≡ frame.header_size → b ≡ frame.protocol / 16 → c ≡ frame.protocol % 16 →
-    d ≡ frame.profile → e ≡ size →
-    (codes "header " ++ decimal a) ++ ((codes " protocol " ++ decimal b) ++ ((codes "." ++ decimal c)
-    ++ ((codes " profile " ++ decimal d) ++ ((codes " data " ++ decimal e) ++ codes "\n")))) ≡ header_text frame size
-header_parts frame size a b c d e is_a is_b is_c is_d is_e = rw (is_a, is_b, is_c, is_d, is_e) (simp append_assoc)
+regrouped_header : (a b c d e f g h i j k : List ℕ) →
+    (a ++ b) ++ ((c ++ d) ++ ((e ++ f) ++ ((g ++ h) ++ ((i ++ j) ++ k)))) ≡ a ++ b ++ c ++ d ++ e ++ f ++ g ++ h ++ i ++ j ++ k
+regrouped_header a b c d e f g h i j k = simp append_assoc
 
-regrouped : (a b c d e : List ℕ) → a ++ (b ++ ((c ++ d) ++ e)) ≡ a ++ b ++ c ++ d ++ e
-regrouped a b c d e = simp append_assoc
+pub header_parts : (header protocol profile records last : List ℕ) (frame : Frame) (size a b c d e : ℕ) → a ≡ frame.header_size →
+    b ≡ frame.protocol / 16 → c ≡ frame.protocol % 16 → d ≡ frame.profile → e ≡ size →
+    (header ++ decimal a) ++ ((protocol ++ decimal b) ++ ((codes "." ++ decimal c)
+    ++ ((profile ++ decimal d) ++ ((records ++ decimal e) ++ last)))) ≡ header_by header protocol profile records last frame size
+header_parts header protocol profile records last frame size a b c d e is_a is_b is_c is_d is_e =
+    rw (is_a, is_b, is_c, is_d, is_e)
+    (regrouped_header header (decimal frame.header_size) protocol (decimal (frame.protocol / 16)) (codes ".") (decimal (frame.protocol % 16))
+    profile (decimal frame.profile) records (decimal size) last)
 
--- the parts of a file's text
-pub file_parts : (utc : Bool) (v : FileValue) (frame : Frame) (size count : ℕ) → frame ≡ v.frame → size ≡ data_size v.items →
-    count ≡ length (messages_of v.items) →
-    header_text frame size ++ (messages_text utc (messages_of v.items) ++ ((codes "messages " ++ decimal count) ++ codes "\n")) ≡ text_of utc v
-unfolding text_of
-file_parts utc v frame size count is_frame is_size is_count =
-    rw (is_frame, is_size, is_count)
-    (regrouped (header_text v.frame (data_size v.items)) (messages_text utc (messages_of v.items)) (codes "messages ")
-    (decimal (length (messages_of v.items))) (codes "\n"))
+-- the parts of a file
+pub file_parts : (header : Frame → ℕ → List ℕ) (line : ℕ → Message → List ℕ) (last : ℕ → List ℕ) (v : FileValue) (frame : Frame)
+    (size count : ℕ) → frame ≡ v.frame → size ≡ data_size v.items → count ≡ length (messages_of v.items) →
+    header frame size ++ (numbered line (messages_of v.items) ++ last count) ≡ lines_of header line last v
+file_parts header line last v frame size count is_frame is_size is_count =
+    rw (is_frame, is_size, is_count) (sym (append_assoc (header v.frame (data_size v.items)) (numbered line (messages_of v.items)) (last (length (messages_of v.items)))))

@@ -1,184 +1,28 @@
--- JSON by the cases that the code distinguishes, and by its parts: for `json`.
-use Rattle.std.proofs.Common.{◌≡◌, ◌≢◌, ℕ, zero, suc, ◌-◌, ◌/◌, ◌%◌, ◌^◌, ◌<◌, ◌≤◌, ◌==◌, Bool, true, false, List, [], ◌∷◌, ◌++◌, length, get_or, take, drop, sum_by, refl, sym, ap, ◌∙◌, append_assoc, eq-eqb, codes, decimal, Option, Some, None, IfSome, arith, rules, if◌then◌else◌}
-use Rattle.std.specs.Prelude.{◌||◌, ◌&&◌, ◌↔◌, IsSome, nat_le, not}
+-- JSON by its parts: for `json/column`, `json/developer` and `json/message`.
+use Rattle.std.proofs.Common.{◌≡◌, ℕ, ◌-◌, ◌^◌, ◌<◌, ◌≤◌, Bool, true, false, List, [], ◌∷◌, ◌++◌, length, get_or, take, drop, sum_by, refl, sym, ap, ◌∙◌, append_assoc, codes, decimal, Option, Some, None, IfSome, arith}
+use Rattle.std.specs.Prelude.{not}
 use Rattle.std.proofs.lemmas.List.{take_all, length-append}
 use Rattle.std.proofs.Math.Seq.{take-append_seam}
-use Rattle.std.specs.Int.{to_be_bytes, to_le_bytes, w32, w64}
-use Rattle.std.specs.List.{flat_map, list_all, before_first, join_by}
-use Rattle.std.specs.Option.{is_some, is_none}
-use Rattle.std.specs.Str.{is_utf8, IsUtf8}
-use Rattle.std.proofs.lemmas.Str.{IsUtf8-from_is_utf8, is_utf8-from_IsUtf8}
+use Rattle.std.specs.Int.{to_le_bytes, w32}
+use Rattle.std.specs.List.{join_by}
+use Rattle.std.specs.Option.{is_none}
 use Rattle.fit_base.specs.declared.order.Arch.{Arch}
 use Rattle.fit_base.specs.declared.order.Arch.TheVariants.{Little}
-use Rattle.fit_base.specs.declared.base.BaseType.{BaseType}
-use Rattle.fit_base.specs.declared.base.BaseType.TheVariants.{Float32, Float64, String, Byte}
 use Rattle.fit_base.specs.Number.{low_first}
-use Rattle.fit_base.specs.Base.{row_of, base_type, has_sign}
-use Rattle.fit_base.specs.Value.{Field, Numbers, Raw, size_by, value_size, is_raw, raw_by, count_of, values_of, numbers}
 use Rattle.fit_grammar.specs.declared.definition.Definition.{Definition}
 use Rattle.fit_grammar.specs.declared.definition.FieldDefinition.{FieldDefinition}
 use Rattle.fit_grammar.specs.declared.definition.DeveloperFieldDefinition.{DeveloperFieldDefinition}
-use Rattle.fit_grammar.specs.declared.file.frame.Frame.{Frame}
-use Rattle.fit_grammar.specs.Format.File.{FileValue}
 use Rattle.fit_grammar.specs.Format.Item.{fields_size}
-use Rattle.fit_grammar.specs.Format.Message.{Message, MessageDeveloperField, developer_of, fields_of, time_field, time_fields, message_under, messages_of}
-use Rattle.fit_grammar.specs.Format.Records.{data_size}
+use Rattle.fit_grammar.specs.Format.Message.{Message, MessageDeveloperField, developer_of, fields_of, time_field, time_fields, message_under}
 use Rattle.fit_text.specs.declared.showing.plan.Column.{Column}
 use Rattle.fit_text.specs.declared.showing.plan.Plan.{Plan}
 use Rattle.fit_text.specs.Date.{dates_of}
-use Rattle.fit_text.specs.Json.{quoted, string_byte, string_json, bytes_json, byte_json, plain_json, number_json, numbers_json, some_json, values_json, field_json, developer_json, name_json, message_json, header_json, messages_json, json_of}
-use Rattle.fit_text.specs.Members.{separator, joined, inner, json_at, column_json, columns_json, time_json}
-use Rattle.fit_text.specs.Plan.{field_at, time_definition, IsColumn, AreColumns, IsPlanOf}
+use Rattle.fit_text.specs.Json.{quoted, bytes_json, field_json, developer_json, name_json, message_json}
+use Rattle.fit_text.specs.Members.{separator, joined, inner, column_json, columns_json, time_json}
+use Rattle.fit_text.specs.Plan.{field_at, json_at, time_definition, IsColumn, AreColumns, IsPlanOf}
 use Rattle.fit_text.specs.Profile.{FieldNames, message_named, names_of_fields}
-use Rattle.fit_text.specs.Text.{hex_byte, is_plain, plain_text, IsNumber, field_name}
-use Rattle.fit_text.proofs.FieldLemmas.{bytes_at}
-use Rattle.fit_text.proofs.PlanLemmas.{columns_size, one_of_type}
-use Rattle.fit_text.proofs.TextLemmas.{plain_float32, plain_float64, rest_text}
-
--- ---- strings
-
-utf8_by : {X : Type 0} (o : Option X) (bytes : List ℕ) (b : Bool) → is_utf8 bytes ≡ b → IsSome o ↔ IsUtf8 bytes → is_some o ≡ b
-utf8_by (Some x) bytes true e h = refl
-utf8_by (Some x) bytes false e h = let is : is_utf8 bytes ≡ true = is_utf8-from_IsUtf8 bytes (h.0 refl) in cc
-utf8_by None bytes true e h = h.1 (IsUtf8-from_is_utf8 bytes e)
-utf8_by None bytes false e h = refl
-
--- bytes are a text if and only if they are UTF-8
-pub utf8_is : {X : Type 0} (o : Option X) (bytes : List ℕ) → IsSome o ↔ IsUtf8 bytes → is_some o ≡ is_utf8 bytes
-utf8_is o bytes h = utf8_by o bytes (is_utf8 bytes) refl h
-
-pub byte_whole : (in_utf8 : Bool) (byte : ℕ) → (is_plain byte || (in_utf8 && nat_le 128 byte)) ≡ true → byte ∷ [] ≡ string_byte in_utf8 byte
-unfolding string_byte
-byte_whole in_utf8 byte e = rw e refl
-
-pub byte_escaped : (in_utf8 : Bool) (byte : ℕ) → (is_plain byte || (in_utf8 && nat_le 128 byte)) ≡ false →
-    codes "\\u00" ++ hex_byte byte ≡ string_byte in_utf8 byte
-unfolding string_byte
-byte_escaped in_utf8 byte e = rw e refl
-
-pub string_parts : (bytes text : List ℕ) (in_utf8 : Bool) → text ≡ before_first (λ byte. byte == 0) bytes → in_utf8 ≡ is_utf8 (before_first (λ byte. byte == 0) bytes) →
-    codes "\"" ++ (flat_map (string_byte in_utf8) text ++ codes "\"") ≡ string_json bytes
-unfolding string_json
-string_parts bytes text in_utf8 is coded = rw (is, coded) refl
-
-pub byte_invalid : (bytes : List ℕ) → list_all (λ byte. byte == 255) bytes ≡ true → codes "null" ≡ byte_json bytes
-unfolding byte_json
-byte_invalid bytes e = rw e refl
-
-pub byte_valid : (bytes : List ℕ) → list_all (λ byte. byte == 255) bytes ≡ false → bytes_json bytes ≡ byte_json bytes
-unfolding byte_json
-byte_valid bytes e = rw e refl
-
--- ---- numbers
-
-pub float32_json : (type : BaseType) (n : ℕ) (bytes : List ℕ) → type ≡ Float32 → bytes ≡ to_be_bytes w64 n →
-    bytes_json (take 4 (drop 4 bytes)) ≡ plain_json type n
-unfolding plain_json
-float32_json type n bytes e h = rw e (ap quoted (plain_float32 Float32 n bytes refl h))
-
-pub float64_json : (type : BaseType) (n : ℕ) (bytes : List ℕ) → type ≡ Float64 → bytes ≡ to_be_bytes w64 n →
-    bytes_json bytes ≡ plain_json type n
-unfolding plain_json
-float64_json type n bytes e h = rw e (ap quoted (plain_float64 Float64 n bytes refl h))
-
-pub whole_json : (type : BaseType) (n : ℕ) → type ≢ Float32 → type ≢ Float64 → plain_text type n ≡ plain_json type n
-unfolding plain_json
-whole_json Float32 n no_32 no_64 = absurd (no_32 refl)
-whole_json Float64 n no_32 no_64 = absurd (no_64 refl)
-whole_json type n no_32 no_64 = refl
-
--- a type with a sign is not a float
-pub signed_json : (type : BaseType) (n : ℕ) → has_sign type ≡ true → plain_text type n ≡ plain_json type n
-unfolding plain_json
-signed_json Float32 n e = cc
-signed_json Float64 n e = cc
-signed_json type n e = refl
-
-pub number_null : (type : BaseType) (n : ℕ) → n ≡ (row_of type).invalid → codes "null" ≡ number_json type n
-unfolding number_json
-number_null type n e = let t : (n == (row_of type).invalid) ≡ true = eq-eqb _ _ e in rw t refl
-
-pub number_valid : (type : BaseType) (n : ℕ) → n ≢ (row_of type).invalid → plain_json type n ≡ number_json type n
-unfolding number_json
-number_valid type n e = let t : (n == (row_of type).invalid) ≡ false = search rules in rw t refl
-
-pub one_number : (type : BaseType) (n : ℕ) → number_json type n ≡ numbers_json type (n ∷ [])
-unfolding numbers_json
-one_number type n = refl
-
--- the only number of a row of one
-pub only_number : (type : BaseType) (arch : Arch) (size count : ℕ) (bytes : List ℕ) → count ≡ 1 →
-    number_json type (get_or (numbers arch size count bytes) 0 0) ≡ numbers_json type (numbers arch size count bytes)
-unfolding numbers_json
-only_number type arch size count bytes one = rw one refl
-
-array_by : (type : BaseType) (ns : List ℕ) → (length ns ≡ 1 → ⊥) →
-    codes "[" ++ (join_by (number_json type) (codes ",") ns ++ codes "]") ≡ numbers_json type ns
-unfolding numbers_json
-array_by type [] more = refl
-array_by type (n ∷ []) more = absurd (more refl)
-array_by type (n ∷ m ∷ ns) more = refl
-
-pub array_parts : (type : BaseType) (ns : List ℕ) (count : ℕ) → length ns ≡ count → count ≢ 1 →
-    codes "[" ++ (join_by (number_json type) (codes ",") ns ++ codes "]") ≡ numbers_json type ns
-array_parts type ns count long more = array_by type ns (λ one. more (sym long ∙ one))
-
-pub row_all : (type : BaseType) (ns : List ℕ) → join_by (number_json type) (codes ",") ns ≡ rest_text (number_json type) ns 0
-row_all type ns = refl
-
--- ---- the values of a field
-
--- a field that has the size of one value has one
-pub one_value : (field : Field) (type : BaseType) → base_type field.base ≡ Some type → length field.bytes ≡ (row_of type).size → count_of field ≡ 1
-one_value field type known size =
-    ap (λ o. if raw_by o (length field.bytes) then 0 else length field.bytes / size_by o) known ∙ one_of_type type field.bytes size
-
-pub raw_values : (field : Field) → is_raw field ≡ true → bytes_json field.bytes ≡ values_json (base_type field.base) (values_of field)
-raw_values field raw = rw raw refl
-
-no_values_by : (o : Option BaseType) (arch : Arch) (bytes : List ℕ) (raw : Bool) (count : ℕ) → raw ≡ false → count ≡ 0 →
-    codes "null" ≡ values_json o (if raw then Raw bytes else Numbers (numbers arch (size_by o) count bytes))
-no_values_by o arch bytes raw count is none = rw (is, none) refl
-
-pub no_values : (field : Field) → is_raw field ≡ false → count_of field ≡ 0 → codes "null" ≡ values_json (base_type field.base) (values_of field)
-no_values field raw none = no_values_by (base_type field.base) field.arch field.bytes (is_raw field) (count_of field) raw none
-
-some_by : (o : Option BaseType) (arch : Arch) (bytes : List ℕ) (raw : Bool) (count : ℕ) → (raw ≡ true → count ≡ 0) → (count ≡ 0 → ⊥) →
-    some_json o (numbers arch (size_by o) count bytes)
-    ≡ values_json o (if raw then Raw bytes else Numbers (numbers arch (size_by o) count bytes))
-some_by o arch bytes true count none some = absurd (some (none refl))
-some_by o arch bytes false zero none some = absurd (some refl)
-some_by o arch bytes false (suc count) none some = refl
-
-raw_none : (field : Field) → is_raw field ≡ true → count_of field ≡ 0
-raw_none field raw = rw raw refl
-
--- a field with values has them as its type requires
-some_values : (field : Field) (type : BaseType) → base_type field.base ≡ Some type → (count_of field ≡ 0 → ⊥) →
-    some_json (Some type) (numbers field.arch (value_size field) (count_of field) field.bytes)
-    ≡ values_json (base_type field.base) (values_of field)
-some_values field type known some =
-    ap (λ o. some_json o (numbers field.arch (value_size field) (count_of field) field.bytes)) (sym known)
-    ∙ some_by (base_type field.base) field.arch field.bytes (is_raw field) (count_of field) (raw_none field) some
-
-pub string_values : (field : Field) → base_type field.base ≡ Some String → (count_of field ≡ 0 → ⊥) →
-    string_json field.bytes ≡ values_json (base_type field.base) (values_of field)
-string_values field known some = ap string_json (sym (bytes_at field String known refl)) ∙ some_values field String known some
-
-pub byte_values : (field : Field) → base_type field.base ≡ Some Byte → (count_of field ≡ 0 → ⊥) →
-    byte_json field.bytes ≡ values_json (base_type field.base) (values_of field)
-byte_values field known some = ap byte_json (sym (bytes_at field Byte known refl)) ∙ some_values field Byte known some
-
--- a type of numbers
-some_numbers : (type : BaseType) (ns : List ℕ) → IsNumber type → numbers_json type ns ≡ some_json (Some type) ns
-some_numbers String ns bad = absurd bad
-some_numbers Byte ns bad = absurd bad
-some_numbers type ns is = refl
-
-pub number_values : (field : Field) (type : BaseType) → base_type field.base ≡ Some type → IsNumber type → (count_of field ≡ 0 → ⊥) →
-    numbers_json type (numbers field.arch (value_size field) (count_of field) field.bytes)
-    ≡ values_json (base_type field.base) (values_of field)
-number_values field type known is some = some_numbers type _ is ∙ some_values field type known some
+use Rattle.fit_text.specs.Text.{field_name}
+use Rattle.fit_text.proofs.PlanLemmas.{columns_size}
 
 -- ---- members
 
@@ -278,13 +122,21 @@ whole_line number global fields developer = simp append_assoc
 regrouped_seven : (a b c d e f g : List ℕ) → (a ++ b) ++ ((c ++ d) ++ (e ++ (f ++ g))) ≡ a ++ b ++ c ++ d ++ e ++ f ++ g
 regrouped_seven a b c d e f g = simp append_assoc
 
-pub head_parts : (number n global g : ℕ) (name : List ℕ) → n ≡ number → g ≡ global → name ≡ name_json (message_named global) →
-    (codes "{\"number\":" ++ decimal n) ++ ((codes ",\"message\":" ++ decimal g) ++ (codes ",\"name\":" ++ (name ++ codes ",\"fields\":{")))
-    ≡ head_json number global
-head_parts number n global g name is also named =
-    rw (is, also, named)
-    (regrouped_seven (codes "{\"number\":") (decimal number) (codes ",\"message\":") (decimal global) (codes ",\"name\":")
-    (name_json (message_named global)) (codes ",\"fields\":{"))
+-- what a line has before its fields, by its parts
+regrouped_three : (a b c d : List ℕ) → a ++ (b ++ (c ++ d)) ≡ a ++ b ++ c ++ d
+regrouped_three a b c d = simp append_assoc
+
+pub head_parts : (number global g : ℕ) (name : List ℕ) → g ≡ global →
+    (((codes "{\"number\":" ++ decimal number) ++ codes ",\"message\":") ++ decimal g) ++ (codes ",\"name\":" ++ (name ++ codes ",\"fields\":{"))
+    ≡ codes "{\"number\":" ++ decimal number ++ codes ",\"message\":" ++ decimal global ++ codes ",\"name\":" ++ name ++ codes ",\"fields\":{"
+head_parts number global g name is =
+    rw is
+    (regrouped_three (codes "{\"number\":" ++ decimal number ++ codes ",\"message\":" ++ decimal global) (codes ",\"name\":") name
+    (codes ",\"fields\":{"))
+
+pub name_begins : (name : List ℕ) →
+    (codes ",\"name\":\"" ++ name) ++ codes "\",\"fields\":{" ≡ codes ",\"name\":" ++ (quoted name ++ codes ",\"fields\":{")
+name_begins name = ap (λ t. codes ",\"name\":\"" ++ t) (sym (append_assoc name (codes "\"") (codes ",\"fields\":{")))
 
 -- the parts of the line, in their order
 pub plan_json : (number : ℕ) (d : Definition) (time : Option ℕ) (content : List ℕ) (plan : Plan) (columns : List Column)
@@ -372,23 +224,3 @@ pub no_column : (is_first : Bool) (dates : List ℕ) (arch : Arch) (columns : Li
     columns_json is_first dates arch columns content ≡ []
 no_column is_first dates arch [] content none = refl
 no_column is_first dates arch (column ∷ columns) content none = absurd (omega arith)
-
--- ---- files
-
-pub header_parts : (frame : Frame) (size a b c d e : ℕ) → a ≡ frame.header_size → b ≡ frame.protocol / 16 → c ≡ frame.protocol % 16 →
-    d ≡ frame.profile → e ≡ size →
-    (codes "{\"header\":" ++ decimal a) ++ ((codes ",\"protocol\":\"" ++ decimal b) ++ ((codes "." ++ decimal c)
-    ++ ((codes "\",\"profile\":" ++ decimal d) ++ ((codes ",\"data\":" ++ decimal e) ++ codes "}\n")))) ≡ header_json frame size
-header_parts frame size a b c d e is_a is_b is_c is_d is_e = rw (is_a, is_b, is_c, is_d, is_e) (simp append_assoc)
-
-regrouped : (a b c d e : List ℕ) → a ++ (b ++ ((c ++ d) ++ e)) ≡ a ++ b ++ c ++ d ++ e
-regrouped a b c d e = simp append_assoc
-
-pub file_parts : (utc : Bool) (v : FileValue) (frame : Frame) (size count : ℕ) → frame ≡ v.frame → size ≡ data_size v.items →
-    count ≡ length (messages_of v.items) →
-    header_json frame size ++ (messages_json utc (messages_of v.items) ++ ((codes "{\"messages\":" ++ decimal count) ++ codes "}\n")) ≡ json_of utc v
-unfolding json_of
-file_parts utc v frame size count is_frame is_size is_count =
-    rw (is_frame, is_size, is_count)
-    (regrouped (header_json v.frame (data_size v.items)) (messages_json utc (messages_of v.items)) (codes "{\"messages\":")
-    (decimal (length (messages_of v.items))) (codes "}\n"))

@@ -7,4 +7,5 @@ mod TextLemmas
 mod FieldLemmas
 mod DateLemmas
 mod DeveloperLemmas
+mod JsonValueLemmas
 mod JsonLemmas

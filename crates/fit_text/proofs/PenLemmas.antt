@@ -1,6 +1,6 @@
 -- How texts that a pen puts one after another join, what a loop that puts text keeps, and what a pen's writer
 -- holds at the end: for `writing` and all that shows a file.
-use Rattle.std.proofs.Common.{◌≡◌, ℕ, ◌+◌, ◌<◌, ◌≤◌, List, [], ◌++◌, length, get_or, take, drop, Option, Result, Ok, Err, OnOk, refl, sym, ap, ◌∙◌, append_assoc, append-nil, length-append, length-take-le, take-take, subst, arith}
+use Rattle.std.proofs.Common.{◌≡◌, ℕ, zero, suc, ◌+◌, ◌-◌, ◌<◌, ◌≤◌, List, [], ◌∷◌, ◌++◌, length, get_or, take, drop, Option, Result, Ok, Err, OnOk, refl, sym, ap, ◌∙◌, append_assoc, append-nil, length-append, length-take-le, take-take, subst, arith}
 use Rattle.std.proofs.KnownBytes.{Appends-trans, Appends-nil}
 use Rattle.std.proofs.lemmas.List.{at_drop_more, at_drop_all}
 use Rattle.std.proofs.lemmas.Slice.{take-put_mid}
@@ -10,6 +10,7 @@ use Rattle.std.specs.Io.KnownBytes.{Appends}
 use Rattle.std.specs.List.{flat_map}
 use Rattle.std.specs.Result.{IsErr}
 use Rattle.fit_grammar.specs.Calls.Output.{AppendsBeginning, WritesText}
+use Rattle.fit_text.specs.Members.{inner}
 use Rattle.fit_text.specs.Pen.{Written, Continues, Puts, Adds, Places}
 
 -- ---- one text after another
@@ -218,13 +219,21 @@ part_placed bytes placed at k n room part =
     sym (take-take (at + n) (at + length placed) (put_mid at k bytes placed) (omega arith)) ∙ ap (take (at + n)) whole ∙ seam
 
 -- of a label, as many bytes are used as its text has
-pub label_added : (name : ℕ) (held : Option (List ℕ)) (bytes placed label : List ℕ) (at k n : ℕ) → placed ≡ label → at + 32 ≤ length bytes →
-    length label ≡ 32 → n ≤ 32 →
+pub label_added : (name : ℕ) (held : Option (List ℕ)) (bytes placed label : List ℕ) (at k n size : ℕ) → placed ≡ label →
+    at + size ≤ length bytes → length label ≡ size → n ≤ size →
     Adds (record { name = name; held = held; waiting = take at bytes })
     (record { name = name; held = held; waiting = take (at + n) (put_mid at k bytes placed) }) (take n label)
-label_added name held bytes placed label at k n same room long few =
-    let whole : length placed ≡ 32 = ap length same ∙ long in
+label_added name held bytes placed label at k n size same room long few =
+    let whole : length placed ≡ size = ap length same ∙ long in
     record {
       waits = ap (waits_by name held)
           (part_placed bytes placed at k n (omega (arith, whole)) (omega (arith, whole)) ∙ ap (λ t. take at bytes ++ take n t) same);
     }
+
+-- the inside of the text at the front of a label's bytes
+pub inner_taken : (bytes : List ℕ) (n : ℕ) → n ≤ length bytes → take (n - 2) (drop 1 bytes) ≡ inner (take n bytes)
+inner_taken [] n h = let none : n ≡ 0 = omega arith in rw none refl
+inner_taken (byte ∷ bytes) zero h = refl
+inner_taken (byte ∷ bytes) (suc n) h =
+    let long : length (take n bytes) ≡ n = length-take-le n bytes (omega arith) in
+    sym (ap (λ k. take (suc k - 2) (take n bytes)) long ∙ take-take (suc n - 2) n bytes (omega arith))

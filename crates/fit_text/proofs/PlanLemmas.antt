@@ -33,27 +33,31 @@ use Rattle.fit_grammar.specs.Format.Message.{fields_of, developer_of, time_field
 use Rattle.fit_grammar.specs.Format.Item.{fields_size}
 use Rattle.fit_text.specs.Date.{dates_of}
 use Rattle.fit_text.specs.Profile.{FieldNames, names_of_fields}
-use Rattle.fit_text.specs.Plan.{field_at, shown_at, whole_of, ShowsWhole, IsKind, IsWholeOf, IsKindOf, time_definition, time_text, column_text, columns_text, IsColumn, AreColumns, HaveKinds, IsPlanOf, IsPlanIn, IsPlanAt, ArePlansFor}
-use Rattle.fit_text.specs.Text.{IsNumber, plain_text, number_text, numbers_text, message_name, field_name, field_text, developer_text, message_text}
+use Rattle.fit_text.specs.Form.{plain_as, number_as, numbers_as}
+use Rattle.fit_text.specs.Json.{bytes_json, number_json, numbers_json}
+use Rattle.fit_text.specs.Plan.{field_at, shown_at, json_at, whole_of, ShowsWhole, IsKind, IsWholeOf, IsKindOf, time_definition, time_text, column_text, columns_text, IsColumn, AreColumns, HaveKinds, IsPlanOf, IsPlanIn, IsPlanAt, ArePlansFor}
+use Rattle.fit_text.specs.Text.{hex_text, IsNumber, number_text, numbers_text, message_name, field_name, field_text, developer_text, message_text}
 use Rattle.fit_text.proofs.FieldLemmas.{number_values}
+use Rattle.fit_text.proofs.JsonValueLemmas.{number_values as json_values}
 use Rattle.fit_text.proofs.TextLemmas.{plain_whole, plain_signed, whole_unsigned, whole_signed}
 
 -- ---- one number of a type
 
-without_sign : (type : BaseType) (n : ℕ) → has_sign type ≡ false → type ≢ Float32 → type ≢ Float64 → decimal n ≡ plain_text type n
-without_sign type n e no_32 no_64 = whole_unsigned type n e ∙ plain_whole type n no_32 no_64
+without_sign : (written : List ℕ → List ℕ) (type : BaseType) (n : ℕ) → has_sign type ≡ false → type ≢ Float32 → type ≢ Float64 →
+    decimal n ≡ plain_as written type n
+without_sign written type n e no_32 no_64 = whole_unsigned type n e ∙ plain_whole written type n no_32 no_64
 
-unsigned_shows : (type : BaseType) (invalid n : ℕ) → invalid ≡ (row_of type).invalid → has_sign type ≡ false → type ≢ Float32 →
-    type ≢ Float64 → whole_of (Unsigned invalid) n ≡ number_text type n
-unfolding number_text
-unsigned_shows type invalid n is e no_32 no_64 =
-    rw is (ap (λ t. if n == (row_of type).invalid then codes "-" else t) (without_sign type n e no_32 no_64))
+unsigned_shows : (type : BaseType) (invalid : ℕ) (none : List ℕ) (written : List ℕ → List ℕ) (n : ℕ) → invalid ≡ (row_of type).invalid →
+    has_sign type ≡ false → type ≢ Float32 → type ≢ Float64 → whole_of none (Unsigned invalid) n ≡ number_as none written type n
+unfolding number_as
+unsigned_shows type invalid none written n is e no_32 no_64 =
+    rw is (ap (λ t. if n == (row_of type).invalid then none else t) (without_sign written type n e no_32 no_64))
 
 -- a type without a sign, other than a float
 pub unsigned_kind : (type : BaseType) (invalid : ℕ) → invalid ≡ (row_of type).invalid → IsNumber type → has_sign type ≡ false →
     type ≢ Float32 → type ≢ Float64 → IsWholeOf type (Unsigned invalid)
 unsigned_kind type invalid is numbers e no_32 no_64 =
-    record { numbers = numbers; shows = λ n fits. unsigned_shows type invalid n is e no_32 no_64 }
+    record { numbers = numbers; shows = λ none written n fits. unsigned_shows type invalid none written n is e no_32 no_64 }
 
 -- a number past half of the range is negative
 below_zero : (m n : ℕ) → n < suc m → 45 ∷ decimal (suc m - n) ≡ signed_decimal (pos n -ℤ pos (suc m))
@@ -67,21 +71,21 @@ by_sign : (b : Bool) (m n : ℕ) → n < suc m →
 by_sign true m n h = refl
 by_sign false m n h = below_zero m n h
 
-signed_shows : (type : BaseType) (n : ℕ) → has_sign type ≡ true → n < 256 ^ (row_of type).size →
-    whole_of (Signed (row_of type).invalid) n ≡ number_text type n
-unfolding number_text
-signed_shows Sint8 n e h =
-    ap (λ t. if n == 127 then codes "-" else t) (by_sign (nat_lt n 128) 255 n h ∙ whole_signed Sint8 n refl ∙ plain_signed Sint8 n refl)
-signed_shows Sint16 n e h =
-    ap (λ t. if n == 32767 then codes "-" else t)
-    (by_sign (nat_lt n 32768) 65535 n h ∙ whole_signed Sint16 n refl ∙ plain_signed Sint16 n refl)
-signed_shows Sint32 n e h =
-    ap (λ t. if n == 2147483647 then codes "-" else t)
-    (by_sign (nat_lt n 2147483648) 4294967295 n h ∙ whole_signed Sint32 n refl ∙ plain_signed Sint32 n refl)
-signed_shows Sint64 n e h =
-    ap (λ t. if n == 9223372036854775807 then codes "-" else t)
-    (by_sign (nat_lt n 9223372036854775808) 18446744073709551615 n h ∙ whole_signed Sint64 n refl ∙ plain_signed Sint64 n refl)
-signed_shows type n e h = cc
+signed_shows : (type : BaseType) (none : List ℕ) (written : List ℕ → List ℕ) (n : ℕ) → has_sign type ≡ true →
+    n < 256 ^ (row_of type).size → whole_of none (Signed (row_of type).invalid) n ≡ number_as none written type n
+unfolding number_as
+signed_shows Sint8 none written n e h =
+    ap (λ t. if n == 127 then none else t) (by_sign (nat_lt n 128) 255 n h ∙ whole_signed Sint8 n refl ∙ plain_signed written Sint8 n refl)
+signed_shows Sint16 none written n e h =
+    ap (λ t. if n == 32767 then none else t)
+    (by_sign (nat_lt n 32768) 65535 n h ∙ whole_signed Sint16 n refl ∙ plain_signed written Sint16 n refl)
+signed_shows Sint32 none written n e h =
+    ap (λ t. if n == 2147483647 then none else t)
+    (by_sign (nat_lt n 2147483648) 4294967295 n h ∙ whole_signed Sint32 n refl ∙ plain_signed written Sint32 n refl)
+signed_shows Sint64 none written n e h =
+    ap (λ t. if n == 9223372036854775807 then none else t)
+    (by_sign (nat_lt n 9223372036854775808) 18446744073709551615 n h ∙ whole_signed Sint64 n refl ∙ plain_signed written Sint64 n refl)
+signed_shows type none written n e h = cc
 
 signed_limit : (type : BaseType) → has_sign type ≡ true → 256 ^ (row_of type).size ≡ 2 * (row_of type).invalid + 2
 signed_limit Sint8 e = refl
@@ -94,7 +98,7 @@ signed_limit type e = cc
 pub signed_kind : (type : BaseType) (invalid : ℕ) → invalid ≡ (row_of type).invalid → IsNumber type → has_sign type ≡ true →
     IsWholeOf type (Signed invalid) × (256 ^ (row_of type).size ≡ 2 * invalid + 2)
 signed_kind type invalid is numbers e =
-    rw is (record { numbers = numbers; shows = λ n fits. signed_shows type n e fits }, signed_limit type e)
+    rw is (record { numbers = numbers; shows = λ none written n fits. signed_shows type none written n e fits }, signed_limit type e)
 
 -- ---- a field of one value
 
@@ -131,8 +135,22 @@ one_number type arch bytes e =
     rw (one_of_type type bytes e) (ap (λ t. number arch t ∷ []) (take_all (row_of type).size bytes (omega (arith, e))))
 
 one_text : (type : BaseType) (n : ℕ) → number_text type n ≡ numbers_text type (n ∷ [])
-unfolding numbers_text
+unfolding numbers_as
 one_text type n = sym (append-nil (number_text type n))
+
+one_json : (type : BaseType) (n : ℕ) → number_json type n ≡ numbers_json type (n ∷ [])
+unfolding numbers_json
+one_json type n = refl
+
+-- the number of a field with one value that is not a date
+one_of : (base : ℕ) (arch : Arch) (bytes : List ℕ) (type : BaseType) → base_type base ≡ Some type → length bytes ≡ (row_of type).size →
+    let field : Field = record { base = base; arch = arch; bytes = bytes } in
+    (number arch bytes ∷ [] ≡ numbers arch (value_size field) (count_of field) bytes) × (count_of field ≡ 0 → ⊥)
+one_of base arch bytes type known e =
+    let some : count_by (base_type base) bytes ≡ 1 = ap (λ o. count_by o bytes) known ∙ one_of_type type bytes e in (
+      sym (ap (λ o. numbers arch (size_by o) (count_by o bytes) bytes) known ∙ one_number type arch bytes e),
+      λ none. omega (arith, some, none),
+    )
 
 -- a field with one value that is not a date shows this value
 one_shown : (dates : List ℕ) (n base : ℕ) (arch : Arch) (bytes : List ℕ) (type : BaseType) →
@@ -140,11 +158,18 @@ one_shown : (dates : List ℕ) (n base : ℕ) (arch : Arch) (bytes : List ℕ) (
     number_text type (number arch bytes) ≡ shown_at dates n base arch bytes
 one_shown dates n base arch bytes type no_date known is e =
     let field : Field = record { base = base; arch = arch; bytes = bytes } in
-    let P : Option BaseType → List ℕ = λ o. numbers arch (size_by o) (count_by o bytes) bytes in
-    let one : numbers arch (value_size field) (count_of field) bytes ≡ number arch bytes ∷ [] = ap P known ∙ one_number type arch bytes e in
-    let some : count_of field ≡ 1 = ap (λ o. count_by o bytes) known ∙ one_of_type type bytes e in
+    let one = one_of base arch bytes type known e in
     rw no_date
-    (one_text type (number arch bytes) ∙ ap (numbers_text type) (sym one) ∙ number_values field type known is (λ none. omega (arith, some, none)))
+    (one_text type (number arch bytes) ∙ ap (numbers_text type) one.0 ∙ number_values field type known is one.1)
+
+one_shown_json : (dates : List ℕ) (n base : ℕ) (arch : Arch) (bytes : List ℕ) (type : BaseType) →
+    list_any (λ date. date == n) dates ≡ false → base_type base ≡ Some type → IsNumber type → length bytes ≡ (row_of type).size →
+    number_json type (number arch bytes) ≡ json_at dates n base arch bytes
+one_shown_json dates n base arch bytes type no_date known is e =
+    let field : Field = record { base = base; arch = arch; bytes = bytes } in
+    let one = one_of base arch bytes type known e in
+    rw no_date
+    (one_json type (number arch bytes) ∙ ap (numbers_json type) one.0 ∙ json_values field type known is one.1)
 
 -- fields of a type of whole numbers, whose size is that of one number
 pub shows_whole : (dates : List ℕ) (n base size : ℕ) (type : BaseType) (kind : Kind) →
@@ -153,7 +178,10 @@ pub shows_whole : (dates : List ℕ) (n base size : ℕ) (type : BaseType) (kind
 shows_whole dates n base size type kind no_date known e h =
     rw e (record {
       sized = value_size_of type;
-      shows = λ arch bytes one fits. h.shows (number arch bytes) fits ∙ one_shown dates n base arch bytes type no_date known h.numbers one;
+      shows = λ arch bytes one fits.
+          h.shows (codes "-") hex_text (number arch bytes) fits ∙ one_shown dates n base arch bytes type no_date known h.numbers one;
+      json = λ arch bytes one fits.
+          h.shows (codes "null") bytes_json (number arch bytes) fits ∙ one_shown_json dates n base arch bytes type no_date known h.numbers one;
     })
 
 -- the kind of a field follows from that of its type

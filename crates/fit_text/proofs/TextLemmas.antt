@@ -1,4 +1,4 @@
--- The shown text of values, by the cases that the code distinguishes: for `showing/bytes` and `showing/number`.
+-- The shown text of values, by the cases that the code distinguishes: for `showing/bytes` and `form/number`.
 use Rattle.std.proofs.Common.{◌≡◌, ◌≢◌, ℕ, zero, suc, ◌+◌, ◌<◌, ◌≤◌, ◌==◌, true, false, List, [], ◌∷◌, ◌++◌, length, get_or, take, drop, append_assoc, add-zero, refl, ap, ◌∙◌, eq-eqb, codes, decimal, Some, arith, rules, if◌then◌else◌}
 use Rattle.std.proofs.lemmas.List.{at_drop_more, at_drop_all}
 use Rattle.std.specs.Fmt.{signed_decimal}
@@ -11,7 +11,8 @@ use Rattle.fit_base.specs.declared.base.BaseType.TheVariants.{Float32, Float64, 
 use Rattle.fit_base.specs.Number.{twos_complement}
 use Rattle.fit_base.specs.Base.{row_of, base_type, has_sign}
 use Rattle.fit_base.specs.Value.{Field, size_by, unsigned_at, signed_at, numbers}
-use Rattle.fit_text.specs.Text.{hex_byte, hex_text, is_plain, escaped, string_text, byte_text, whole_text, plain_text, number_text, numbers_text, IsNumber, some_text}
+use Rattle.fit_text.specs.Form.{whole_text, plain_as, number_as, numbers_as}
+use Rattle.fit_text.specs.Text.{hex_byte, hex_text, is_plain, escaped, string_text, byte_text, numbers_text, IsNumber, some_text}
 
 -- ---- bytes
 
@@ -60,36 +61,39 @@ pub whole_unsigned : (type : BaseType) (n : ℕ) → has_sign type ≡ false →
 unfolding whole_text
 whole_unsigned type n e = rw e refl
 
-pub plain_float32 : (type : BaseType) (n : ℕ) (bytes : List ℕ) → type ≡ Float32 → bytes ≡ to_be_bytes w64 n →
-    hex_text (take 4 (drop 4 bytes)) ≡ plain_text type n
-unfolding plain_text
-plain_float32 type n bytes e h = rw (e, h) refl
+pub plain_float32 : (written : List ℕ → List ℕ) (type : BaseType) (n : ℕ) (bytes : List ℕ) → type ≡ Float32 → bytes ≡ to_be_bytes w64 n →
+    written (take 4 (drop 4 bytes)) ≡ plain_as written type n
+unfolding plain_as
+plain_float32 written type n bytes e h = rw (e, h) refl
 
-pub plain_float64 : (type : BaseType) (n : ℕ) (bytes : List ℕ) → type ≡ Float64 → bytes ≡ to_be_bytes w64 n →
-    hex_text bytes ≡ plain_text type n
-unfolding plain_text
-plain_float64 type n bytes e h = rw (e, h) refl
+pub plain_float64 : (written : List ℕ → List ℕ) (type : BaseType) (n : ℕ) (bytes : List ℕ) → type ≡ Float64 → bytes ≡ to_be_bytes w64 n →
+    written bytes ≡ plain_as written type n
+unfolding plain_as
+plain_float64 written type n bytes e h = rw (e, h) refl
 
 -- a type with a sign is not a float
-pub plain_signed : (type : BaseType) (n : ℕ) → has_sign type ≡ true → whole_text type n ≡ plain_text type n
-unfolding plain_text
-plain_signed Float32 n e = cc
-plain_signed Float64 n e = cc
-plain_signed type n e = refl
+pub plain_signed : (written : List ℕ → List ℕ) (type : BaseType) (n : ℕ) → has_sign type ≡ true → whole_text type n ≡ plain_as written type n
+unfolding plain_as
+plain_signed written Float32 n e = cc
+plain_signed written Float64 n e = cc
+plain_signed written type n e = refl
 
-pub plain_whole : (type : BaseType) (n : ℕ) → type ≢ Float32 → type ≢ Float64 → whole_text type n ≡ plain_text type n
-unfolding plain_text
-plain_whole Float32 n no_32 no_64 = absurd (no_32 refl)
-plain_whole Float64 n no_32 no_64 = absurd (no_64 refl)
-plain_whole type n no_32 no_64 = refl
+pub plain_whole : (written : List ℕ → List ℕ) (type : BaseType) (n : ℕ) → type ≢ Float32 → type ≢ Float64 →
+    whole_text type n ≡ plain_as written type n
+unfolding plain_as
+plain_whole written Float32 n no_32 no_64 = absurd (no_32 refl)
+plain_whole written Float64 n no_32 no_64 = absurd (no_64 refl)
+plain_whole written type n no_32 no_64 = refl
 
-pub number_same : (type : BaseType) (n : ℕ) → n ≡ (row_of type).invalid → codes "-" ≡ number_text type n
-unfolding number_text
-number_same type n e = let t : (n == (row_of type).invalid) ≡ true = eq-eqb _ _ e in rw t refl
+pub number_same : (none : List ℕ) (written : List ℕ → List ℕ) (type : BaseType) (n : ℕ) → n ≡ (row_of type).invalid →
+    none ≡ number_as none written type n
+unfolding number_as
+number_same none written type n e = let t : (n == (row_of type).invalid) ≡ true = eq-eqb _ _ e in rw t refl
 
-pub number_other : (type : BaseType) (n : ℕ) → n ≢ (row_of type).invalid → plain_text type n ≡ number_text type n
-unfolding number_text
-number_other type n e = let t : (n == (row_of type).invalid) ≡ false = search rules in rw t refl
+pub number_other : (none : List ℕ) (written : List ℕ → List ℕ) (type : BaseType) (n : ℕ) → n ≢ (row_of type).invalid →
+    plain_as written type n ≡ number_as none written type n
+unfolding number_as
+number_other none written type n e = let t : (n == (row_of type).invalid) ≡ false = search rules in rw t refl
 
 -- ---- rows of numbers
 
@@ -117,9 +121,10 @@ rest_none f xs (suc i) le =
     let here : (suc i == 0) ≡ false = search rules in
     rw here (at_drop_all (flat_map (λ y. codes "," ++ f y)) xs (suc i) le)
 
-pub rest_all : (type : BaseType) (ns : List ℕ) → numbers_text type ns ≡ rest_text (number_text type) ns 0
-unfolding numbers_text
-rest_all type ns = refl
+pub rest_all : (none : List ℕ) (written : List ℕ → List ℕ) (type : BaseType) (ns : List ℕ) →
+    numbers_as none written type ns ≡ rest_text (number_as none written type) ns 0
+unfolding numbers_as
+rest_all none written type ns = refl
 
 -- ---- the values of a field
 

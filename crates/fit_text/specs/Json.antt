@@ -1,19 +1,19 @@
 -- A file as JSON: a line for its header, a line for each message, and a line that counts them. Each line is a JSON object (RFC 8259).
 -- The names, the dates and the numbers are those of the shown text.
-use Rattle.std.specs.Prelude.{ℕ, Bool, ◌/◌, ◌%◌, List, [], ◌∷◌, ◌++◌, length, codes, decimal, Option, Some, None, ◌==◌, ◌&&◌, ◌||◌, nat_le, if◌then◌else◌}
-use Rattle.std.specs.List.{flat_map, list_all, before_first, join_by, enumerate_from}
+use Rattle.std.specs.Prelude.{ℕ, Bool, List, [], ◌∷◌, ◌++◌, codes, decimal, Option, Some, None, ◌==◌, ◌&&◌, ◌||◌, nat_le, if◌then◌else◌}
+use Rattle.std.specs.List.{flat_map, list_all, before_first, join_by}
 use Rattle.std.specs.Str.{is_utf8}
 use Rattle.fit_base.specs.declared.base.BaseType.{BaseType}
-use Rattle.fit_base.specs.declared.base.BaseType.TheVariants.{Float32, Float64, String, Byte}
-use Rattle.fit_base.specs.Base.{row_of, base_type}
+use Rattle.fit_base.specs.declared.base.BaseType.TheVariants.{String, Byte}
+use Rattle.fit_base.specs.Base.{base_type}
 use Rattle.fit_base.specs.Value.{Values, Numbers, Raw}
 use Rattle.fit_grammar.specs.declared.file.frame.Frame.{Frame}
-use Rattle.fit_grammar.specs.Format.Records.{data_size}
-use Rattle.fit_grammar.specs.Format.Message.{Message, MessageField, MessageDeveloperField, messages_of}
+use Rattle.fit_grammar.specs.Format.Message.{Message, MessageField, MessageDeveloperField}
 use Rattle.fit_grammar.specs.Format.File.{FileValue}
 use Rattle.fit_text.specs.Date.{dates_of, date_in, date_text}
+use Rattle.fit_text.specs.Form.{number_as, numbers_as, header_by, lines_of}
 use Rattle.fit_text.specs.Profile.{FieldNames, message_named, names_of_fields}
-use Rattle.fit_text.specs.Text.{hex_byte, hex_text, is_plain, plain_text, field_name}
+use Rattle.fit_text.specs.Text.{hex_byte, hex_text, is_plain, field_name}
 
 -- ---- strings
 
@@ -40,19 +40,14 @@ bytes_json bytes = quoted (hex_text bytes)
 unfoldable pub byte_json : List ℕ → List ℕ
 byte_json bytes = if list_all (λ byte. byte == 255) bytes then codes "null" else bytes_json bytes
 
--- a number that is not invalid, in decimal; for a float, the hexadecimal digits of its bits, as a string
-unfoldable pub plain_json : BaseType → ℕ → List ℕ
-plain_json Float32 n = quoted (plain_text Float32 n)
-plain_json Float64 n = quoted (plain_text Float64 n)
-plain_json type n = plain_text type n
-
-unfoldable pub number_json : BaseType → ℕ → List ℕ
-number_json type n = if n == (row_of type).invalid then codes "null" else plain_json type n
+-- a number in decimal, or `null` if it is its type's invalid value; a float as a string of the hexadecimal digits of its bits
+abbrev pub number_json : BaseType → ℕ → List ℕ
+number_json type n = number_as (codes "null") bytes_json type n
 
 -- one number, or an array of several
 unfoldable pub numbers_json : BaseType → List ℕ → List ℕ
 numbers_json type (n ∷ []) = number_json type n
-numbers_json type numbers = codes "[" ++ join_by (number_json type) (codes ",") numbers ++ codes "]"
+numbers_json type numbers = codes "[" ++ numbers_as (codes "null") bytes_json type numbers ++ codes "]"
 
 -- the values of a type, of which there is at least one
 abbrev pub some_json : Option BaseType → List ℕ → List ℕ
@@ -103,16 +98,12 @@ message_json utc number message =
 -- the first line: what the header states, and the number of bytes of records
 abbrev pub header_json : Frame → ℕ → List ℕ
 header_json frame size =
-    codes "{\"header\":" ++ decimal frame.header_size ++ codes ",\"protocol\":\"" ++ decimal (frame.protocol / 16)
-    ++ codes "." ++ decimal (frame.protocol % 16) ++ codes "\",\"profile\":" ++ decimal frame.profile
-    ++ codes ",\"data\":" ++ decimal size ++ codes "}\n"
+    header_by (codes "{\"header\":") (codes ",\"protocol\":\"") (codes "\",\"profile\":") (codes ",\"data\":") (codes "}\n") frame size
 
--- the lines of the messages, numbered from 0
-abbrev pub messages_json : Bool → List Message → List ℕ
-messages_json utc messages = flat_map (λ row. message_json utc row.0 row.1) (enumerate_from 0 messages)
+-- the last line
+abbrev pub count_json : ℕ → List ℕ
+count_json count = codes "{\"messages\":" ++ decimal count ++ codes "}\n"
 
 -- with times as dates in UTC, or as numbers
 unfoldable pub json_of : Bool → FileValue → List ℕ
-json_of utc v =
-    header_json v.frame (data_size v.items) ++ messages_json utc (messages_of v.items)
-    ++ codes "{\"messages\":" ++ decimal (length (messages_of v.items)) ++ codes "}\n"
+json_of utc v = lines_of header_json (message_json utc) count_json v

@@ -1,5 +1,6 @@
 pub mod Profile
 pub mod Date
+pub mod Form
 pub mod Text
 pub mod Json
 pub mod Pen

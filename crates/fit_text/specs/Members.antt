@@ -5,9 +5,8 @@ use Rattle.std.specs.List.{flat_map, join_by}
 use Rattle.fit_base.specs.declared.order.Arch.{Arch}
 use Rattle.fit_base.specs.declared.order.Arch.TheVariants.{Little}
 use Rattle.fit_text.specs.declared.showing.plan.Column.{Column}
-use Rattle.fit_text.specs.Date.{date_in}
-use Rattle.fit_text.specs.Json.{quoted, shown_json}
-use Rattle.fit_text.specs.Plan.{field_at}
+use Rattle.fit_text.specs.Json.{quoted}
+use Rattle.fit_text.specs.Plan.{json_at}
 
 -- a comma, if it is not the first
 abbrev pub separator : Bool → List ℕ
@@ -20,10 +19,6 @@ joined is_first f xs = if is_first then join_by f (codes ",") xs else flat_map (
 -- a label without its first and its last byte
 abbrev pub inner : List ℕ → List ℕ
 inner label = take (length label - 2) (drop 1 label)
-
--- the value of the field of this number and base type with these bytes
-abbrev pub json_at : List ℕ → ℕ → ℕ → Arch → List ℕ → List ℕ
-json_at dates number base arch bytes = let field = field_at number base arch bytes in shown_json (date_in dates field) field
 
 -- the member of a column, and of several, over the bytes of their fields
 abbrev pub column_json : List ℕ → Arch → Column → List ℕ → List ℕ

@@ -18,7 +18,9 @@ use Rattle.fit_text.specs.declared.showing.plan.Plan.{Plan}
 use Rattle.fit_text.specs.declared.showing.plans.Plans.{Plans}
 use Rattle.fit_text.specs.Date.{dates_of, date_in}
 use Rattle.fit_text.specs.Profile.{FieldNames, names_of_fields}
-use Rattle.fit_text.specs.Text.{IsNumber, number_text, message_name, field_name, shown_text}
+use Rattle.fit_text.specs.Form.{number_as}
+use Rattle.fit_text.specs.Json.{shown_json}
+use Rattle.fit_text.specs.Text.{IsNumber, message_name, field_name, shown_text}
 
 -- the field of this number and base type with these bytes
 abbrev pub field_at : ℕ → ℕ → Arch → List ℕ → MessageField
@@ -30,18 +32,24 @@ abbrev pub shown_at : List ℕ → ℕ → ℕ → Arch → List ℕ → List �
 shown_at dates number base arch bytes =
     let field = field_at number base arch bytes in shown_text (date_in dates field) field
 
--- a whole number of some bytes, or `-` for the invalid value; with a sign, that is the greatest value, and a number past it is negative
-abbrev pub whole_of : Kind → ℕ → List ℕ
-whole_of (Unsigned invalid) n = if n == invalid then codes "-" else decimal n
-whole_of (Signed invalid) n =
-    if n == invalid then codes "-" else if nat_lt n (invalid + 1) then decimal n else 45 ∷ decimal (2 * invalid + 2 - n)
-whole_of Other n = []
+-- the JSON of such a field
+abbrev pub json_at : List ℕ → ℕ → ℕ → Arch → List ℕ → List ℕ
+json_at dates number base arch bytes = let field = field_at number base arch bytes in shown_json (date_in dates field) field
+
+-- a whole number of some bytes, or `none` for the invalid value; with a sign, that is the greatest value, and a number past it is negative
+abbrev pub whole_of : List ℕ → Kind → ℕ → List ℕ
+whole_of none (Unsigned invalid) n = if n == invalid then none else decimal n
+whole_of none (Signed invalid) n =
+    if n == invalid then none else if nat_lt n (invalid + 1) then decimal n else 45 ∷ decimal (2 * invalid + 2 - n)
+whole_of none Other n = []
 
 -- such fields have one whole number each, and their kind shows it
 pub record ShowsWhole (dates : List ℕ) (number base size : ℕ) (kind : Kind) : Type 0 where
   pub sized : IsValueSize size
   pub shows : (arch : Arch) (bytes : List ℕ) → length bytes ≡ size → number_by arch bytes < 256 ^ size
-      → whole_of kind (number_by arch bytes) ≡ shown_at dates number base arch bytes
+      → whole_of (codes "-") kind (number_by arch bytes) ≡ shown_at dates number base arch bytes
+  pub json : (arch : Arch) (bytes : List ℕ) → length bytes ≡ size → number_by arch bytes < 256 ^ size
+      → whole_of (codes "null") kind (number_by arch bytes) ≡ json_at dates number base arch bytes
 
 -- the kind of the fields of this number, base type and size
 abbrev pub IsKind : List ℕ → ℕ → ℕ → ℕ → Kind → Type 0
@@ -121,7 +129,8 @@ ArePlansFor definition_for plans =
 
 pub record IsWholeOf (type : BaseType) (kind : Kind) : Type 0 where
   pub numbers : IsNumber type
-  pub shows : (n : ℕ) → n < 256 ^ (row_of type).size → whole_of kind n ≡ number_text type n
+  pub shows : (none : List ℕ) (written : List ℕ → List ℕ) (n : ℕ) → n < 256 ^ (row_of type).size
+      → whole_of none kind n ≡ number_as none written type n
 
 abbrev pub IsKindOf : BaseType → Kind → Type 0
 IsKindOf type (Unsigned invalid) = IsWholeOf type (Unsigned invalid)

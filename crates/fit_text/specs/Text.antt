@@ -1,19 +1,17 @@
 -- The text that shows a file: a line for its header, a line for each message, and a line that counts them. It
 -- depends on the messages and not on how they are encoded.
-use Rattle.std.specs.Prelude.{ℕ, Bool, ◌/◌, ◌%◌, List, [], ◌∷◌, ◌++◌, length, codes, decimal, Option, Some, None, true, ◌==◌, ◌&&◌, not, nat_le, if◌then◌else◌}
-use Rattle.std.specs.Fmt.{signed_decimal, digit_glyph}
-use Rattle.std.specs.Int.{to_be_bytes, w32, w64}
-use Rattle.std.specs.List.{flat_map, list_all, before_first, join_by, enumerate_from}
+use Rattle.std.specs.Prelude.{ℕ, Bool, ◌/◌, ◌%◌, List, [], ◌∷◌, ◌++◌, codes, decimal, Option, Some, None, true, ◌==◌, ◌&&◌, not, nat_le, if◌then◌else◌}
+use Rattle.std.specs.Fmt.{digit_glyph}
+use Rattle.std.specs.List.{flat_map, list_all, before_first}
 use Rattle.fit_base.specs.declared.base.BaseType.{BaseType}
-use Rattle.fit_base.specs.declared.base.BaseType.TheVariants.{Float32, Float64, String, Byte}
-use Rattle.fit_base.specs.Number.{twos_complement}
-use Rattle.fit_base.specs.Base.{row_of, base_type, has_sign}
+use Rattle.fit_base.specs.declared.base.BaseType.TheVariants.{String, Byte}
+use Rattle.fit_base.specs.Base.{base_type}
 use Rattle.fit_base.specs.Value.{Values, Numbers, Raw}
 use Rattle.fit_grammar.specs.declared.file.frame.Frame.{Frame}
-use Rattle.fit_grammar.specs.Format.Records.{data_size}
-use Rattle.fit_grammar.specs.Format.Message.{Message, MessageField, MessageDeveloperField, messages_of}
+use Rattle.fit_grammar.specs.Format.Message.{Message, MessageField, MessageDeveloperField}
 use Rattle.fit_grammar.specs.Format.File.{FileValue}
 use Rattle.fit_text.specs.Date.{dates_of, date_in, date_text}
+use Rattle.fit_text.specs.Form.{number_as, numbers_as, header_by, lines_of}
 use Rattle.fit_text.specs.Profile.{FieldNames, message_named, names_of_fields, field_named}
 
 -- ---- values
@@ -43,23 +41,13 @@ string_text bytes = codes "\"" ++ flat_map escaped (before_first (λ byte. byte 
 unfoldable pub byte_text : List ℕ → List ℕ
 byte_text bytes = if list_all (λ byte. byte == 255) bytes then codes "-" else hex_text bytes
 
--- a whole number in decimal, read as two's complement if its type has a sign
-unfoldable pub whole_text : BaseType → ℕ → List ℕ
-whole_text type n = if has_sign type then signed_decimal (twos_complement (row_of type).size n) else decimal n
-
--- a number that is not invalid; for a float, the hexadecimal digits of its bits
-unfoldable pub plain_text : BaseType → ℕ → List ℕ
-plain_text Float32 n = hex_text (to_be_bytes w32 n)
-plain_text Float64 n = hex_text (to_be_bytes w64 n)
-plain_text type n = whole_text type n
-
--- a number, or `-` if it is its type's invalid value
-unfoldable pub number_text : BaseType → ℕ → List ℕ
-number_text type n = if n == (row_of type).invalid then codes "-" else plain_text type n
+-- a number, or `-` if it is its type's invalid value; a float by the hexadecimal digits of its bits
+abbrev pub number_text : BaseType → ℕ → List ℕ
+number_text type n = number_as (codes "-") hex_text type n
 
 -- the numbers of a field with commas between them
-unfoldable pub numbers_text : BaseType → List ℕ → List ℕ
-numbers_text type numbers = join_by (number_text type) (codes ",") numbers
+abbrev pub numbers_text : BaseType → List ℕ → List ℕ
+numbers_text type numbers = numbers_as (codes "-") hex_text type numbers
 
 -- a type whose values are shown as numbers
 abbrev pub IsNumber : BaseType → Type 0
@@ -119,17 +107,12 @@ message_text utc number message =
 
 -- the first line: what the header states, and the number of bytes of records
 abbrev pub header_text : Frame → ℕ → List ℕ
-header_text frame size =
-    codes "header " ++ decimal frame.header_size ++ codes " protocol " ++ decimal (frame.protocol / 16)
-    ++ codes "." ++ decimal (frame.protocol % 16) ++ codes " profile " ++ decimal frame.profile
-    ++ codes " data " ++ decimal size ++ codes "\n"
+header_text frame size = header_by (codes "header ") (codes " protocol ") (codes " profile ") (codes " data ") (codes "\n") frame size
 
--- the lines of the messages, numbered from 0
-abbrev pub messages_text : Bool → List Message → List ℕ
-messages_text utc messages = flat_map (λ row. message_text utc row.0 row.1) (enumerate_from 0 messages)
+-- the last line
+abbrev pub count_text : ℕ → List ℕ
+count_text count = codes "messages " ++ decimal count ++ codes "\n"
 
 -- with times as dates in UTC, or as numbers
 unfoldable pub text_of : Bool → FileValue → List ℕ
-text_of utc v =
-    header_text v.frame (data_size v.items) ++ messages_text utc (messages_of v.items)
-    ++ codes "messages " ++ decimal (length (messages_of v.items)) ++ codes "\n"
+text_of utc v = lines_of header_text (message_text utc) count_text v

@@ -5,6 +5,7 @@ mod developer;
 mod field;
 mod file;
 mod message;
+mod notation;
 mod number;
 mod string;
 

@@ -14,15 +14,18 @@
 //!     messages 1
 //!
 //! (The test `the_example_of_the_crate` of `fit_format_tests`.) The names of messages and fields are in `profile`. The text goes
-//! through the buffer of a `Pen` (`writing`). Contracts use the definitions in `specs/`: `Text` has the text of a file, `Profile`
-//! the names in it, `Date` the dates, and `Pen` what a pen puts. `Plan` is only for private functions and proofs.
+//! through the buffer of a `Pen` (`writing`). `show_json` writes JSON by the same walk (`form`). Contracts use the definitions in
+//! `specs/`: `Text` has the text of a file, `Json` its JSON, `Form` what both share, `Profile` the names in them, `Date` the dates, and
+//! `Pen` what a pen puts. `Plan` and `Members` are only for private functions and proofs.
 #![tactic(auto)]
 
+mod form;
 mod json;
 mod profile;
 mod showing;
 mod writing;
 
+pub use form::file::ShowFault;
 pub use json::show_json;
-pub use showing::{ShowFault, show};
+pub use showing::show;
 pub use writing::Pen;

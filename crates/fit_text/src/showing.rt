@@ -6,10 +6,9 @@ pub(crate) mod date;
 mod developer;
 mod field;
 mod file;
-pub(crate) mod header;
 mod message;
-mod number;
+mod notation;
 pub(crate) mod plan;
 pub(crate) mod plans;
 
-pub use file::{ShowFault, show};
+pub use file::show;

@@ -3,6 +3,7 @@
 ghost use Rattle.std.specs.Prelude.{◌≡◌, ◌+◌, ◌≤◌, [], ◌++◌, length, take, decimal, IfOk};
 ghost use Rattle.std.specs.Fmt.{signed_decimal};
 ghost use Rattle.fit_text.specs.declared.writing.TheConstants.{SIZE, ROOM};
+ghost use Rattle.fit_text.specs.Members.{inner};
 ghost use Rattle.fit_text.specs.Pen.{Written, Puts, Adds, Took};
 
 mod decimal;
@@ -117,6 +118,18 @@ impl<'a, W: Write> Pen<'a, W> {
         let whole = label.bytes;
         self.bytes[self.len..self.len + LABEL].copy_from_slice(&whole);
         self.len += label.len;
+    }
+
+    /// Adds a label without its first and its last byte. There is room for 31 bytes.
+    #[inline]
+    pub fn add_inner(&mut self, label: &Label)
+        requires { length self.old.waiting + 31 ≤ SIZE }
+        ensures label { Adds self.old self.new (inner label.now) }
+        ensures short { length (inner label.now) ≤ 30 }
+    {
+        // As in `add_label`.
+        self.bytes[self.len..self.len + (LABEL - 1)].copy_from_slice(&label.bytes[1..]);
+        self.len += label.len.saturating_sub(2);
     }
 
     /// Adds a number in decimal. There is room for 21 bytes.

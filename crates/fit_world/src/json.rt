@@ -39,7 +39,7 @@ fn show_flushed<O: Write>(file: &File, utc: bool, out: &mut O) -> Result<(), Rep
     ensures text { WritesText (O.contents out.old) (O.contents out.new) result (json_of utc file.now) }
     ensures fault { IfErr result IsOutputFault }
 {
-    let Ok(()) = show_json(file, utc, out) else {
+    let Ok(()) = show_json(&file.lend(), utc, out) else {
         return Err(ReportFault::Output);
     };
     match out.flush() {

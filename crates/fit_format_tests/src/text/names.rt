@@ -8,7 +8,8 @@ use fit_text::show;
 use std::alloc::Global;
 use std::test::Fail;
 
-// The rows of the profile: for each message its number, its name and its fields.
+// The rows of the profile: for each message its number, its name and its fields. They are stated here again, from the FIT profile,
+// since the definition of the text reads the program's own table, and no proof would see a wrong name in it.
 const ROWS: [(u16, &'static str, &[(u8, &'static str)]); 7] = [
     (
         0,

@@ -7,8 +7,8 @@ ghost use Rattle.fit_text.specs.Pen.{Puts};
 ghost use Rattle.fit_text.specs.Json.{developer_json};
 ghost use Rattle.fit_text.specs.Members.{separator};
 
-use crate::json::string::put_bytes;
-use crate::showing::header::put_labelled;
+use crate::form::header::put_labelled;
+use crate::json::string::put_quoted_bytes;
 use crate::writing::Pen;
 use fit_grammar::{DeveloperFieldDefinition, WriteFailed};
 use std::io::Write;
@@ -66,6 +66,6 @@ fn put_developer_field<W: Write>(
     put_labelled(pen, b"{\"index\":", u64::from(field.index))?;
     put_labelled(pen, b",\"number\":", u64::from(field.number))?;
     pen.put(b",\"bytes\":")?;
-    put_bytes(pen, bytes)?;
+    put_quoted_bytes(pen, bytes)?;
     pen.put(b"}")
 }

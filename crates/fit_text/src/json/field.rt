@@ -9,8 +9,8 @@ ghost use Rattle.fit_text.specs.Date.{date_in};
 ghost use Rattle.fit_text.specs.Json.{quoted, shown_json, values_json};
 ghost use Rattle.fit_text.specs.Date.{date_text};
 
-use crate::json::number::put_numbers;
-use crate::json::string::{put_byte_field, put_bytes, put_string};
+use crate::json::number::put_one_or_several;
+use crate::json::string::{put_byte_field, put_quoted_bytes, put_string};
 use crate::showing::date::{date_in, put_date};
 use crate::writing::Pen;
 use fit_base::{BaseType, FieldValue};
@@ -18,7 +18,6 @@ use fit_grammar::WriteFailed;
 use std::io::Write;
 
 /// A date if a field of this number is shown as one, else its values.
-#[inline(always)]
 pub fn put_shown<W: Write>(
     pen: &mut Pen<'_, W>,
     dates: &[u8],
@@ -35,8 +34,7 @@ pub fn put_shown<W: Write>(
     }
 }
 
-// Not inlined, since the text of a date takes stack.
-#[inline(never)]
+// A date between quotation marks.
 fn put_quoted_date<W: Write>(pen: &mut Pen<'_, W>, time: u32) -> Result<(), WriteFailed>
     ensures { Puts pen.old pen.new result (quoted (date_text time)) }
 {
@@ -45,26 +43,13 @@ fn put_quoted_date<W: Write>(pen: &mut Pen<'_, W>, time: u32) -> Result<(), Writ
     pen.put(b"\"")
 }
 
-// The values of a field. Most fields have the size of one value, which is seen without a division.
-#[inline(always)]
+// The values of a field.
 fn put_value<W: Write>(pen: &mut Pen<'_, W>, value: &FieldValue<'_>) -> Result<(), WriteFailed>
     ensures { Puts pen.old pen.new result
         (values_json (base_type value.now.base) (values_of value.now)) }
 {
-    match value.base_type() {
-        Some(base) if value.raw().len() == base.size() => put_some(pen, base, value),
-        _ => put_any(pen, value),
-    }
-}
-
-// The values of any field.
-#[inline(never)]
-fn put_any<W: Write>(pen: &mut Pen<'_, W>, value: &FieldValue<'_>) -> Result<(), WriteFailed>
-    ensures { Puts pen.old pen.new result
-        (values_json (base_type value.now.base) (values_of value.now)) }
-{
     if value.is_raw() {
-        return put_bytes(pen, value.raw());
+        return put_quoted_bytes(pen, value.raw());
     }
     if value.count() == 0 {
         return pen.put(b"null");
@@ -76,7 +61,6 @@ fn put_any<W: Write>(pen: &mut Pen<'_, W>, value: &FieldValue<'_>) -> Result<(),
 }
 
 // The values of a field of this type, at least one.
-#[inline(always)]
 fn put_some<W: Write>(
     pen: &mut Pen<'_, W>,
     base: BaseType,
@@ -90,6 +74,6 @@ fn put_some<W: Write>(
     match base {
         BaseType::String => put_string(pen, value),
         BaseType::Byte => put_byte_field(pen, value.raw()),
-        _ => put_numbers(pen, base, value),
+        _ => put_one_or_several(pen, base, value),
     }
 }

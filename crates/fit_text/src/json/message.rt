@@ -3,7 +3,7 @@
 ghost use Rattle.std.specs.Prelude.{◌≡◌, ◌<◌, ◌++◌, ◌^◌, codes, decimal, IfSome};
 ghost use Rattle.fit_grammar.specs.Format.Message.{message_under};
 ghost use Rattle.fit_text.specs.Pen.{Puts};
-ghost use Rattle.fit_text.specs.Plan.{IsPlanOf};
+ghost use Rattle.fit_text.specs.Plan.{IsKind, IsPlanOf};
 ghost use Rattle.fit_text.specs.Profile.{message_named};
 ghost use Rattle.fit_text.specs.Json.{name_json, message_json};
 ghost use Rattle.fit_text.specs.Members.{time_json};
@@ -12,7 +12,6 @@ use crate::json::column::{put_column, put_columns};
 use crate::json::developer::put_developer_fields;
 use crate::profile;
 use crate::showing::date::dates_of;
-use crate::showing::header::put_labelled;
 use crate::showing::plan::{Column, Plan};
 use crate::writing::Pen;
 use fit_base::Arch;
@@ -57,33 +56,41 @@ fn put_head<W: Write>(pen: &mut Pen<'_, W>, number: u64, global: u16) -> Result<
         (codes "{\"number\":" ++ decimal number ++ codes ",\"message\":" ++ decimal global
         ++ codes ",\"name\":" ++ name_json (message_named global) ++ codes ",\"fields\":{") }
 {
-    put_labelled(pen, b"{\"number\":", number)?;
-    put_labelled(pen, b",\"message\":", u64::from(global))?;
-    pen.put(b",\"name\":")?;
-    put_message_name(pen, global)?;
-    pen.put(b",\"fields\":{")
+    pen.room()?;
+    pen.add(b"{\"number\":");
+    pen.add_number(number);
+    pen.add(b",\"message\":");
+    pen.add_number(u64::from(global));
+    put_message_name(pen, global)
 }
 
+// The name of a message, and the beginning of its fields.
 fn put_message_name<W: Write>(pen: &mut Pen<'_, W>, global: u16) -> Result<(), WriteFailed>
-    ensures { Puts pen.old pen.new result (name_json (message_named global)) }
+    ensures { Puts pen.old pen.new result
+        (codes ",\"name\":" ++ (name_json (message_named global) ++ codes ",\"fields\":{")) }
 {
     match profile::message_name(global) {
         Some(name) => {
-            pen.put(b"\"")?;
-            pen.put(name.as_bytes())?;
-            pen.put(b"\"")
+            pen.room()?;
+            pen.add(b",\"name\":\"");
+            pen.add(name.as_bytes());
+            pen.add(b"\",\"fields\":{");
+            Ok(())
         }
-        None => pen.put(b"null"),
+        None => pen.put(b",\"name\":null,\"fields\":{"),
     }
 }
 
 // The time of a compressed timestamp, if there is one.
+#[inline(never)]
 fn put_time<W: Write>(
     pen: &mut Pen<'_, W>,
     dates: &[u8],
     column: &Column,
     time: Option<u32>,
 ) -> Result<(), WriteFailed>
+    requires kind { IsKind dates.now column.now.number column.now.base column.now.size column.now.kind }
+    requires size { column.now.size ≡ 4 }
     ensures text { Puts pen.old pen.new result (time_json dates.now column.now time) }
     ensures fits { IfSome time (λ time. time < 2 ^ 32) }
 {

@@ -16,7 +16,7 @@ use std::io::Write;
 
 /// Bytes as a string of hexadecimal digits after `0x`.
 #[inline(never)]
-pub fn put_bytes<W: Write>(pen: &mut Pen<'_, W>, bytes: &[u8]) -> Result<(), WriteFailed>
+pub fn put_quoted_bytes<W: Write>(pen: &mut Pen<'_, W>, bytes: &[u8]) -> Result<(), WriteFailed>
     ensures { Puts pen.old pen.new result (bytes_json bytes.now) }
 {
     pen.put(b"\"")?;
@@ -32,7 +32,7 @@ pub fn put_byte_field<W: Write>(pen: &mut Pen<'_, W>, bytes: &[u8]) -> Result<()
     if all_invalid(bytes) {
         pen.put(b"null")
     } else {
-        put_bytes(pen, bytes)
+        put_quoted_bytes(pen, bytes)
     }
 }
 

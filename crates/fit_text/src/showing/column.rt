@@ -1,11 +1,12 @@
 // The fields of a message, by the columns of its plan.
 
-ghost use Rattle.std.specs.Prelude.{◌≡◌, ◌<◌, ◌≤◌, ◌+◌, ◌*◌, ◌^◌, length, drop, sum_by, IfOk};
-ghost use Rattle.fit_text.specs.declared.writing.TheConstants.{SIZE};
-ghost use Rattle.fit_text.specs.Pen.{Puts, Adds};
-ghost use Rattle.fit_text.specs.Plan.{whole_of, IsKind, HaveKinds, column_text, columns_text};
+ghost use Rattle.std.specs.Prelude.{◌≡◌, ◌≤◌, length, drop, sum_by, IfOk};
+ghost use Rattle.fit_text.specs.Pen.{Puts};
+ghost use Rattle.fit_text.specs.Plan.{IsKind, HaveKinds, column_text, columns_text};
 
+use crate::form::whole::{add_signed, add_unsigned};
 use crate::showing::field::put_shown;
+use crate::showing::notation::AsText;
 use crate::showing::plan::{Column, Kind};
 use crate::writing::Pen;
 use fit_base::{Arch, FieldValue, number_of};
@@ -57,47 +58,16 @@ pub fn put_column<W: Write>(
     pen.add_label(&column.label);
     match column.kind {
         Kind::Unsigned(invalid) => {
-            add_unsigned(pen, invalid, number_of(arch, bytes));
+            add_unsigned::<AsText, W>(pen, invalid, number_of(arch, bytes));
             Ok(())
         }
         Kind::Signed(invalid) => {
-            add_signed(pen, invalid, number_of(arch, bytes));
+            add_signed::<AsText, W>(pen, invalid, number_of(arch, bytes));
             Ok(())
         }
         Kind::Other => {
             let value = FieldValue::new(column.base, arch, bytes);
             put_shown(pen, dates, column.number, &value)
         }
-    }
-}
-
-// A number, or `-` if it is the invalid one.
-#[inline]
-fn add_unsigned<W: Write>(pen: &mut Pen<'_, W>, invalid: u64, number: u64)
-    requires { length pen.old.waiting + 21 ≤ SIZE }
-    ensures { Adds pen.old pen.new (whole_of (Kind.Unsigned invalid) number) }
-{
-    if number == invalid {
-        pen.add(b"-");
-    } else {
-        pen.add_number(number);
-    }
-}
-
-// The same for a number with a sign. The invalid one is the greatest.
-#[inline]
-fn add_signed<W: Write>(pen: &mut Pen<'_, W>, invalid: u64, number: u64)
-    requires room { length pen.old.waiting + 22 ≤ SIZE }
-    requires fits { number < 2 * invalid + 2 }
-    requires limit { 2 * invalid + 2 ≤ 2 ^ 64 }
-    ensures { Adds pen.old pen.new (whole_of (Kind.Signed invalid) number) }
-{
-    if number == invalid {
-        pen.add(b"-");
-    } else if number <= invalid {
-        pen.add_number(number);
-    } else {
-        pen.add(b"-");
-        pen.add_number(invalid - (number - invalid - 1) + 1);
     }
 }

@@ -8,9 +8,10 @@ ghost use Rattle.fit_grammar.specs.Format.Message.{MessageField};
 ghost use Rattle.fit_text.specs.Date.{date_in};
 ghost use Rattle.fit_text.specs.Text.{values_text, shown_text};
 
+use crate::form::number::put_numbers;
 use crate::showing::bytes::{put_byte_field, put_hex, put_string};
 use crate::showing::date::{date_in, put_date};
-use crate::showing::number::put_numbers;
+use crate::showing::notation::AsText;
 use crate::writing::Pen;
 use fit_base::{BaseType, FieldValue};
 use fit_grammar::WriteFailed;
@@ -61,6 +62,6 @@ fn put_some<W: Write>(
     match base {
         BaseType::String => put_string(pen, value),
         BaseType::Byte => put_byte_field(pen, value.raw()),
-        _ => put_numbers(pen, base, value),
+        _ => put_numbers::<AsText, W>(pen, base, value),
     }
 }

@@ -1,7 +1,6 @@
 // Short texts that are put many times.
 
 ghost use Rattle.std.specs.Prelude.{◌≡◌, ◌+◌, ◌≤◌, [], ◌++◌, length, take, decimal};
-ghost use Rattle.fit_text.specs.Members.{inner};
 
 use crate::writing::decimal::place_number;
 use std::marker::Model;
@@ -35,17 +34,6 @@ impl Label {
             bytes: [0; LABEL],
             len: 0,
         }
-    }
-
-    /// The text without its first and its last byte.
-    pub fn inner(&self) -> &[u8]
-        ensures text { result.now ≡ inner self.now }
-        ensures short { length result.now ≤ 30 }
-    {
-        if self.len < 2 {
-            return &[];
-        }
-        &self.bytes[1..self.len - 1]
     }
 
     /// Adds a text, for which there is room.

@@ -1,6 +1,6 @@
 use Rattle.std.proofs.Common.{sym, ◌∙◌, arith}
 use Rattle.fit_text.proofs.PenLemmas.{leaves_less, leaves_off}
-use Rattle.fit_text.proofs.PlanLemmas.{first_size, first_after, no_after}
+use Rattle.fit_text.proofs.PlanLemmas.{first_size, first_after, no_after, other_kinds}
 use Rattle.fit_text.proofs.JsonLemmas.{next_column}
 use Rattle.fit_text.proofs.json.column.put_columns.Goals as goal
 
@@ -16,6 +16,7 @@ loop-left-preserved g c =
     let column = c.column-item.result in
     let size = first_size left column c.in-len1-up.len_at_least c.column-item.is in
     record {
+      kinds = other_kinds c.args.dates.now left c.in-len1-up.len_at_least c.loop-left.invariant.kinds;
       within = omega (arith, size, c.loop-left.invariant.within, c.split_at.ensures.back_len, c.from.ensures);
       after = first_after left column c.loop-left.rest.now _ _ c.in-len1-up.len_at_least c.column-item.is c.split_at.ensures.back c.from.ensures
           ∙ c.loop-left.invariant.after;

@@ -18,12 +18,12 @@ returns-in_err-put g c =
     puts_same (puts_then c.in_ok-put_labelled.ensures (puts_then c.in_ok-put_labelled-2.ensures (puts_stop c.from_residual-in_err-put.ensures.0 c.in_err-put.ensures _)))
     (developer_parts c.args.field.now.index c.args.field.now.number _ _ c.args.bytes.now c.from.ensures c.from-2.ensures)
 
-pub returns-in_err-put_bytes : goal.returns-in_err-put_bytes
-returns-in_err-put_bytes g c =
-    puts_same (puts_then c.in_ok-put_labelled.ensures (puts_then c.in_ok-put_labelled-2.ensures (puts_then c.in_ok-put.ensures (puts_stop c.from_residual-in_err-put_bytes.ensures.0 c.in_err-put_bytes.ensures _))))
+pub returns-in_err-put_quoted_bytes : goal.returns-in_err-put_quoted_bytes
+returns-in_err-put_quoted_bytes g c =
+    puts_same (puts_then c.in_ok-put_labelled.ensures (puts_then c.in_ok-put_labelled-2.ensures (puts_then c.in_ok-put.ensures (puts_stop c.from_residual-in_err-put_quoted_bytes.ensures.0 c.in_err-put_quoted_bytes.ensures _))))
     (developer_parts c.args.field.now.index c.args.field.now.number _ _ c.args.bytes.now c.from.ensures c.from-2.ensures)
 
 pub returns : goal.returns
 returns g c =
-    puts_same (puts_then c.in_ok-put_labelled.ensures (puts_then c.in_ok-put_labelled-2.ensures (puts_then c.in_ok-put.ensures (puts_then c.in_ok-put_bytes.ensures c.put-2.ensures))))
+    puts_same (puts_then c.in_ok-put_labelled.ensures (puts_then c.in_ok-put_labelled-2.ensures (puts_then c.in_ok-put.ensures (puts_then c.in_ok-put_quoted_bytes.ensures c.put-2.ensures))))
     (developer_parts c.args.field.now.index c.args.field.now.number _ _ c.args.bytes.now c.from.ensures c.from-2.ensures)

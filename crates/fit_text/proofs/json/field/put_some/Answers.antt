@@ -1,7 +1,7 @@
 use Rattle.std.proofs.Common.{ap, ◌∙◌, Some}
 use Rattle.fit_text.specs.Json.{byte_json}
 use Rattle.fit_text.proofs.PenLemmas.{puts_same}
-use Rattle.fit_text.proofs.JsonLemmas.{string_values, byte_values, number_values}
+use Rattle.fit_text.proofs.JsonValueLemmas.{string_values, byte_values, number_values}
 use Rattle.fit_text.proofs.FieldLemmas.{is_number}
 use Rattle.fit_text.proofs.json.field.put_some.Goals as goal
 
@@ -17,6 +17,6 @@ returns-in-Byte g c =
 
 pub returns-in_default : goal.returns-in_default
 returns-in_default g c =
-    puts_same c.put_numbers.ensures
+    puts_same c.put_one_or_several.ensures
     (number_values c.args.value.now c.args.base c.requires.known
     (is_number _ c.in_default.not-String c.in_default.not-Byte) c.requires.some)

@@ -1,29 +1,38 @@
-use Rattle.std.proofs.Common.{refl}
-use Rattle.fit_text.proofs.PenLemmas.{puts_then, puts_stop, puts_same}
+use Rattle.std.proofs.Common.{ℕ, ap, length, length-append, arith}
+use Rattle.std.proofs.lemmas.Fmt.{length-decimal-le}
+use Rattle.fit_text.proofs.PenLemmas.{puts_then, puts_stop, puts_same, puts_more}
 use Rattle.fit_text.proofs.JsonLemmas.{head_parts}
 use Rattle.fit_text.proofs.json.message.put_head.Goals as goal
 
-pub returns-in_err-put_labelled : goal.returns-in_err-put_labelled
-returns-in_err-put_labelled g c =
-    puts_same (puts_stop c.from_residual.ensures.0 c.in_err-put_labelled.ensures _)
-    (head_parts c.args.number _ c.args.global _ _ refl refl refl)
+pub returns-in_err-room : goal.returns-in_err-room
+returns-in_err-room g c = puts_stop c.from_residual.ensures.0 c.in_err-room.ensures.puts _
 
-pub returns-in_err-put_labelled-2 : goal.returns-in_err-put_labelled-2
-returns-in_err-put_labelled-2 g c =
-    puts_same (puts_then c.in_ok-put_labelled.ensures (puts_stop c.from_residual-in_err-put_labelled-2.ensures.0 c.in_err-put_labelled-2.ensures _))
-    (head_parts c.args.number _ c.args.global _ _ refl c.from.ensures refl)
+pub add-requires-2 : goal.add-requires-2
+add-requires-2 g c =
+    omega (
+      arith,
+      ap (λ w. length w.waiting) c.add.ensures.waits,
+      ap (λ w. length w.waiting) c.add_number.ensures.waits,
+      length-append {A = ℕ},
+      c.in_ok-room.ensures.room,
+      length-decimal-le 20 c.args.number (omega arith) (omega arith) (omega arith),
+    )
 
-pub returns-in_err-put : goal.returns-in_err-put
-returns-in_err-put g c =
-    puts_same (puts_then c.in_ok-put_labelled.ensures (puts_then c.in_ok-put_labelled-2.ensures (puts_stop c.from_residual-in_err-put.ensures.0 c.in_err-put.ensures _)))
-    (head_parts c.args.number _ c.args.global _ _ refl c.from.ensures refl)
-
-pub returns-in_err-put_message_name : goal.returns-in_err-put_message_name
-returns-in_err-put_message_name g c =
-    puts_same (puts_then c.in_ok-put_labelled.ensures (puts_then c.in_ok-put_labelled-2.ensures (puts_then c.in_ok-put.ensures (puts_stop c.from_residual-in_err-put_message_name.ensures.0 c.in_err-put_message_name.ensures _))))
-    (head_parts c.args.number _ c.args.global _ _ refl c.from.ensures refl)
+pub add_number-requires-2 : goal.add_number-requires-2
+add_number-requires-2 g c =
+    omega (
+      arith,
+      ap (λ w. length w.waiting) c.add.ensures.waits,
+      ap (λ w. length w.waiting) c.add_number.ensures.waits,
+      ap (λ w. length w.waiting) c.add-2.ensures.waits,
+      length-append {A = ℕ},
+      c.in_ok-room.ensures.room,
+      length-decimal-le 20 c.args.number (omega arith) (omega arith) (omega arith),
+    )
 
 pub returns : goal.returns
 returns g c =
-    puts_same (puts_then c.in_ok-put_labelled.ensures (puts_then c.in_ok-put_labelled-2.ensures (puts_then c.in_ok-put.ensures (puts_then c.in_ok-put_message_name.ensures (c.put-2.ensures)))))
-    (head_parts c.args.number _ c.args.global _ _ refl c.from.ensures refl)
+    puts_same
+    (puts_then (puts_more (puts_more (puts_more (puts_more c.in_ok-room.ensures.puts c.add.ensures) c.add_number.ensures) c.add-2.ensures)
+    c.add_number-2.ensures) c.put_message_name.ensures)
+    (head_parts c.args.number c.args.global _ _ c.from.ensures)

@@ -2,7 +2,7 @@ use Rattle.std.proofs.Common.{ap, length, sum_by, refl, arith}
 use Rattle.std.proofs.lemmas.List.{length-drop}
 use Rattle.fit_grammar.specs.Format.Message.{message_under}
 use Rattle.fit_text.proofs.PenLemmas.{puts_then, puts_stop, puts_same}
-use Rattle.fit_text.proofs.PlanLemmas.{plan_size}
+use Rattle.fit_text.proofs.PlanLemmas.{plan_kinds, plan_size}
 use Rattle.fit_text.proofs.JsonLemmas.{plan_json, plan_head, flipped}
 use Rattle.fit_text.proofs.json.message.put_message.Goals as goal
 
@@ -12,8 +12,14 @@ returns-in_err-put_head g c =
     puts_same (puts_stop c.from_residual.ensures.0 c.in_err-put_head.ensures _)
     (plan_head c.args.plan.now.utc c.args.number c.args.plan.now.global (message_under message.definition c.args.time message.content.now) c.requires.global)
 
-pub put_columns-requires : goal.put_columns-requires
-put_columns-requires g c =
+pub put_time-requires-clause-kind : goal.put_time-requires-clause-kind
+put_time-requires-clause-kind g c = rw (c.dates_of-dates.ensures, c.requires.global) c.requires.time.kind
+
+pub put_columns-requires-clause-kinds : goal.put_columns-requires-clause-kinds
+put_columns-requires-clause-kinds g c = plan_kinds c.args.message.now.definition c.args.plan.now c.args.columns.now c.args.developer.now _ c.dates_of-dates.ensures c.requires
+
+pub put_columns-requires-clause-within : goal.put_columns-requires-clause-within
+put_columns-requires-clause-within g c =
     omega (
       arith,
       plan_size c.args.message.now.definition c.args.plan.now c.args.columns.now c.args.developer.now c.requires,

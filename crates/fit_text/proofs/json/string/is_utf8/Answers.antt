@@ -1,5 +1,5 @@
 use Rattle.std.proofs.Common.{◌∙◌}
-use Rattle.fit_text.proofs.JsonLemmas.{utf8_is}
+use Rattle.fit_text.proofs.JsonValueLemmas.{utf8_is}
 use Rattle.fit_text.proofs.json.string.is_utf8.Goals as goal
 
 pub returns : goal.returns

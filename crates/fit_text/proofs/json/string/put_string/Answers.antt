@@ -1,5 +1,5 @@
 use Rattle.std.proofs.Common.{refl}
-use Rattle.fit_text.proofs.JsonLemmas.{string_parts}
+use Rattle.fit_text.proofs.JsonValueLemmas.{string_parts}
 use Rattle.fit_text.proofs.PenLemmas.{puts_then, puts_stop, puts_same}
 use Rattle.fit_text.proofs.json.string.put_string.Goals as goal
 

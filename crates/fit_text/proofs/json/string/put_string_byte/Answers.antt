@@ -1,6 +1,6 @@
 use Rattle.std.proofs.Common.{sym}
 use Rattle.fit_text.proofs.PenLemmas.{puts_then, puts_stop, puts_same}
-use Rattle.fit_text.proofs.JsonLemmas.{byte_whole, byte_escaped}
+use Rattle.fit_text.proofs.JsonValueLemmas.{byte_whole, byte_escaped}
 use Rattle.fit_text.proofs.json.string.put_string_byte.Goals as goal
 
 pub returns-then-is_whole : goal.returns-then-is_whole

@@ -1,0 +1,149 @@
+// A whole file.
+
+ghost use Rattle.std.specs.Prelude.{◌≡◌, ◌<◌, ◌^◌, Bool, ℕ, List, [], length, IfOk};
+ghost use Rattle.fit_grammar.specs.declared.file.frame.Frame.{Frame as AnyFrame};
+ghost use Rattle.fit_grammar.specs.Format.Message.{Message, message_under, messages_of};
+ghost use Rattle.fit_grammar.specs.Calls.Output.{WritesText};
+ghost use Rattle.fit_text.specs.Form.{numbered, lines_of};
+ghost use Rattle.fit_text.specs.Pen.{Puts};
+ghost use Rattle.fit_text.specs.Plan.{IsPlanOf};
+
+use crate::showing::plan::{Column, Plan};
+use crate::showing::plans::Plans;
+use crate::writing::Pen;
+use fit_grammar::{DataMessage, DeveloperFieldDefinition, FileItem, Frame, LentFile, WriteFailed};
+use std::io::Write;
+
+/// Why a file was not shown.
+#[derive(Clone, Copy, Debug, PartialEq, Eq)]
+pub enum ShowFault {
+    /// The writer failed, or accepted no byte.
+    Write,
+}
+
+impl ShowFault {
+    /// The number of the fault, 1.
+    pub fn code(&self) -> u8
+        ensures { result ≡ 1 }
+    {
+        1
+    }
+}
+
+/// A form of a file: its lines.
+pub trait Form {
+    // The line of a header, for this many bytes of records.
+    ghost header: { AnyFrame → ℕ → List ℕ };
+
+    // The line of a message, by its place among the messages. Times are dates or numbers.
+    ghost line: { Bool → ℕ → Message → List ℕ };
+
+    // The line that says how many messages there are.
+    ghost count: { ℕ → List ℕ };
+
+    fn put_header<W: Write>(
+        pen: &mut Pen<'_, W>,
+        frame: Frame,
+        size: u32,
+    ) -> Result<(), WriteFailed>
+        ensures { Puts pen.old pen.new result (header frame size) };
+
+    fn put_line<W: Write>(
+        pen: &mut Pen<'_, W>,
+        plan: &Plan,
+        columns: &[Column],
+        developer: &[DeveloperFieldDefinition],
+        number: u64,
+        message: &DataMessage<'_>,
+        time: Option<u32>,
+    ) -> Result<(), WriteFailed>
+        requires { IsPlanOf message.now.definition plan.now columns.now developer.now }
+        ensures { Puts pen.old pen.new result
+            (line plan.now.utc number (message_under message.now.definition time message.now.content.now)) };
+
+    fn put_count<W: Write>(pen: &mut Pen<'_, W>, messages: u64) -> Result<(), WriteFailed>
+        ensures { Puts pen.old pen.new result (count messages) };
+}
+
+/// Writes a file, in one pass and without allocation, through a buffer of its own.
+pub fn write_file<F: Form, W: Write>(
+    file: &LentFile<'_>,
+    utc: bool,
+    out: &mut W,
+) -> Result<(), ShowFault>
+    ensures { WritesText (W.contents out.old) (W.contents out.new) result
+        (lines_of F.header (F.line utc) F.count file.now) }
+{
+    match put_file::<F, W>(out, utc, file) {
+        Ok(()) => Ok(()),
+        Err(WriteFailed) => Err(ShowFault::Write),
+    }
+}
+
+fn put_file<F: Form, W: Write>(
+    out: &mut W,
+    utc: bool,
+    file: &LentFile<'_>,
+) -> Result<(), WriteFailed>
+    ensures { WritesText (W.contents out.old) (W.contents out.new) result
+        (lines_of F.header (F.line utc) F.count file.now) }
+{
+    let mut pen = Pen::new(out);
+    let done = put_all::<F, W>(&mut pen, utc, file);
+    let _ = pen.into_writer();
+    done
+}
+
+// All lines. At Ok none of their text waits.
+fn put_all<F: Form, W: Write>(
+    pen: &mut Pen<'_, W>,
+    utc: bool,
+    file: &LentFile<'_>,
+) -> Result<(), WriteFailed>
+    ensures text { Puts pen.old pen.new result (lines_of F.header (F.line utc) F.count file.now) }
+    ensures none { IfOk result (λ _. pen.new.waiting ≡ []) }
+{
+    put_lines::<F, W>(pen, utc, file)?;
+    pen.hand_over()
+}
+
+fn put_lines<F: Form, W: Write>(
+    pen: &mut Pen<'_, W>,
+    utc: bool,
+    file: &LentFile<'_>,
+) -> Result<(), WriteFailed>
+    ensures { Puts pen.old pen.new result (lines_of F.header (F.line utc) F.count file.now) }
+{
+    F::put_header(pen, file.frame(), file.data_size())?;
+    let count = put_messages::<F, W>(pen, utc, file)?;
+    F::put_count(pen, count)
+}
+
+// The lines of the messages. Returns how many there are.
+fn put_messages<F: Form, W: Write>(
+    pen: &mut Pen<'_, W>,
+    utc: bool,
+    file: &LentFile<'_>,
+) -> Result<u64, WriteFailed>
+    requires { length (messages_of file.now.items) < 2 ^ 32 }
+    ensures text { Puts pen.old pen.new result (numbered (F.line utc) (messages_of file.now.items)) }
+    ensures count { IfOk result (λ count. count ≡ length (messages_of file.now.items)) }
+{
+    let mut plans = Plans::new(utc);
+    let mut number = 0;
+    for item in file.items() {
+        match item {
+            FileItem::Definition(definition) => {
+                plans.forget(definition.local());
+                continue;
+            }
+            FileItem::Data(message, time) => {
+                plans.settle(message.local, &message.definition);
+                let (plan, columns, developer) = plans.get(message.local);
+                F::put_line(pen, plan, columns, developer, number, &message, time)?;
+                number += 1;
+            }
+        }
+    }
+    Ok(number)
+}

@@ -1,0 +1,28 @@
+// How values are written in the shown text.
+
+ghost use Rattle.std.specs.Prelude.{codes};
+ghost use Rattle.fit_text.specs.Text.{hex_text};
+
+use crate::form::notation::Notation;
+use crate::showing::bytes::put_hex;
+use crate::writing::Pen;
+use fit_grammar::WriteFailed;
+use std::io::Write;
+
+/// The shown text.
+pub enum AsText {}
+
+impl Notation for AsText {
+    ghost none = { codes "-" };
+
+    ghost written = { hex_text };
+
+    #[inline]
+    fn invalid() -> &'static [u8] {
+        b"-"
+    }
+
+    fn put_bytes<W: Write>(pen: &mut Pen<'_, W>, bytes: &[u8]) -> Result<(), WriteFailed> {
+        put_hex(pen, bytes)
+    }
+}
