@@ -32,7 +32,7 @@ pub fn record<D: Disk, T: Read, O: Write>(
     every: Option<u32>,
     out: &mut O,
 ) -> (D, Result<usize, ReportFault>)
-    ensures { Records D.honest (D.story disk) (D.story result.0) (T.remaining from.old) (T.remaining from.new)
+    ensures { Records D.honest (D.story disk) (D.story result.0) every (T.remaining from.old) (T.remaining from.new)
         (O.contents out.old) (O.contents out.new) result.1 }
 {
     let mut pen = Pen::new(out);
@@ -51,7 +51,7 @@ fn record_by<D: Disk, T: Read, O: Write>(
 ) -> (D, Result<usize, ReportFault>)
     requires { pen.old.waiting ≡ [] }
     ensures same { pen.new.name ≡ pen.old.name }
-    ensures outcome { Records D.honest (D.story disk) (D.story result.0) (T.remaining from.old) (T.remaining from.new)
+    ensures outcome { Records D.honest (D.story disk) (D.story result.0) every (T.remaining from.old) (T.remaining from.new)
         pen.old.held pen.new.held result.1 }
 {
     let mut listener = Listener::new(disk, every);
