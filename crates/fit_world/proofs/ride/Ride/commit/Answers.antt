@@ -7,6 +7,7 @@ use Rattle.fit_world.proofs.Reported.Replies.{replies_of_call, done_of_call}
 use Rattle.fit_recorder.proofs.Commit.Slots.{committed_turns}
 use Rattle.fit_world.proofs.Histories.NeverFull.{rides_on}
 use Rattle.fit_world.proofs.Histories.Riding.{commit_goes, never_full}
+use Rattle.fit_world.proofs.Histories.Left.{kept_if_refused}
 use Rattle.fit_world.proofs.ride.Ride.commit.Goals as goal
 
 pub returns-in-Riding-clause-replies : goal.returns-in-Riding-clause-replies
@@ -43,3 +44,8 @@ returns-in-Riding-clause-never_full g c honest before stands never =
     rides_on g.D.Disk.honest g.D.Disk.story honest c.in-Riding.recorder c.commit.new.self c.commit.result done.after (done.head honest) before here full
     (λ list result. CommitAnswers list (journal_slots c.in-Riding.recorder) result) done.answers (λ none list full. never_full (journal_slots c.in-Riding.recorder) none full.1)
     (on_ok_weaker c.commit.result (λ slots none. ap slots_left slots ∙ committed_turns _ _ none) done.slots) c.into.result c.into.ensures
+
+pub returns-in-Riding-clause-left : goal.returns-in-Riding-clause-left
+returns-in-Riding-clause-left g c honest =
+    rw c.in-Riding.is
+    (kept_if_refused g.D.Disk.story c.in-Riding.recorder c.commit.new.self c.commit.result c.into.result c.into.ensures c.commit.ensures.after.same)

@@ -6,6 +6,7 @@ use Rattle.fit_world.proofs.Reported.Replies.{replies_of_call, done_of_call, cou
 use Rattle.fit_recorder.proofs.Commit.Head.{rest_head, stands_rest}
 use Rattle.fit_world.proofs.Histories.NeverFull.{on_ok_of, rides_on}
 use Rattle.fit_world.proofs.Histories.Riding.{hand_goes}
+use Rattle.fit_world.proofs.Histories.Left.{kept_if_refused}
 use Rattle.fit_world.proofs.ride.Ride.hand.Goals as goal
 
 pub returns-in-Riding-clause-replies : goal.returns-in-Riding-clause-replies
@@ -43,3 +44,9 @@ returns-in-Riding-clause-never_full g c honest before stands never =
     (λ list committed at. rest_head _ _ (stands_rest g.D.Disk.honest g.D.Disk.story c.in-Riding.recorder list committed at honest) (done.journal_file honest)) before here full
     (λ list result. HandAnswers list (data_len c.in-Riding.recorder) c.args.entry.now result) done.answers (λ _ list none. none)
     (on_ok_of _ c.hand.result (λ none. ap slots_left done.slots ∙ none)) c.into.result c.into.ensures
+
+pub returns-in-Riding-clause-left : goal.returns-in-Riding-clause-left
+returns-in-Riding-clause-left g c honest =
+    let done = c.hand.ensures in
+    rw c.in-Riding.is
+    (kept_if_refused g.D.Disk.story c.in-Riding.recorder c.hand.new.self c.hand.result c.into.result c.into.ensures done.after.same, λ _. done.journal_file honest)
