@@ -3,7 +3,7 @@
 ghost use Rattle.std.specs.Prelude.{◌≡◌, [], List, All, map, IfOk, OnOk};
 ghost use Rattle.fit_world.specs.Histories.Runs.{CanRun, IsHistory, NoneFull, outcome_in};
 ghost use Rattle.fit_world.specs.Histories.Table.{Outcome};
-ghost use Rattle.fit_world.specs.Printed.Simulation.{reply_in};
+ghost use Rattle.fit_world.specs.Rides.Standing.{reply_in};
 ghost use Rattle.fit_world.specs.Simulation.Following.{FollowsChoices};
 
 mod answering;

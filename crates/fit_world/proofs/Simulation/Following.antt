@@ -3,6 +3,7 @@ use Rattle.std.proofs.Common.{◌≡◌, ℕ, true, false, List, [], ◌∷◌, 
 use Rattle.fit_activity.specs.declared.activity.Summary.{Summary}
 use Rattle.fit_activity.specs.declared.recording.entry.Entry.TheVariants as entries
 use Rattle.fit_disk.specs.declared.memory.Memory.{Memory}
+use Rattle.fit_disk.specs.Events.{fresh}
 use Rattle.fit_disk.specs.Memory.{memory_story}
 use Rattle.fit_disk.specs.Story.{Story}
 use Rattle.fit_disk.proofs.Moments.{at_end}
@@ -15,14 +16,13 @@ use Rattle.fit_world.specs.declared.reply.Reply.{Reply}
 use Rattle.fit_world.specs.declared.reply.Reply.TheVariants as replies
 use Rattle.fit_world.specs.declared.ride.Ride.{Ride}
 use Rattle.fit_world.specs.declared.ride.Ride.TheVariants as rides
-use Rattle.fit_world.specs.Histories.Arranged.{Arranged, arranged_after}
-use Rattle.fit_world.specs.Histories.Runs.{Runs}
-use Rattle.fit_world.specs.Histories.Table.{History, Idle, Riding, Step, Outcome, Stopped, Recovered, ended}
-use Rattle.fit_world.specs.Printed.Simulation.{reply_in}
+use Rattle.fit_world.specs.Histories.Arranged.{Arranged, nothing_arranged, arranged_after}
+use Rattle.fit_world.specs.Histories.Runs.{Runs, IsHistory}
+use Rattle.fit_world.specs.Histories.Table.{History, Idle, Riding, Step, Outcome, Stopped, Recovered, at_first, ended}
 use Rattle.fit_world.specs.Rides.Ride.{disk_in}
-use Rattle.fit_world.specs.Rides.Standing.{StandsIn, Rests, content_of, outcome}
+use Rattle.fit_world.specs.Rides.Standing.{StandsIn, Rests, content_of, outcome, reply_in}
 use Rattle.fit_world.specs.Simulation.Choices.{takes}
-use Rattle.fit_world.specs.Simulation.Following.{Follows, Reports}
+use Rattle.fit_world.specs.Simulation.Following.{Follows, FollowsChoices, Reports}
 use Rattle.fit_world.proofs.Histories.Riding.{ended_rests}
 
 -- ---- no recorder runs after a file is reported
@@ -99,8 +99,7 @@ reply_of_outcome (replies.Recovered summary) file = refl
 reply_of_outcome (replies.Refused fault) file = refl
 reply_of_outcome replies.NoRecorder file = refl
 
--- answers that follow choice bytes are a history
-pub follows_runs : (before : History) (arranged : Arranged) (files : Story) (choices : List ℕ) (events : List Event) (outcomes : List Outcome) →
+follows_runs : (before : History) (arranged : Arranged) (files : Story) (choices : List ℕ) (events : List Event) (outcomes : List Outcome) →
     Follows before arranged files choices events outcomes → Runs before arranged events outcomes
 follows_runs before arranged files choices [] [] follows = tt
 follows_runs before arranged files choices (event ∷ events) (outcome ∷ outcomes) follows = (
@@ -111,3 +110,7 @@ follows_runs before arranged files choices (event ∷ events) (outcome ∷ outco
 )
 follows_runs before arranged files choices [] (outcome ∷ outcomes) follows = absurd follows
 follows_runs before arranged files choices (event ∷ events) [] follows = absurd follows
+
+-- answers that follow choice bytes are a history
+pub is_history : (choices : List ℕ) (events : List Event) (outcomes : List Outcome) → FollowsChoices choices events outcomes → IsHistory events outcomes
+is_history choices events outcomes follows = follows_runs at_first nothing_arranged fresh choices events outcomes follows

@@ -6,8 +6,7 @@ use Rattle.fit_disk.specs.declared.disk.Which.TheVariants.{Data}
 use Rattle.fit_world.specs.declared.event.Event.{Event}
 use Rattle.fit_world.specs.Histories.Arranged.{Arranged, nothing_arranged, MayFail, arranged_after}
 use Rattle.fit_world.specs.Histories.Table.{History, at_first, ended, Step, Outcome, Stopped, Recovered}
-use Rattle.fit_world.specs.Printed.Simulation.{reply_in}
-use Rattle.fit_world.specs.Rides.Standing.{Rests}
+use Rattle.fit_world.specs.Rides.Standing.{Rests, reply_in}
 use Rattle.fit_world.specs.Simulation.Choices.{takes, IsLeftBy}
 
 -- a file that is reported is what reads give of the data file
@@ -34,8 +33,9 @@ Follows before arranged files choices (event ∷ events) (outcome ∷ outcomes) 
 Follows before arranged files choices [] (outcome ∷ outcomes) = ⊥
 Follows before arranged files choices (event ∷ events) [] = ⊥
 
--- These answers come to these events over two empty files, if these bytes decide what the power cuts leave. It pins what each cut leaves of
--- the files that it finds. A command that is refused leaves them as they were, and a recovery and a reopening are decided by them. Of a call
--- that the device broke off it says no more than what a power cut may leave.
+-- A history of these events over two empty files, in which these bytes decide what each power cut leaves. There are files before and after
+-- each event, such that a power cut leaves of the files before it exactly what its bytes decide, a refusal leaves them as they were, a start,
+-- a recovery and a reopening are answered by what reads give of them, and a file that is reported is the data file. Of a call that the
+-- device broke off it says only what may be left at its moments.
 abbrev pub FollowsChoices : List ℕ → List Event → List Outcome → Type 0
 FollowsChoices choices events outcomes = Follows at_first nothing_arranged fresh choices events outcomes
