@@ -15,6 +15,6 @@ pub fn rides_without_failures_go_well()
 
 /// Answers that follow choice bytes are a history.
 pub fn what_follows_choices_is_a_history()
-    ensures { (choices : List ℕ) (events : List Event) (outcomes : List Outcome) → FollowsChoices choices events outcomes
-        → IsHistory events outcomes }
+    ensures { (choices : List ℕ) (events : List Event) (outcomes : List Outcome)
+        → FollowsChoices choices events outcomes → IsHistory events outcomes }
 {}

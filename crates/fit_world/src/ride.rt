@@ -75,7 +75,8 @@ impl<D: Disk> Ride<D> {
         ensures step { IsTrue D.honest → (before : History) → StandsIn D.honest D.story self.old before
             → GoesBy D.honest D.story before (commands.Entry entry.now) result self.new }
         ensures left { IsTrue D.honest
-            → LeftBy (commands.Entry entry.now) result (D.story (disk_in self.old)) (D.story (disk_in self.new)) }
+            → LeftBy (commands.Entry entry.now) result
+            (D.story (disk_in self.old)) (D.story (disk_in self.new)) }
         ensures never_full { StaysNeverFull D.honest D.story self.old result self.new }
         ensures called { Called D.log result self.old self.new }
     {
@@ -123,7 +124,8 @@ impl<D: Disk> Ride<D> {
         ensures step { IsTrue D.honest → (before : History) → StandsIn D.honest D.story self before
             → GoesBy D.honest D.story before (commands.Entry (Stop time)) result.1 result.0 }
         ensures left { IsTrue D.honest
-            → LeftBy (commands.Entry (Stop time)) result.1 (D.story (disk_in self)) (D.story (disk_in result.0)) }
+            → LeftBy (commands.Entry (Stop time)) result.1
+            (D.story (disk_in self)) (D.story (disk_in result.0)) }
         ensures never_full { StaysNeverFull D.honest D.story self result.1 result.0 }
         ensures called { Called D.log result.1 self result.0 }
     {

@@ -29,7 +29,8 @@ pub struct NoMemory;
 pub fn run(alloc: Global, events: &[Event], choices: &[u8]) -> Result<Vec<Answer>, NoMemory>
     requires { All (λ event. CanRun event.command) events.now }
     ensures history { IfOk result (λ answers. IsHistory events.now (map outcome_in answers.items)) }
-    ensures follows { IfOk result (λ answers. FollowsChoices choices.now events.now (map outcome_in answers.items)) }
+    ensures follows { IfOk result (λ answers.
+        FollowsChoices choices.now events.now (map outcome_in answers.items)) }
     ensures never_full { IfOk result (λ answers. NoneFull (map outcome_in answers.items)) }
 {
     let kept = Vec::new(alloc);

@@ -20,13 +20,7 @@ fn all_of(lines: &[u8]) -> Pieces<'_> {
 }
 
 // Whether these lines, with a commit every so many seconds of the ride, have these answers, of which so many are not ok.
-fn answers(
-    rt: &HostRuntime,
-    lines: &[u8],
-    every: Option<u32>,
-    text: &str,
-    refused: usize,
-) -> bool {
+fn answers(rt: &HostRuntime, lines: &[u8], every: Option<u32>, text: &str, refused: usize) -> bool {
     let mut out = Vec::new(rt.alloc());
     let disk = Memory::new(rt.alloc());
     let (_, recorded) = record(rt.alloc(), disk, &mut all_of(lines), every, &mut out);
@@ -48,7 +42,15 @@ fn each_line_is_answered(rt: HostRuntime) {
         b"start 1000000000 7 running\n\n# a comment\nsample 1000000001 hr=90\ncommit\nstop 1000000002\n";
     let text = "1 start: ok\n4 sample: ok\n5 commit: ok\n6 stop: ok\n";
     assert!(rt; answers(&rt, lines, None, text, 0));
-    assert!(rt; answers(&rt, b"sample 1000000001\ncommit\n", None, "1 sample: NoRecorder\n2 commit: NoRecorder\n", 2));
+    assert!(rt;
+        answers(
+            &rt,
+            b"sample 1000000001\ncommit\n",
+            None,
+            "1 sample: NoRecorder\n2 commit: NoRecorder\n",
+            2
+        )
+    );
     assert!(rt; answers(&rt, b"", None, "", 0));
 }
 
@@ -133,7 +135,8 @@ sample 1000000013
 sample 1000000014
 stop 1000000030
 ";
-    let every_five = "1 start: ok\n2 sample: ok\n3 sample: ok\n3 commit: ok\n4 lap: ok\n5 sample: Refused(Time)\n6 commit: ok\n7 sample: ok\n8 sample: ok\n8 commit: ok\n9 stop: ok\n";
+    let every_five =
+        "1 start: ok\n2 sample: ok\n3 sample: ok\n3 commit: ok\n4 lap: ok\n5 sample: Refused(Time)\n6 commit: ok\n7 sample: ok\n8 sample: ok\n8 commit: ok\n9 stop: ok\n";
     let never =
         "1 start: ok\n2 sample: ok\n3 sample: ok\n4 lap: ok\n5 sample: Refused(Time)\n6 commit: ok\n7 sample: ok\n8 sample: ok\n9 stop: ok\n";
     assert!(rt; answers(&rt, lines, Some(5), every_five, 1));
@@ -153,7 +156,8 @@ sample 1000000025
 ";
     let every_five =
         "1 start: ok\n2 restart: ok\n3 reopen: ok\n4 sample: ok\n5 sample: ok\n6 sample: ok\n6 commit: ok\n7 commit: ok\n";
-    let each = "1 start: ok\n2 restart: ok\n3 reopen: ok\n4 sample: ok\n4 commit: ok\n5 sample: ok\n5 commit: ok\n6 sample: ok\n6 commit: ok\n7 commit: ok\n";
+    let each =
+        "1 start: ok\n2 restart: ok\n3 reopen: ok\n4 sample: ok\n4 commit: ok\n5 sample: ok\n5 commit: ok\n6 sample: ok\n6 commit: ok\n7 commit: ok\n";
     assert!(rt; answers(&rt, lines, Some(5), every_five, 0));
     assert!(rt; answers(&rt, lines, Some(0), each, 0));
 }
@@ -162,16 +166,9 @@ sample 1000000025
 #[test]
 fn a_recording_ends_where_its_output_fails(rt: HostRuntime) {
     let lines = b"start 1000000000 7 running\nsample 1000000001\nsample 1000000002\n";
-    let text = "1 start: ok\n2 sample: ok\n2 commit: ok\n3 sample: ok\n3 commit: ok\n4 commit: ok\n";
-    let kept = [
-        (0, 0),
-        (12, 0),
-        (25, 1),
-        (38, 1),
-        (51, 2),
-        (64, 2),
-        (77, 2),
-    ];
+    let text =
+        "1 start: ok\n2 sample: ok\n2 commit: ok\n3 sample: ok\n3 commit: ok\n4 commit: ok\n";
+    let kept = [(0, 0), (12, 0), (25, 1), (38, 1), (51, 2), (64, 2), (77, 2)];
     for (answered, (printed, records)) in kept.into_iter().enumerate() {
         let mut out = Failing::new(rt.alloc(), usize::MAX, answered);
         let disk = Memory::new(rt.alloc());
@@ -182,7 +179,10 @@ fn a_recording_ends_where_its_output_fails(rt: HostRuntime) {
             Err(ReportFault::Output)
         };
         assert_eq!(rt; recorded, outcome, "{answered}");
-        assert!(rt; out.held.as_slice() == &text.as_bytes()[..printed], "{answered}");
+        assert!(rt;
+            out.held.as_slice() == &text.as_bytes()[..printed],
+            "{answered}"
+        );
         assert!(rt; records_left(disk) == Some(records), "{answered}");
     }
 }

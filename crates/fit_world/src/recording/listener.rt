@@ -26,7 +26,8 @@ impl<D: Disk> Listener<D> {
     /// A listener over an idle disk, before any byte.
     pub fn new(disk: D, every: Option<u32>) -> Self
         ensures able { CanHear D.honest D.story 0 result }
-        ensures heard { (held : Option (List ℕ)) → HasHeard D.honest D.story every (D.story disk) [] held result held }
+        ensures heard { (held : Option (List ℕ))
+            → HasHeard D.honest D.story every (D.story disk) [] held result held }
     {
         Listener {
             session: Session::new(disk, every),
@@ -49,8 +50,10 @@ impl<D: Disk> Listener<D> {
         ensures fault { IfErr result.1 IsOutputFault }
         ensures heard { (every : Option ℕ) (old : Story) (bytes : List ℕ) (before : Option (List ℕ))
             → HasHeard D.honest D.story every old bytes before self pen.old.held
-            → OnOk result.1 (HasHeard D.honest D.story every old (bytes ++ piece.now) before result.0 pen.new.held)
-            × OnErr result.1 (BreaksOffAt D.honest D.story every old (bytes ++ piece.now) before result.0 pen.new.held) }
+            → OnOk result.1
+            (HasHeard D.honest D.story every old (bytes ++ piece.now) before result.0 pen.new.held)
+            × OnErr result.1
+            (BreaksOffAt D.honest D.story every old (bytes ++ piece.now) before result.0 pen.new.held) }
     {
         let mut listener = self;
         for byte in piece {
@@ -79,8 +82,10 @@ impl<D: Disk> Listener<D> {
         ensures fault { IfErr result.1 IsOutputFault }
         ensures heard { (every : Option ℕ) (old : Story) (bytes : List ℕ) (before : Option (List ℕ))
             → HasHeard D.honest D.story every old bytes before self pen.old.held
-            → OnOk result.1 (HasHeard D.honest D.story every old (bytes ++ byte ∷ []) before result.0 pen.new.held)
-            × OnErr result.1 (BreaksOffAt D.honest D.story every old (bytes ++ byte ∷ []) before result.0 pen.new.held) }
+            → OnOk result.1
+            (HasHeard D.honest D.story every old (bytes ++ byte ∷ []) before result.0 pen.new.held)
+            × OnErr result.1
+            (BreaksOffAt D.honest D.story every old (bytes ++ byte ∷ []) before result.0 pen.new.held) }
     {
         let Listener { session, mut held } = self;
         if byte != b'\n' {

@@ -74,7 +74,8 @@ impl<D: Disk> Session<D> {
             → IfSome line.entry (λ line. line.now ≡ bytes) → (line.entry ≡ None → 4096 < length bytes)
             → SoFar D.honest D.story every old turns self
             → (own : List Turn) × TakesLine result.1 every (times_after [] turns) (self.line + 1) bytes own
-            × SoFar D.honest D.story every old (turns ++ own) result.0 × Prints pen.old.held pen.new.held result.1 own }
+            × SoFar D.honest D.story every old (turns ++ own) result.0
+            × Prints pen.old.held pen.new.held result.1 own }
     {
         let number = self.line + 1;
         let session = self.at(number);
@@ -169,9 +170,11 @@ impl<D: Disk> Session<D> {
         ensures fault { IfErr result.1 IsOutputFault }
         ensures number { result.0.line ≡ self.line }
         ensures few { result.0.refused ≤ self.refused + 2 }
-        ensures ran { (every : Option ℕ) (old : Story) (turns : List Turn) → SoFar D.honest D.story every old turns self
+        ensures ran { (every : Option ℕ) (old : Story) (turns : List Turn)
+            → SoFar D.honest D.story every old turns self
             → (reply : AReply) × (more : List Turn)
-            × CommitsUnlessCut result.1 (is_due_after every (times_after [] turns) (Asked event.now reply)) event.now.line more
+            × CommitsUnlessCut result.1 (is_due_after every (times_after [] turns) (Asked event.now reply))
+            event.now.line more
             × SoFar D.honest D.story every old (turns ++ Asked event.now reply ∷ more) result.0
             × Prints pen.old.held pen.new.held result.1 (Asked event.now reply ∷ more) }
     {
@@ -202,8 +205,10 @@ impl<D: Disk> Session<D> {
         ensures fault { IfErr result.1 IsOutputFault }
         ensures number { result.0.line ≡ self.line }
         ensures few { result.0.refused ≤ self.refused + 1 }
-        ensures asked { (every : Option ℕ) (old : Story) (turns : List Turn) → SoFar D.honest D.story every old turns self
-            → (reply : AReply) × SoFar D.honest D.story every old (turns ++ Asked event.now reply ∷ []) result.0
+        ensures asked { (every : Option ℕ) (old : Story) (turns : List Turn)
+            → SoFar D.honest D.story every old turns self
+            → (reply : AReply)
+            × SoFar D.honest D.story every old (turns ++ Asked event.now reply ∷ []) result.0
             × (result.0.clock.is_due ≡ is_due_after every (times_after [] turns) (Asked event.now reply))
             × Prints pen.old.held pen.new.held result.1 (Asked event.now reply ∷ []) }
     {
@@ -236,7 +241,8 @@ impl<D: Disk> Session<D> {
         requires few { self.refused ≤ 2 * self.line }
         ensures same { pen.new.name ≡ pen.old.name }
         ensures fault { IfErr result.1 IsOutputFault }
-        ensures ended { (every : Option ℕ) (old : Story) (turns : List Turn) → SoFar D.honest D.story every old turns self
+        ensures ended { (every : Option ℕ) (old : Story) (turns : List Turn)
+            → SoFar D.honest D.story every old turns self
             → (end : List Turn) × Does D.honest old (D.story result.0) (turns ++ end)
             × Commits (rides_after false turns) (self.line + 1) end
             × IfOk result.1 (λ refused. refused ≡ refused_in (turns ++ end))
@@ -257,7 +263,8 @@ impl<D: Disk> Session<D> {
 
     /// The disk.
     pub fn into_disk(self) -> D
-        ensures { (every : Option ℕ) (old : Story) (turns : List Turn) → SoFar D.honest D.story every old turns self
+        ensures { (every : Option ℕ) (old : Story) (turns : List Turn)
+            → SoFar D.honest D.story every old turns self
             → LeavesAfter D.honest old (D.story result) (events_in turns) (replies_in turns) }
     {
         self.ride.into_disk()

@@ -47,8 +47,8 @@ pub fn record_files<'a, W: Witness, T: Read, O: Write>(
     out: &mut O,
 ) -> Result<(W, Result<usize, ReportFault>), Fault<'a>>
     ensures recorded { IfOk result (λ done.
-        Records W.honest (W.story witness) (W.story done.0) every (T.remaining from.old) (T.remaining from.new)
-        (O.contents out.old) (O.contents out.new) done.1) }
+        Records W.honest (W.story witness) (W.story done.0) every
+        (T.remaining from.old) (T.remaining from.new) (O.contents out.old) (O.contents out.new) done.1) }
     ensures reported { IfErr result (λ reported. (why : WhyNotOpen) × (reported ≡ fault_of_open folder.entry why)) }
     ensures quiet { IfErr result (λ _. O.contents out.new ≡ O.contents out.old) }
     ensures unread { IfErr result (λ _. T.remaining from.new ≡ T.remaining from.old) }
