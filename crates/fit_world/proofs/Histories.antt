@@ -2,6 +2,7 @@
 pub mod Claims
 pub mod Idle
 pub mod Riding
+pub mod Left
 pub mod NeverFull
 pub mod Runs
 pub mod Plain

@@ -4,3 +4,4 @@ pub mod Counts
 pub mod CanRun
 pub mod Asking
 pub mod Hexadecimal
+pub mod Following

@@ -4,5 +4,7 @@ pub mod Replies
 pub mod Standing
 pub mod Played
 pub mod NeverFull
+pub mod Left
+pub mod Dues
 pub mod Turns
 pub mod Listening

@@ -23,7 +23,7 @@ pub enum Answer {
 
 impl Answer {
     ghost use Rattle.fit_world.specs.Histories.Runs.{outcome_in};
-    ghost use Rattle.fit_world.specs.Printed.Simulation.{reply_in};
+    ghost use Rattle.fit_world.specs.Rides.Standing.{reply_in};
 
     /// The answer without its file.
     pub fn reply(&self) -> Reply

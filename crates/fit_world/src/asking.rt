@@ -17,6 +17,7 @@ impl<D: Disk> Ride<D> {
     ghost use Rattle.fit_world.specs.Rides.Ride.{HasBegun, CanGoOn, Called, Handed, MayReplyAfter, RidesOnWith, disk_in, is_riding};
     ghost use Rattle.fit_world.specs.Rides.NeverFull.{StaysNeverFull};
     ghost use Rattle.fit_world.specs.Rides.Standing.{GoesBy, StandsIn};
+    ghost use Rattle.fit_world.specs.Rides.Left.{LeftBy};
 
     /// Runs a command, and returns the ride after it and the reply. The command may not be `Fail`, `Cut` or `Power`.
     pub fn ask(mut self, command: &Command) -> (Ride<D>, Reply)
@@ -32,6 +33,8 @@ impl<D: Disk> Ride<D> {
         ensures begun { result.1 ≡ Done → HasBegun command.now result.0 }
         ensures step { IsTrue D.honest → (before : History) → StandsIn D.honest D.story self before
             → GoesBy D.honest D.story before command.now result.1 result.0 }
+        ensures left { IsTrue D.honest
+            → LeftBy command.now result.1 (D.story (disk_in self)) (D.story (disk_in result.0)) }
         ensures never_full { StaysNeverFull D.honest D.story self result.1 result.0 }
         ensures called { Called D.log result.1 self result.0 }
     {

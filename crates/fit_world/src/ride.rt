@@ -36,6 +36,7 @@ impl<D: Disk> Ride<D> {
     ghost use Rattle.fit_world.specs.Rides.Ride.{CanGoOn, Handed, Called, Answered, disk_in, is_riding, encoded_len, slots_of};
     ghost use Rattle.fit_world.specs.Rides.NeverFull.{NeverFull, StaysNeverFull};
     ghost use Rattle.fit_world.specs.Rides.Standing.{StandsIn, GoesBy, Rests};
+    ghost use Rattle.fit_world.specs.Rides.Left.{LeftBy};
     ghost use Rattle.fit_recorder.specs.Files.NeverFull.{NeverFills};
 
     /// Ends the recorder that runs, if one does, and begins a recording. If the reply is not `Done`, no recorder runs.
@@ -49,6 +50,8 @@ impl<D: Disk> Ride<D> {
         ensures riding { is_riding result.0 ≡ is_ok result.1 }
         ensures step { IsTrue D.honest → (before : History) → StandsIn D.honest D.story self before
             → GoesBy D.honest D.story before (commands.Start start) result.1 result.0 }
+        ensures left { IsTrue D.honest
+            → LeftBy (commands.Start start) result.1 (D.story (disk_in self)) (D.story (disk_in result.0)) }
         ensures never_full { StaysNeverFull D.honest D.story self result.1 result.0 }
         ensures called { Called D.log result.1 self result.0 }
     {
@@ -70,6 +73,9 @@ impl<D: Disk> Ride<D> {
         ensures riding { is_riding self.new ≡ is_riding self.old }
         ensures step { IsTrue D.honest → (before : History) → StandsIn D.honest D.story self.old before
             → GoesBy D.honest D.story before (commands.Entry entry.now) result self.new }
+        ensures left { IsTrue D.honest
+            → LeftBy (commands.Entry entry.now) result
+            (D.story (disk_in self.old)) (D.story (disk_in self.new)) }
         ensures never_full { StaysNeverFull D.honest D.story self.old result self.new }
         ensures called { Called D.log result self.old self.new }
     {
@@ -92,6 +98,8 @@ impl<D: Disk> Ride<D> {
         ensures riding { is_riding self.new ≡ is_riding self.old }
         ensures step { IsTrue D.honest → (before : History) → StandsIn D.honest D.story self.old before
             → GoesBy D.honest D.story before commands.Commit result self.new }
+        ensures left { IsTrue D.honest
+            → LeftBy commands.Commit result (D.story (disk_in self.old)) (D.story (disk_in self.new)) }
         ensures never_full { StaysNeverFull D.honest D.story self.old result self.new }
         ensures called { Called D.log result self.old self.new }
     {
@@ -112,6 +120,9 @@ impl<D: Disk> Ride<D> {
         ensures riding { is_riding result.0 ≡ outlives_stop (is_riding self) result.1 }
         ensures step { IsTrue D.honest → (before : History) → StandsIn D.honest D.story self before
             → GoesBy D.honest D.story before (commands.Entry (Stop time)) result.1 result.0 }
+        ensures left { IsTrue D.honest
+            → LeftBy (commands.Entry (Stop time)) result.1
+            (D.story (disk_in self)) (D.story (disk_in result.0)) }
         ensures never_full { StaysNeverFull D.honest D.story self result.1 result.0 }
         ensures called { Called D.log result.1 self result.0 }
     {
@@ -142,6 +153,8 @@ impl<D: Disk> Ride<D> {
         ensures ended { is_riding result.0 ≡ false }
         ensures step { IsTrue D.honest → (before : History) → StandsIn D.honest D.story self before
             → GoesBy D.honest D.story before commands.Recover result.1 result.0 }
+        ensures left { IsTrue D.honest
+            → LeftBy commands.Recover result.1 (D.story (disk_in self)) (D.story (disk_in result.0)) }
         ensures never_full { StaysNeverFull D.honest D.story self result.1 result.0 }
         ensures called { Called D.log result.1 self result.0 }
     {
@@ -160,6 +173,8 @@ impl<D: Disk> Ride<D> {
         ensures riding { is_riding result.0 ≡ is_ok result.1 }
         ensures step { IsTrue D.honest → (before : History) → StandsIn D.honest D.story self before
             → GoesBy D.honest D.story before commands.Reopen result.1 result.0 }
+        ensures left { IsTrue D.honest
+            → LeftBy commands.Reopen result.1 (D.story (disk_in self)) (D.story (disk_in result.0)) }
         ensures never_full { StaysNeverFull D.honest D.story self result.1 result.0 }
         ensures called { Called D.log result.1 self result.0 }
     {
@@ -175,6 +190,8 @@ impl<D: Disk> Ride<D> {
         ensures ended { is_riding result.0 ≡ false }
         ensures step { IsTrue D.honest → (before : History) → StandsIn D.honest D.story self before
             → GoesBy D.honest D.story before commands.Erase result.1 result.0 }
+        ensures left { IsTrue D.honest
+            → LeftBy commands.Erase result.1 (D.story (disk_in self)) (D.story (disk_in result.0)) }
         ensures never_full { StaysNeverFull D.honest D.story self result.1 result.0 }
         ensures called { Called D.log result.1 self result.0 }
     {

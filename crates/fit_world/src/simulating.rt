@@ -55,7 +55,7 @@ pub fn simulate<O: Write>(
     choices: &[u8],
     out: &mut O,
 ) -> Result<(), SimulateFault>
-    ensures { Simulates (O.contents out.old) (O.contents out.new) bytes.now result }
+    ensures { Simulates choices.now (O.contents out.old) (O.contents out.new) bytes.now result }
 {
     let Ok(text) = str::from_utf8(bytes) else {
         return Err(SimulateFault::NoText);

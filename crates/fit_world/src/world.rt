@@ -3,7 +3,8 @@
 ghost use Rattle.std.specs.Prelude.{◌≡◌, [], List, All, map, IfOk, OnOk};
 ghost use Rattle.fit_world.specs.Histories.Runs.{CanRun, IsHistory, NoneFull, outcome_in};
 ghost use Rattle.fit_world.specs.Histories.Table.{Outcome};
-ghost use Rattle.fit_world.specs.Printed.Simulation.{reply_in};
+ghost use Rattle.fit_world.specs.Rides.Standing.{reply_in};
+ghost use Rattle.fit_world.specs.Simulation.Following.{FollowsChoices};
 
 mod answering;
 mod keeping;
@@ -28,6 +29,8 @@ pub struct NoMemory;
 pub fn run(alloc: Global, events: &[Event], choices: &[u8]) -> Result<Vec<Answer>, NoMemory>
     requires { All (λ event. CanRun event.command) events.now }
     ensures history { IfOk result (λ answers. IsHistory events.now (map outcome_in answers.items)) }
+    ensures follows { IfOk result (λ answers.
+        FollowsChoices choices.now events.now (map outcome_in answers.items)) }
     ensures never_full { IfOk result (λ answers. NoneFull (map outcome_in answers.items)) }
 {
     let kept = Vec::new(alloc);
@@ -45,6 +48,8 @@ pub fn run_for_replies(
     requires { All (λ event. CanRun event.command) events.now }
     ensures history { IfOk result (λ replies. (outcomes : List Outcome) × IsHistory events.now outcomes
         × (replies.items ≡ map reply_in outcomes)) }
+    ensures follows { IfOk result (λ replies. (outcomes : List Outcome)
+        × FollowsChoices choices.now events.now outcomes × (replies.items ≡ map reply_in outcomes)) }
     ensures never_full { IfOk result (λ replies. (outcomes : List Outcome) × NoneFull outcomes
         × (replies.items ≡ map reply_in outcomes)) }
 {
@@ -63,8 +68,8 @@ fn run_for<K: Keeper>(
 ) -> Result<(), NoMemory>
     requires can { All (λ event. CanRun event.command) events.now }
     requires first { K.WasReported keeper.old [] }
-    ensures { OnOk result ((outcomes : List Outcome) × IsHistory events.now outcomes × NoneFull outcomes
-        × K.WasReported keeper.new outcomes) }
+    ensures { OnOk result ((outcomes : List Outcome) × FollowsChoices choices.entry.now events.now outcomes
+        × NoneFull outcomes × K.WasReported keeper.new outcomes) }
 {
     let mut ride = Ride::Idle(Memory::new(alloc));
     for event in events {

@@ -21,6 +21,8 @@ mod random;
 #[cfg(test)]
 mod reading;
 #[cfg(test)]
+mod recordings;
+#[cfg(test)]
 mod reopening;
 #[cfg(test)]
 mod replays;

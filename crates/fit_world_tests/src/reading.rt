@@ -9,10 +9,10 @@ use std::io::{self, Read};
 
 // A reader that gives at most so many bytes a call, and refuses each call after so many calls.
 #[derive(Drop)]
-struct Pieces<'a> {
-    rest: &'a [u8],
-    step: usize,
-    calls: usize,
+pub struct Pieces<'a> {
+    pub rest: &'a [u8],
+    pub step: usize,
+    pub calls: usize,
 }
 
 impl Read for Pieces<'_> {

@@ -103,7 +103,7 @@ abbrev pub PrintsNoLine : Option (List ℕ) → Option (List ℕ) → Fault → 
 PrintsNoLine old new (faults.Refused count) = Unit {0}
 PrintsNoLine old new fault = PrintsNothing old new fault
 
--- the lines of some bytes were done, and so many answers were not ok
-abbrev pub RecordsLines : Option (List ℕ) → Option (List ℕ) → ℕ → Type 0
-RecordsLines old new refused =
-    (bytes : List ℕ) × (honest : Bool) × (before : Story) × (after : Story) × Finishes honest before after bytes old new (Ok refused)
+-- the lines of some bytes were done, with a commit every so many seconds of the ride, and so many answers were not ok
+abbrev pub RecordsLines : Option ℕ → Option (List ℕ) → Option (List ℕ) → ℕ → Type 0
+RecordsLines every old new refused =
+    (bytes : List ℕ) × (honest : Bool) × (before : Story) × (after : Story) × Finishes honest before after every bytes old new (Ok refused)

@@ -1,10 +1,9 @@
 -- Turns with one turn more, the lines with one byte more, and what is left at the end: for `recording`.
-use Rattle.std.proofs.Common.{◌≡◌, ◌≢◌, ◌<◌, ◌≤◌, ◌+◌, ◌*◌, ◌==◌, ℕ, Bool, true, false, List, [], ◌∷◌, ◌++◌, Option, Some, None, Result, Ok, Err, OnOk, OnErr, length, refl, ◌∙◌, ap, append-nil, append_assoc, length-append, subst, arith, codes, sym, inl, inr, eq-eqb, rules, if◌then◌else◌}
-use Rattle.std.specs.Prelude.{IsTrue, IfErr, IfSome, IsSome}
+use Rattle.std.proofs.Common.{◌≡◌, ◌≢◌, ◌+◌, ◌==◌, ℕ, Bool, true, false, List, [], ◌∷◌, ◌++◌, Option, Some, None, Result, Ok, Err, length, refl, ◌∙◌, ap, append-nil, append_assoc, subst, arith, sym, inl, inr, rules}
+use Rattle.std.specs.Prelude.{IsTrue, IfSome, IsSome}
 use Rattle.std.specs.Borrow.{Bor}
 use Rattle.fit_world.specs.declared.command.Command.{Command}
 use Rattle.fit_world.specs.Scripts.Script.{meaning_of}
-use Rattle.std.specs.List.{flat_map}
 use Rattle.std.proofs.KnownBytes.{Appends-trans, Appends-nil}
 use Rattle.std.proofs.lemmas.Grind.{flat_map-append}
 use Rattle.std.specs.Io.KnownBytes.{Appends}
@@ -12,20 +11,17 @@ use Rattle.fit_disk.specs.Story.{Story}
 use Rattle.fit_grammar.specs.Calls.Output.{WritesText}
 use Rattle.fit_world.specs.declared.event.Event.{Event}
 use Rattle.fit_world.specs.declared.fault.ReportFault.{ReportFault}
-use Rattle.fit_world.specs.declared.fault.ReportFault.TheVariants.{File, Activity, Output, Input, Plain}
 use Rattle.fit_world.specs.declared.recording.line_fault.LineFault.{LineFault}
 use Rattle.fit_world.specs.declared.recording.session.Session.{Session}
 use Rattle.fit_world.specs.declared.reply.Reply.{Reply}
-use Rattle.fit_world.specs.declared.ride.Ride.{Ride}
-use Rattle.fit_world.specs.Histories.Claims.{Claim}
 use Rattle.fit_world.specs.Histories.Table.{History, Idle, Step, ended}
-use Rattle.fit_world.specs.Printed.Shown.{IsOutputFault}
+use Rattle.fit_world.specs.Rides.Dues.{Shows, times_on}
 use Rattle.fit_world.specs.Rides.Played.{GoesTo, LeavesAfter}
 use Rattle.fit_world.specs.Rides.Replies.{MayReply, MayReplyAll, is_ok, rides_on}
 use Rattle.fit_world.specs.Rides.Ride.{is_riding}
 use Rattle.fit_world.specs.Rides.Standing.{StandsIn, GoesBy, Rests, content_of, outcome}
-use Rattle.fit_world.specs.Rides.Turns.{commit_at, Turn, Asked, Faulty, turn_text, turns_text, events_in, replies_in, count_of, refused_in, rides_after, AnswersLine, AnswersLines, IsByItself, IsEnd, CutShort, Prints, Does, BrokenOff, Finishes, SoFar, Ended}
-use Rattle.fit_world.specs.Scripts.Heard.{Heard, after_byte, after_bytes, heard_in, line_of, lines_in, last_line}
+use Rattle.fit_world.specs.Rides.Turns.{commit_at, Turn, Asked, Faulty, turn_text, turns_text, events_in, replies_in, count_of, refused_in, rides_after, times_after, AnswersLine, AnswersLines, Commits, CommitsUnlessCut, CutShort, Prints, SoFar}
+use Rattle.fit_world.specs.Scripts.Heard.{Heard, after_byte, after_bytes, heard_in, line_of}
 
 -- ---- one turn more
 
@@ -73,17 +69,24 @@ rides_same riding [] number fault = refl
 rides_same riding (Asked event reply ∷ turns) number fault = rides_same (rides_on riding event.command reply) turns number fault
 rides_same riding (Faulty n f ∷ turns) number fault = rides_same riding turns number fault
 
-module _ {D : Type 0} (honest : Bool) (story : D → Story) where
+pub times_more : (times : List ℕ) (turns more : List Turn) → times_after times (turns ++ more) ≡ times_after (times_after times turns) more
+times_more times [] more = refl
+times_more times (Asked event reply ∷ turns) more = times_more (times_on times event.command (is_ok reply)) turns more
+times_more times (Faulty number fault ∷ turns) more = times_more times turns more
+
+module _ {D : Type 0} (honest : Bool) (story : D → Story) (every : Option ℕ) where
   -- an event was run
   pub so_far_asked : (old : Story) (turns : List Turn) (session next : Session D) (event : Event) (reply : Reply) →
-      SoFar honest story old turns session → MayReply (is_riding session.ride) event.command reply →
+      SoFar honest story every old turns session → MayReply (is_riding session.ride) event.command reply →
       is_riding next.ride ≡ rides_on (is_riding session.ride) event.command reply → next.refused ≡ session.refused + count_of (Asked event reply) →
+      Shows every (times_on (times_after [] turns) event.command (is_ok reply)) next.clock →
       (IsTrue honest → (before : History) → StandsIn honest story session.ride before → GoesBy honest story before event.command reply next.ride) →
-      SoFar honest story old (turns ++ Asked event reply ∷ []) next
-  so_far_asked old turns session next event reply known may rides counts step = record {
+      SoFar honest story every old (turns ++ Asked event reply ∷ []) next
+  so_far_asked old turns session next event reply known may rides counts shows step = record {
     may = may_more false turns event reply known.may (subst (λ riding. MayReply riding event.command reply) known.riding may);
     riding = rides ∙ ap (λ riding. rides_on riding event.command reply) known.riding ∙ sym (rides_more false turns event reply);
     counted = omega (arith, counts, known.counted, refused_more turns (Asked event reply ∷ []));
+    clock = subst (λ times. Shows every times next.clock) (sym (times_more [] turns (Asked event reply ∷ []))) shows;
     stood = λ sound claims begun rests.
         let stood = known.stood sound claims begun rests in
         let by = step sound stood.0 stood.2 in
@@ -92,12 +95,13 @@ module _ {D : Type 0} (honest : Bool) (story : D → Story) where
 
   -- a line could not be done
   pub so_far_faulty : (old : Story) (turns : List Turn) (session next : Session D) (number : ℕ) (fault : LineFault) →
-      SoFar honest story old turns session → next.ride ≡ session.ride → next.refused ≡ session.refused + 1 →
-      SoFar honest story old (turns ++ Faulty number fault ∷ []) next
-  so_far_faulty old turns session next number fault known same counts = record {
+      SoFar honest story every old turns session → next.ride ≡ session.ride → next.clock ≡ session.clock → next.refused ≡ session.refused + 1 →
+      SoFar honest story every old (turns ++ Faulty number fault ∷ []) next
+  so_far_faulty old turns session next number fault known same clock counts = record {
     may = rw (events_same turns number fault, replies_same turns number fault) known.may;
     riding = ap is_riding same ∙ known.riding ∙ sym (rides_same false turns number fault);
     counted = omega (arith, counts, known.counted, refused_more turns (Faulty number fault ∷ []));
+    clock = rw (times_more [] turns (Faulty number fault ∷ []), clock) known.clock;
     stood = λ sound claims begun rests.
         let stood = known.stood sound claims begun rests in (
           stood.0,
@@ -107,41 +111,44 @@ module _ {D : Type 0} (honest : Bool) (story : D → Story) where
   }
 
   -- the ride and the count are the same
-  pub so_far_same : (old : Story) (turns others : List Turn) (session next : Session D) → SoFar honest story old turns session → turns ≡ others →
-      next.ride ≡ session.ride → next.refused ≡ session.refused → SoFar honest story old others next
-  so_far_same old turns others session next known all same counts =
-      subst (λ turns. SoFar honest story old turns next) all (record {
+  pub so_far_same : (old : Story) (turns others : List Turn) (session next : Session D) → SoFar honest story every old turns session → turns ≡ others →
+      next.ride ≡ session.ride → next.clock ≡ session.clock → next.refused ≡ session.refused → SoFar honest story every old others next
+  so_far_same old turns others session next known all same clock counts =
+      subst (λ turns. SoFar honest story every old turns next) all (record {
         may = known.may;
         riding = ap is_riding same ∙ known.riding;
         counted = counts ∙ known.counted;
+        clock = rw clock known.clock;
         stood = λ sound claims begun rests.
             let stood = known.stood sound claims begun rests in
             (stood.0, stood.1, subst (λ ride. StandsIn honest story ride stood.0) (sym same) stood.2);
       })
 
   -- what is left if the ride is ended
-  pub left_after : (old new : Story) (turns : List Turn) (session : Session D) → SoFar honest story old turns session →
+  pub left_after : (old new : Story) (turns : List Turn) (session : Session D) → SoFar honest story every old turns session →
       (IsTrue honest → (before : History) → StandsIn honest story session.ride before → Rests (ended before) new) →
       LeavesAfter honest old new (events_in turns) (replies_in turns)
   left_after old new turns session known ends sound claims begun rests =
       let stood = known.stood sound claims begun rests in
       record { after = stood.0; goes = stood.1; rests = ends sound stood.0 stood.2 }
 
--- what comes after the last line
-pub ended_with : (honest : Bool) (old new : Story) (turns end all : List Turn) → all ≡ turns ++ end → MayReplyAll false (events_in all) (replies_in all) →
-    LeavesAfter honest old new (events_in all) (replies_in all) → Ended honest old new turns end
-ended_with honest old new turns end all is may leaves = record {
-  may = subst (λ t. MayReplyAll false (events_in t) (replies_in t)) is may;
-  leaves = subst (λ t. LeavesAfter honest old new (events_in t) (replies_in t)) is leaves;
-}
+pub no_commit : (due : Bool) (number : ℕ) → due ≡ false → Commits due number []
+no_commit true number none = cc
+no_commit false number none = refl
 
-pub no_end : (riding : Bool) (number : ℕ) → riding ≡ false → IsEnd riding number []
-no_end true number none = cc
-no_end false number none = refl
+pub one_commit : (due : Bool) (number : ℕ) (reply : Reply) → due ≡ true → Commits due number (Asked (commit_at number) reply ∷ [])
+one_commit true number reply one = (reply, refl)
+one_commit false number reply one = cc
 
-pub one_end : (riding : Bool) (number : ℕ) (reply : Reply) → riding ≡ true → IsEnd riding number (Asked (commit_at number) reply ∷ [])
-one_end true number reply one = (reply, refl)
-one_end false number reply one = cc
+pub none_unless : {X : Type 0} (result : Result X ReportFault) (due : Bool) (number : ℕ) → due ≡ false →
+    CommitsUnlessCut result due number []
+none_unless (Ok x) due number none = no_commit due number none
+none_unless (Err fault) due number none = inr refl
+
+pub one_unless : {X : Type 0} (result : Result X ReportFault) (due : Bool) (number : ℕ) (reply : Reply) → due ≡ true →
+    CommitsUnlessCut result due number (Asked (commit_at number) reply ∷ [])
+one_unless (Ok x) due number reply one = one_commit due number reply one
+one_unless (Err fault) due number reply one = inl (one_commit due number reply one)
 
 -- ---- what is printed
 
@@ -211,18 +218,22 @@ pub line_means : (line : Option (Bor (List ℕ))) (bytes : List ℕ) (found : Op
 line_means None bytes found there means same = cc
 line_means (Some line) bytes found there means same = sym (ap meaning_of same) ∙ means
 
-abbrev answers_from : List Turn → List ℕ → ℕ → Type 0
-answers_from own line number = AnswersLine number line own
-
-pub answers_more : (number : ℕ) (lines : List (List ℕ)) (turns : List Turn) (line : List ℕ) (own : List Turn) (at : ℕ) → AnswersLines number lines turns →
-    at ≡ number + length lines → AnswersLine at line own → AnswersLines number (lines ++ line ∷ []) (turns ++ own)
-answers_more number [] turns line own at none is answers =
-    let here : at ≡ number = omega (arith, is) in
-    (own, [], ap (λ t. t ++ own) none ∙ sym (append-nil own), subst (answers_from own line) here answers, refl)
-answers_more number (first ∷ lines) turns line own at all is answers = (
+pub answers_more : (every : Option ℕ) (times : List ℕ) (number : ℕ) (lines : List (List ℕ)) (turns : List Turn) (line : List ℕ) (own : List Turn)
+    (at : ℕ) → AnswersLines every times number lines turns → at ≡ number + length lines → AnswersLine every (times_after times turns) at line own →
+    AnswersLines every times number (lines ++ line ∷ []) (turns ++ own)
+answers_more every times number [] turns line own at none is answers =
+    let here : at ≡ number = omega (arith, is) in (
+      own,
+      [],
+      ap (λ t. t ++ own) none ∙ sym (append-nil own),
+      rw (ap (times_after times) none, here) at answers,
+      refl,
+    )
+answers_more every times number (first ∷ lines) turns line own at all is answers = (
   all.0,
   all.1 ++ own,
   ap (λ t. t ++ own) all.2 ∙ append_assoc all.0 all.1 own,
   all.3,
-  answers_more (number + 1) lines all.1 line own at all.4 (omega (arith, is)) answers,
+  answers_more every (times_after times all.0) (number + 1) lines all.1 line own at all.4 (omega (arith, is))
+      (rw (ap (times_after times) all.2 ∙ times_more times all.0 all.1) at answers),
 )

@@ -28,6 +28,14 @@ outcome (replies.Recovered summary) file = Recovered summary file
 outcome (replies.Refused fault) file = Fault fault
 outcome replies.NoRecorder file = NoRecorder
 
+-- the reply of an answer: the answer without its file
+abbrev pub reply_in : Outcome → Reply
+reply_in Done = replies.Done
+reply_in (Stopped file) = replies.Stopped
+reply_in (Recovered summary file) = replies.Recovered summary
+reply_in (Fault fault) = replies.Refused fault
+reply_in NoRecorder = replies.NoRecorder
+
 -- the files stand for a list that may be recorded; or they hold nothing recorded, and the empty claim is present
 abbrev pub Keeps : List Claim → Contents → Type 0
 Keeps claims contents =

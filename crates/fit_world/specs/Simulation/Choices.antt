@@ -2,15 +2,18 @@
 use Rattle.std.specs.Prelude.{◌≡◌, ℕ, min, List, length}
 use Rattle.fit_disk.specs.Cycle.{cycled, taken_in}
 use Rattle.fit_disk.specs.State.{State}
+use Rattle.fit_disk.specs.Story.{Story}
 use Rattle.fit_world.specs.declared.command.Command.{Command}
 use Rattle.fit_world.specs.declared.command.Command.TheVariants as commands
+use Rattle.fit_world.specs.declared.reply.Reply.{Reply}
+use Rattle.fit_world.specs.Rides.Left.{LeftBy}
 
 -- how many of the choice bytes a command takes
 abbrev pub takes : Command → List ℕ → State → ℕ
 takes commands.Power choices state = min (taken_in choices state) (length choices)
 takes _ choices state = 0
 
--- a power cut leaves what the choice bytes decide
-abbrev pub IsLeftBy : Command → List ℕ → State → State → Type 0
-IsLeftBy commands.Power choices old new = new ≡ cycled choices old
-IsLeftBy _ choices old new = Unit {0}
+-- a power cut leaves what the choice bytes decide, and any other command what is known of it
+abbrev pub IsLeftBy : Command → List ℕ → Reply → Story → Story → Type 0
+IsLeftBy commands.Power choices reply old new = new.now ≡ cycled choices old.now
+IsLeftBy command choices reply old new = LeftBy command reply old new

@@ -26,7 +26,8 @@ impl<D: Disk> Listener<D> {
     /// A listener over an idle disk, before any byte.
     pub fn new(disk: D, every: Option<u32>) -> Self
         ensures able { CanHear D.honest D.story 0 result }
-        ensures heard { (held : Option (List ℕ)) → HasHeard D.honest D.story (D.story disk) [] held result held }
+        ensures heard { (held : Option (List ℕ))
+            → HasHeard D.honest D.story every (D.story disk) [] held result held }
     {
         Listener {
             session: Session::new(disk, every),
@@ -47,10 +48,12 @@ impl<D: Disk> Listener<D> {
         ensures same { pen.new.name ≡ pen.old.name }
         ensures waits { OnOk result.1 (pen.new.waiting ≡ []) }
         ensures fault { IfErr result.1 IsOutputFault }
-        ensures heard { (old : Story) (bytes : List ℕ) (before : Option (List ℕ))
-            → HasHeard D.honest D.story old bytes before self pen.old.held
-            → OnOk result.1 (HasHeard D.honest D.story old (bytes ++ piece.now) before result.0 pen.new.held)
-            × OnErr result.1 (BreaksOffAt D.honest D.story old (bytes ++ piece.now) before result.0 pen.new.held) }
+        ensures heard { (every : Option ℕ) (old : Story) (bytes : List ℕ) (before : Option (List ℕ))
+            → HasHeard D.honest D.story every old bytes before self pen.old.held
+            → OnOk result.1
+            (HasHeard D.honest D.story every old (bytes ++ piece.now) before result.0 pen.new.held)
+            × OnErr result.1
+            (BreaksOffAt D.honest D.story every old (bytes ++ piece.now) before result.0 pen.new.held) }
     {
         let mut listener = self;
         for byte in piece {
@@ -77,10 +80,12 @@ impl<D: Disk> Listener<D> {
         ensures same { pen.new.name ≡ pen.old.name }
         ensures waits { OnOk result.1 (pen.new.waiting ≡ []) }
         ensures fault { IfErr result.1 IsOutputFault }
-        ensures heard { (old : Story) (bytes : List ℕ) (before : Option (List ℕ))
-            → HasHeard D.honest D.story old bytes before self pen.old.held
-            → OnOk result.1 (HasHeard D.honest D.story old (bytes ++ byte ∷ []) before result.0 pen.new.held)
-            × OnErr result.1 (BreaksOffAt D.honest D.story old (bytes ++ byte ∷ []) before result.0 pen.new.held) }
+        ensures heard { (every : Option ℕ) (old : Story) (bytes : List ℕ) (before : Option (List ℕ))
+            → HasHeard D.honest D.story every old bytes before self pen.old.held
+            → OnOk result.1
+            (HasHeard D.honest D.story every old (bytes ++ byte ∷ []) before result.0 pen.new.held)
+            × OnErr result.1
+            (BreaksOffAt D.honest D.story every old (bytes ++ byte ∷ []) before result.0 pen.new.held) }
     {
         let Listener { session, mut held } = self;
         if byte != b'\n' {
@@ -107,9 +112,9 @@ impl<D: Disk> Listener<D> {
         requires waits { pen.old.waiting ≡ [] }
         requires able { (count : ℕ) × CanHear D.honest D.story count self × (count < 2 ^ 60) }
         ensures same { pen.new.name ≡ pen.old.name }
-        ensures outcome { (old : Story) (bytes : List ℕ) (before : Option (List ℕ))
-            → HasHeard D.honest D.story old bytes before self pen.old.held
-            → Finishes D.honest old (D.story result.0) bytes before pen.new.held result.1 }
+        ensures outcome { (every : Option ℕ) (old : Story) (bytes : List ℕ) (before : Option (List ℕ))
+            → HasHeard D.honest D.story every old bytes before self pen.old.held
+            → Finishes D.honest old (D.story result.0) every bytes before pen.new.held result.1 }
     {
         let Listener { session, held } = self;
         if held.is_empty() {
@@ -127,9 +132,9 @@ impl<D: Disk> Listener<D> {
         requires waits { pen.old.waiting ≡ [] }
         requires able { (count : ℕ) × CanHear D.honest D.story count self × (count < 2 ^ 60) }
         ensures same { pen.new.name ≡ pen.old.name }
-        ensures outcome { (old : Story) (bytes : List ℕ) (before : Option (List ℕ))
-            → HasHeard D.honest D.story old bytes before self pen.old.held
-            → Finishes D.honest old (D.story result.0) bytes before pen.new.held result.1 }
+        ensures outcome { (every : Option ℕ) (old : Story) (bytes : List ℕ) (before : Option (List ℕ))
+            → HasHeard D.honest D.story every old bytes before self pen.old.held
+            → Finishes D.honest old (D.story result.0) every bytes before pen.new.held result.1 }
         ensures broken { OnOk result.1 ⊥ }
     {
         let (disk, ended) = self.session.finish(pen);
@@ -141,9 +146,9 @@ impl<D: Disk> Listener<D> {
 
     /// The disk.
     pub fn into_disk(self) -> D
-        ensures { (old : Story) (bytes : List ℕ) (before after : Option (List ℕ))
-            → BreaksOffAt D.honest D.story old bytes before self after
-            → BrokenOff D.honest old (D.story result) bytes before after }
+        ensures { (every : Option ℕ) (old : Story) (bytes : List ℕ) (before after : Option (List ℕ))
+            → BreaksOffAt D.honest D.story every old bytes before self after
+            → BrokenOff D.honest old (D.story result) every bytes before after }
     {
         self.session.into_disk()
     }

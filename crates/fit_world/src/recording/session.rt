@@ -1,13 +1,13 @@
 // A recording that does what lines state, one after another.
 
-ghost use Rattle.std.specs.Prelude.{◌≡◌, ◌<◌, ◌≤◌, ◌+◌, ◌*◌, ◌^◌, ◌++◌, ◌∷◌, [], List, ℕ, Some, None, IfOk, IfErr, IfSome, IsSome, OnOk, length, false, ◌-◌};
+ghost use Rattle.std.specs.Prelude.{◌≡◌, ◌<◌, ◌≤◌, ◌+◌, ◌*◌, ◌^◌, ◌++◌, ◌∷◌, [], List, ℕ, Some, None, IfOk, IfErr, IfSome, IsSome, OnOk, length, false, ◌-◌, Option};
 ghost use Rattle.fit_disk.specs.Story.{Story};
 ghost use Rattle.fit_world.specs.declared.event.Event.{Event as AnEvent};
 ghost use Rattle.fit_world.specs.declared.reply.Reply.{Reply as AReply};
 ghost use Rattle.fit_world.specs.Printed.Shown.{IsOutputFault};
 ghost use Rattle.fit_world.specs.Rides.Ride.{CanGoOn, is_riding};
 ghost use Rattle.fit_world.specs.Rides.Played.{LeavesAfter};
-ghost use Rattle.fit_world.specs.Rides.Turns.{Turn, Asked, Faulty, Ended, count_of, refused_in, AnswersLine, IsByItself, IsEnd, IsLineFault, Prints, SoFar, commit_at, rides_after, events_in, replies_in};
+ghost use Rattle.fit_world.specs.Rides.Turns.{Turn, Asked, Faulty, Does, count_of, refused_in, TakesLine, Commits, CommitsUnlessCut, IsLineFault, Prints, SoFar, commit_at, is_due_after, rides_after, times_after, events_in, replies_in};
 ghost use Rattle.fit_world.specs.Scripts.Replayed.{IsReplayed, is_simulated};
 ghost use Rattle.fit_world.specs.Scripts.Script.{meaning_of};
 
@@ -43,7 +43,7 @@ impl<D: Disk> Session<D> {
         ensures goes_on { CanGoOn D.honest D.story result.ride }
         ensures none { result.line ≡ 0 }
         ensures refused { result.refused ≡ 0 }
-        ensures so_far { SoFar D.honest D.story (D.story disk) [] result }
+        ensures so_far { SoFar D.honest D.story every (D.story disk) [] result }
     {
         Session {
             ride: Ride::Idle(disk),
@@ -70,9 +70,11 @@ impl<D: Disk> Session<D> {
         ensures fault { IfErr result.1 IsOutputFault }
         ensures number { result.0.line ≡ self.line + 1 }
         ensures few { result.0.refused ≤ 2 * (self.line + 1) }
-        ensures outcome { (bytes : List ℕ) (old : Story) (turns : List Turn) → IfSome line.entry (λ line. line.now ≡ bytes)
-            → (line.entry ≡ None → 4096 < length bytes) → SoFar D.honest D.story old turns self
-            → (own : List Turn) × AnswersLine (self.line + 1) bytes own × SoFar D.honest D.story old (turns ++ own) result.0
+        ensures outcome { (bytes : List ℕ) (every : Option ℕ) (old : Story) (turns : List Turn)
+            → IfSome line.entry (λ line. line.now ≡ bytes) → (line.entry ≡ None → 4096 < length bytes)
+            → SoFar D.honest D.story every old turns self
+            → (own : List Turn) × TakesLine result.1 every (times_after [] turns) (self.line + 1) bytes own
+            × SoFar D.honest D.story every old (turns ++ own) result.0
             × Prints pen.old.held pen.new.held result.1 own }
     {
         let number = self.line + 1;
@@ -117,6 +119,7 @@ impl<D: Disk> Session<D> {
         requires waits { pen.old.waiting ≡ [] }
         requires room { self.refused < 2 ^ 62 }
         ensures ride { result.0.ride ≡ self.ride }
+        ensures clock { result.0.clock ≡ self.clock }
         ensures same { pen.new.name ≡ pen.old.name }
         ensures waits { OnOk result.1 (pen.new.waiting ≡ []) }
         ensures fault { IfErr result.1 IsOutputFault }
@@ -167,9 +170,12 @@ impl<D: Disk> Session<D> {
         ensures fault { IfErr result.1 IsOutputFault }
         ensures number { result.0.line ≡ self.line }
         ensures few { result.0.refused ≤ self.refused + 2 }
-        ensures ran { (old : Story) (turns : List Turn) → SoFar D.honest D.story old turns self
-            → (reply : AReply) × (more : List Turn) × IsByItself event.now.line more
-            × SoFar D.honest D.story old (turns ++ Asked event.now reply ∷ more) result.0
+        ensures ran { (every : Option ℕ) (old : Story) (turns : List Turn)
+            → SoFar D.honest D.story every old turns self
+            → (reply : AReply) × (more : List Turn)
+            × CommitsUnlessCut result.1 (is_due_after every (times_after [] turns) (Asked event.now reply))
+            event.now.line more
+            × SoFar D.honest D.story every old (turns ++ Asked event.now reply ∷ more) result.0
             × Prints pen.old.held pen.new.held result.1 (Asked event.now reply ∷ more) }
     {
         let (session, printed) = self.ask(event, pen);
@@ -199,8 +205,11 @@ impl<D: Disk> Session<D> {
         ensures fault { IfErr result.1 IsOutputFault }
         ensures number { result.0.line ≡ self.line }
         ensures few { result.0.refused ≤ self.refused + 1 }
-        ensures asked { (old : Story) (turns : List Turn) → SoFar D.honest D.story old turns self
-            → (reply : AReply) × SoFar D.honest D.story old (turns ++ Asked event.now reply ∷ []) result.0
+        ensures asked { (every : Option ℕ) (old : Story) (turns : List Turn)
+            → SoFar D.honest D.story every old turns self
+            → (reply : AReply)
+            × SoFar D.honest D.story every old (turns ++ Asked event.now reply ∷ []) result.0
+            × (result.0.clock.is_due ≡ is_due_after every (times_after [] turns) (Asked event.now reply))
             × Prints pen.old.held pen.new.held result.1 (Asked event.now reply ∷ []) }
     {
         let Session {
@@ -232,9 +241,10 @@ impl<D: Disk> Session<D> {
         requires few { self.refused ≤ 2 * self.line }
         ensures same { pen.new.name ≡ pen.old.name }
         ensures fault { IfErr result.1 IsOutputFault }
-        ensures ended { (old : Story) (turns : List Turn) → SoFar D.honest D.story old turns self
-            → (end : List Turn) × Ended D.honest old (D.story result.0) turns end
-            × IsEnd (rides_after false turns) (self.line + 1) end
+        ensures ended { (every : Option ℕ) (old : Story) (turns : List Turn)
+            → SoFar D.honest D.story every old turns self
+            → (end : List Turn) × Does D.honest old (D.story result.0) (turns ++ end)
+            × Commits (rides_after false turns) (self.line + 1) end
             × IfOk result.1 (λ refused. refused ≡ refused_in (turns ++ end))
             × Prints pen.old.held pen.new.held result.1 end }
     {
@@ -253,7 +263,8 @@ impl<D: Disk> Session<D> {
 
     /// The disk.
     pub fn into_disk(self) -> D
-        ensures { (old : Story) (turns : List Turn) → SoFar D.honest D.story old turns self
+        ensures { (every : Option ℕ) (old : Story) (turns : List Turn)
+            → SoFar D.honest D.story every old turns self
             → LeavesAfter D.honest old (D.story result) (events_in turns) (replies_in turns) }
     {
         self.ride.into_disk()

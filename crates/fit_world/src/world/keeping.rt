@@ -48,7 +48,7 @@ pub struct Replies {
 
 impl Keeper for Replies {
     ghost use Rattle.std.specs.Prelude.{map};
-    ghost use Rattle.fit_world.specs.Printed.Simulation.{reply_in};
+    ghost use Rattle.fit_world.specs.Rides.Standing.{reply_in};
 
     ghost WasReported = { λ replies outcomes. replies.kept.items ≡ map reply_in outcomes };
 

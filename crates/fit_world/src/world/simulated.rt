@@ -23,6 +23,7 @@ impl Ride<Memory> {
         ensures stands { (history : History) → StandsIn true memory_story self.old history
             → StandsIn true memory_story self.new history }
         ensures never_full { NeverFull memory_story self.old → NeverFull memory_story self.new }
+        ensures story { memory_story (disk_in self.new) ≡ memory_story (disk_in self.old) }
         ensures counts { memory_counts (disk_in self.new) ≡ memory_counts (disk_in self.old) }
         ensures schedule { memory_schedule (disk_in self.new)
             ≡ failing_at k (memory_counts (disk_in self.old)) (memory_schedule (disk_in self.old)) }
@@ -40,6 +41,7 @@ impl Ride<Memory> {
         ensures stands { (history : History) → StandsIn true memory_story self.old history
             → StandsIn true memory_story self.new history }
         ensures never_full { NeverFull memory_story self.old → NeverFull memory_story self.new }
+        ensures story { memory_story (disk_in self.new) ≡ memory_story (disk_in self.old) }
         ensures counts { memory_counts (disk_in self.new) ≡ memory_counts (disk_in self.old) }
         ensures schedule { memory_schedule (disk_in self.new)
             ≡ cut_off_at k (memory_counts (disk_in self.old)) (memory_schedule (disk_in self.old)) }

@@ -31,8 +31,8 @@ pub fn step(
         (memory_counts (disk_in result.0)) (memory_schedule (disk_in result.0)) }
     ensures taken { result.2 ≡ takes command.now choices.now (memory_story (disk_in ride)).now }
     ensures within { result.2 ≤ length choices.now }
-    ensures left { IsLeftBy command.now choices.now (memory_story (disk_in ride)).now
-        (memory_story (disk_in result.0)).now }
+    ensures left { IsLeftBy command.now choices.now result.1 (memory_story (disk_in ride))
+        (memory_story (disk_in result.0)) }
 {
     match command {
         Command::Fail(k) => {

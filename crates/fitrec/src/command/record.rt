@@ -23,9 +23,9 @@ pub fn record_folder<'a, O: Write>(
     out: &mut O,
 ) -> Result<(), Fault<'a>>
     ensures reported { IfErr result (IsRecordReported folder.entry) }
-    ensures done { OnOk result (RecordsLines (O.contents out.old) (O.contents out.new) 0) }
+    ensures done { OnOk result (RecordsLines every (O.contents out.old) (O.contents out.new) 0) }
     ensures refused { (count : ℕ) → result ≡ Err (Refused count)
-        → RecordsLines (O.contents out.old) (O.contents out.new) count }
+        → RecordsLines every (O.contents out.old) (O.contents out.new) count }
 {
     let mut from = rt.stdin();
     let (_, recorded) = record_files(rt, folder, Trusting, &mut from, every, out)?;
@@ -47,8 +47,8 @@ pub fn record_files<'a, W: Witness, T: Read, O: Write>(
     out: &mut O,
 ) -> Result<(W, Result<usize, ReportFault>), Fault<'a>>
     ensures recorded { IfOk result (λ done.
-        Records W.honest (W.story witness) (W.story done.0) (T.remaining from.old) (T.remaining from.new)
-        (O.contents out.old) (O.contents out.new) done.1) }
+        Records W.honest (W.story witness) (W.story done.0) every
+        (T.remaining from.old) (T.remaining from.new) (O.contents out.old) (O.contents out.new) done.1) }
     ensures reported { IfErr result
         (λ reported. (why : WhyNotOpen) × (reported ≡ fault_of_open folder.entry why)) }
     ensures quiet { IfErr result (λ _. O.contents out.new ≡ O.contents out.old) }

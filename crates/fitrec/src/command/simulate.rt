@@ -19,7 +19,7 @@ pub fn simulate_script<'a, R: Files + AllocGlobal, O: Write>(
     out: &mut O,
 ) -> Result<(), Fault<'a>>
     ensures { Reports name.entry (O.contents out.old) (O.contents out.new) (IsSimulateFault name.entry)
-        (Simulates (O.contents out.old) (O.contents out.new)) result }
+        (Simulates choices.now (O.contents out.old) (O.contents out.new)) result }
 {
     let bytes = read_file(rt, name)?;
     match simulate(rt.alloc(), bytes.as_slice(), choices, out) {

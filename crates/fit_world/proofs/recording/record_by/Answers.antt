@@ -15,7 +15,7 @@ pub loop-preserved : goal.loop-preserved
 loop-preserved g c =
     let known = c.loop.invariant.heard in
     let piece = take c.in-Ok.taken c.read_piece.new.piece in
-    let heard = rw c.in-Ok-outcome.is at c.take-next.ensures.heard (g.D.Disk.story c.args.disk) known.0 c.args.pen.now.held known.2 in
+    let heard = rw c.in-Ok-outcome.is at c.take-next.ensures.heard c.args.every (g.D.Disk.story c.args.disk) known.0 c.args.pen.now.held known.2 in
     record {
       waits = rw c.in-Ok-outcome.is at c.take-next.ensures.waits;
       same = c.take-next.ensures.same ∙ c.loop.invariant.same;
@@ -30,10 +30,10 @@ returns-in-Err-clause-outcome g c =
     let known = c.loop.invariant.heard in
     let piece = take c.in-Ok.taken c.read_piece.new.piece in
     let old = g.D.Disk.story c.args.disk in
-    let heard = rw c.in-Err.is at c.take-next.ensures.heard old known.0 c.args.pen.now.held known.2 in
-    let broken = c.into_disk.ensures old (known.0 ++ piece) c.args.pen.now.held c.take-next.new.pen.held heard.1 in (
+    let heard = rw c.in-Err.is at c.take-next.ensures.heard c.args.every old known.0 c.args.pen.now.held known.2 in
+    let broken = c.into_disk.ensures c.args.every old (known.0 ++ piece) c.args.pen.now.held c.take-next.new.pen.held heard.1 in (
       known.0 ++ piece,
       consumes_more _ _ _ _ _ known.1 c.in-Ok.ensures.bytes.0,
       tt,
-      broken_finishes g.D.Disk.honest old _ (known.0 ++ piece) c.args.pen.now.held _ c.in-Err.fault (rw c.in-Err.is at c.take-next.ensures.fault) broken,
+      broken_finishes g.D.Disk.honest old _ c.args.every (known.0 ++ piece) c.args.pen.now.held _ c.in-Err.fault (rw c.in-Err.is at c.take-next.ensures.fault) broken,
     )

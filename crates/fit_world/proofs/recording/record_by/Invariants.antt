@@ -9,5 +9,5 @@ invariant-loop g l = record {
   same : l.pen.name ≡ l.initial.pen.name;
   able : CanHear g.D.Disk.honest g.D.Disk.story (l.counter * 65536) l.listener;
   heard : (bytes : List ℕ) × Consumes (g.T.Read.remaining l.initial.from) (g.T.Read.remaining l.from) bytes
-      × HasHeard g.D.Disk.honest g.D.Disk.story (g.D.Disk.story l.fn.disk) bytes l.initial.pen.held l.listener l.pen.held;
+      × HasHeard g.D.Disk.honest g.D.Disk.story l.fn.every (g.D.Disk.story l.fn.disk) bytes l.initial.pen.held l.listener l.pen.held;
 }

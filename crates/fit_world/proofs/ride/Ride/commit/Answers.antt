@@ -7,6 +7,7 @@ use Rattle.fit_world.proofs.Reported.Replies.{answered_by, replies_of_call, done
 use Rattle.fit_recorder.proofs.Commit.Slots.{committed_turns}
 use Rattle.fit_world.proofs.Histories.NeverFull.{rides_on}
 use Rattle.fit_world.proofs.Histories.Riding.{commit_goes, never_full}
+use Rattle.fit_world.proofs.Histories.Left.{kept_if_refused}
 use Rattle.fit_world.proofs.ride.Ride.commit.Goals as goal
 
 pub returns-in-Riding-clause-replies : goal.returns-in-Riding-clause-replies
@@ -46,3 +47,8 @@ returns-in-Riding-clause-never_full g c honest before stands never =
 
 pub returns-in-Riding-clause-answered : goal.returns-in-Riding-clause-answered
 returns-in-Riding-clause-answered g c = rw c.in-Riding.is (answered_by _ _ _ _ c.commit.result c.commit.ensures.after c.into.result c.into.ensures)
+
+pub returns-in-Riding-clause-left : goal.returns-in-Riding-clause-left
+returns-in-Riding-clause-left g c honest =
+    rw c.in-Riding.is
+    (kept_if_refused g.D.Disk.story c.in-Riding.recorder c.commit.new.self c.commit.result c.into.result c.into.ensures c.commit.ensures.after.same)

@@ -4,6 +4,7 @@ use Rattle.fit_disk.specs.Story.{seen_of}
 use Rattle.fit_disk.specs.declared.disk.Which.TheVariants.{Data}
 use Rattle.fit_world.proofs.Histories.Idle.{erase_goes}
 use Rattle.fit_world.proofs.Histories.Riding.{idle_goes}
+use Rattle.fit_world.proofs.Reported.Replies.{done_of_call}
 use Rattle.fit_world.proofs.ride.Ride.erase.Goals as goal
 
 pub returns-clause-step : goal.returns-clause-step
@@ -22,3 +23,11 @@ returns-clause-never_full g c honest before stands never =
       not_full = λ is. erasing_not_full c.erase.result done.fault (sym c.into-reply.ensures ∙ is);
       never_full = erased_fills _ (g.met.D.Disk.sound c.into_disk-disk.result honest) (c.into_disk-disk.ensures.never_fills honest before stands never) _ (done.any_moment honest);
     }
+
+pub returns-clause-left : goal.returns-clause-left
+returns-clause-left g c honest =
+    let done = c.erase.ensures in
+    rw (← c.into_disk-disk.ensures.disk) (record {
+      empty = λ is. done_of_call c.erase.result c.into-reply.result _ c.into-reply.ensures (done.empty honest) is;
+      moments = done.any_moment honest;
+    })

@@ -6,6 +6,7 @@ use Rattle.fit_world.proofs.Reported.Replies.{answered_by, replies_of_call, done
 use Rattle.fit_recorder.proofs.Commit.Head.{rest_head, stands_rest}
 use Rattle.fit_world.proofs.Histories.NeverFull.{on_ok_of, rides_on}
 use Rattle.fit_world.proofs.Histories.Riding.{hand_goes}
+use Rattle.fit_world.proofs.Histories.Left.{kept_if_refused}
 use Rattle.fit_world.proofs.ride.Ride.hand.Goals as goal
 
 pub returns-in-Riding-clause-replies : goal.returns-in-Riding-clause-replies
@@ -46,3 +47,9 @@ returns-in-Riding-clause-never_full g c honest before stands never =
 
 pub returns-in-Riding-clause-answered : goal.returns-in-Riding-clause-answered
 returns-in-Riding-clause-answered g c = rw c.in-Riding.is (answered_by _ _ _ _ c.hand.result c.hand.ensures.after c.into.result c.into.ensures)
+
+pub returns-in-Riding-clause-left : goal.returns-in-Riding-clause-left
+returns-in-Riding-clause-left g c honest =
+    let done = c.hand.ensures in
+    rw c.in-Riding.is
+    (kept_if_refused g.D.Disk.story c.in-Riding.recorder c.hand.new.self c.hand.result c.into.result c.into.ensures done.after.same, λ _. done.journal.file honest)

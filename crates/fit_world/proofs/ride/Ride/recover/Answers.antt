@@ -26,3 +26,15 @@ returns-clause-never_full g c honest before stands never =
       not_full = λ is. recovery_not_full c.recover.result done.known_fault (sym c.into-reply.ensures ∙ is);
       never_full = recovered_fills _ (g.met.D.Disk.sound c.into_disk-disk.result honest) (c.into_disk-disk.ensures.never_fills honest before stands never) _ (done.journal honest) (done.any_moment honest);
     }
+
+pub returns-clause-left : goal.returns-clause-left
+returns-clause-left g c honest =
+    let done = c.recover.ensures in
+    rw (← c.into_disk-disk.ensures.disk) (record {
+      result = c.recover.result;
+      replied = c.into-reply.ensures;
+      answers = done.decides honest;
+      settled = done.settled honest;
+      moments = done.any_moment honest;
+      journal = done.journal honest;
+    })

@@ -36,3 +36,21 @@ returns-in-Err-clause-never_full g c honest before stands never =
       not_full = λ is. resume_not_full (g.D.Disk.story c.into_disk.result) sound fills c.in-Err.fault (refused.decides honest) is;
       never_full = recovered_fills (g.D.Disk.story c.into_disk.result) sound fills _ (refused.journal honest) (refused.any_moment honest);
     }
+
+pub returns-in-Ok-clause-left : goal.returns-in-Ok-clause-left
+returns-in-Ok-clause-left g c honest =
+    let resumed = c.in-Ok.ensures.decides honest in
+    rw (← c.into_disk.ensures.disk) (record {
+      reopens = record { list = resumed.list; stood = resumed.stood; running = resumed.running; cut = resumed.cut };
+      moments = c.in-Ok.ensures.any_moment honest;
+      journal = c.in-Ok.ensures.journal honest;
+    })
+
+pub returns-in-Err-clause-left : goal.returns-in-Err-clause-left
+returns-in-Err-clause-left g c honest =
+    let refused = c.in-Err.ensures in
+    rw (← c.into_disk.ensures.disk) (record {
+      reopens = (refused.decides honest, refused.settled honest);
+      moments = refused.any_moment honest;
+      journal = refused.journal honest;
+    })

@@ -3,6 +3,7 @@ use Rattle.fit_journal.specs.Turn.{slots_left}
 use Rattle.fit_world.proofs.Histories.NeverFull.{start_not_full}
 use Rattle.fit_world.proofs.Histories.Idle.{empty_there, start_goes}
 use Rattle.fit_world.proofs.Histories.Riding.{idle_goes, started_goes}
+use Rattle.fit_world.proofs.Histories.Left.{start_refused}
 use Rattle.fit_world.proofs.ride.Ride.start.Goals as goal
 
 pub returns-in-Ok-clause-step : goal.returns-in-Ok-clause-step
@@ -29,3 +30,14 @@ returns-in-Err-clause-never_full g c honest before stands never = record {
   not_full = λ is. start_not_full c.args.start c.in-Err.fault c.in-Err.ensures.answers is;
   never_full = c.in-Err.ensures.never_fills honest (c.into_disk.ensures.never_fills honest before stands never);
 }
+
+pub returns-in-Ok-clause-left : goal.returns-in-Ok-clause-left
+returns-in-Ok-clause-left g c honest =
+    let begun = c.in-Ok.ensures in rw (← c.into_disk.ensures.disk) (begun.empty honest, begun.any_moment honest)
+
+pub returns-in-Err-clause-left : goal.returns-in-Err-clause-left
+returns-in-Err-clause-left g c honest =
+    let refused = c.in-Err.ensures in
+    rw (← c.into_disk.ensures.disk)
+    (start_refused c.args.start _ _ c.in-Err.fault (λ refusal is. ap g.D.Disk.story (refused.handed_back.same refusal is))
+    (refused.handed_back.not_empty honest) (refused.any_moment honest))

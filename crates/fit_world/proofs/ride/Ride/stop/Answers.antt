@@ -4,6 +4,7 @@ use Rattle.fit_world.specs.declared.reply.Reply.TheVariants as replies
 use Rattle.fit_world.specs.Rides.Replies.{reply_of}
 use Rattle.fit_world.proofs.Histories.NeverFull.{on_err_of, rides_on, stopped_fills}
 use Rattle.fit_world.proofs.Histories.Riding.{stop_goes, stop_done}
+use Rattle.fit_world.proofs.Histories.Left.{kept_if_refused}
 use Rattle.fit_world.proofs.ride.Ride.stop.Goals as goal
 
 pub returns-in-Ok-clause-replies : goal.returns-in-Ok-clause-replies
@@ -41,3 +42,9 @@ returns-in-Err-clause-never_full g c honest before stands never =
     let done = c.stop.ensures in
     rides_on g.D.Disk.honest g.D.Disk.story honest c.in-Riding.recorder c.stop.new.self c.stop.result done.after (done.head honest) before here full
     (λ list result. StopAnswers list c.args.time result) done.answers (λ _ list none. none) (on_err_of _ c.stop.result c.in-Err.fault c.in-Err.is) (replies.Refused c.in-Err.fault) (sym (ap reply_of c.in-Err.is))
+
+pub returns-in-Err-clause-left : goal.returns-in-Err-clause-left
+returns-in-Err-clause-left g c honest = rw c.in-Riding.is (
+  kept_if_refused g.D.Disk.story c.in-Riding.recorder c.stop.new.self c.stop.result (replies.Refused c.in-Err.fault) (sym (ap reply_of c.in-Err.is)) c.stop.ensures.after.same,
+  λ none. absurd cc,
+)

@@ -17,13 +17,13 @@ returns-in-Err-clause-able g c = λ count can.
     (c.take_byte-next.ensures.able (count + i) (c.loop-byte.invariant.able count can)) (omega (arith, c.loop-byte-test.true))
 
 pub returns-in-Err-clause-heard : goal.returns-in-Err-clause-heard
-returns-in-Err-clause-heard g c = λ old bytes before known.
+returns-in-Err-clause-heard g c = λ every old bytes before known.
     let i = c.loop-byte.byte-index in
     let piece = c.args.piece.now in
     let heard = rw c.in-Err.is at
-    c.take_byte-next.ensures.heard old (bytes ++ take i piece) before (c.loop-byte.invariant.heard old bytes before known) in (
+    c.take_byte-next.ensures.heard every old (bytes ++ take i piece) before (c.loop-byte.invariant.heard every old bytes before known) in (
       tt,
-      breaks_more g.D.Disk.honest g.D.Disk.story old _ (drop (i + 1) piece) (bytes ++ piece) before _ c.take_byte-next.result.0 heard.1
+      breaks_more g.D.Disk.honest g.D.Disk.story every old _ (drop (i + 1) piece) (bytes ++ piece) before _ c.take_byte-next.result.0 heard.1
           (taken_all bytes piece i c.loop-byte-test.true),
     )
 
@@ -39,9 +39,9 @@ loop-byte-preserved g c =
       able = λ count can.
           can_more honest story (count + i + 1) (count + (i + 1)) c.take_byte-next.result.0
           (c.take_byte-next.ensures.able (count + i) (c.loop-byte.invariant.able count can)) (omega arith);
-      heard = λ old bytes before known.
+      heard = λ every old bytes before known.
           let heard = rw c.in-Ok.is at
-          c.take_byte-next.ensures.heard old (bytes ++ take i piece) before (c.loop-byte.invariant.heard old bytes before known) in
-          subst (λ (all : List ℕ). HasHeard honest story old all before c.take_byte-next.result.0 c.take_byte-next.new.pen.held)
+          c.take_byte-next.ensures.heard every old (bytes ++ take i piece) before (c.loop-byte.invariant.heard every old bytes before known) in
+          subst (λ (all : List ℕ). HasHeard honest story every old all before c.take_byte-next.result.0 c.take_byte-next.new.pen.held)
           (taken_more bytes piece i c.loop-byte-test.true) heard.0;
     }

@@ -11,6 +11,6 @@ invariant-loop-byte g l =
       waits : l.pen.waiting ≡ [];
       same : l.pen.name ≡ l.initial.pen.name;
       able : (count : ℕ) → CanHear honest story count l.initial.listener → CanHear honest story (count + l.byte-index) l.listener;
-      heard : (old : Story) (bytes : List ℕ) (before : Option (List ℕ)) → HasHeard honest story old bytes before l.initial.listener l.initial.pen.held →
-          HasHeard honest story old (bytes ++ take l.byte-index l.piece) before l.listener l.pen.held;
+      heard : (every : Option ℕ) (old : Story) (bytes : List ℕ) (before : Option (List ℕ)) → HasHeard honest story every old bytes before l.initial.listener l.initial.pen.held →
+          HasHeard honest story every old (bytes ++ take l.byte-index l.piece) before l.listener l.pen.held;
     }
