@@ -235,7 +235,7 @@ static uint8_t step_over_files(const char *word) {
 }
 
 static uint64_t size_of_data(void) {
-    return in_flash ? in_area.len : in_memory ? memory[0].len : (uint64_t)data_size(&files);
+    return in_flash ? in_area.len : in_memory ? memory[0].len : (uint64_t)file_size(&files, FITREC_DATA_FILE);
 }
 
 /* Fills the window that the recovery asks for. The rest of it gets any byte. */
@@ -272,6 +272,7 @@ static uint8_t recover_by_windows(void) {
     struct fitrec_recovery *it = &room.recovery;
     memset(it, 0, sizeof *it);
     it->data_size = size_of_data();
+    it->journal_size = in_flash ? in_area.journal_len : in_memory ? memory[1].len : (uint64_t)file_size(&files, FITREC_JOURNAL_FILE);
     uint8_t answer = fitrec_recover_begin(it, &room.plan);
     for (uint32_t most = 2; answer == FITREC_WANTS; most = 0) {
         for (uint32_t k = 0; k < room.plan.count; k++)

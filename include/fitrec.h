@@ -231,7 +231,8 @@ struct fitrec_recorder {
 
 /* A recovery that reads both files by windows. */
 struct fitrec_recovery {
-    uint64_t data_size;    /* the length of the data file in bytes; set it before fitrec_recover_begin */
+    uint64_t data_size;    /* the lengths of the data file and the journal in bytes; set them before fitrec_recover_begin */
+    uint64_t journal_size;
     uint64_t at;           /* what is asked for: count bytes of file from at on; fewer only where the file ends */
     uint8_t file;          /* 0: the data file, 1: the journal */
     uint8_t phase;         /* the library's own */
@@ -319,8 +320,8 @@ uint8_t fitrec_erase(const uint8_t *data, size_t data_size, const uint8_t *journ
 
 /* After a power cut, where the processor cannot address the files: a recovery that needs only a window of 512 bytes at a time.
 
-   The host sets the recovery to zeros and data_size to the length of the data file. It calls fitrec_recover_begin, and then fitrec_recover_on
-   again and again. After each call it carries out the plan, whole and in order. As long as the answer is FITREC_WANTS, it then reads the
+   The host sets the recovery to zeros, and data_size and journal_size to the lengths of the files. It calls fitrec_recover_begin, and then
+   fitrec_recover_on again and again. After each call it carries out the plan, whole and in order. As long as the answer is FITREC_WANTS, it then reads the
    window that is asked for, and calls on. Any other answer is the end, and that of fitrec_recover. The host keeps these rules too:
 
    - The recovery stays as it is between two calls, but for window and filled.

@@ -24,8 +24,8 @@ int open_files(struct files *files, const char *folder) {
     return -1;
 }
 
-int64_t data_size(const struct files *files) {
-    (void)files;
+int64_t file_size(const struct files *files, int file) {
+    (void)files, (void)file;
     return -1;
 }
 

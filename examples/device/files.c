@@ -23,9 +23,9 @@ int open_files(struct files *files, const char *folder) {
     return kept && files->of[0] >= 0 && files->of[1] >= 0 ? 0 : -1;
 }
 
-int64_t data_size(const struct files *files) {
+int64_t file_size(const struct files *files, int file) {
     struct stat found;
-    return fstat(files->of[FITREC_DATA_FILE], &found) ? -1 : (int64_t)found.st_size;
+    return fstat(files->of[file], &found) ? -1 : (int64_t)found.st_size;
 }
 
 static int write_all(int file, const uint8_t *bytes, size_t count, off_t at) {

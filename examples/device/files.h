@@ -12,8 +12,8 @@ struct files {
 /* Opens both files, and makes those that are missing. Answers 0, or -1 where one cannot be opened. */
 int open_files(struct files *files, const char *folder);
 
-/* The length of the data file, or -1. */
-int64_t data_size(const struct files *files);
+/* The length of one of the two files, or -1. */
+int64_t file_size(const struct files *files, int file);
 
 /* Carries out a plan. Answers 0, or -1 at the first call that fails. */
 int carry_out(const struct files *files, const struct fitrec_plan *plan);

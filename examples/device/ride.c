@@ -55,7 +55,8 @@ static uint8_t reopen(void) {
 /* Finishes the ride that the files hold. Only a window of them is in memory. */
 static uint8_t recover(void) {
     static struct fitrec_recovery recovery;
-    recovery.data_size = (uint64_t)data_size(&files);
+    recovery.data_size = (uint64_t)file_size(&files, FITREC_DATA_FILE);
+    recovery.journal_size = (uint64_t)file_size(&files, FITREC_JOURNAL_FILE);
     uint8_t answer = done(fitrec_recover_begin(&recovery, &plan));
     while (answer == FITREC_WANTS) {
         if (read_window(&files, &recovery))
@@ -66,7 +67,7 @@ static uint8_t recover(void) {
 }
 
 static uint8_t begin(uint32_t time) {
-    int64_t size = data_size(&files);
+    int64_t size = file_size(&files, FITREC_DATA_FILE);
     if (size > 0)
         return reopen();
     recorder.data_size = (uint64_t)size;
@@ -75,7 +76,7 @@ static uint8_t begin(uint32_t time) {
 
 int main(int count, char **words) {
     unsigned time = 0, heart_rate, distance, samples = 0;
-    if (count != 2 || open_files(&files, words[1]) || data_size(&files) < 0)
+    if (count != 2 || open_files(&files, words[1]) || file_size(&files, FITREC_DATA_FILE) < 0)
         give_up("give a folder that can be written", 0);
     for (; scanf("%u %u %u", &time, &heart_rate, &distance) == 3; samples++) {
         uint8_t answer = samples == 0 ? begin(time) : FITREC_OK;
