@@ -5,6 +5,7 @@ pub mod Standing
 pub mod Played
 pub mod NeverFull
 pub mod Left
+pub mod Goes
 pub mod Dues
 pub mod Turns
 pub mod Listening

@@ -1,6 +1,6 @@
 // Runs one command of any kind.
 
-ghost use Rattle.std.specs.Prelude.{◌≡◌, List, IsTrue, false};
+ghost use Rattle.std.specs.Prelude.{◌≡◌, IsTrue, false};
 
 use crate::command::Command;
 use crate::reply::Reply;
@@ -9,15 +9,11 @@ use fit_activity::Entry;
 use fit_disk::Disk;
 
 impl<D: Disk> Ride<D> {
-    ghost use Rattle.fit_activity.specs.Rides.Recording.{Recorded};
-    ghost use Rattle.fit_world.specs.declared.reply.Reply.TheVariants.{Done};
-    ghost use Rattle.fit_world.specs.Histories.Table.{History};
     ghost use Rattle.fit_world.specs.Scripts.Replayed.{is_simulated};
     ghost use Rattle.fit_world.specs.Rides.Replies.{MayReply, rides_on};
-    ghost use Rattle.fit_world.specs.Rides.Ride.{HasBegun, CanGoOn, Called, Handed, MayReplyAfter, RidesOnWith, disk_in, is_riding};
+    ghost use Rattle.fit_world.specs.Rides.Ride.{CanGoOn, Called, Rides, is_riding};
     ghost use Rattle.fit_world.specs.Rides.NeverFull.{StaysNeverFull};
-    ghost use Rattle.fit_world.specs.Rides.Standing.{GoesBy, StandsIn};
-    ghost use Rattle.fit_world.specs.Rides.Left.{LeftBy};
+    ghost use Rattle.fit_world.specs.Rides.Goes.{Goes};
 
     /// Runs a command, and returns the ride after it and the reply. The command may not be `Fail`, `Cut` or `Power`.
     pub fn ask(mut self, command: &Command) -> (Ride<D>, Reply)
@@ -26,15 +22,8 @@ impl<D: Disk> Ride<D> {
         ensures goes_on { CanGoOn D.honest D.story result.0 }
         ensures reply { MayReply (is_riding self) command.now result.1 }
         ensures riding { is_riding result.0 ≡ rides_on (is_riding self) command.now result.1 }
-        ensures after { (list : List Recorded) → Handed self list
-            → MayReplyAfter self list command.now result.1 }
-        ensures handed { (list : List Recorded) → Handed self list → result.1 ≡ Done
-            → RidesOnWith self list command.now result.0 }
-        ensures begun { result.1 ≡ Done → HasBegun command.now result.0 }
-        ensures step { IsTrue D.honest → (before : History) → StandsIn D.honest D.story self before
-            → GoesBy D.honest D.story before command.now result.1 result.0 }
-        ensures left { IsTrue D.honest
-            → LeftBy command.now result.1 (D.story (disk_in self)) (D.story (disk_in result.0)) }
+        ensures rides { Rides command.now result.1 self result.0 }
+        ensures goes { IsTrue D.honest → Goes D.honest D.story command.now result.1 self result.0 }
         ensures never_full { StaysNeverFull D.honest D.story self result.1 result.0 }
         ensures called { Called D.log result.1 self result.0 }
     {

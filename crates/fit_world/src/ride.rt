@@ -35,6 +35,7 @@ impl<D: Disk> Ride<D> {
     ghost use Rattle.fit_world.specs.Rides.Replies.{Replies, outlives_stop, RepliesStart, RepliesRecovery, RepliesReopening, RepliesErasing, is_ok};
     ghost use Rattle.fit_world.specs.Rides.Ride.{CanGoOn, Handed, Called, Answered, disk_in, is_riding, encoded_len, slots_of};
     ghost use Rattle.fit_world.specs.Rides.NeverFull.{NeverFull, StaysNeverFull};
+    ghost use Rattle.fit_world.specs.Rides.Goes.{Goes};
     ghost use Rattle.fit_world.specs.Rides.Standing.{StandsIn, GoesBy, Rests};
     ghost use Rattle.fit_world.specs.Rides.Left.{LeftBy};
     ghost use Rattle.fit_recorder.specs.Files.NeverFull.{NeverFills};
@@ -48,10 +49,7 @@ impl<D: Disk> Ride<D> {
         ensures not_empty { IsTrue D.honest → result.1 ≡ Refused NotEmpty
             → seen_of Data (D.story (disk_in self)) ≢ [] }
         ensures riding { is_riding result.0 ≡ is_ok result.1 }
-        ensures step { IsTrue D.honest → (before : History) → StandsIn D.honest D.story self before
-            → GoesBy D.honest D.story before (commands.Start start) result.1 result.0 }
-        ensures left { IsTrue D.honest
-            → LeftBy (commands.Start start) result.1 (D.story (disk_in self)) (D.story (disk_in result.0)) }
+        ensures goes { IsTrue D.honest → Goes D.honest D.story (commands.Start start) result.1 self result.0 }
         ensures never_full { StaysNeverFull D.honest D.story self result.1 result.0 }
         ensures called { Called D.log result.1 self result.0 }
     {
@@ -71,11 +69,7 @@ impl<D: Disk> Ride<D> {
             → Handed self.new (list ++ Added entry.now ∷ []) }
         ensures answered { Answered D.honest D.story result self.old self.new }
         ensures riding { is_riding self.new ≡ is_riding self.old }
-        ensures step { IsTrue D.honest → (before : History) → StandsIn D.honest D.story self.old before
-            → GoesBy D.honest D.story before (commands.Entry entry.now) result self.new }
-        ensures left { IsTrue D.honest
-            → LeftBy (commands.Entry entry.now) result
-            (D.story (disk_in self.old)) (D.story (disk_in self.new)) }
+        ensures goes { IsTrue D.honest → Goes D.honest D.story (commands.Entry entry.now) result self.old self.new }
         ensures never_full { StaysNeverFull D.honest D.story self.old result self.new }
         ensures called { Called D.log result self.old self.new }
     {
@@ -96,10 +90,7 @@ impl<D: Disk> Ride<D> {
             → slots_of self.new ≡ committed_slots (slots_of self.old) (encoded_len self.old) }
         ensures answered { Answered D.honest D.story result self.old self.new }
         ensures riding { is_riding self.new ≡ is_riding self.old }
-        ensures step { IsTrue D.honest → (before : History) → StandsIn D.honest D.story self.old before
-            → GoesBy D.honest D.story before commands.Commit result self.new }
-        ensures left { IsTrue D.honest
-            → LeftBy commands.Commit result (D.story (disk_in self.old)) (D.story (disk_in self.new)) }
+        ensures goes { IsTrue D.honest → Goes D.honest D.story commands.Commit result self.old self.new }
         ensures never_full { StaysNeverFull D.honest D.story self.old result self.new }
         ensures called { Called D.log result self.old self.new }
     {
@@ -118,11 +109,7 @@ impl<D: Disk> Ride<D> {
         ensures not_done { result.1 ≢ Done }
         ensures answered { Answered D.honest D.story result.1 self result.0 }
         ensures riding { is_riding result.0 ≡ outlives_stop (is_riding self) result.1 }
-        ensures step { IsTrue D.honest → (before : History) → StandsIn D.honest D.story self before
-            → GoesBy D.honest D.story before (commands.Entry (Stop time)) result.1 result.0 }
-        ensures left { IsTrue D.honest
-            → LeftBy (commands.Entry (Stop time)) result.1
-            (D.story (disk_in self)) (D.story (disk_in result.0)) }
+        ensures goes { IsTrue D.honest → Goes D.honest D.story (commands.Entry (Stop time)) result.1 self result.0 }
         ensures never_full { StaysNeverFull D.honest D.story self result.1 result.0 }
         ensures called { Called D.log result.1 self result.0 }
     {
@@ -151,10 +138,7 @@ impl<D: Disk> Ride<D> {
     pub fn recover(self) -> (Ride<D>, Reply)
         ensures replies { RepliesRecovery result.1 }
         ensures ended { is_riding result.0 ≡ false }
-        ensures step { IsTrue D.honest → (before : History) → StandsIn D.honest D.story self before
-            → GoesBy D.honest D.story before commands.Recover result.1 result.0 }
-        ensures left { IsTrue D.honest
-            → LeftBy commands.Recover result.1 (D.story (disk_in self)) (D.story (disk_in result.0)) }
+        ensures goes { IsTrue D.honest → Goes D.honest D.story commands.Recover result.1 self result.0 }
         ensures never_full { StaysNeverFull D.honest D.story self result.1 result.0 }
         ensures called { Called D.log result.1 self result.0 }
     {
@@ -171,10 +155,7 @@ impl<D: Disk> Ride<D> {
         ensures full { IsTrue D.honest → result.1 ≡ Refused JournalFull
             → HasNoRoom (seen_in (D.story (disk_in self)).now) }
         ensures riding { is_riding result.0 ≡ is_ok result.1 }
-        ensures step { IsTrue D.honest → (before : History) → StandsIn D.honest D.story self before
-            → GoesBy D.honest D.story before commands.Reopen result.1 result.0 }
-        ensures left { IsTrue D.honest
-            → LeftBy commands.Reopen result.1 (D.story (disk_in self)) (D.story (disk_in result.0)) }
+        ensures goes { IsTrue D.honest → Goes D.honest D.story commands.Reopen result.1 self result.0 }
         ensures never_full { StaysNeverFull D.honest D.story self result.1 result.0 }
         ensures called { Called D.log result.1 self result.0 }
     {
@@ -188,10 +169,7 @@ impl<D: Disk> Ride<D> {
     pub fn erase(self) -> (Ride<D>, Reply)
         ensures replies { RepliesErasing result.1 }
         ensures ended { is_riding result.0 ≡ false }
-        ensures step { IsTrue D.honest → (before : History) → StandsIn D.honest D.story self before
-            → GoesBy D.honest D.story before commands.Erase result.1 result.0 }
-        ensures left { IsTrue D.honest
-            → LeftBy commands.Erase result.1 (D.story (disk_in self)) (D.story (disk_in result.0)) }
+        ensures goes { IsTrue D.honest → Goes D.honest D.story commands.Erase result.1 self result.0 }
         ensures never_full { StaysNeverFull D.honest D.story self result.1 result.0 }
         ensures called { Called D.log result.1 self result.0 }
     {

@@ -11,7 +11,7 @@ use Rattle.fit_recorder.specs.Calls.Answers.{HandAnswers, CommitAnswers, StopAns
 use Rattle.fit_recorder.specs.Calls.Recorder.{GoesOn, WasHanded, disk_of, has_failed, data_len, journal_slots}
 use Rattle.fit_recorder.specs.declared.fault.RecFault.TheVariants.{Device, Failed}
 use Rattle.fit_world.specs.declared.reply.Reply.{Reply}
-use Rattle.fit_world.specs.declared.reply.Reply.TheVariants.{Refused, NoRecorder}
+use Rattle.fit_world.specs.declared.reply.Reply.TheVariants.{Done, Refused, NoRecorder}
 use Rattle.fit_world.specs.declared.command.Command.{Command}
 use Rattle.fit_world.specs.declared.command.Command.TheVariants as commands
 use Rattle.fit_world.specs.declared.ride.Ride.{Ride}
@@ -88,3 +88,9 @@ module _ {D : Type 0} where
   HasBegun (commands.Start start) next = Handed next (Started start ∷ []) × (slots_of next ≡ InTurns (Some (encoded_len next)) None)
   HasBegun commands.Reopen next = (list : List Recorded) × Handed next list
   HasBegun _ next = Unit {0}
+
+  -- what a command replies and leaves of the list that was handed in
+  pub record Rides (command : Command) (reply : Reply) (old new : Ride D) : Type 0 where
+    pub after : (list : List Recorded) → Handed old list → MayReplyAfter old list command reply
+    pub handed : (list : List Recorded) → Handed old list → reply ≡ Done → RidesOnWith old list command new
+    pub begun : reply ≡ Done → HasBegun command new

@@ -28,13 +28,18 @@ pub returns-in-Riding-clause-made : goal.returns-in-Riding-clause-made
 returns-in-Riding-clause-made g c done =
     rw c.in-Riding.is (done_of_call c.commit.result c.into.result _ c.into.ensures c.commit.ensures.slots done)
 
-pub returns-in-Riding-clause-step : goal.returns-in-Riding-clause-step
-returns-in-Riding-clause-step g c honest before stands =
-    let here = rw c.in-Riding.is at stands in
-    let done = c.commit.ensures in
-    rw c.into.ensures
-    (commit_goes g.D.Disk.honest g.D.Disk.story c.in-Riding.recorder c.commit.new.self c.commit.result done.after.same done.after.failed done.after.gone
-    done.answers (λ none. on_ok_weaker c.commit.result (λ slots. ap slots_left slots ∙ committed_turns _ _ none) done.slots) done.after.going done.ok (done.any_moment honest) before here)
+pub returns-in-Riding-clause-goes : goal.returns-in-Riding-clause-goes
+returns-in-Riding-clause-goes g c honest = record {
+  step = λ before stands.
+      let here = rw c.in-Riding.is at stands in
+      let done = c.commit.ensures in
+      rw c.into.ensures
+      (commit_goes g.D.Disk.honest g.D.Disk.story c.in-Riding.recorder c.commit.new.self c.commit.result done.after.same done.after.failed done.after.gone
+      done.answers (λ none. on_ok_weaker c.commit.result (λ slots. ap slots_left slots ∙ committed_turns _ _ none) done.slots) done.after.going done.ok (done.any_moment honest) before here);
+  left =
+      rw c.in-Riding.is
+      (kept_if_refused g.D.Disk.story c.in-Riding.recorder c.commit.new.self c.commit.result c.into.result c.into.ensures c.commit.ensures.after.same);
+}
 
 pub returns-in-Riding-clause-never_full : goal.returns-in-Riding-clause-never_full
 returns-in-Riding-clause-never_full g c honest before stands never =
@@ -47,8 +52,3 @@ returns-in-Riding-clause-never_full g c honest before stands never =
 
 pub returns-in-Riding-clause-answered : goal.returns-in-Riding-clause-answered
 returns-in-Riding-clause-answered g c = rw c.in-Riding.is (answered_by _ _ _ _ c.commit.result c.commit.ensures.after c.into.result c.into.ensures)
-
-pub returns-in-Riding-clause-left : goal.returns-in-Riding-clause-left
-returns-in-Riding-clause-left g c honest =
-    rw c.in-Riding.is
-    (kept_if_refused g.D.Disk.story c.in-Riding.recorder c.commit.new.self c.commit.result c.into.result c.into.ensures c.commit.ensures.after.same)

@@ -23,13 +23,19 @@ returns-in-Riding-clause-handed g c list handed done =
       done_of_call c.hand.result c.into.result _ c.into.ensures c.hand.ensures.after.going done,
     )
 
-pub returns-in-Riding-clause-step : goal.returns-in-Riding-clause-step
-returns-in-Riding-clause-step g c honest before stands =
-    let here = rw c.in-Riding.is at stands in
-    let done = c.hand.ensures in
-    rw c.into.ensures
-    (hand_goes g.D.Disk.honest g.D.Disk.story c.in-Riding.recorder c.hand.new.self c.hand.result done.after.same done.after.failed done.after.gone c.args.entry.now c.requires.no_stop done.journal.slots
-    done.answers done.after.going done.ok (done.any_moment honest) before here)
+pub returns-in-Riding-clause-goes : goal.returns-in-Riding-clause-goes
+returns-in-Riding-clause-goes g c honest = record {
+  step = λ before stands.
+      let here = rw c.in-Riding.is at stands in
+      let done = c.hand.ensures in
+      rw c.into.ensures
+      (hand_goes g.D.Disk.honest g.D.Disk.story c.in-Riding.recorder c.hand.new.self c.hand.result done.after.same done.after.failed done.after.gone c.args.entry.now c.requires.no_stop done.journal.slots
+      done.answers done.after.going done.ok (done.any_moment honest) before here);
+  left =
+      let done = c.hand.ensures in
+      rw c.in-Riding.is
+      (kept_if_refused g.D.Disk.story c.in-Riding.recorder c.hand.new.self c.hand.result c.into.result c.into.ensures done.after.same, λ _. done.journal.file honest);
+}
 
 pub returns-in-Riding-clause-called : goal.returns-in-Riding-clause-called
 returns-in-Riding-clause-called g c =
@@ -47,9 +53,3 @@ returns-in-Riding-clause-never_full g c honest before stands never =
 
 pub returns-in-Riding-clause-answered : goal.returns-in-Riding-clause-answered
 returns-in-Riding-clause-answered g c = rw c.in-Riding.is (answered_by _ _ _ _ c.hand.result c.hand.ensures.after c.into.result c.into.ensures)
-
-pub returns-in-Riding-clause-left : goal.returns-in-Riding-clause-left
-returns-in-Riding-clause-left g c honest =
-    let done = c.hand.ensures in
-    rw c.in-Riding.is
-    (kept_if_refused g.D.Disk.story c.in-Riding.recorder c.hand.new.self c.hand.result c.into.result c.into.ensures done.after.same, λ _. done.journal.file honest)

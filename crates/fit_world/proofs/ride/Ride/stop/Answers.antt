@@ -1,4 +1,4 @@
-use Rattle.std.proofs.Common.{ap, sym}
+use Rattle.std.proofs.Common.{rules, ap, sym}
 use Rattle.fit_recorder.specs.Calls.Answers.{StopAnswers}
 use Rattle.fit_world.specs.declared.reply.Reply.TheVariants as replies
 use Rattle.fit_world.specs.Rides.Replies.{reply_of}
@@ -12,19 +12,30 @@ returns-in-Ok-clause-replies g c list handed =
     let known = rw c.in-Riding.is at handed in
     c.in-Ok.ensures.answers list known.0 known.1
 
-pub returns-in-Ok-clause-step : goal.returns-in-Ok-clause-step
-returns-in-Ok-clause-step g c honest before stands =
-    let here = rw c.in-Riding.is at stands in
-    let stop = c.stop.ensures in
-    stop_done g.D.Disk.honest g.D.Disk.story c.in-Riding.recorder c.stop.new.self c.stop.result stop.after.same stop.after.failed stop.after.gone c.args.time stop.answers stop.ok (stop.finished honest) (stop.any_moment honest)
-    before c.into_disk.result tt c.in-Ok.is c.into_disk.ensures.disk here
+pub returns-in-Ok-clause-goes : goal.returns-in-Ok-clause-goes
+returns-in-Ok-clause-goes g c honest = record {
+  step = λ before stands.
+      let here = rw c.in-Riding.is at stands in
+      let stop = c.stop.ensures in
+      stop_done g.D.Disk.honest g.D.Disk.story c.in-Riding.recorder c.stop.new.self c.stop.result stop.after.same stop.after.failed stop.after.gone c.args.time stop.answers stop.ok (stop.finished honest) (stop.any_moment honest)
+      before c.into_disk.result tt c.in-Ok.is c.into_disk.ensures.disk here;
+  left =
+      search rules;
+}
 
-pub returns-in-Err-clause-step : goal.returns-in-Err-clause-step
-returns-in-Err-clause-step g c honest before stands =
-    let here = rw c.in-Riding.is at stands in
-    let stop = c.stop.ensures in
-    stop_goes g.D.Disk.honest g.D.Disk.story c.in-Riding.recorder c.stop.new.self c.stop.result stop.after.same stop.after.failed stop.after.gone c.args.time stop.answers stop.ok (stop.finished honest) (stop.any_moment honest)
-    before c.in-Err.fault c.in-Err.is here
+pub returns-in-Err-clause-goes : goal.returns-in-Err-clause-goes
+returns-in-Err-clause-goes g c honest = record {
+  step = λ before stands.
+      let here = rw c.in-Riding.is at stands in
+      let stop = c.stop.ensures in
+      stop_goes g.D.Disk.honest g.D.Disk.story c.in-Riding.recorder c.stop.new.self c.stop.result stop.after.same stop.after.failed stop.after.gone c.args.time stop.answers stop.ok (stop.finished honest) (stop.any_moment honest)
+      before c.in-Err.fault c.in-Err.is here;
+  left =
+      rw c.in-Riding.is (
+        kept_if_refused g.D.Disk.story c.in-Riding.recorder c.stop.new.self c.stop.result (replies.Refused c.in-Err.fault) (sym (ap reply_of c.in-Err.is)) c.stop.ensures.after.same,
+        λ none. absurd cc,
+      );
+}
 
 pub returns-in-Ok-clause-never_full : goal.returns-in-Ok-clause-never_full
 returns-in-Ok-clause-never_full g c honest before stands never =
@@ -42,9 +53,3 @@ returns-in-Err-clause-never_full g c honest before stands never =
     let done = c.stop.ensures in
     rides_on g.D.Disk.honest g.D.Disk.story honest c.in-Riding.recorder c.stop.new.self c.stop.result done.after (done.head honest) before here full
     (λ list result. StopAnswers list c.args.time result) done.answers (λ _ list none. none) (on_err_of _ c.stop.result c.in-Err.fault c.in-Err.is) (replies.Refused c.in-Err.fault) (sym (ap reply_of c.in-Err.is))
-
-pub returns-in-Err-clause-left : goal.returns-in-Err-clause-left
-returns-in-Err-clause-left g c honest = rw c.in-Riding.is (
-  kept_if_refused g.D.Disk.story c.in-Riding.recorder c.stop.new.self c.stop.result (replies.Refused c.in-Err.fault) (sym (ap reply_of c.in-Err.is)) c.stop.ensures.after.same,
-  λ none. absurd cc,
-)
