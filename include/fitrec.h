@@ -268,7 +268,7 @@ enum {
     FITREC_NOT_EMPTY = 1,    /* start: the data file has bytes */
     FITREC_FULL = 3,         /* the ride has its longest size; commit and stop still work */
     FITREC_JOURNAL_FULL = 4, /* never after fitrec_start */
-    FITREC_DEVICE = 5,       /* the plan had no room: never seen, and to be handled as a call that failed */
+    FITREC_DEVICE = 5,       /* the plan had no room (never seen), or a journal is too long for windows: handle it as a call that failed */
     FITREC_FAILED = 6,       /* an earlier step answered FITREC_DEVICE */
     /* 7 and 8, as of a repair: FITREC_NOTHING_RECORDED, FITREC_DAMAGED */
     FITREC_NO_RECORDER = 11, /* the handle is none of a recorder */

@@ -47,6 +47,8 @@ pub extern "C" fn fitrec_recover_on(recovery: &mut RecoveryHandle, plan: &mut De
 }
 
 // Finds in the journal how much is committed.
+// Not inlined, like the next: only one of them takes its stack.
+#[inline(never)]
 fn find_body(handle: &mut RecoveryHandle, plan: &mut DevicePlan) -> u8
     requires asks { IsRecovery handle.old }
     requires finds { handle.old.phase ≡ 1 }
@@ -71,6 +73,7 @@ fn find_body(handle: &mut RecoveryHandle, plan: &mut DevicePlan) -> u8
 }
 
 // Reads on in the body.
+#[inline(never)]
 fn read_body(handle: &mut RecoveryHandle, plan: &mut DevicePlan) -> u8
     requires asks { IsRecovery handle.old }
     requires reads { handle.old.phase ≡ 1 → ⊥ }
