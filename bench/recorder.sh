@@ -34,9 +34,9 @@ program, work = sys.argv[1:]
 rows = []
 for sample, name in (("nine", "nine fields"), ("one", "heart rate")):
     for before in (10_000, 100_000, 500_000):
-        rows.append(("hand, %s, behind %d" % (name, before), "hand", "write", sample, before, 200_000))
+        rows.append(("hand, %s, after %d" % (name, before), "hand", "write", sample, before, 200_000))
 for before in (10_000, 100_000, 500_000):
-    rows.append(("commit, behind %d" % before, "commit", "sync", "nine", before, 1000))
+    rows.append(("commit, after %d" % before, "commit", "sync", "nine", before, 1000))
 for sample, name in (("nine", "nine fields"), ("one", "heart rate")):
     for timed in (10_000, 200_000):
         rows.append(("recover, %s, of %d" % (name, timed), "recover", "read", sample, 0, timed))

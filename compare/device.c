@@ -52,7 +52,7 @@ static struct {
     struct fitrec_plan plan;
     uint8_t after[GUARD];
     struct fitrec_recovery recovery;
-    uint8_t behind[GUARD];
+    uint8_t end[GUARD];
 } room;
 
 static void fail(const char *why) {
@@ -187,7 +187,7 @@ static void carry_out_plan(void) {
 
 static void look_at_guards(void) {
     for (size_t at = 0; at < GUARD; at++)
-        if (room.before[at] != 0xA5 || room.between[at] != 0xA5 || room.after[at] != 0xA5 || room.behind[at] != 0xA5)
+        if (room.before[at] != 0xA5 || room.between[at] != 0xA5 || room.after[at] != 0xA5 || room.end[at] != 0xA5)
             fail("a byte outside was written");
 }
 

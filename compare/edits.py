@@ -7,14 +7,14 @@ import re
 
 def functions_of(text):
     """For each function its name, its first line, the line of its body's `{` and its last line. Relies on the layout of rt fmt."""
-    lines, found, behind = text.split("\n"), [], 0
+    lines, found, after = text.split("\n"), [], 0
     for first, line in enumerate(lines):
         head = re.match(r"( {0,4})(?:[\w()]+ )*fn (\w+)", line)
-        if head and first >= behind and f"{head[1]}}}" in lines[first:]:
-            behind = lines.index(f"{head[1]}}}", first)
-            opens = [i for i in range(first, behind) if lines[i] == f"{head[1]}{{"]
-            opens += [i for i in range(first, behind) if lines[i].endswith(" {")]
-            found.append((head[2], first, (opens or [first])[0], behind))
+        if head and first >= after and f"{head[1]}}}" in lines[first:]:
+            after = lines.index(f"{head[1]}}}", first)
+            opens = [i for i in range(first, after) if lines[i] == f"{head[1]}{{"]
+            opens += [i for i in range(first, after) if lines[i].endswith(" {")]
+            found.append((head[2], first, (opens or [first])[0], after))
     return found
 
 
@@ -29,8 +29,8 @@ class Edit:
         (self.file, new), = texts.items()
         old = pathlib.Path(folder, self.file).read_text(encoding="utf-8")
         start = len(os.path.commonprefix([old, new]))
-        behind = len(os.path.commonprefix([old[start:][::-1], new[start:][::-1]]))
-        self.span, self.new = (start, len(old) - behind), new[start:len(new) - behind]
+        after = len(os.path.commonprefix([old[start:][::-1], new[start:][::-1]]))
+        self.span, self.new = (start, len(old) - after), new[start:len(new) - after]
         first, last = (old.count("\n", 0, at) for at in self.span)
         for number, (name, _, opens, ends) in enumerate(functions_of(old)):
             if opens < first and last < ends:

@@ -6,7 +6,7 @@
      FAULTS_CALL     the kind of call that goes wrong: open, lock, sync, size, read, write, stream, cut, mode, move, remove, close,
                      look, memory or print; or peak, which reports at the end how many bytes of memory were held at most
      FAULTS_NUMBER   which one of that kind, from 1 on, or 0 for each
-     FAULTS_BEHIND   if it is 1, each call after that one too
+     FAULTS_AFTER   if it is 1, each call after that one too
      FAULTS_ERRNO    the call fails with this error, and nothing is done; or
      FAULTS_LIES     if it is 1, the call answers well and lies: a read has one bit changed, a size is one more, a write writes the
                      first half of its bytes, a cut cuts nothing, and a sync takes back what was done since the last one; or
@@ -31,7 +31,7 @@ enum { DESCRIPTORS = 1024, ABOVE_ALL_OTHERS = 200 };
 static const char *names[DESCRIPTORS];
 static struct stat folder;
 static const char *kind = "";
-static unsigned long number, behind, seen;
+static unsigned long number, after, seen;
 static int error, most = -1, kills, told = -1, lies, is_lie;
 
 static const char *said(const char *word, const char *otherwise) {
@@ -42,7 +42,7 @@ static const char *said(const char *word, const char *otherwise) {
 __attribute__((constructor)) static void begin(void) {
     kind = said("FAULTS_CALL", "");
     number = strtoul(said("FAULTS_NUMBER", "0"), NULL, 10);
-    behind = strtoul(said("FAULTS_BEHIND", "0"), NULL, 10);
+    after = strtoul(said("FAULTS_AFTER", "0"), NULL, 10);
     error = atoi(said("FAULTS_ERRNO", "0"));
     lies = atoi(said("FAULTS_LIES", "0"));
     most = atoi(said("FAULTS_MOST", "-1"));
@@ -98,7 +98,7 @@ static int goes_wrong(const char *call, const char *about, const char *numbers) 
     is_lie = 0;
     if (!about)
         return 0;
-    int wrong = !strcmp(call, kind) && (++seen == number || !number || (behind && seen > number));
+    int wrong = !strcmp(call, kind) && (++seen == number || !number || (after && seen > number));
     is_lie = wrong && lies;
     int length = snprintf(line, sizeof line, "%s %s%s%s\n", call, about, numbers, wrong && error ? " failed" : is_lie ? " lied" : "");
     syscall(SYS_write, told, line, length);

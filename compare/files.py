@@ -43,12 +43,12 @@ def definition(pick):
         if field in (253, 2, 4) and pick.random() < 0.7:
             base, size = 0x86, 4
         fields.append((field, size, base))
-    behind, size = developer_fields(pick, 0.003 < many < 0.01)
+    after, size = developer_fields(pick, 0.003 < many < 0.01)
     # reserved bits and bytes may have any value
-    first = 0x40 | local | pick.choice([0, 0, 0, 0x10]) | (0 if behind is None else 0x20)
+    first = 0x40 | local | pick.choice([0, 0, 0, 0x10]) | (0 if after is None else 0x20)
     head = bytes([first, pick.choice([0, 7]), big | pick.choice([0, 0, 0xFE])])
     number = message.to_bytes(2, "big" if big else "little")
-    spelled = head + number + bytes([len(fields)]) + b"".join(map(bytes, fields)) + (behind or b"")
+    spelled = head + number + bytes([len(fields)]) + b"".join(map(bytes, fields)) + (after or b"")
     return spelled, local, sum(f[1] for f in fields) + size
 
 

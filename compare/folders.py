@@ -84,16 +84,16 @@ def with_other_things(fitrec):
             yield "a link to a file: check", differs(run(fitrec, "check", linked / "activity.fit"), (0, TWO, ""))
 
 
-def with_much_behind_a_commit(fitrec):
+def with_much_after_a_commit(fitrec):
     """What comes after the last commit is cut off, however much it is."""
     with room() as (script, new):
         folder = new()
         script.write_text(script_of(3, 3) + script_of(403, 500).partition("sample 1000000002")[2].partition("\n")[2])
         run(fitrec, "replay", script, folder)
         line = (LINE % (3, 2000, 2000)).replace("cm=-", "cm=1400")
-        yield "much behind a commit: repaired", differs(run(fitrec, "repair", folder), (0, line, ""))
+        yield "much after a commit: repaired", differs(run(fitrec, "repair", folder), (0, line, ""))
         said = run(fitrec, "check", folder + "/activity.fit")
-        yield "much behind a commit: checked", differs(said, (0, line, ""))
+        yield "much after a commit: checked", differs(said, (0, line, ""))
 
 
 def without_a_name(fitrec):
@@ -222,7 +222,7 @@ def of_a_row_of_slots(fitrec):
 
 def check(fitrec):
     """Yields a name, and a difference or None, for each check."""
-    parts = [at_each_size, with_closed_streams, with_a_lock, with_other_things, with_much_behind_a_commit, without_a_name, of_other_users,
+    parts = [at_each_size, with_closed_streams, with_a_lock, with_other_things, with_much_after_a_commit, without_a_name, of_other_users,
              with_large_files, of_the_longest_body, of_a_row_of_slots]
     for part in parts:
         for name, difference in part(fitrec):

@@ -30,7 +30,7 @@ static void tell(int status, long memory, double time) {
 
 /* Ends with 1 if no further call is requested. */
 static void calls(int count, char **words, char **settings) {
-    struct rusage before, behind;
+    struct rusage before, after;
     char order;
     for (int call = 0; call < CALLS; call++) {
         if (read(ORDERS, &order, 1) != 1)
@@ -39,8 +39,8 @@ static void calls(int count, char **words, char **settings) {
         *is_running = 1;
         int status = program(count, words, settings);
         *is_running = 0;
-        getrusage(RUSAGE_SELF, &behind);
-        tell((status & 255) << 8, behind.ru_maxrss, busy(&behind) - busy(&before));
+        getrusage(RUSAGE_SELF, &after);
+        tell((status & 255) << 8, after.ru_maxrss, busy(&after) - busy(&before));
     }
     _exit(0);
 }

@@ -36,14 +36,14 @@ def line_of(second, lat, long, rate):
 def ride():
     """The lines of two replays of a ride, and the samples that are committed of it."""
     lines, samples, second = ["start %d 7 cycling" % START], [], START
-    for count, step, behind in ((100, 1, ["commit"]), (60, 1, ["lap"]), (40, 7, ["pause", "resume"]), (80, 1, ["commit"]), (20, 1, ["reopen"]),
+    for count, step, after in ((100, 1, ["commit"]), (60, 1, ["lap"]), (40, 7, ["pause", "resume"]), (80, 1, ["commit"]), (20, 1, ["reopen"]),
                                 (60, 1, ["lap"]), (60, 1, ["commit"])):
         part = [sample(len(samples) + at, second + step * at) for at in range(count)]
         lines += [line_of(*it) for it in part]
         # What comes before the reopening was not committed.
-        samples += part if behind != ["reopen"] else []
+        samples += part if after != ["reopen"] else []
         second += step * count
-        for word in behind:
+        for word in after:
             lines.append(word if word in ("commit", "reopen") else "%s %d" % (word, second))
             second += 45 if word in ("commit", "pause") else 0
     return lines, samples

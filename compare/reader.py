@@ -190,11 +190,11 @@ def messages(data, utc, value):
                 stated = number(content, big)
         if stated is not None and not compressed:
             before = stated
-        behind = []
+        after = []
         for field, length, index in developer:
-            behind.append((index, field, data[at:at + length]))
+            after.append((index, field, data[at:at + length]))
             at += length
-        found.append((message, shown, behind))
+        found.append((message, shown, after))
     wait(data, end + 2)
     if number(data[end:end + 2], False) != checksum(data[:end]):
         raise Refused("FileCrc at %d" % end)
@@ -255,9 +255,9 @@ def show_json(data, utc=False):
     for message, shown, developer in found:
         name, names = names_of(message)
         fields = [(names.get(field, "field_%d" % field), value) for field, value in shown]
-        behind = [[("index", index), ("number", field), ("bytes", hexadecimal(it) if it else "")] for index, field, it in developer]
+        after = [[("index", index), ("number", field), ("bytes", hexadecimal(it) if it else "")] for index, field, it in developer]
         place = len(lines) - 1
-        lines.append([("number", place), ("message", message), ("name", name), ("fields", fields), ("developer", behind)])
+        lines.append([("number", place), ("message", message), ("name", name), ("fields", fields), ("developer", after)])
     return lines + [[("messages", len(lines) - 1)]]
 
 
@@ -312,10 +312,10 @@ def plained(data):
         if own[0] & 0xC0 == 0x40:
             # developer fields that are announced and not present are not written
             fields = 6 + 3 * own[5]
-            behind = own[fields:] if len(own) > fields + 1 else b""
-            first = 0x40 | (0x20 if behind else 0) | own[0] & 15
+            after = own[fields:] if len(own) > fields + 1 else b""
+            first = 0x40 | (0x20 if after else 0) | own[0] & 15
             # the bytes of the definition, and whether the last one written has the time in front
-            kept[own[0] & 15] = bytes([first, 0, own[2] & 1]) + own[3:fields] + behind, False
+            kept[own[0] & 15] = bytes([first, 0, own[2] & 1]) + own[3:fields] + after, False
             out += kept[own[0] & 15][0]
         else:
             compressed = own[0] > 0x7F

@@ -97,7 +97,7 @@ def on_a_full_disk(fitrec):
         answers = out.splitlines()
         _, kept, handed = committed(answers)
         faults = [answer.split()[2] for answer in answers if not answer.endswith(" ok")]
-        yield "full disk: one call fails, and each behind it is refused", differs(
+        yield "full disk: one call fails, and each after it is refused", differs(
             (status, faults[0], set(faults[1:]), kept > 0), (1, "Device", {"Failed"}, True))
         run("mount", "-o", "remount,size=1m", folder)
         status, line, err = run(fitrec, "repair", folder)

@@ -30,9 +30,9 @@ def each(told, call, *words, new=None):
     whole = run(told.fitrec, *words, *([new()] if new else []))
     while is_made:
         number += 1
-        for behind in (0, 1):
+        for after in (0, 1):
             place = new and new()
-            said, log = told.run(*words, *([place] if place else []), call=call, number=number, errno=errno.ENOMEM, behind=behind)
+            said, log = told.run(*words, *([place] if place else []), call=call, number=number, errno=errno.ENOMEM, after=after)
             is_made = any(line.endswith(" failed") for line in log)
             is_asked_again = call == "memory" and is_made and not log[-1].endswith(" failed") and said == whole
             yield number if is_made and not is_asked_again else 0, said, place
@@ -121,7 +121,7 @@ def replays(told, text):
                 is_kept = not started or records and int(records[1]) >= kept
                 yield "a refused request", None if said[0] == 1 and said[2] == NO_MEMORY[2] and is_kept else said
                 yield "what was answered before", differs(whole[1].startswith(said[1]), True)
-    yield "refused at each line, and behind them", differs((are_lines(found, text), later > 0), (True, True))
+    yield "refused at each line, and after them", differs((are_lines(found, text), later > 0), (True, True))
 
 
 def simulations(told, text, choices=""):
@@ -139,7 +139,7 @@ def simulations(told, text, choices=""):
             found += [int(line[1])] if line else []
             others += bool(found) and not line
             yield "a refused request", differs(said, (1, "", said[2]) if line else NO_MEMORY)
-    yield "refused at each line, and behind them", differs((are_lines(found, text), others > 0), (True, True))
+    yield "refused at each line, and after them", differs((are_lines(found, text), others > 0), (True, True))
 
 
 def places_of_making(told, records, room_for):

@@ -22,7 +22,7 @@ fold_kept bytes more (call ∷ calls) story within =
     ap (λ (bytes' : List ℕ). fold (done_by (bytes ++ more)) (carried call.kind (which_of call.file) call.at bytes' story) calls) (bytes_kept bytes more call (within 0 call (omega arith)))
     ∙ fold_kept bytes more calls (done_by bytes story call) (λ k d low. within (suc k) d (omega (arith, low)))
 
--- the bytes of the new call stand behind those that were there
+-- the bytes of the new call stand after those that were there
 pub planned_more : (bytes more : List ℕ) (calls : List Call) (call : Call) (since : Story) → All (IsWithin (length bytes)) calls
     → call.start ≡ length bytes → call.count ≡ length more
     → fold (done_by (bytes ++ more)) since (calls ++ call ∷ []) ≡ carried call.kind (which_of call.file) call.at more (fold (done_by bytes) since calls)
