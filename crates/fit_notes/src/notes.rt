@@ -1,4 +1,4 @@
-// The story of two files, told by notes.
+// The story of two files, kept as notes.
 
 ghost use Rattle.std.specs.Prelude.{◌≡◌};
 ghost use Rattle.std.specs.Borrow.{ftrue};

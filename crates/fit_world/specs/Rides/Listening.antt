@@ -8,7 +8,7 @@ use Rattle.fit_world.specs.Rides.Turns.{Turn, AnswersLines, AnswersUpTo, CutShor
 use Rattle.fit_world.specs.Scripts.Heard.{IsHeld, heard_in}
 
 module _ {D : Type 0} (honest : Bool) (story : D → Story) where
-  -- it can go on, and was told at most so many lines
+  -- it can go on, and took at most so many lines
   pub record CanHear (count : ℕ) (listener : Listener D) : Type 0 where
     pub goes_on : CanGoOn honest story listener.session.ride
     pub lines : listener.session.line ≤ count

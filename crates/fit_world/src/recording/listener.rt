@@ -1,4 +1,4 @@
-// A session that is told bytes.
+// A session that is fed bytes.
 
 ghost use Rattle.std.specs.Prelude.{◌≡◌, ◌<◌, ◌≤◌, ◌+◌, ◌^◌, ◌++◌, ◌∷◌, [], List, ℕ, Option, IfErr, OnOk, OnErr, length};
 ghost use Rattle.fit_disk.specs.Story.{Story};

@@ -26,7 +26,7 @@ use fit_text::Pen;
 use std::alloc::Global;
 use std::io::Write;
 
-/// A ride, and how many lines it was told and how many answers were not ok.
+/// A ride, how many lines it took, and how many answers were not ok.
 #[derive(Drop)]
 pub struct Session<D: Disk> {
     pub ride: Ride<D>,

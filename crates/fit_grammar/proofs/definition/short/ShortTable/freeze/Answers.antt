@@ -12,7 +12,7 @@ loop-k-preserved c =
     let long = c.loop-k.invariant.0 in (
       search rules,
       ap (take (k + 1)) (map-set slot_in numbers k _)
-      ∙ next_filled (table_in numbers) c.self.inside.slots k _ _ c.loop-k.invariant.1 (omega (arith, long, length-map numbers slot_in, below))
+          ∙ next_filled (table_in numbers) c.self.inside.slots k _ _ c.loop-k.invariant.1 (omega (arith, long, length-map numbers slot_in, below))
           (omega (arith, c.self.invariant, below)) c.freeze_slot.ensures.slot,
       all_set IsPossible numbers k _ no_definition c.loop-k.invariant.2 (omega (arith, long, below)) c.freeze_slot.ensures.possible,
     )

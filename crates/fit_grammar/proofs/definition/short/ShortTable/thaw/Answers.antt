@@ -10,6 +10,6 @@ loop-k-preserved c =
     let below = c.loop-k-test.true in (
       search rules,
       next_filled c.loop-k.self-inside.slots (table_in numbers) c.loop-k.k _ _ c.loop-k.invariant.1
-      (omega (arith, c.loop-k.invariant.0, below)) (omega (arith, length-map numbers slot_in, c.told-numbers, below))
-      (c.if-not-thaw_slot.ensures.slot refl ∙ sym (get_or-map slot_in numbers c.loop-k.k no_definition None (omega (arith, c.told-numbers, below)))),
+          (omega (arith, c.loop-k.invariant.0, below)) (omega (arith, length-map numbers slot_in, c.told-numbers, below))
+          (c.if-not-thaw_slot.ensures.slot refl ∙ sym (get_or-map slot_in numbers c.loop-k.k no_definition None (omega (arith, c.told-numbers, below)))),
     )
