@@ -9,8 +9,8 @@
                                             that the ride is recovered, as line 0, and its files are put into the folder
      device random SEED                     steps with handles of random bytes, each of which is to be refused
 
-   A script is one of `fitrec replay`. Each answer is printed as that prints it. A ride is recovered over whole files or by windows, as SEED
-   picks it. After a power cut the folder gets what was left: of each byte that was written since the last sync of its file the old or the
+   A script is one of `fitrec replay`. Each answer is printed as that prints it. A ride is recovered, reopened or erased over whole files or
+   by windows, as SEED picks it, and by windows with the answer, the recorder and the calls that it has over whole files. After a power cut the folder gets what was left: of each byte that was written since the last sync of its file the old or the
    new one or any other, by SEED, and a length between the least and the greatest since. RULE is 0, or the number of a rule of the header
    that the host breaks:
 
@@ -257,18 +257,66 @@ static void fill_window(void) {
     }
 }
 
+/* Gives the window to the call of a line. */
+static uint8_t go_on(const char *word) {
+    if (!strcmp(word, "recover")) return fitrec_recover_on(&room.recovery, &room.plan);
+    if (!strcmp(word, "reopen")) return fitrec_reopen_on(&room.recovery, &room.recorder, &room.plan);
+    return fitrec_erase_on(&room.recovery, &room.plan);
+}
+
 /* A window of the data file that has too few bytes is asked for again. One of the journal is not tried: too few bytes would be its end. */
 static void give_too_few(void) {
-    struct fitrec_recovery before = room.recovery, *it = &room.recovery;
+    static struct fitrec_recovery before;
+    struct fitrec_recovery *it = &room.recovery;
+    before = *it;
     it->filled = (uint16_t)chance(it->filled);
-    uint8_t answer = fitrec_recover_on(it, &room.plan);
+    uint8_t answer = go_on(chance(2) ? "recover" : "reopen");
     if (answer != FITREC_WANTS || it->file != before.file || it->at != before.at || it->count != before.count || room.plan.count)
         fail("a window with too few bytes was believed");
     fill_window();
 }
 
-/* A recovery by windows. Its last plan is still to be carried out. */
-static uint8_t recover_by_windows(void) {
+/* An erasing is refused a window of the data file. */
+static void erase_too_late(void) {
+    static struct fitrec_recovery before;
+    before = room.recovery;
+    if (fitrec_erase_on(&room.recovery, &room.plan) != FITREC_NO_RECORDER || memcmp(&before, &room.recovery, sizeof before) || room.plan.count)
+        fail("an erasing took a window of the data file");
+}
+
+/* A recovery and a reopening may take turns: gives the window to the other one, unless that ends with it. */
+static int turn_over(const char *word, uint8_t *answer) {
+    static struct fitrec_recovery before;
+    static struct fitrec_recorder recorder;
+    before = room.recovery, recorder = room.recorder;
+    *answer = go_on(strcmp(word, "recover") ? "recover" : "reopen");
+    int is_taken = *answer == FITREC_WANTS;
+    if (!is_taken)
+        room.recovery = before, room.recorder = recorder;
+    return is_taken;
+}
+
+/* Over whole files the answer, the recorder and the calls are the same. A recovery and a reopening begin with two syncs more. */
+static void look_at_whole_files(const char *word, uint8_t answer) {
+    static struct fitrec_recorder recorder;
+    static struct fitrec_plan plan;
+    recorder = room.recorder, plan = room.plan;
+    memset(&room.recorder, 0, sizeof recorder);
+    uint8_t whole = step_over_files(word);
+    uint32_t more = strcmp(word, "erase") ? 2 : 0;
+    int is_same = whole == answer && room.plan.count == plan.count + more && room.plan.used == plan.used;
+    is_same = is_same && !memcmp(room.plan.bytes, plan.bytes, plan.used);
+    for (uint32_t k = 0; is_same && k < plan.count; k++) {
+        const struct fitrec_call *its = &room.plan.calls[k + more], *mine = &plan.calls[k];
+        is_same = its->at == mine->at && its->start == mine->start && its->count == mine->count && its->kind == mine->kind && its->file == mine->file;
+    }
+    if (!is_same || (!answer && memcmp(&room.recorder, &recorder, sizeof recorder)))
+        fail("another outcome by windows than over whole files");
+    room.recorder = recorder, room.plan = plan;
+}
+
+/* A recovery, a reopening or an erasing by windows. Its last plan is still to be carried out. */
+static uint8_t step_by_windows(const char *word) {
     struct fitrec_recovery *it = &room.recovery;
     memset(it, 0, sizeof *it);
     it->data_size = size_of_data();
@@ -282,8 +330,13 @@ static uint8_t recover_by_windows(void) {
         fill_window();
         if (it->file == FITREC_DATA_FILE && it->filled && chance(4) == 0)
             give_too_few();
-        answer = fitrec_recover_on(it, &room.plan);
+        if (it->file == FITREC_DATA_FILE && chance(4) == 0)
+            erase_too_late();
+        if (!strcmp(word, "erase") || chance(3) || !turn_over(word, &answer))
+            answer = go_on(word);
     }
+    if (rule == 0)
+        look_at_whole_files(word, answer);
     return answer;
 }
 
@@ -297,8 +350,7 @@ static uint8_t step(char *line, char word[16]) {
     sscanf(line, "%15s %llu %n", word, &time, &used);
     if (strstr("start recover reopen erase", word))
         memset(recorder, 0, sizeof *recorder);
-    if (!strcmp(word, "recover") && is_by_windows) return recover_by_windows();
-    if (strstr("recover reopen erase", word)) return step_over_files(word);
+    if (strstr("recover reopen erase", word)) return is_by_windows ? step_by_windows(word) : step_over_files(word);
     if (!strcmp(word, "start")) {
         sscanf(line, "%*s %*u %llu %15s", &serial, sport);
         recorder->data_size = size_of_data();
@@ -314,6 +366,38 @@ static uint8_t step(char *line, char word[16]) {
     return 0;
 }
 
+/* What the ride stands at by the lines that were accepted, and what of it is committed. */
+static struct fitrec_state stands, committed;
+static int is_begun;
+
+/* The state of the recorder after a line: that of all lines, or after a reopening that of the committed ones. */
+static void look_at_state(const char *line, const char *word, uint8_t answer) {
+    static const struct fitrec_state none = {1, 2, 3, 4, 5};
+    struct fitrec_state found = none;
+    unsigned time = 0;
+    const char *distance = strstr(line, "dist=");
+    sscanf(line, "%*s %u", &time);
+    is_begun |= !strcmp(word, "start");
+    if (answer || strstr("recover erase", word)) {
+        if (fitrec_state_of(&room.recorder, &found) == FITREC_NO_RECORDER && memcmp(&found, &none, sizeof none))
+            fail("a state of no recorder");
+        return;
+    }
+    if (!strcmp(word, "start")) stands = (struct fitrec_state){.running = 1};
+    if (!strcmp(word, "reopen")) stands = committed;
+    else if (strcmp(word, "commit")) stands.time = time;
+    if (distance) stands.distance = (uint32_t)strtoul(distance + 5, NULL, 10);
+    stands.laps += !strcmp(word, "lap");
+    if (!strcmp(word, "pause") || !strcmp(word, "resume")) stands.running = word[0] == 'r';
+    stands.stopped = !strcmp(word, "stop");
+    if (strstr("start commit", word)) committed = stands;
+    if (fitrec_state_of(&room.recorder, &found) != FITREC_OK)
+        fail("a recorder without a state");
+    found.running = stands.stopped ? stands.running : found.running;
+    if (is_begun && memcmp(&found, &stands, sizeof found))
+        fail("another state than that of the lines");
+}
+
 static void report(int number, const char *word, uint8_t answer) {
     static const char *faults[] = {"ok", "NotEmpty", "", "Full", "JournalFull", "Device", "Failed", "NothingRecorded", "Damaged", "", "", "NoRecorder"};
     static const char *refused[] = {"", "Time", "Distance", "Value", "TimerStopped", "TimerRunning", "TooLong", "TooManyLaps", "Stopped"};
@@ -326,13 +410,15 @@ static void report(int number, const char *word, uint8_t answer) {
 
 static void play(const char *script) {
     FILE *file = fopen(script, "r");
-    char line[512], word[16];
+    char line[512], whole[512], word[16];
     if (!file)
         fail("cannot read the script");
     for (int number = 1; fgets(line, sizeof line, file); number++) {
         if (line[0] == '#' || line[0] == '\n')
             continue;
+        strcpy(whole, line);
         uint8_t answer = step(line, word);
+        look_at_state(whole, word, answer);
         if (rule == 3)
             report(number, word, answer);
         carry_out_plan();
@@ -355,12 +441,15 @@ static void refuse_random_recovery(int has_marks) {
     /* Where the mark stands is the library's own. */
     for (size_t at = 0; has_marks && at < sizeof before; at += 4)
         if (chance(2))
-            memcpy(bytes + at, "fitr", 4);
+            memcpy(bytes + at, "fitw", 4);
     memcpy(before, bytes, sizeof before);
-    if (fitrec_recover_on(&room.recovery, &room.plan) != FITREC_NO_RECORDER)
-        fail("a recovery of random bytes was believed");
-    if (memcmp(before, bytes, sizeof before) || room.plan.count)
-        fail("a refused recovery was changed");
+    struct fitrec_recorder recorder = room.recorder;
+    for (const char *const *word = (const char *const[]){"recover", "reopen", "erase", NULL}; *word; word++) {
+        if (go_on(*word) != FITREC_NO_RECORDER)
+            fail("a recovery of random bytes was believed");
+        if (memcmp(before, bytes, sizeof before) || memcmp(&recorder, &room.recorder, sizeof recorder) || room.plan.count)
+            fail("a refused recovery was changed");
+    }
 }
 
 /* Handles of random bytes are refused by every step, and stay as they are. */

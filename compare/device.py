@@ -1,5 +1,5 @@
 """Compares rides that are recorded by the plans of fit_device (include/fitrec.h, examples/device) with those of the program, byte for byte,
-and recovers them over whole files or by windows; lets the power go inside each call of each plan; and shows what is lost where a host breaks
+and recovers, reopens and erases them over whole files or by windows; lets the power go inside each call of each plan; and shows what is lost where a host breaks
 a rule of the header. The C program is compiled with all warnings as errors, without and with sanitizers."""
 
 import contextlib
@@ -38,15 +38,21 @@ commit
 stop 1000000600
 """ % "\n".join("sample %d lat=%d long=%d hr=%d dist=%d" % (1000000010 + k, 566012345 + 1000 * k, 102345678 - 700 * k, 90 + k, 4000 * k)
                 for k in range(40))
-# A ride without its end, which is recovered again and again: over whole files and by windows, as the C program picks it.
+# A ride without its end, which is recovered, or reopened, again and again: over whole files and by windows, as the C program picks it.
 RECOVERED = RIDE[:RIDE.index("stop")] + "recover\n" * 8
+REOPENED = RIDE[:RIDE.index("stop")] + "".join("reopen\nsample %d hr=%d\ncommit\nsample %d\n" % (it, it % 200, it + 1)
+                                               for it in range(1000000700, 1000000780, 10)) + "stop 1000000900\n" + "reopen\n" * 4
+# Files that hold nothing, a start alone, and a ride are erased.
+ERASED = "erase\n" * 4 + "".join(more + "erase\nreopen\nrecover\nerase\n" for more in ["start 1000000000 7 running\n", *[RIDE] * 4]) + RIDE
 # What a recorder of 32 bits is built and run with, and the Debian package of each.
-MACHINE = {"wasm-opt": "binaryen", "wasm2c": "wabt", "arm-none-eabi-gcc": "gcc-arm-none-eabi (with libnewlib-arm-none-eabi)",
+MACHINE = {"wasm2c": "wabt", "arm-none-eabi-gcc": "gcc-arm-none-eabi (with libnewlib-arm-none-eabi)",
            "qemu-system-arm": "qemu-system-arm"}
 QEMU = ["qemu-system-arm", "-M", "mps2-an386", "-display", "none", "-monitor", "none", "-serial", "none", "-semihosting-config",
         "enable=on,target=native", "-kernel"]
-# The room for the module's stack, and the most bytes that rides take of it and of the machine's, the C library's printing included.
-STACK, MODULE_STACK, MACHINE_STACK = 65536 - 64, 16384, 8192
+# The room for the stack of the module in C; and the most bytes that rides take of the machine's stack, the C library's printing included,
+# and of the module's: with an object file, and in C.
+STACK = 65536 - 64
+OF_OBJECT, OF_C = (10752, 0), (8192, 10240)
 # What a host does that breaks a rule, by its number.
 BROKEN = {1: "a call is left out", 2: "the calls are made in another order", 3: "the answer comes before the calls",
           4: "the recording goes on after a failed call", 5: "a sync keeps nothing"}
@@ -87,9 +93,9 @@ def random_script(pick):
 
 
 def scripts(count, seed):
-    """So many rides: one with each kind of line, one that is recovered, and random ones."""
+    """So many rides: one with each kind of line, some that are recovered, reopened or erased, and random ones."""
     pick = random.Random(seed)
-    return [RIDE, RECOVERED, *(random_script(pick) for _ in range(count - 2))][:count]
+    return [RIDE, RECOVERED, REOPENED, ERASED, *(random_script(pick) for _ in range(count - 4))][:count]
 
 
 def of_rides(fitrec, program, count, seed):
@@ -142,17 +148,39 @@ def of_cuts(fitrec, program, calls, seed):
             yield "a rule is needed: " + name, None if seen else ("nothing was lost", rule)
 
 
-def machine_program(folder):
-    """compare/device.c for an emulated Cortex-M4, over the crate as C of 32 bits."""
-    made, program = folder + "/made", folder + "/device.elf"
+def of_erasings(fitrec, program, seed):
+    """The power goes inside each call of an erasing: the ride stays as it was, or is gone."""
+    with room() as (script, new):
+        later = pathlib.Path(str(script) + "-later")
+        script.write_text(RIDE[:RIDE.index("stop")])
+        later.write_text("erase\n")
+        ride = new()
+        run(program, "play", script, ride, seed)
+        want = run(fitrec, "repair", shutil.copytree(ride, ride + "-repaired"))
+        for call in range(11):
+            for times in range(8):
+                folder = shutil.copytree(ride, "%s-%d-%d" % (ride, call, times))
+                answers = run(program, "cut", later, folder, call, seed + 8 * call + times, 0)
+                done = run(fitrec, "repair", folder)
+                is_gone = done[2] == "fitrec: NothingRecorded\n"
+                is_right = answers[0] == 0 and (is_gone if "1 erase: ok\n" in answers[1] else is_gone or done == want)
+                yield "a power cut in an erasing", None if is_right else (call, answers, done)
+
+
+def machine_programs(folder):
+    """compare/device.c for an emulated Cortex-M4, over each form of the crate for 32 bits."""
+    made = folder + "/made"
     subprocess.run([ROOT / "device/build", made], check=True, capture_output=True)
-    sources = [made + "/fitrec_module.c", made + "/runtime.c", made + "/adapter.c", HERE / "device.c", ROOT / "examples/device/flash.c",
-               ROOT / "device/arm/start.c"]
-    words = ["-mcpu=cortex-m4", "-mthumb", "-Os", "-w", "-ffunction-sections", "-fdata-sections", "-DMOST=65536", "-DFITREC_STACK=%d" % STACK]
-    words += ["-include", "stdbool.h", "-include", "setjmp.h", "-I", made, "-I", ROOT / "include", *sources]
-    words += ["--specs=rdimon.specs", "-nostartfiles", "-Wl,--gc-sections", "-T", ROOT / "device/arm/link.ld", "-o", program]
-    subprocess.run(["arm-none-eabi-gcc", *words], check=True)
-    return program
+    module = [made + "/fitrec_module.c", made + "/runtime.c", made + "/adapter.c"]
+    forms = {"for a Cortex-M4": [made + "/fitrec-cortex-m4.o"], "for a Cortex-M0+": [made + "/fitrec-cortex-m0plus.o"],
+             "in C": module, "in C without bounds checks": ["-DFITREC_UNCHECKED", *module]}
+    for form, sources in forms.items():
+        program = "%s/%d.elf" % (folder, len(form))
+        words = ["-mcpu=cortex-m4", "-mthumb", "-Os", "-w", "-ffunction-sections", "-fdata-sections", "-DMOST=65536", "-DFITREC_STACK=%d" % STACK]
+        words += ["-include", "stdbool.h", "-include", "setjmp.h", "-I", made, "-I", ROOT / "include", *sources]
+        words += [HERE / "device.c", ROOT / "examples/device/flash.c", ROOT / "device/arm/start.c", "--specs=rdimon.specs", "-nostartfiles"]
+        subprocess.run(["arm-none-eabi-gcc", *words, "-Wl,--gc-sections", "-T", ROOT / "device/arm/link.ld", "-o", program], check=True)
+        yield form, program
 
 
 def of_32_bits(fitrec, count, seed):
@@ -161,18 +189,19 @@ def of_32_bits(fitrec, count, seed):
         if not shutil.which(word):
             print("skipped: a recorder of 32 bits, since there is no %s here; it is in Debian's package %s" % (word, package))
             return
-    most = [0, 0]
     with tempfile.TemporaryDirectory() as folder, room() as (script, new):
-        program = machine_program(folder)
-        for text in scripts(count, seed):
-            script.write_text(text)
-            mine, its = new(), new()
-            shutil.copy(script, mine + "/script.txt")
-            found, want = run(*QEMU, program, cwd=mine, stdin=subprocess.DEVNULL), run(fitrec, "replay", script, its)
-            answers = re.sub(r"ok records.*", "ok", want[1])
-            yield "a ride by 32 bits", differs((found[1], holds(mine)), (answers, holds(its)))
-            most = [max(pair) for pair in zip(most, map(int, re.findall(r"\d+", found[2] or "0 0")))]
-    yield "the stacks of 32 bits", None if 0 < most[0] <= MACHINE_STACK and 0 < most[1] <= MODULE_STACK else most
+        for form, program in machine_programs(folder):
+            most = [0, 0]
+            for text in scripts(count, seed):
+                script.write_text(text)
+                mine, its = new(), new()
+                shutil.copy(script, mine + "/script.txt")
+                found, want = run(*QEMU, program, cwd=mine, stdin=subprocess.DEVNULL), run(fitrec, "replay", script, its)
+                answers = re.sub(r"ok records.*", "ok", want[1])
+                yield "a ride by 32 bits, " + form, differs((found[1], holds(mine)), (answers, holds(its)))
+                most = [max(pair) for pair in zip(most, map(int, re.findall(r"\d+", found[2] or "0 0")))]
+            allowed = OF_C if form.startswith("in C") else OF_OBJECT
+            yield "the stacks of 32 bits, " + form, None if 0 < most[0] <= allowed[0] and most[1] <= allowed[1] else most
 
 
 def of_flash(fitrec, program, calls, seed):
@@ -216,6 +245,32 @@ def of_host(fitrec, archive):
             found = re.match(r"ok records=(\d+) ", run(fitrec, "check", ride + "/activity.fit")[1])
             kept = 30 - most + most // 10 * 10
             yield "the host of examples/device", None if done[0] == 0 and found and kept <= int(found[1]) <= 30 else (most, done, found)
+            gone = run(program, "--erase", ride)
+            yield "the host of examples/device erases", differs((gone, run(fitrec, "repair", ride)[2], bytes_of(pathlib.Path(ride, "activity.fit"))),
+                                                                ((0, "", ""), "fitrec: NothingRecorded\n", b""))
+        yield from of_cut_off_starts(fitrec, program, lines)
+
+
+def of_cut_off_starts(fitrec, program, lines):
+    """Without a length that counts, the host begins where only a start can have been cut off, and else leaves the files."""
+    with room() as (script, new):
+        script.write_text(RIDE[:RIDE.index("stop")])
+        old = new()
+        run(fitrec, "replay", script, old)
+        front = bytes_of(pathlib.Path(old, "activity.fit"))
+        for size in (1, 14, 86, 87, 200):
+            ride = pathlib.Path(new())
+            files = {"activity.fit": front[:size], "activity.frj": b""}
+            for name, data in files.items():
+                (ride / name).write_bytes(data)
+            done = run(program, ride, input="".join(lines))
+            if size <= 86:
+                found = re.match(r"ok records=(\d+) ", run(fitrec, "check", ride / "activity.fit")[1])
+                is_right = done[0] == 0 and found and int(found[1]) == len(lines)
+                yield "the host of examples/device begins after a start that was cut off", None if is_right else (size, done, found)
+            else:
+                yield "the host of examples/device leaves other files", differs(
+                    (done, {name: bytes_of(ride / name) for name in files}), ((1, "", "ride: no ride can begin here (7)\n"), files))
 
 
 def names_of(archive):
@@ -236,6 +291,7 @@ def check(fitrec, count, seed):
             yield from of_rides(fitrec, made["as it is"], count, seed)
             yield from of_rides(fitrec, made["under sanitizers"], count // 20 + 1, seed)
             yield from of_cuts(fitrec, made["as it is"], 60, seed)
+            yield from of_erasings(fitrec, made["as it is"], seed)
             yield from of_flash(fitrec, made["as it is"], 150, seed)
             yield from of_flash(fitrec, made["under sanitizers"], 20, seed)
             yield from of_host(fitrec, archive.name)

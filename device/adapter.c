@@ -11,19 +11,21 @@
 static Z_fitrec_instance_t module;
 static uint8_t is_ready;
 
-/* Where the arguments lie in the module's memory: after its data. A recorder and a recovery are never lent at the same time. */
+/* Where the arguments lie in the module's memory: after its data. A sample and a recovery are never lent at the same time. */
 static uint32_t recorder_at(void) {
     return ((uint32_t)module.w2c___heap_base + 15) & ~15u;
 }
 
 static uint32_t plan_at(void) {
-    return recorder_at() + (uint32_t)sizeof(struct fitrec_recovery);
+    return recorder_at() + (uint32_t)sizeof(struct fitrec_recorder);
 }
-
-_Static_assert(sizeof(struct fitrec_recovery) >= sizeof(struct fitrec_recorder), "the plan comes after the larger of the two");
 
 static uint32_t sample_at(void) {
     return plan_at() + (uint32_t)sizeof(struct fitrec_plan);
+}
+
+static uint32_t recovery_at(void) {
+    return sample_at();
 }
 
 static void lend(uint32_t at, const void *from, size_t count) {
@@ -44,7 +46,7 @@ static void begin(const struct fitrec_recorder *recorder) {
 }
 
 /* A file is read where it lies, so it is outside the memory that the bounds checks know. */
-static uint64_t file_at(const uint8_t *bytes) {
+static uint32_t file_at(const uint8_t *bytes) {
     return (uint32_t)((uintptr_t)bytes - (uintptr_t)module.w2c_memory.data);
 }
 
@@ -54,12 +56,12 @@ static uint8_t end(struct fitrec_recorder *recorder, struct fitrec_plan *plan, u
     return (uint8_t)answer;
 }
 
-/* For a step of a recovery by windows, which lies where a recorder does. */
-static uint8_t by_windows(uint32_t (*step)(Z_fitrec_instance_t *, u64, u64), struct fitrec_recovery *recovery, struct fitrec_plan *plan) {
+/* For a step by windows. */
+static uint8_t by_windows(uint32_t (*step)(Z_fitrec_instance_t *, u32, u32), struct fitrec_recovery *recovery, struct fitrec_plan *plan) {
     make_ready();
-    lend(recorder_at(), recovery, sizeof *recovery);
-    uint32_t answer = step(&module, recorder_at(), plan_at());
-    memcpy(recovery, module.w2c_memory.data + recorder_at(), sizeof *recovery);
+    lend(recovery_at(), recovery, sizeof *recovery);
+    uint32_t answer = step(&module, recovery_at(), plan_at());
+    memcpy(recovery, module.w2c_memory.data + recovery_at(), sizeof *recovery);
     memcpy(plan, module.w2c_memory.data + plan_at(), sizeof *plan);
     return (uint8_t)answer;
 }
@@ -100,6 +102,14 @@ uint8_t fitrec_stop(struct fitrec_recorder *recorder, uint32_t time, struct fitr
     return end(recorder, plan, Z_fitrecZ_fitrec_stop(&module, recorder_at(), time, plan_at()));
 }
 
+uint8_t fitrec_state_of(const struct fitrec_recorder *recorder, struct fitrec_state *state) {
+    begin(recorder);
+    lend(sample_at(), state, sizeof *state);
+    uint32_t answer = Z_fitrecZ_fitrec_state_of(&module, recorder_at(), sample_at());
+    memcpy(state, module.w2c_memory.data + sample_at(), sizeof *state);
+    return (uint8_t)answer;
+}
+
 uint8_t fitrec_recover_begin(struct fitrec_recovery *recovery, struct fitrec_plan *plan) {
     return by_windows(Z_fitrecZ_fitrec_recover_begin, recovery, plan);
 }
@@ -108,11 +118,24 @@ uint8_t fitrec_recover_on(struct fitrec_recovery *recovery, struct fitrec_plan *
     return by_windows(Z_fitrecZ_fitrec_recover_on, recovery, plan);
 }
 
+uint8_t fitrec_erase_on(struct fitrec_recovery *recovery, struct fitrec_plan *plan) {
+    return by_windows(Z_fitrecZ_fitrec_erase_on, recovery, plan);
+}
+
+static uint32_t reopen_on(Z_fitrec_instance_t *instance, u32 recovery, u32 plan) {
+    return Z_fitrecZ_fitrec_reopen_on(instance, recovery, recorder_at(), plan);
+}
+
+uint8_t fitrec_reopen_on(struct fitrec_recovery *recovery, struct fitrec_recorder *recorder, struct fitrec_plan *plan) {
+    begin(recorder);
+    return end(recorder, plan, by_windows(reopen_on, recovery, plan));
+}
+
 /* For a step that reads the files, all addresses are within the bounds. */
-static uint8_t over_files(uint32_t (*step)(Z_fitrec_instance_t *, u64, u64, u64, u64, u64), const uint8_t *data, size_t data_size,
+static uint8_t over_files(uint32_t (*step)(Z_fitrec_instance_t *, u32, u32, u32, u32, u32), const uint8_t *data, size_t data_size,
                           const uint8_t *journal, size_t journal_size, struct fitrec_plan *plan) {
     make_ready();
-    uint64_t size = module.w2c_memory.size;
+    uint32_t size = module.w2c_memory.size;
     module.w2c_memory.size = UINT32_MAX;
     uint32_t answer = step(&module, file_at(data), data_size, file_at(journal), journal_size, plan_at());
     module.w2c_memory.size = size;
@@ -130,7 +153,7 @@ uint8_t fitrec_erase(const uint8_t *data, size_t data_size, const uint8_t *journ
 
 static struct fitrec_recorder *reopened;
 
-static uint32_t reopen(Z_fitrec_instance_t *instance, u64 data, u64 data_size, u64 journal, u64 journal_size, u64 plan) {
+static uint32_t reopen(Z_fitrec_instance_t *instance, u32 data, u32 data_size, u32 journal, u32 journal_size, u32 plan) {
     lend(recorder_at(), reopened, sizeof *reopened);
     uint32_t answer = Z_fitrecZ_fitrec_reopen(instance, recorder_at(), data, data_size, journal, journal_size, plan);
     memcpy(reopened, module.w2c_memory.data + recorder_at(), sizeof *reopened);

@@ -3,10 +3,10 @@
 #include "wasm-rt.h"
 
 #ifndef FITREC_STACK
-#define FITREC_STACK 16384 /* how much of the module's own stack there is room for */
+#define FITREC_STACK 10240 /* how much of the module's own stack there is room for */
 #endif
 #ifndef FITREC_TABLES
-#define FITREC_TABLES 5120 /* the module's data, and what is lent to a call */
+#define FITREC_TABLES 6400 /* the module's data, and what is lent to a call */
 #endif
 
 /* The module's stack ends where its data begins. What is below the stack has no memory. */

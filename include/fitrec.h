@@ -193,12 +193,18 @@ uint8_t fitrec_show(const uint8_t *bytes, size_t size, bool utc, uint8_t *out, s
      with fitrec_recover.
    - Both files keep their names, and nobody else writes them.
    - It changes nothing in the handle but data_size, and that only before a start.
+   - After a reset that is no sleep (power, watchdog, brown-out) it drops the handle, and reopens or recovers the ride: the handle may be
+     ahead of the files. A copy of a handle counts only if it is the latest one and its plan was carried out whole.
 
    A handle may lie in memory that is kept while the device sleeps. If the memory was lost, or holds anything else, the mark and the check
-   code do not fit, and every step answers FITREC_NO_RECORDER. */
+   code do not fit, and every step answers FITREC_NO_RECORDER: then the host reopens the ride. They do not show that a copy is old. */
 
 #define FITREC_MOST_CALLS 12
-#define FITREC_MOST_BYTES 1024
+#define FITREC_MOST_BYTES 896
+
+/* The most bytes of a data file in which only a start was begun. If it has no more, and the answer is FITREC_NOTHING_RECORDED, nothing is
+   lost: erase it, and start. */
+#define FITREC_LONGEST_START 86
 
 /* The two files. */
 enum { FITREC_DATA_FILE = 0, FITREC_JOURNAL_FILE = 1 };
@@ -229,7 +235,7 @@ struct fitrec_recorder {
     uint64_t numbers[187];
 };
 
-/* A recovery that reads both files by windows. */
+/* A recovery, a reopening or an erasing that reads the files by windows. */
 struct fitrec_recovery {
     uint64_t data_size;    /* the lengths of the data file and the journal in bytes; set them before fitrec_recover_begin */
     uint64_t journal_size;
@@ -239,10 +245,11 @@ struct fitrec_recovery {
     uint16_t count;
     uint16_t filled;       /* how many bytes you read into the window */
     uint8_t window[512];
-    uint64_t numbers[222]; /* the library's own */
+    uint64_t numbers[224]; /* the library's own */
 };
 
-/* The values of the sensors at one time. A sensor without a value has the greatest number of its type, such as UINT16_MAX. */
+/* The values of the sensors at one time. A sensor without a value has the greatest number of its type, such as UINT16_MAX. A device gives
+   speed or enhanced_speed, and altitude or enhanced_altitude, whichever it measures. */
 struct fitrec_sample {
     uint32_t time;              /* seconds since 1989-12-31 00:00 UTC */
     int32_t lat;                /* semicircles: 2^31 of them are 180 degrees */
@@ -262,30 +269,40 @@ struct fitrec_sample {
 #define FITREC_NO_VALUES(time) \
     { (time), INT32_MAX, INT32_MAX, UINT32_MAX, UINT32_MAX, UINT32_MAX, UINT16_MAX, UINT16_MAX, UINT16_MAX, UINT8_MAX, UINT8_MAX, INT8_MAX }
 
-/* Answers of a step. After every other answer than 0 and FITREC_DEVICE the plan has no calls that change what the files hold. */
+/* Where a ride stands: what the next entry has to follow. */
+struct fitrec_state {
+    uint32_t time;     /* of the last entry, in seconds since 1989-12-31 00:00 UTC: no later entry is before it */
+    uint32_t distance; /* the last distance in centimetres since the start, or 0: no later one is below it */
+    uint16_t laps;     /* how many laps were handed */
+    uint8_t running;   /* 1 while the timer runs, 0 after a pause */
+    uint8_t stopped;   /* 1 after the stop */
+};
+
+/* Answers of a step. After every answer but FITREC_OK the plan has no calls that change what the files hold, and the recorder is as it was;
+   but fitrec_start and fitrec_reopen then leave no recorder in the handle, unless the answer is FITREC_NO_SPORT. A plan has room for all
+   calls of a step, so none fails for want of it. docs/EMBEDDING.md says what to do after each. */
 enum {
     FITREC_OK = 0,
     FITREC_NOT_EMPTY = 1,    /* start: the data file has bytes */
     FITREC_FULL = 3,         /* the ride has its longest size; commit and stop still work */
-    FITREC_JOURNAL_FULL = 4, /* never after fitrec_start */
-    FITREC_DEVICE = 5,       /* the plan had no room (never seen), or a journal is too long for windows: handle it as a call that failed */
-    FITREC_FAILED = 6,       /* an earlier step answered FITREC_DEVICE */
+    FITREC_JOURNAL_FULL = 4, /* only in a ride of an older recorder; never in one that fitrec_start began, reopened or not */
+    FITREC_DEVICE = 5,       /* by windows: an older recorder's journal is too long for one; no other step answers it */
     /* 7 and 8, as of a repair: FITREC_NOTHING_RECORDED, FITREC_DAMAGED */
     FITREC_NO_RECORDER = 11, /* the handle is none of a recorder */
     FITREC_NO_SPORT = 12,    /* start: no sport has this number */
     /* Refused by a rule; nothing changed. */
-    FITREC_REFUSED_TIME = 33,          /* below the last time, or none that a start may have */
+    FITREC_REFUSED_TIME = 33,          /* below the last time, or 0xFFFFFFFF; a start may have 0x10000000 to 0xFFFFFFFE */
     FITREC_REFUSED_DISTANCE = 34,      /* below the last distance */
     FITREC_REFUSED_VALUE = 35,         /* a value is the invalid one of its field */
     FITREC_REFUSED_TIMER_STOPPED = 36, /* a sample or a pause while the timer is stopped */
     FITREC_REFUSED_TIMER_RUNNING = 37, /* a resume while the timer runs */
     FITREC_REFUSED_TOO_LONG = 38,      /* more than 4,000,000 seconds after the start */
     FITREC_REFUSED_TOO_MANY_LAPS = 39, /* after 999 others */
-    FITREC_REFUSED_STOPPED = 40        /* the ride has ended */
+    FITREC_REFUSED_STOPPED = 40        /* the ride has its stop; after a reopening recover it */
 };
 
-/* The answer of a recovery by windows that goes on: read count bytes of file from at on into window, say in filled how many there were, and
-   call fitrec_recover_on. */
+/* The answer of a call by windows that goes on: read count bytes of file from at on into window, say in filled how many there were, and
+   make the next call. */
 #define FITREC_WANTS 13
 
 /* Begins a ride on an empty data file. time in seconds since 1989-12-31 00:00 UTC; serial of the device, or 0; sport 0 generic, 1 running,
@@ -301,8 +318,12 @@ uint8_t fitrec_resume(struct fitrec_recorder *recorder, uint32_t time, struct fi
 /* Commits all entries so far. At most 8 calls; after them every recovery keeps these entries. */
 uint8_t fitrec_commit(struct fitrec_recorder *recorder, struct fitrec_plan *plan);
 
-/* Ends the ride. At most 12 calls; after them the data file is a finished FIT file. */
+/* Ends the ride. At most 12 calls; after them the data file is a finished FIT file. Before the next start keep it under another name, or
+   copy it away and erase it. */
 uint8_t fitrec_stop(struct fitrec_recorder *recorder, uint32_t time, struct fitrec_plan *plan);
+
+/* Reports where the ride stands, such as after a reopening. It plans nothing. Answers 0 or FITREC_NO_RECORDER. */
+uint8_t fitrec_state_of(const struct fitrec_recorder *recorder, struct fitrec_state *state);
 
 /* After a power cut. These three read both files where they lie, for example in flash that the processor can address: data and journal are
    all that reads of the files give. The files may change only by the plan. Each may be cut off anywhere, and begun anew. */
@@ -318,26 +339,36 @@ uint8_t fitrec_reopen(struct fitrec_recorder *recorder, const uint8_t *data, siz
 /* Empties the data file for the next start; the ride is gone. At most 6 calls. */
 uint8_t fitrec_erase(const uint8_t *data, size_t data_size, const uint8_t *journal, size_t journal_size, struct fitrec_plan *plan);
 
-/* After a power cut, where the processor cannot address the files: a recovery that needs only a window of 512 bytes at a time.
+/* After a power cut, where the processor cannot address the files: a recovery, a reopening and an erasing that need only a window of 512
+   bytes at a time.
 
    The host sets the recovery to zeros, and data_size and journal_size to the lengths of the files. It calls fitrec_recover_begin, and then
-   fitrec_recover_on again and again. After each call it carries out the plan, whole and in order. As long as the answer is FITREC_WANTS, it then reads the
-   window that is asked for, and calls on. Any other answer is the end, and that of fitrec_recover. The host keeps these rules too:
+   again and again one of fitrec_recover_on, fitrec_reopen_on and fitrec_erase_on. After each call it carries out the plan, whole and in
+   order. As long as the answer is FITREC_WANTS, it then reads the window that is asked for, and calls on. Any other answer is the end, and
+   that of fitrec_recover, fitrec_reopen or fitrec_erase. The host keeps these rules too:
 
    - The recovery stays as it is between two calls, but for window and filled.
    - The files change only by the plans.
    - A read gives fewer bytes than are asked for only where the file ends.
    - A read that fails ends the recovery, and it is begun anew.
 
-   It may be cut off anywhere, and begun anew. A journal of more than 512 bytes is answered with FITREC_DEVICE. Only a row of slots of an older
-   recorder is so long: recover it with fitrec_recover. */
+   It may be cut off anywhere, and begun anew. A recovery and a reopening answer FITREC_DEVICE if the journal is a row of slots of an older
+   recorder and longer than 512 bytes: give fitrec_recover or fitrec_reopen the whole files. */
 
-/* Begins a recovery. The plan syncs both files. */
+/* Begins a recovery, a reopening or an erasing. 2 calls, which sync both files. */
 uint8_t fitrec_recover_begin(struct fitrec_recovery *recovery, struct fitrec_plan *plan);
 
-/* Goes on with the window. The plan is empty after FITREC_WANTS; at the end it finishes the data file. Answers FITREC_NO_RECORDER, and changes
-   nothing, if the recovery is none that was begun. */
+/* Goes on with the window, to a recovery. The plan is empty after FITREC_WANTS; at the end it finishes the data file, with at most 4 calls.
+   Answers FITREC_NO_RECORDER, and changes nothing, if the recovery is none that was begun. */
 uint8_t fitrec_recover_on(struct fitrec_recovery *recovery, struct fitrec_plan *plan);
+
+/* The same, to a reopening. Until the answer is FITREC_OK the recorder stays as it is. After that it continues the ride as it was committed,
+   and the plan cuts off what comes after that, with at most 2 calls. */
+uint8_t fitrec_reopen_on(struct fitrec_recovery *recovery, struct fitrec_recorder *recorder, struct fitrec_plan *plan);
+
+/* Ends an erasing, with the first window, which is of the journal. At most 6 calls. With a later window, or if the recovery is none that was
+   begun, it answers FITREC_NO_RECORDER and changes nothing. */
+uint8_t fitrec_erase_on(struct fitrec_recovery *recovery, struct fitrec_plan *plan);
 
 #ifdef __cplusplus
 }

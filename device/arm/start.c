@@ -8,7 +8,8 @@
 #include <string.h>
 
 extern uint32_t _estack, _estack_low, _sdata, _edata, _sidata, _sbss, _ebss;
-extern uint8_t fitrec_memory[];
+/* Only the module in C has it. */
+extern uint8_t fitrec_memory[] __attribute__((weak));
 extern int main(int count, char **words);
 extern void initialise_monitor_handles(void);
 extern void __libc_init_array(void);
@@ -56,7 +57,7 @@ static uint32_t painted(const uint8_t *low) {
 static void report(void) {
     uint8_t *low = (uint8_t *)&_estack_low;
     fprintf(stderr, "stack: %lu of the machine, %lu of the module\n", (unsigned long)(top - low - painted(low)),
-            (unsigned long)(FITREC_STACK - painted(fitrec_memory)));
+            (unsigned long)(fitrec_memory ? FITREC_STACK - painted(fitrec_memory) : 0));
 }
 
 static void run(void) {
@@ -65,7 +66,8 @@ static void run(void) {
     top = &here;
     for (uint8_t *at = (uint8_t *)&_estack_low; at < top - 256; at++)
         *at = PAINT;
-    memset(fitrec_memory, PAINT, FITREC_STACK);
+    if (fitrec_memory)
+        memset(fitrec_memory, PAINT, FITREC_STACK);
     atexit(report);
     exit(main(7, words));
 }

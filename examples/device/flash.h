@@ -15,7 +15,7 @@ extern const uint8_t *const flash_area;
 void flash_program(uint32_t at, const void *bytes, uint32_t count);
 void flash_erase(uint32_t block);
 
-/* What the area holds of both files. A reopening has no windows, and is lent flash_area and journal where they lie. */
+/* What the area holds of both files. Read them by flash_read_window: once is_closed is set, the data file begins with header. */
 struct flash_files {
     uint32_t len;         /* of the data file, which lies at the start of flash_area */
     uint32_t synced;      /* its length in the log */
@@ -33,7 +33,7 @@ void flash_find(struct flash_files *files);
 /* Carries out a plan. Answers 0, or -1 if there is no room. */
 int flash_carry_out(struct flash_files *files, const struct fitrec_plan *plan);
 
-/* Copies the window that a recovery asks for out of the area. */
+/* Copies the window that a recovery, a reopening or an erasing asks for. */
 void flash_read_window(const struct flash_files *files, struct fitrec_recovery *recovery);
 
 #endif

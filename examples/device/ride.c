@@ -2,20 +2,22 @@
    heart rate and a distance in centimetres, and commits after every ten. The end of the input ends the ride.
 
      ride FOLDER
+     ride --erase FOLDER
 
    On a system such as this a plan is carried out by pwrite, ftruncate and fsync (files.c). A folder that holds a ride without its end, as
-   after a power cut, continues it. If no line comes, the ride is finished as it was committed. */
+   after a power cut, continues it; a start that was cut off is erased. If no line comes, the ride is finished as it was committed; with
+   --erase it is gone. Only a window of the files is ever in memory. */
 
 #include "files.h"
 #include <stdio.h>
 #include <stdlib.h>
 #include <string.h>
-#include <unistd.h>
 
 enum { EVERY = 10 };
 
 static struct files files;
 static struct fitrec_recorder recorder;
+static struct fitrec_recovery recovery;
 static struct fitrec_plan plan;
 
 static void give_up(const char *why, unsigned answer) {
@@ -28,56 +30,55 @@ static uint8_t done(uint8_t answer) {
     if (carry_out(&files, &plan))
         give_up("a call of a file failed", answer);
     if (answer == FITREC_DEVICE)
-        give_up("a plan had no room", answer);
+        give_up("the journal is too long for a window", answer);
     return answer;
 }
 
-/* All of a file, in memory. */
-static uint8_t *all_of(int file, size_t *size) {
-    off_t end = lseek(file, 0, SEEK_END);
-    uint8_t *bytes = malloc(end > 0 ? (size_t)end : 1);
-    if (end < 0 || !bytes || pread(file, bytes, (size_t)end, 0) != end)
-        give_up("a file cannot be read", 0);
-    *size = (size_t)end;
-    return bytes;
+static uint8_t recover_on(void) {
+    return fitrec_recover_on(&recovery, &plan);
 }
 
-/* Continues the ride that the files hold. This has no windows, so it is lent whole files. */
-static uint8_t reopen(void) {
-    size_t data_size, journal_size;
-    uint8_t *data = all_of(files.of[FITREC_DATA_FILE], &data_size), *journal = all_of(files.of[FITREC_JOURNAL_FILE], &journal_size);
-    uint8_t answer = done(fitrec_reopen(&recorder, data, data_size, journal, journal_size, &plan));
-    free(data);
-    free(journal);
-    return answer;
+static uint8_t reopen_on(void) {
+    return fitrec_reopen_on(&recovery, &recorder, &plan);
 }
 
-/* Finishes the ride that the files hold. Only a window of them is in memory. */
-static uint8_t recover(void) {
-    static struct fitrec_recovery recovery;
+static uint8_t erase_on(void) {
+    return fitrec_erase_on(&recovery, &plan);
+}
+
+/* Finishes, continues or erases the ride that the files hold, with a window of them at a time. */
+static uint8_t by_windows(uint8_t (*on)(void)) {
+    memset(&recovery, 0, sizeof recovery);
     recovery.data_size = (uint64_t)file_size(&files, FITREC_DATA_FILE);
     recovery.journal_size = (uint64_t)file_size(&files, FITREC_JOURNAL_FILE);
     uint8_t answer = done(fitrec_recover_begin(&recovery, &plan));
     while (answer == FITREC_WANTS) {
         if (read_window(&files, &recovery))
             give_up("a file cannot be read", answer);
-        answer = done(fitrec_recover_on(&recovery, &plan));
+        answer = done(on());
     }
     return answer;
 }
 
 static uint8_t begin(uint32_t time) {
     int64_t size = file_size(&files, FITREC_DATA_FILE);
-    if (size > 0)
-        return reopen();
+    if (size > 0) {
+        uint8_t answer = by_windows(reopen_on);
+        if (answer != FITREC_NOTHING_RECORDED || size > FITREC_LONGEST_START || by_windows(erase_on))
+            return answer;
+        size = 0; /* a start was cut off: nothing is lost */
+    }
     recorder.data_size = (uint64_t)size;
     return done(fitrec_start(&recorder, time, 7, 2, &plan));
 }
 
 int main(int count, char **words) {
     unsigned time = 0, heart_rate, distance, samples = 0;
-    if (count != 2 || open_files(&files, words[1]) || file_size(&files, FITREC_DATA_FILE) < 0)
+    int erases = count == 3 && !strcmp(words[1], "--erase");
+    if (count != 2 + erases || open_files(&files, words[count - 1]) || file_size(&files, FITREC_DATA_FILE) < 0)
         give_up("give a folder that can be written", 0);
+    if (erases)
+        return by_windows(erase_on) ? 1 : 0;
     for (; scanf("%u %u %u", &time, &heart_rate, &distance) == 3; samples++) {
         uint8_t answer = samples == 0 ? begin(time) : FITREC_OK;
         if (answer)
@@ -91,7 +92,7 @@ int main(int count, char **words) {
             printf("committed %u\n", samples + 1);
         fflush(stdout);
     }
-    uint8_t answer = samples ? done(fitrec_stop(&recorder, time, &plan)) : recover();
+    uint8_t answer = samples ? done(fitrec_stop(&recorder, time, &plan)) : by_windows(recover_on);
     printf("%s: %u\n", samples ? "stopped" : "recovered", answer);
     return answer ? 1 : 0;
 }

@@ -4,7 +4,7 @@ use Rattle.fit_buffers.specs.declared.buffers.Buffers.{Buffers}
 use Rattle.fit_disk.specs.CallSchedule.{counts_of}
 use Rattle.fit_disk.specs.declared.disk.Which.{Which}
 use Rattle.fit_disk.specs.declared.disk.Which.TheVariants.{Data, Journal}
-use Rattle.fit_disk.specs.Counts.{Counts, Log, no_calls, unplanned, last_count}
+use Rattle.fit_disk.specs.Counts.{Counts, Log, no_calls, no_room, unplanned, last_count}
 use Rattle.fit_disk.specs.Story.{Story}
 
 abbrev pub story_in : Buffers → Story
@@ -24,7 +24,7 @@ memory_of b = b.data_bytes.ghost_name ∷ b.journal_bytes.ghost_name ∷ room_of
 
 -- nothing is scheduled to fail
 abbrev pub log_in : Buffers → Log
-log_in b = record { counts = counts_in b; schedule = unplanned no_calls; memory = memory_of b }
+log_in b = record { counts = counts_in b; schedule = unplanned no_calls; memory = memory_of b; room = no_room }
 
 -- If the last call failed, it was a write for which there was no room, which counts as begun; or the counts are at their last value.
 abbrev pub FailsForRoom : Buffers → Type 0

@@ -1,10 +1,11 @@
 // The disk over two buffers.
 
-ghost use Rattle.std.specs.Prelude.{◌≡◌, ◌↔◌, ◌+◌, ◌<◌, ◌≤◌, false, true, IsTrue, length, take, IfOk, IsErr, OnOk, OnErr};
+ghost use Rattle.std.specs.Prelude.{◌≡◌, ◌↔◌, ◌+◌, ◌<◌, ◌≤◌, ◌^◌, false, true, IsTrue, length, take, IfOk, IsErr, OnOk, OnErr};
 ghost use Rattle.fit_disk.specs.Calls.{ReadsAt, Wrote, Shortened, Synced, IsSound};
 ghost use Rattle.fit_disk.specs.CallSchedule.{counts_of};
 ghost use Rattle.fit_disk.specs.Content.{over};
 ghost use Rattle.fit_disk.specs.Counts.{CountsCall, CountsRead, no_calls, with_call, with_failure, last_count};
+ghost use Rattle.fit_disk.specs.Runs.{Takes};
 ghost use Rattle.fit_disk.specs.Stored.{at_rest};
 ghost use Rattle.fit_disk.specs.Story.{seen_of};
 ghost use Rattle.fit_disk.specs.declared.disk.Which.TheVariants.{Data, Journal};
@@ -145,6 +146,7 @@ impl Disk for Buffers<'_, '_> {
         ensures counted { CountsCall result (counts_in self.old) (counts_in self.new) }
         ensures reads { (counts_in self.new).data_reads ≡ (counts_in self.old).data_reads }
         ensures memory { memory_of self.new ≡ memory_of self.old }
+        ensures room { Takes 1 0 (IsErr result × (which ≡ Data)) (log_in self.old) (log_in self.new) }
     {
         self.counts.call()?;
         Ok(self.content(which).len() as u64)
@@ -169,6 +171,8 @@ impl Disk for Buffers<'_, '_> {
         ensures counted { CountsCall result (counts_in self.old) (counts_in self.new) }
         ensures reads { (counts_in self.new).data_reads ≡ (counts_in self.old).data_reads }
         ensures memory { memory_of self.new ≡ memory_of self.old }
+        ensures room { Takes 1 (length bytes.now) (IsErr result × (at + length bytes.now < 2 ^ 64))
+            (log_in self.old) (log_in self.new) }
     {
         self.counts.call()?;
         if !self.has_room(which, at as usize, bytes.len()) {
@@ -193,6 +197,7 @@ impl Disk for Buffers<'_, '_> {
         ensures counted { CountsCall result (counts_in self.old) (counts_in self.new) }
         ensures reads { (counts_in self.new).data_reads ≡ (counts_in self.old).data_reads }
         ensures memory { memory_of self.new ≡ memory_of self.old }
+        ensures room { Takes 1 0 (IsErr result) (log_in self.old) (log_in self.new) }
     {
         self.counts.call()?;
         match which {
@@ -208,6 +213,7 @@ impl Disk for Buffers<'_, '_> {
         ensures counted { CountsCall result (counts_in self.old) (counts_in self.new) }
         ensures reads { (counts_in self.new).data_reads ≡ (counts_in self.old).data_reads }
         ensures memory { memory_of self.new ≡ memory_of self.old }
+        ensures room { Takes 1 0 (IsErr result) (log_in self.old) (log_in self.new) }
     {
         self.counts.call()?;
         self.notes.note(&[SYNCED, number(which), 0], &[]);

@@ -1,18 +1,31 @@
 -- A step of a recovery by windows: which files it leaves.
-use Rattle.std.proofs.Common.{◌≡◌, ℕ, sym, ap, ◌∙◌, subst, arith, Result}
+use Rattle.std.proofs.Common.{⊎_elim, ◌≡◌, ◌≤◌, ℕ, inl, inr, refl, sym, ap, ◌∙◌, subst, arith, Result, Ok, Err}
 use Rattle.fit_activity.specs.declared.activity.Summary.{Summary}
 use Rattle.fit_device.specs.Answer.{code_of_fault, wants}
 use Rattle.fit_device.specs.Planned.{carried_out}
-use Rattle.fit_device.specs.Windowed.{story_of}
+use Rattle.fit_device.specs.Handle.{story_of as story_in_handle}
+use Rattle.fit_device.specs.Recovering.{GoesOnWith}
+use Rattle.fit_device.specs.Windowed.{story_of, IsRecovery, IsTakenUp, Finds, GoesOn, ReopensOn}
+use Rattle.fit_device.specs.declared.files.Files.{Files}
+use Rattle.fit_device.specs.declared.handle.Handle.{Handle}
 use Rattle.fit_device.specs.declared.plan.DevicePlan.{DevicePlan}
 use Rattle.fit_device.specs.declared.windowed.RecoveryHandle.{RecoveryHandle}
-use Rattle.fit_disk.specs.State.{seen_in}
+use Rattle.fit_device.proofs.Stepping.{on_ok}
+use Rattle.fit_disk.specs.Counts.{Counts, Log, Room, no_calls}
+use Rattle.fit_disk.specs.State.{Contents, seen_in}
 use Rattle.fit_disk.specs.Story.{Story}
 use Rattle.fit_notes.proofs.Numbers.{same_story}
 use Rattle.fit_notes.specs.Numbers.{numbers_of}
 use Rattle.fit_plan.specs.declared.plan.Plan.{Plan}
-use Rattle.fit_plan.specs.Plan.{story_in, since_in}
-use Rattle.fit_recorder.specs.Calls.Recovery.{RecoveryAnswers, Rebuilds}
+use Rattle.fit_plan.specs.Plan.{story_in, since_in, counts_in, room_in, whole_room, log_in, most_calls, most_bytes}
+use Rattle.fit_plan.specs.Window.{window_log}
+use Rattle.fit_plan.specs.declared.window.WindowPlan.{WindowPlan}
+use Rattle.fit_recorder.specs.Calls.Windows.{HasRoom}
+use Rattle.fit_recorder.specs.Calls.FaultCode.{fault_code}
+use Rattle.fit_recorder.specs.Calls.Recovery.{RecoveryAnswers, Rebuilds, unchanged}
+use Rattle.fit_recorder.specs.Calls.Resume.{IsRefusedFor}
+use Rattle.fit_recorder.specs.Calls.Ride.{TakesUp}
+use Rattle.fit_recorder.specs.declared.resuming.FoundRide.{FoundRide}
 use Rattle.fit_recorder.specs.declared.fault.RecFault.{RecFault}
 use Rattle.fit_recorder.specs.declared.fault.RecFault.TheVariants.{NotEmpty, Refused, Full, JournalFull, Device, Failed, NothingRecorded, Damaged}
 
@@ -32,6 +45,90 @@ pub rebuilds_for : (before after earlier later : Story) → before ≡ earlier �
     → Rebuilds (seen_in earlier.now) earlier later
 rebuilds_for before after earlier later olds news is =
     subst (λ (story : Story). Rebuilds (seen_in earlier.now) earlier story) news (subst (λ (story : Story). Rebuilds (seen_in story.now) story after) olds is)
+
+-- the same of a refusal
+pub refused_for : (fault : RecFault) (before earlier : Story) → before ≡ earlier → IsRefusedFor (seen_in before.now) fault
+    → IsRefusedFor (seen_in earlier.now) fault
+refused_for fault before earlier same is = subst (λ (story : Story). IsRefusedFor (seen_in story.now) fault) same is
+
+pub taken_for : (ride : FoundRide) (before earlier after : Story) → before ≡ earlier → TakesUp (seen_in before.now) after (Ok ride)
+    → TakesUp (seen_in earlier.now) after (Ok ride)
+taken_for ride before earlier after same is = subst (λ (story : Story). TakesUp (seen_in story.now) after (Ok ride)) same is
+
+-- a recovery that finds nothing refuses as a resume does
+pub as_a_resume : (contents : Contents) (story : Story) (fault : RecFault) → RecoveryAnswers contents story (Err fault) → IsRefusedFor contents fault
+as_a_resume contents story NothingRecorded is = is
+as_a_resume contents story Damaged is = is
+as_a_resume contents story Device is = tt
+as_a_resume contents story NotEmpty is = absurd is
+as_a_resume contents story (Refused refusal) is = absurd is
+as_a_resume contents story Full is = absurd is
+as_a_resume contents story JournalFull is = absurd is
+as_a_resume contents story Failed is = absurd is
+
+-- no fault has the number of an Ok
+pub never_zero : (fault : RecFault) (code : ℕ) → code ≡ code_of_fault fault → code ≡ 0 → ⊥
+never_zero fault code is zero = on_ok {P = ⊥} (Err fault) code is zero tt
+
+-- only one has the number of a call that failed
+pub is_device : (fault : RecFault) (code : ℕ) → code ≡ code_of_fault fault → fault ≡ Device → code ≡ fault_code Device
+is_device fault code is device = is ∙ ap code_of_fault device
+
+-- a plan without calls has room for those after the reads of a body
+pub has_room : (calls bytes : ℕ) (disk : WindowPlan) (files : Plan) → window_log disk ≡ log_in files → counts_in files ≡ no_calls
+    → room_in files ≡ whole_room → calls ≤ most_calls → bytes ≤ most_bytes → HasRoom calls bytes (window_log disk)
+has_room calls bytes disk files log none room few short =
+    let made : (window_log disk).counts.calls ≡ 0 = ap (λ (log : Log). log.counts.calls) log ∙ ap (λ (counts : Counts). counts.calls) none in
+    let for_calls : (window_log disk).room.calls ≡ most_calls = ap (λ (log : Log). log.room.calls) log ∙ ap (λ (room : Room). room.calls) room in
+    let for_bytes : (window_log disk).room.bytes ≡ most_bytes = ap (λ (log : Log). log.room.bytes) log ∙ ap (λ (room : Room). room.bytes) room in
+    record {
+      counted = omega (arith, made, few);
+      for_calls = omega (arith, for_calls, few);
+      for_bytes = omega (arith, for_bytes, short);
+    }
+
+-- after the window of the journal
+module _ (old new : RecoveryHandle) (plan : DevicePlan) (code : ℕ) (asks : IsRecovery old) (finds : old.phase ≡ 1) (found : Finds old new plan code) where
+  pub goes_on : GoesOn old new plan code
+  goes_on = record {
+    planned = found.planned;
+    none = λ no. absurd (no asks);
+    asks = λ _ wants. (found.asks wants, found.same);
+    answers = λ _. ⊎_elim (λ wants. inl wants) (λ answered. inr (Err answered.0, answered.1, answered.2)) found.answers;
+    no_device = λ reads _. reads finds;
+    any_moment = λ _. unchanged found.same;
+  }
+
+  not_zero : code ≡ 0 → ⊥
+  not_zero zero = ⊎_elim (λ wants. let no : ⊥ = omega (arith, wants, zero) in no) (λ answered. never_zero answered.0 code answered.1 zero) found.answers
+
+  pub reopens_on : (handle : Handle) → ReopensOn old new handle handle plan code
+  reopens_on handle = record {
+    planned = (λ zero. absurd (not_zero zero), λ _. found.planned);
+    none = λ no. absurd (no asks);
+    handle = λ _. refl;
+    same = λ _. found.same;
+    asks = λ _ wants. found.asks wants;
+    answers = λ _. ⊎_elim (λ wants. inl wants) (λ answered. inr (inr (answered.0, answered.1, as_a_resume (seen_in (story_of old).now) (story_of new) answered.0 answered.2))) found.answers;
+    no_device = λ reads _. reads finds;
+    any_moment = λ _. unchanged (sym found.planned ∙ found.same);
+  }
+
+-- after a ride was taken up, and a recorder of it was put into a handle
+pub reopened : (old new : RecoveryHandle) (before after : Handle) (plan : DevicePlan) (ride : FoundRide) (files : Files) → IsRecovery old
+    → IsTakenUp old plan ride files → GoesOnWith (seen_in (story_of old).now) after → story_in_handle after ≡ files.notes.story
+    → ReopensOn old new before after plan 0
+reopened old new before after plan ride files asks taken goes story =
+    record {
+      planned = (λ _. story ∙ taken.planned, λ no. absurd (no refl));
+      none = λ no. absurd (no asks);
+      handle = λ no. absurd (no refl);
+      same = λ no. absurd (no refl);
+      no_device = λ _ device. omega (arith, device);
+      asks = λ _ wants. absurd (omega (arith, wants));
+      answers = λ _. inr (inl (refl, goes));
+      any_moment = λ _. subst (λ (later : Story). Rebuilds (seen_in (story_of old).now) (story_of old) later) taken.planned taken.any_moment;
+    }
 
 -- no fault has the number of a wish for a window
 pub never_wants : (fault : RecFault) (code : ℕ) → code ≡ code_of_fault fault → code ≡ wants → ⊥

@@ -1,6 +1,6 @@
 -- A step of the recorder in a handle: what it was taken out as, and what it was put back as.
 use Rattle.std.proofs.Common.{⊎_elim, ◌≡◌, ℕ, Bool, true, false, List, sym, ap, ◌∙◌, subst, arith, Result, Ok, Err}
-use Rattle.std.specs.Prelude.{OnOk}
+use Rattle.std.specs.Prelude.{◌≤◌, OnOk, IsErrOf, refl}
 use Rattle.fit_activity.specs.Rides.Recording.{Recorded}
 use Rattle.fit_activity.specs.Rides.RunningTotals.{AreTotals}
 use Rattle.fit_device.specs.declared.handle.Handle.{Handle}
@@ -10,12 +10,14 @@ use Rattle.fit_device.specs.Handle.{story_of, WasHanded, Stands}
 use Rattle.fit_device.specs.Planned.{carried_out}
 use Rattle.fit_device.specs.Steps.{Steps, IsSame}
 use Rattle.fit_device.specs.Taken.{IsTaken, IsPut}
+use Rattle.fit_disk.specs.Runs.{Takes}
 use Rattle.fit_disk.specs.State.{Contents}
 use Rattle.fit_disk.specs.Story.{Story, Throughout}
 use Rattle.fit_notes.proofs.Numbers.{same_story}
 use Rattle.fit_notes.specs.Numbers.{numbers_of}
+use Rattle.fit_plan.proofs.Room.{has_room}
 use Rattle.fit_plan.specs.declared.plan.Plan.{Plan}
-use Rattle.fit_plan.specs.Plan.{story_in, since_in}
+use Rattle.fit_plan.specs.Plan.{story_in, since_in, log_in, most_calls, most_bytes}
 use Rattle.fit_recorder.specs.declared.fault.RecFault.{RecFault}
 use Rattle.fit_recorder.specs.declared.fault.RecFault.TheVariants.{NotEmpty, Refused, Full, JournalFull, Device, Failed, NothingRecorded, Damaged}
 use Rattle.fit_recorder.specs.declared.recorder.Recorder.{Recorder}
@@ -36,6 +38,13 @@ pub is_at : (list committed : List Recorded) (state other : RecorderState) (stor
 is_at list committed state other story later states stories at =
     subst (λ s. IsAt true other s list committed) stories (subst (λ m. IsAt true m story list committed) states at)
 
+-- a call of a recorder that goes on leaves one that does, unless the device fails
+pub still_going : (result : Result (Unit {0}) RecFault) (before after : Recorder Plan) → AfterCall true story_in result before after
+    → has_failed before ≡ false → (IsErrOf result Device → ⊥) → has_failed after ≡ false
+still_going (Ok _) before after called going never = called.going
+still_going (Err fault) before after called going never =
+    ⊎_elim (λ (device : fault ≡ Device). absurd (never (ap Err device))) (λ (same : after ≡ before). ap has_failed same ∙ going) called.same
+
 -- only an Ok has the number 0
 pub on_ok : {P : Type 0} (result : Result (Unit {0}) RecFault) (code : ℕ) → code ≡ code_of result → code ≡ 0 → OnOk result P → P
 on_ok (Ok _) code is zero holds = holds
@@ -48,7 +57,22 @@ on_ok (Err Failed) code is zero holds = let no : ⊥ = omega (arith, is, zero) i
 on_ok (Err NothingRecorded) code is zero holds = let no : ⊥ = omega (arith, is, zero) in absurd no
 on_ok (Err Damaged) code is zero holds = let no : ⊥ = omega (arith, is, zero) in absurd no
 
+-- only this fault has its number
+pub not_device : (fault : RecFault) (code : ℕ) → code ≡ code_of_fault fault → (fault ≡ Device → ⊥) → code ≡ fault_code Device → ⊥
+not_device NotEmpty code is never device = omega (arith, is, device)
+not_device (Refused refusal) code is never device = omega (arith, is, device)
+not_device Full code is never device = omega (arith, is, device)
+not_device JournalFull code is never device = omega (arith, is, device)
+not_device Device code is never device = never refl
+not_device Failed code is never device = omega (arith, is, device)
+not_device NothingRecorded code is never device = omega (arith, is, device)
+not_device Damaged code is never device = omega (arith, is, device)
+
 module _ (old : Handle) (before : Recorder Plan) (taken : IsTaken old before) where
+  pub never_device : (most bytes : ℕ) (Fails : Type 0) (after : Recorder Plan) → most ≤ most_calls → bytes ≤ most_bytes
+      → Takes most bytes Fails (log_in (disk_of before)) (log_in (disk_of after)) → Fails → ⊥
+  never_device most bytes Fails after = has_room most bytes Fails (disk_of before) (disk_of after) taken.counts taken.room
+
   pub stood : (list committed : List Recorded) → Stands old list committed → StandsAt true story_in before list committed
   stood list committed stands = is_at list committed _ _ _ _ (sym taken.state) (sym taken.story) stands.at
 
@@ -82,18 +106,23 @@ module _ (new : Handle) (plan : DevicePlan) (after : Recorder Plan) (put : IsPut
     }
 
     refused : (result : Result (Unit {0}) RecFault) (code : ℕ) → code ≡ code_of result → AfterCall true story_in result before after
-        → (code ≡ 0 → ⊥) → (code ≡ fault_code Device → ⊥) → IsSame old new
-    refused (Ok _) code is called no_zero no_device = absurd (no_zero is)
-    refused (Err fault) code is called no_zero no_device =
-        ⊎_elim (λ (device : fault ≡ Device). absurd (no_device (is ∙ ap code_of_fault device))) (λ (same : after ≡ before). unchanged same) called.same
+        → (IsErrOf result Device → ⊥) → (code ≡ 0 → ⊥) → IsSame old new
+    refused (Ok _) code is called never no_zero = absurd (no_zero is)
+    refused (Err fault) code is called never no_zero =
+        ⊎_elim (λ (device : fault ≡ Device). absurd (never (ap Err device))) (λ (same : after ≡ before). unchanged same) called.same
+
+    no_device : (result : Result (Unit {0}) RecFault) (code : ℕ) → code ≡ code_of result → (IsErrOf result Device → ⊥) → code ≡ fault_code Device → ⊥
+    no_device (Ok _) code is never device = omega (arith, is, device)
+    no_device (Err fault) code is never device = not_device fault code is (λ (fault_is : fault ≡ Device). never (ap Err fault_is)) device
 
     pub steps : (result : Result (Unit {0}) RecFault) (code : ℕ) → code ≡ code_of result → AfterCall true story_in result before after
-        → numbers_of (since_in (disk_of after)) ≡ numbers_of (since_in (disk_of before)) → Steps old new plan code
-    steps result code is called same = record {
+        → (IsErrOf result Device → ⊥) → numbers_of (since_in (disk_of after)) ≡ numbers_of (since_in (disk_of before)) → Steps old new plan code
+    steps result code is called never same = record {
       planned = put.story ∙ sym put.planned ∙ ap (carried_out plan) (same_story _ _ same ∙ taken.since);
       none = λ no. absurd (no taken.is_recorder);
       known = λ _. put.is_recorder;
-      refused = λ _ no_zero no_device. refused result code is called no_zero no_device;
+      refused = λ _. refused result code is called never;
+      no_device = no_device result code is never;
     }
 
     pub throughout : (P : Contents → Type 0) → Throughout P (story_in (disk_of before)) (story_in (disk_of after)) → Throughout P (story_of old) (story_of new)

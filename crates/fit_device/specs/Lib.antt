@@ -5,6 +5,7 @@ pub mod Planned
 pub mod Taken
 pub mod Sampled
 pub mod Answer
+pub mod State
 pub mod Steps
 pub mod Starts
 pub mod Recovering

@@ -1,11 +1,12 @@
 -- The check codes of a recorder's and a recovery's numbers: the checksum of a FIT file over all of them.
-use Rattle.std.specs.Prelude.{ℕ, List, [], ◌∷◌}
+use Rattle.std.specs.Prelude.{ℕ, List, [], ◌∷◌, ◌++◌}
 use Rattle.std.specs.Int.{w64, to_le_bytes}
 use Rattle.std.specs.List.{fold}
 use Rattle.fit_base.specs.Checksum.{crc_from}
 use Rattle.fit_recorder.specs.declared.frozen.FrozenDefinition.{FrozenDefinition}
 use Rattle.fit_recorder.specs.declared.frozen.FrozenRecorder.{FrozenRecorder}
 use Rattle.fit_recorder.specs.declared.recovery.frozen.FrozenRecovery.{FrozenRecovery}
+use Rattle.fit_activity.specs.declared.totals.frozen.FrozenSums.{FrozenSums}
 use Rattle.fit_activity.specs.declared.totals.frozen.FrozenTotals.{FrozenTotals}
 use Rattle.fit_grammar.specs.declared.definition.frozen.FrozenShort.{FrozenShort}
 
@@ -18,15 +19,16 @@ with_definition register definition = with_number (crc_from register definition.
 abbrev pub with_short_definition : ℕ → FrozenShort → ℕ
 with_short_definition register definition = with_number (crc_from register definition.bytes) definition.len
 
+abbrev pub sums_numbers : FrozenSums → List ℕ
+sums_numbers s =
+    s.heart_rate.total ∷ s.heart_rate.count ∷ s.heart_rate.greatest ∷ s.heart_rate.has_greatest
+    ∷ s.power.total ∷ s.power.count ∷ s.power.greatest ∷ s.power.has_greatest
+    ∷ s.known ∷ s.speed ∷ s.has_speed ∷ []
+
 abbrev pub totals_numbers : FrozenTotals → List ℕ
 totals_numbers t =
-    t.whole.heart_rate.total ∷ t.whole.heart_rate.count ∷ t.whole.heart_rate.greatest ∷ t.whole.heart_rate.has_greatest
-    ∷ t.whole.power.total ∷ t.whole.power.count ∷ t.whole.power.greatest ∷ t.whole.power.has_greatest
-    ∷ t.whole.known ∷ t.whole.speed ∷ t.whole.has_speed
-    ∷ t.lap.heart_rate.total ∷ t.lap.heart_rate.count ∷ t.lap.heart_rate.greatest ∷ t.lap.heart_rate.has_greatest
-    ∷ t.lap.power.total ∷ t.lap.power.count ∷ t.lap.power.greatest ∷ t.lap.power.has_greatest
-    ∷ t.lap.known ∷ t.lap.speed ∷ t.lap.has_speed
-    ∷ t.clock.start ∷ t.clock.end ∷ t.clock.lap ∷ t.clock.timer ∷ t.clock.lap_timer ∷ t.clock.running
+    sums_numbers t.whole ++ sums_numbers t.lap
+    ++ t.clock.start ∷ t.clock.end ∷ t.clock.lap ∷ t.clock.timer ∷ t.clock.lap_timer ∷ t.clock.running
     ∷ t.time ∷ t.serial ∷ t.distance ∷ t.laps ∷ t.sport ∷ t.stopped ∷ t.has_distance ∷ []
 
 -- the other numbers of a recorder, but for its page and its definitions
@@ -37,7 +39,9 @@ recorder_numbers f =
 
 -- the other numbers of a recovery, but for its definitions
 abbrev pub reading_numbers : FrozenRecovery → List ℕ
-reading_numbers f = f.heard.records ∷ f.heard.kind ∷ f.time ∷ f.at ∷ f.len ∷ f.checksum ∷ []
+reading_numbers f =
+    f.journal.first ∷ f.journal.second ∷ f.journal.form ∷ f.journal.has_first ∷ f.journal.has_second
+    ∷ f.heard.records ∷ f.heard.kind ∷ f.time ∷ f.at ∷ f.len ∷ f.checksum ∷ []
 
 -- the check code of some numbers, the totals, and other numbers
 abbrev pub with_totals : List ℕ → FrozenTotals → List ℕ → ℕ

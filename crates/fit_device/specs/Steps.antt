@@ -28,12 +28,14 @@ pub record IsSame (old new : Handle) : Type 0 where
   pub failed : has_failed_in new.recorder ≡ has_failed_in old.recorder
   pub story : story_of new ≡ story_of old
 
--- The files are those before with the planned calls. After a refusal nothing changed. A handle that is none of a recorder stays as it is, and nothing is planned.
+-- The files are those before with the planned calls. After a refusal nothing changed. A plan has room for all calls of a step, so none of them
+-- fails. A handle that is none of a recorder stays as it is, and nothing is planned.
 pub record Steps (old new : Handle) (plan : DevicePlan) (code : ℕ) : Type 0 where
   pub planned : story_of new ≡ carried_out plan (story_of old)
   pub none : (IsRecorder old → ⊥) → (code ≡ no_recorder) × (new ≡ old)
   pub known : IsRecorder old → IsRecorder new
-  pub refused : IsRecorder old → (code ≡ 0 → ⊥) → (code ≡ fault_code Device → ⊥) → IsSame old new
+  pub refused : IsRecorder old → (code ≡ 0 → ⊥) → IsSame old new
+  pub no_device : code ≡ fault_code Device → ⊥
 
 -- An entry is handed. A host that carries out any part of the plan leaves what was committed.
 pub record Hands (e : Entry) (old new : Handle) (plan : DevicePlan) (code : ℕ) : Type 0 where

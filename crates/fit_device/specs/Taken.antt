@@ -4,8 +4,9 @@ use Rattle.fit_device.specs.declared.handle.Handle.{Handle}
 use Rattle.fit_device.specs.declared.plan.DevicePlan.{DevicePlan}
 use Rattle.fit_device.specs.Handle.{story_of, IsRecorder}
 use Rattle.fit_device.specs.Planned.{carried_out}
+use Rattle.fit_disk.specs.Counts.{no_calls}
 use Rattle.fit_plan.specs.declared.plan.Plan.{Plan}
-use Rattle.fit_plan.specs.Plan.{story_in, since_in}
+use Rattle.fit_plan.specs.Plan.{story_in, since_in, counts_in, room_in, whole_room}
 use Rattle.fit_recorder.specs.declared.recorder.Recorder.{Recorder}
 use Rattle.fit_recorder.specs.Calls.Frozen.{state_in, has_failed_in}
 use Rattle.fit_recorder.specs.Calls.Recorder.{state_of, has_failed, disk_of}
@@ -17,6 +18,8 @@ pub record IsTaken (old : Handle) (recorder : Recorder Plan) : Type 0 where
   pub failed : has_failed recorder ≡ has_failed_in old.recorder
   pub story : story_in (disk_of recorder) ≡ story_of old
   pub since : since_in (disk_of recorder) ≡ story_of old
+  pub counts : counts_in (disk_of recorder) ≡ no_calls
+  pub room : room_in (disk_of recorder) ≡ whole_room
 
 -- the handle has its numbers and its files, and C has its calls
 pub record IsPut (new : Handle) (plan : DevicePlan) (recorder : Recorder Plan) : Type 0 where

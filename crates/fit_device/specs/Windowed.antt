@@ -1,20 +1,29 @@
--- A recovery by windows in the memory of C.
-use Rattle.std.specs.Prelude.{◌≡◌, ◌⊎◌, ◌≤◌, ℕ, ◌==◌, false, if◌then◌else◌, List, take, Result}
+-- A recovery, a reopening and an erasing by windows in the memory of C.
+use Rattle.std.specs.Prelude.{◌≡◌, ◌⊎◌, ◌≤◌, ℕ, ◌==◌, false, if◌then◌else◌, List, [], take, Result, Ok, Err}
 use Rattle.fit_activity.specs.declared.activity.Summary.{Summary}
 use Rattle.fit_disk.specs.State.{BothLeft, seen_in}
+use Rattle.fit_disk.specs.Stored.{at_rest}
 use Rattle.fit_disk.specs.Story.{Story, Throughout, seen_of}
 use Rattle.fit_disk.specs.declared.disk.Which.{Which}
 use Rattle.fit_disk.specs.declared.disk.Which.TheVariants.{Data, Journal}
 use Rattle.fit_notes.specs.Noted.{which_of}
 use Rattle.fit_plan.specs.Part.{IsPartOf}
+use Rattle.fit_recorder.specs.Calls.Erasing.{LeftOrErased}
 use Rattle.fit_recorder.specs.Calls.FaultCode.{fault_code}
 use Rattle.fit_recorder.specs.Calls.Recovery.{RecoveryAnswers, Rebuilds}
+use Rattle.fit_recorder.specs.Calls.Resume.{IsRefusedFor}
 use Rattle.fit_recorder.specs.Files.Settled.{IsSettled}
+use Rattle.fit_recorder.specs.Calls.Ride.{MayGoOn, TakesUp}
 use Rattle.fit_recorder.specs.declared.fault.RecFault.{RecFault}
+use Rattle.fit_recorder.specs.declared.resuming.FoundRide.{FoundRide}
 use Rattle.fit_recorder.specs.declared.fault.RecFault.TheVariants.{Device}
-use Rattle.fit_device.specs.Answer.{code_of, no_recorder, wants}
+use Rattle.fit_device.specs.Answer.{code_of, code_of_fault, no_recorder, wants}
 use Rattle.fit_device.specs.Asking.{asked_numbers, IsAsking}
+use Rattle.fit_device.specs.Handle.{story_of as story_in}
 use Rattle.fit_device.specs.Planned.{carried_out}
+use Rattle.fit_device.specs.Recovering.{GoesOnWith}
+use Rattle.fit_device.specs.declared.files.Files.{Files}
+use Rattle.fit_device.specs.declared.handle.Handle.{Handle}
 use Rattle.fit_device.specs.declared.plan.DevicePlan.{DevicePlan}
 use Rattle.fit_device.specs.declared.windowed.RecoveryHandle.{RecoveryHandle}
 
@@ -33,6 +42,10 @@ asked_file phase = if phase == 1 then Journal else Data
 abbrev pub IsRecovery : RecoveryHandle → Type 0
 IsRecovery h = IsAsking h.mark h.seal h.reading (asked_of h) × (h.filled ≤ 512)
 
+-- it asks for one of the journal
+abbrev pub AsksForJournal : RecoveryHandle → Type 0
+AsksForJournal h = IsRecovery h × (h.phase ≡ 1)
+
 -- the window is a part of its file
 abbrev pub HasWindow : RecoveryHandle → Story → Type 0
 HasWindow h story = (h.filled ≤ 512) × IsPartOf (seen_of (which_of h.file) story) h.at (take h.filled h.window) false
@@ -40,15 +53,63 @@ HasWindow h story = (h.filled ≤ 512) × IsPartOf (seen_of (which_of h.file) st
 -- A recovery is begun: both files are synced, and then it asks for a window.
 pub record Begins (old new : RecoveryHandle) (plan : DevicePlan) (code : ℕ) : Type 0 where
   pub planned : story_of new ≡ carried_out plan (story_of old)
-  pub known : (code ≡ wants) ⊎ (code ≡ fault_code Device)
-  pub asks : code ≡ wants → IsRecovery new × IsSettled (seen_in (story_of old).now) (story_of new)
+  pub wanted : code ≡ wants
+  pub asks : IsRecovery new
+  pub settled : IsSettled (seen_in (story_of old).now) (story_of new)
   pub any_moment : Throughout (BothLeft (story_of old).now) (story_of old) (story_of new)
 
--- A window was filled. It asks for the next, and nothing is planned; or it answers as a recovery does.
+-- The window of the journal was filled. It asks for the first of the body, or reports why there is none. Nothing is planned.
+pub record Finds (old new : RecoveryHandle) (plan : DevicePlan) (code : ℕ) : Type 0 where
+  pub planned : story_of new ≡ carried_out plan (story_of old)
+  pub same : story_of new ≡ story_of old
+  pub asks : code ≡ wants → IsRecovery new
+  pub answers : (code ≡ wants) ⊎ ((fault : RecFault) × (code ≡ code_of_fault fault)
+      × RecoveryAnswers (seen_in (story_of old).now) (story_of new) (Err fault))
+
+-- A window was filled. It asks for the next, and nothing is planned; or it answers as a recovery does. No call of a plan fails for want of
+-- room; a journal may be too long for its window.
 pub record GoesOn (old new : RecoveryHandle) (plan : DevicePlan) (code : ℕ) : Type 0 where
   pub planned : story_of new ≡ carried_out plan (story_of old)
   pub none : (IsRecovery old → ⊥) → (code ≡ no_recorder) × (new ≡ old)
   pub asks : IsRecovery old → code ≡ wants → IsRecovery new × (story_of new ≡ story_of old)
   pub answers : IsRecovery old → (code ≡ wants) ⊎ ((answer : Result Summary RecFault) × (code ≡ code_of answer)
       × RecoveryAnswers (seen_in (story_of old).now) (story_of new) answer)
+  pub no_device : (old.phase ≡ 1 → ⊥) → code ≡ fault_code Device → ⊥
   pub any_moment : IsRecovery old → Rebuilds (seen_in (story_of old).now) (story_of old) (story_of new)
+
+-- the files after the plan
+abbrev pub left_by : DevicePlan → RecoveryHandle → Story
+left_by plan old = carried_out plan (story_of old)
+
+-- A window was filled. It asks for the next, and nothing is planned; or the recorder in the handle goes on with the list that the files
+-- stood for; or it answers why no ride can continue. Only a recorder that goes on takes the place of what the handle held.
+pub record ReopensOn (old new : RecoveryHandle) (before after : Handle) (plan : DevicePlan) (code : ℕ) : Type 0 where
+  pub planned : (code ≡ 0 → story_in after ≡ left_by plan old) × ((code ≡ 0 → ⊥) → story_of new ≡ left_by plan old)
+  pub none : (IsRecovery old → ⊥) → (code ≡ no_recorder) × (new ≡ old)
+  pub handle : (code ≡ 0 → ⊥) → after ≡ before
+  pub same : (code ≡ 0 → ⊥) → story_of new ≡ story_of old
+  pub asks : IsRecovery old → code ≡ wants → IsRecovery new
+  pub answers : IsRecovery old → (code ≡ wants) ⊎ (((code ≡ 0) × GoesOnWith (seen_in (story_of old).now) after)
+      ⊎ ((fault : RecFault) × (code ≡ code_of_fault fault) × IsRefusedFor (seen_in (story_of old).now) fault))
+  pub no_device : (old.phase ≡ 1 → ⊥) → code ≡ fault_code Device → ⊥
+  pub any_moment : IsRecovery old → Rebuilds (seen_in (story_of old).now) (story_of old) (left_by plan old)
+
+-- A ride was taken up over these files, and the calls are in the plan.
+pub record IsTakenUp (old : RecoveryHandle) (plan : DevicePlan) (ride : FoundRide) (files : Files) : Type 0 where
+  pub goes_on : MayGoOn ride
+  pub planned : files.notes.story ≡ left_by plan old
+  pub taken : TakesUp (seen_in (story_of old).now) files.notes.story (Ok ride)
+  pub any_moment : Rebuilds (seen_in (story_of old).now) (story_of old) files.notes.story
+
+-- The outcome of reading on in it: it is taken up, or a code that leaves any handle.
+abbrev pub ReadsRide : RecoveryHandle → RecoveryHandle → DevicePlan → Result (FoundRide × Files) ℕ → Type 0
+ReadsRide old new plan (Ok found) = IsTakenUp old plan found.0 found.1
+ReadsRide old new plan (Err code) = (handle : Handle) → ReopensOn old new handle handle plan code
+
+-- The window of the journal was filled. After 0 the data file is empty. Any part of the plan leaves the files, or a recording that is
+-- forgotten. What asks for no journal stays as it is, and nothing is planned.
+pub record ErasesOn (old new : RecoveryHandle) (plan : DevicePlan) (code : ℕ) : Type 0 where
+  pub none : (AsksForJournal old → ⊥) → (code ≡ no_recorder) × (new ≡ old) × (left_by plan old ≡ story_of old)
+  pub known : AsksForJournal old → (code ≡ 0) ⊎ (code ≡ fault_code Device)
+  pub ok : code ≡ 0 → (left_by plan old).now.data_file ≡ at_rest []
+  pub any_moment : AsksForJournal old → Throughout (LeftOrErased (story_of old).now) (story_of old) (left_by plan old)

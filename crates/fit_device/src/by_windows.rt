@@ -1,30 +1,32 @@
-// A recovery after a power cut, for which C reads a window at a time.
+// What comes after a power cut, where C reads a window of a file at a time: a recovery, a reopening and an erasing.
 
 ghost use Rattle.std.specs.Prelude.{◌≡◌, length};
-ghost use Rattle.fit_device.specs.Windowed.{Begins, GoesOn, IsRecovery};
+ghost use Rattle.fit_device.specs.Windowed.{Begins, Finds, GoesOn, ReadsRide, ReopensOn, ErasesOn, IsRecovery};
 
 use crate::answer::{NO_RECORDER, WANTS, code_of_fault};
-use crate::believed::Believed;
+use crate::files::Files;
+use crate::handle::Handle;
 use crate::plan::DevicePlan;
 use crate::windowed::{FINDS, RecoveryHandle};
-use fit_plan::WindowPlan;
-use fit_recorder::{RecFault, Recovery, settle};
+use fit_recorder::{FoundRide, RecFault, Recovery, erase, settle};
 
-/// Begins a recovery: plans a sync of each file, and asks for the journal.
+/// Begins a recovery, a reopening or an erasing: plans a sync of each file, and asks for the journal.
 #[unsafe(no_mangle)]
 pub extern "C" fn fitrec_recover_begin(recovery: &mut RecoveryHandle, plan: &mut DevicePlan) -> u8
     ensures { Begins recovery.old recovery.new plan.new result }
 {
     let journal_size = recovery.journal_size;
     let mut files = recovery.take_files();
-    match settle(&mut files) {
+    let answer = settle(&mut files);
+    let files = Files::after(&files, plan);
+    match answer {
         Ok(()) => {
             let count = journal_size.min(512) as u16;
-            recovery.ask(files, journal_size, FINDS, 0, count, plan);
+            recovery.ask(files, journal_size, FINDS, 0, count);
             WANTS
         }
         Err(_) => {
-            recovery.put_files(files, journal_size, plan);
+            recovery.put_files(files, journal_size);
             code_of_fault(&RecFault::Device)
         }
     }
@@ -46,27 +48,73 @@ pub extern "C" fn fitrec_recover_on(recovery: &mut RecoveryHandle, plan: &mut De
     }
 }
 
+/// Goes on with the window that was asked for: asks for the next one, or ends as `fitrec_reopen` does. Until then the handle stays
+/// as it is.
+#[unsafe(no_mangle)]
+pub extern "C" fn fitrec_reopen_on(
+    recovery: &mut RecoveryHandle,
+    handle: &mut Handle,
+    plan: &mut DevicePlan,
+) -> u8
+    ensures { ReopensOn recovery.old recovery.new handle.old handle.new plan.new result }
+{
+    if !recovery.is_recovery() {
+        plan.clear();
+        return NO_RECORDER;
+    }
+    if recovery.phase == FINDS {
+        return find_body(recovery, plan);
+    }
+    match read_ride(recovery, plan) {
+        Ok((ride, files)) => {
+            handle.put_ride(ride, files);
+            0
+        }
+        Err(code) => code,
+    }
+}
+
+/// Ends as `fitrec_erase` does, with the window of the journal that `fitrec_recover_begin` asked for.
+#[unsafe(no_mangle)]
+pub extern "C" fn fitrec_erase_on(recovery: &mut RecoveryHandle, plan: &mut DevicePlan) -> u8
+    ensures { ErasesOn recovery.old recovery.new plan.new result }
+{
+    if !recovery.asks_for_journal() {
+        plan.clear();
+        return NO_RECORDER;
+    }
+    let journal_size = recovery.journal_size;
+    let files = recovery.take_files();
+    let mut disk = recovery.lend(files, journal_size);
+    let answer = erase(&mut disk);
+    plan.fill(&disk.plan.calls);
+    match answer {
+        Ok(()) => 0,
+        Err(fault) => code_of_fault(&fault),
+    }
+}
+
 // Finds in the journal how much is committed.
 // Not inlined, like the next: only one of them takes its stack.
 #[inline(never)]
 fn find_body(handle: &mut RecoveryHandle, plan: &mut DevicePlan) -> u8
     requires asks { IsRecovery handle.old }
     requires finds { handle.old.phase ≡ 1 }
-    ensures { GoesOn handle.old handle.new plan.new result }
+    ensures { Finds handle.old handle.new plan.new result }
 {
     let mut recovery = Recovery::idle();
     let journal_size = handle.journal_size;
     let files = handle.take_files();
     let mut disk = handle.lend(files, journal_size);
     let answer = recovery.begin(&mut disk);
-    let WindowPlan { plan: files, .. } = disk;
+    let files = Files::after(&disk.plan, plan);
     match answer {
         Ok(()) => {
-            handle.ask_for_body(files, journal_size, &recovery, plan);
+            handle.ask_for_body(files, journal_size, &recovery);
             WANTS
         }
         Err(fault) => {
-            handle.put_files(files, journal_size, plan);
+            handle.put_files(files, journal_size);
             code_of_fault(&fault)
         }
     }
@@ -80,31 +128,50 @@ fn read_body(handle: &mut RecoveryHandle, plan: &mut DevicePlan) -> u8
     ensures { GoesOn handle.old handle.new plan.new result }
 {
     let mut recovery = Recovery::idle();
-    if !recovery.thaw(&handle.reading) {
-        plan.clear();
-        return NO_RECORDER;
-    }
     let journal_size = handle.journal_size;
-    let files = handle.take_files();
-    Believed {
-        recovery: &recovery,
-        files: &files,
-    }
-    .reveal();
+    let files = handle.take_reading(&mut recovery);
     let mut disk = handle.lend(files, journal_size);
     let answer = recovery.go_on(&mut disk);
-    let WindowPlan { plan: files, .. } = disk;
+    let files = Files::after(&disk.plan, plan);
     match answer {
         None => {
-            handle.ask_for_body(files, journal_size, &recovery, plan);
+            handle.ask_for_body(files, journal_size, &recovery);
             WANTS
         }
         Some(answer) => {
-            handle.put_files(files, journal_size, plan);
+            handle.put_files(files, journal_size);
             match answer {
                 Ok(_) => 0,
                 Err(fault) => code_of_fault(&fault),
             }
         }
+    }
+}
+
+// Reads on in the body of a ride that is reopened. It returns the ride and the files once it is taken up, and else the code.
+#[inline(never)]
+fn read_ride(handle: &mut RecoveryHandle, plan: &mut DevicePlan) -> Result<(FoundRide, Files), u8>
+    requires asks { IsRecovery handle.old }
+    requires reads { handle.old.phase ≡ 1 → ⊥ }
+    ensures { ReadsRide handle.old handle.new plan.new result }
+{
+    let mut recovery = Recovery::idle();
+    let journal_size = handle.journal_size;
+    let files = handle.take_reading(&mut recovery);
+    let mut disk = handle.lend(files, journal_size);
+    let answer = recovery.take_up_on(&mut disk);
+    let files = Files::after(&disk.plan, plan);
+    match answer {
+        None => {
+            handle.ask_for_body(files, journal_size, &recovery);
+            Err(WANTS)
+        }
+        Some(answer) => match answer {
+            Ok(ride) => Ok((ride, files)),
+            Err(fault) => {
+                handle.put_files(files, journal_size);
+                Err(code_of_fault(&fault))
+            }
+        },
     }
 }

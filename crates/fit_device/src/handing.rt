@@ -59,6 +59,6 @@ fn hand(handle: &mut Handle, entry: &Entry, plan: &mut DevicePlan) -> u8
         return NO_RECORDER;
     }
     let answer = recorder.hand(entry);
-    handle.put(&mut recorder, plan);
+    handle.put(&recorder, plan);
     code_of(&answer)
 }

@@ -1,20 +1,21 @@
 // A recorder in the memory of C.
 
-ghost use Rattle.std.specs.Prelude.{◌≡◌, ◌↔◌, true, false, length, IsTrue};
+ghost use Rattle.std.specs.Prelude.{◌≡◌, ◌↔◌, true, false, length, IsTrue, Ok};
 ghost use Rattle.fit_disk.specs.Calls.{IsSound};
 ghost use Rattle.fit_device.specs.Planned.{carried_out};
 ghost use Rattle.fit_device.specs.Sealed.{IsSealed, GoesOnIn};
-ghost use Rattle.fit_plan.specs.Lent.{lent_story, lent_since};
-ghost use Rattle.fit_plan.specs.Plan.{story_in, since_in};
+ghost use Rattle.fit_disk.specs.Counts.{no_calls};
+ghost use Rattle.fit_plan.specs.Plan.{story_in, since_in, counts_in, room_in, whole_room};
 ghost use Rattle.fit_recorder.specs.Calls.Frozen.{state_in, has_failed_in};
 ghost use Rattle.fit_recorder.specs.Calls.Recorder.{GoesOn, state_of, has_failed, disk_of};
 
+use crate::files::Files;
 use crate::plan::DevicePlan;
 use crate::seal::seal_of;
 use crate::thawed::Thawed;
 use fit_notes::Notes;
-use fit_plan::{LentPlan, Plan};
-use fit_recorder::{FrozenRecorder, Recorder};
+use fit_plan::Plan;
+use fit_recorder::{FoundRide, FrozenRecorder, Recorder, continue_with};
 use std::mem;
 
 // Stands in each handle of a recorder: the bytes "fitr", low byte first.
@@ -39,9 +40,12 @@ pub struct Handle {
 
 impl Handle {
     ghost use Rattle.fit_device.specs.Handle.{story_of, IsRecorder};
+    ghost use Rattle.fit_device.specs.Recovering.{GoesOnWith};
+    ghost use Rattle.fit_disk.specs.State.{Contents};
+    ghost use Rattle.fit_recorder.specs.Calls.Ride.{MayGoOn, TakesUp};
     ghost use Rattle.fit_device.specs.Taken.{IsTaken, IsPut};
 
-    fn is_recorder(&self) -> bool
+    pub(crate) fn is_recorder(&self) -> bool
         ensures { IsTrue result ↔ IsRecorder self.now }
     {
         self.mark == MARK && self.seal == seal_of(&self.recorder, self.data_size)
@@ -52,6 +56,7 @@ impl Handle {
         ensures story { story_in result ≡ story_of self.old }
         ensures since { since_in result ≡ story_of self.old }
         ensures recorder { self.new.recorder ≡ self.old.recorder }
+        ensures none { (counts_in result ≡ no_calls) × (room_in result ≡ whole_room) }
     {
         let plan = Plan::over(self.data_size, mem::replace(&mut self.notes, Notes::new()));
         self.data_size = 0;
@@ -59,16 +64,13 @@ impl Handle {
         plan
     }
 
-    // Puts the two files into the handle, which is none of a recorder, and their calls into the plan.
-    pub(crate) fn put_files(&mut self, files: Plan, plan: &mut DevicePlan)
-        ensures story { story_of self.new ≡ story_in files }
-        ensures planned { carried_out plan.new (since_in files) ≡ story_in files }
+    // Puts the two files into the handle, which is none of a recorder.
+    pub(crate) fn put_files(&mut self, files: Files)
+        ensures { story_of self.new ≡ files.notes.story }
     {
-        plan.fill(&files.calls);
-        let Plan { size, notes, .. } = files;
         self.mark = 0;
-        self.data_size = size;
-        self.notes = notes;
+        self.data_size = files.size;
+        self.notes = files.notes;
     }
 
     // Makes this recorder the one in the handle, which is none of a recorder then. Reports whether it was one before.
@@ -76,7 +78,8 @@ impl Handle {
         ensures was { IsTrue result ↔ IsRecorder self.old }
         ensures none { result ≡ false → self.new ≡ self.old }
         ensures taken { result ≡ true → IsTaken self.old recorder.new }
-        ensures goes_on { result ≡ true → GoesOn true story_in recorder.new }
+        ensures goes_on { result ≡ true
+            → GoesOn true story_in recorder.new × (has_failed recorder.new ≡ false) }
     {
         if !self.is_recorder() {
             return false;
@@ -93,48 +96,46 @@ impl Handle {
         true
     }
 
-    // Puts a recorder into the handle, and its calls into the plan. It takes the files out of the recorder.
-    pub(crate) fn put(&mut self, recorder: &mut Recorder<Plan>, plan: &mut DevicePlan)
-        requires { GoesOn true story_in recorder.old }
-        ensures { IsPut self.new plan.new recorder.old }
+    // Puts a recorder into the handle, and its calls into the plan.
+    pub(crate) fn put(&mut self, recorder: &Recorder<Plan>, plan: &mut DevicePlan)
+        requires goes_on { GoesOn true story_in recorder.now }
+        requires going { has_failed recorder.now ≡ false }
+        ensures { IsPut self.new plan.new recorder.now }
     {
         self.mark = 0;
         recorder.freeze(&mut self.recorder);
-        let mut files = no_files();
-        recorder.swap_disk(&mut files);
-        self.seal_with(files, plan);
+        self.seal_with(Files::after(recorder.disk(), plan));
     }
 
-    // Puts a recorder over lent files into the handle, and its calls into the plan.
-    pub(crate) fn put_lent(&mut self, recorder: Recorder<LentPlan<'_, '_>>, plan: &mut DevicePlan)
-        requires { GoesOn true lent_story recorder }
-        ensures recorder { IsRecorder self.new }
-        ensures state { state_in self.new.recorder ≡ state_of recorder.entry }
-        ensures failed { has_failed_in self.new.recorder ≡ has_failed recorder.entry }
-        ensures story { story_of self.new ≡ lent_story (disk_of recorder.entry) }
-        ensures planned { carried_out plan.new (lent_since (disk_of recorder.entry))
-            ≡ lent_story (disk_of recorder.entry) }
+    // Puts a recorder into the handle that continues a ride over these files.
+    // Not inlined: so its recorder is not on the stack while the ride is read.
+    #[inline(never)]
+    pub(crate) fn put_ride(&mut self, ride: FoundRide, files: Files)
+        requires goes_on { MayGoOn ride }
+        requires taken { (contents : Contents) × TakesUp contents files.notes.story (Ok ride) }
+        ensures goes_on { (contents : Contents) → TakesUp contents files.notes.story (Ok ride)
+            → GoesOnWith contents self.new }
+        ensures story { story_of self.new ≡ files.notes.story }
     {
+        let disk = Plan::over(files.size, files.notes.same());
+        let mut recorder = Recorder::idle(disk);
+        continue_with(&mut recorder, ride);
         self.mark = 0;
         recorder.freeze(&mut self.recorder);
-        let LentPlan { plan: files, .. } = recorder.into_disk();
-        self.seal_with(files, plan);
+        self.seal_with(files);
     }
 
-    // Puts the two files of the recorder with these numbers into the handle, and their calls into the plan.
-    fn seal_with(&mut self, files: Plan, plan: &mut DevicePlan)
-        requires { GoesOnIn self.old.recorder (story_in files) }
+    // Puts the two files of the recorder with these numbers into the handle.
+    fn seal_with(&mut self, files: Files)
+        requires { GoesOnIn self.old.recorder files.notes.story }
         ensures recorder { IsRecorder self.new }
         ensures same { self.new.recorder ≡ self.old.recorder }
-        ensures story { story_of self.new ≡ story_in files }
-        ensures planned { carried_out plan.new (since_in files) ≡ story_in files }
+        ensures story { story_of self.new ≡ files.notes.story }
     {
-        plan.fill(&files.calls);
-        let Plan { size, notes, .. } = files;
-        self.seal = seal_of(&self.recorder, size);
+        self.seal = seal_of(&self.recorder, files.size);
         self.mark = MARK;
-        self.data_size = size;
-        self.notes = notes;
+        self.data_size = files.size;
+        self.notes = files.notes;
     }
 }
 

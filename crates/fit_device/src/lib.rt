@@ -7,6 +7,7 @@
 mod answer;
 mod believed;
 mod by_windows;
+mod files;
 mod handing;
 mod handle;
 mod plan;
@@ -14,14 +15,16 @@ mod recovering;
 mod sample;
 mod seal;
 mod starting;
+mod state;
 mod thawed;
 mod windowed;
 
-pub use by_windows::{fitrec_recover_begin, fitrec_recover_on};
+pub use by_windows::{fitrec_erase_on, fitrec_recover_begin, fitrec_recover_on, fitrec_reopen_on};
 pub use handing::{fitrec_hand_sample, fitrec_lap, fitrec_pause, fitrec_resume};
 pub use handle::Handle;
 pub use plan::DevicePlan;
 pub use recovering::{fitrec_erase, fitrec_recover, fitrec_reopen};
 pub use sample::DeviceSample;
 pub use starting::{fitrec_commit, fitrec_start, fitrec_stop};
+pub use state::{DeviceState, fitrec_state_of};
 pub use windowed::RecoveryHandle;

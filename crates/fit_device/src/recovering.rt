@@ -4,10 +4,11 @@ ghost use Rattle.std.specs.Prelude.{◌≡◌};
 ghost use Rattle.fit_device.specs.Recovering.{Recovers, Reopens, Erases};
 
 use crate::answer::code_of_fault;
+use crate::files::Files;
 use crate::handle::Handle;
 use crate::plan::DevicePlan;
 use fit_plan::LentPlan;
-use fit_recorder::{erase, recover, resume};
+use fit_recorder::{erase, recover, take_up};
 
 /// Plans the calls that turn the data file into the finished file of everything that was committed. The two slices are the whole
 /// files. A recovery may be cut off anywhere and begun anew.
@@ -39,13 +40,16 @@ pub extern "C" fn fitrec_reopen(
 ) -> u8
     ensures { Reopens data_bytes.now journal_bytes.now handle.new plan.new result }
 {
-    match resume(LentPlan::over(data_bytes, journal_bytes)) {
-        Ok(recorder) => {
-            handle.put_lent(recorder, plan);
+    let mut files = LentPlan::over(data_bytes, journal_bytes);
+    let answer = take_up(&mut files);
+    let files = Files::after(&files.plan, plan);
+    match answer {
+        Ok(ride) => {
+            handle.put_ride(ride, files);
             0
         }
-        Err((files, fault)) => {
-            handle.put_files(files.plan, plan);
+        Err(fault) => {
+            handle.put_files(files);
             code_of_fault(&fault)
         }
     }

@@ -2,9 +2,9 @@
 
 ghost use Rattle.std.specs.Prelude.{◌≡◌};
 ghost use Rattle.std.specs.List.{fold};
-ghost use Rattle.fit_device.specs.Seal.{with_number, with_definition, with_short_definition, totals_numbers, recorder_numbers, reading_numbers, seal_of, recovery_seal};
+ghost use Rattle.fit_device.specs.Seal.{with_number, with_definition, with_short_definition, sums_numbers, totals_numbers, recorder_numbers, reading_numbers, seal_of, recovery_seal};
 
-use fit_activity::FrozenTotals;
+use fit_activity::{FrozenSums, FrozenTotals};
 use fit_base::Crc;
 use fit_grammar::FrozenShort;
 use fit_recorder::{FrozenDefinition, FrozenRecorder, FrozenRecovery};
@@ -12,16 +12,13 @@ use fit_recorder::{FrozenDefinition, FrozenRecorder, FrozenRecovery};
 // How many numbers say what a recovery asks for.
 pub(crate) const ASKED: usize = 6;
 
-// How many numbers the totals are.
-const TOTALS: usize = 35;
-
 // The check code of a recorder's numbers.
 pub(crate) fn seal_of(recorder: &FrozenRecorder, data_size: u64) -> u16
     ensures { result ≡ seal_of recorder.now data_size }
 {
     let mut check = Crc::new();
     add_numbers(&mut check, &[data_size]);
-    add_numbers(&mut check, &totals_numbers(&recorder.totals));
+    add_totals(&mut check, &recorder.totals);
     add_numbers(&mut check, &recorder_numbers(recorder));
     check.add(&recorder.page);
     add_definitions(&mut check, &recorder.definitions);
@@ -34,7 +31,7 @@ pub(crate) fn seal_of_recovery(recovery: &FrozenRecovery, asked: &[u64; ASKED]) 
 {
     let mut check = Crc::new();
     add_numbers(&mut check, asked);
-    add_numbers(&mut check, &totals_numbers(&recovery.heard.totals));
+    add_totals(&mut check, &recovery.heard.totals);
     add_numbers(&mut check, &reading_numbers(recovery));
     add_short_definitions(&mut check, &recovery.definitions);
     check.value()
@@ -66,46 +63,53 @@ fn add_short_definitions(check: &mut Crc, definitions: &[FrozenShort])
     }
 }
 
-fn totals_numbers(totals: &FrozenTotals) -> [u64; TOTALS]
-    ensures { result ≡ totals_numbers totals.now }
+// Adds the totals, a part at a time: fewer numbers lie on the stack.
+fn add_totals(check: &mut Crc, totals: &FrozenTotals)
+    ensures { check.new ≡ fold with_number check.old (totals_numbers totals.now) }
 {
-    let (whole, lap, clock) = (&totals.whole, &totals.lap, &totals.clock);
+    let clock = &totals.clock;
+    add_numbers(check, &sums_numbers(&totals.whole));
+    add_numbers(check, &sums_numbers(&totals.lap));
+    add_numbers(
+        check,
+        &[
+            u64::from(clock.start),
+            u64::from(clock.end),
+            u64::from(clock.lap),
+            u64::from(clock.timer),
+            u64::from(clock.lap_timer),
+            u64::from(clock.running),
+        ],
+    );
+    add_numbers(
+        check,
+        &[
+            u64::from(totals.time),
+            u64::from(totals.serial),
+            u64::from(totals.distance),
+            u64::from(totals.laps),
+            u64::from(totals.sport),
+            u64::from(totals.stopped),
+            u64::from(totals.has_distance),
+        ],
+    );
+}
+
+fn sums_numbers(sums: &FrozenSums) -> [u64; 11]
+    ensures { result ≡ sums_numbers sums.now }
+{
     [
-        whole.heart_rate.total,
-        whole.heart_rate.count,
-        u64::from(whole.heart_rate.greatest),
-        u64::from(whole.heart_rate.has_greatest),
-        whole.power.total,
-        whole.power.count,
-        u64::from(whole.power.greatest),
-        u64::from(whole.power.has_greatest),
-        u64::from(whole.known),
-        u64::from(whole.speed),
-        u64::from(whole.has_speed),
-        lap.heart_rate.total,
-        lap.heart_rate.count,
-        u64::from(lap.heart_rate.greatest),
-        u64::from(lap.heart_rate.has_greatest),
-        lap.power.total,
-        lap.power.count,
-        u64::from(lap.power.greatest),
-        u64::from(lap.power.has_greatest),
-        u64::from(lap.known),
-        u64::from(lap.speed),
-        u64::from(lap.has_speed),
-        u64::from(clock.start),
-        u64::from(clock.end),
-        u64::from(clock.lap),
-        u64::from(clock.timer),
-        u64::from(clock.lap_timer),
-        u64::from(clock.running),
-        u64::from(totals.time),
-        u64::from(totals.serial),
-        u64::from(totals.distance),
-        u64::from(totals.laps),
-        u64::from(totals.sport),
-        u64::from(totals.stopped),
-        u64::from(totals.has_distance),
+        sums.heart_rate.total,
+        sums.heart_rate.count,
+        u64::from(sums.heart_rate.greatest),
+        u64::from(sums.heart_rate.has_greatest),
+        sums.power.total,
+        sums.power.count,
+        u64::from(sums.power.greatest),
+        u64::from(sums.power.has_greatest),
+        u64::from(sums.known),
+        u64::from(sums.speed),
+        u64::from(sums.has_speed),
     ]
 }
 
@@ -129,10 +133,16 @@ fn recorder_numbers(recorder: &FrozenRecorder) -> [u64; 10]
 }
 
 // The numbers of a recovery besides its totals and definitions.
-fn reading_numbers(recovery: &FrozenRecovery) -> [u64; 6]
+fn reading_numbers(recovery: &FrozenRecovery) -> [u64; 11]
     ensures { result ≡ reading_numbers recovery.now }
 {
+    let journal = &recovery.journal;
     [
+        u64::from(journal.first),
+        u64::from(journal.second),
+        u64::from(journal.form),
+        u64::from(journal.has_first),
+        u64::from(journal.has_second),
         u64::from(recovery.heard.records),
         u64::from(recovery.heard.kind),
         u64::from(recovery.time),

@@ -7,6 +7,7 @@ ghost use Rattle.fit_device.specs.Starts.{Starts};
 ghost use Rattle.fit_device.specs.Steps.{Commits, Stops};
 
 use crate::answer::{NO_RECORDER, NO_SPORT, code_of, code_of_fault};
+use crate::files::Files;
 use crate::handle::{Handle, no_files};
 use crate::plan::DevicePlan;
 use fit_activity::{Sport, Start};
@@ -36,13 +37,14 @@ pub extern "C" fn fitrec_start(
         serial,
         sport,
     };
-    match Recorder::start(handle.take_files(), start) {
-        Ok(mut recorder) => {
-            handle.put(&mut recorder, plan);
+    let mut recorder = Recorder::idle(handle.take_files());
+    match recorder.begin(&start) {
+        Ok(()) => {
+            handle.put(&recorder, plan);
             0
         }
-        Err((disk, fault)) => {
-            handle.put_files(disk, plan);
+        Err(fault) => {
+            handle.put_files(Files::after(recorder.disk(), plan));
             code_of_fault(&fault)
         }
     }
@@ -59,7 +61,7 @@ pub extern "C" fn fitrec_commit(handle: &mut Handle, plan: &mut DevicePlan) -> u
         return NO_RECORDER;
     }
     let answer = recorder.commit();
-    handle.put(&mut recorder, plan);
+    handle.put(&recorder, plan);
     code_of(&answer)
 }
 
@@ -75,7 +77,7 @@ pub extern "C" fn fitrec_stop(handle: &mut Handle, time: u32, plan: &mut DeviceP
         return NO_RECORDER;
     }
     let answer = recorder.stop(time);
-    handle.put(&mut recorder, plan);
+    handle.put(&recorder, plan);
     code_of(&answer)
 }
 

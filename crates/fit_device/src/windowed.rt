@@ -10,10 +10,12 @@ ghost use Rattle.fit_recorder.specs.Calls.FrozenRecovery.{ReadsOnIn};
 ghost use Rattle.fit_device.specs.Asking.{IsAsking, asked_numbers, ReadsBy};
 ghost use Rattle.fit_device.specs.Planned.{carried_out};
 ghost use Rattle.fit_plan.specs.Part.{IsPartOf};
-ghost use Rattle.fit_plan.specs.Plan.{story_in, since_in};
-ghost use Rattle.fit_plan.specs.Window.{window_story, window_since};
+ghost use Rattle.fit_disk.specs.Counts.{no_calls};
+ghost use Rattle.fit_plan.specs.Plan.{story_in, since_in, counts_in, room_in, log_in, whole_room};
+ghost use Rattle.fit_plan.specs.Window.{window_story, window_since, window_log};
 
-use crate::plan::DevicePlan;
+use crate::believed::Believed;
+use crate::files::Files;
 use crate::seal::{ASKED, seal_of_recovery};
 use fit_disk::Which;
 use fit_notes::Notes;
@@ -62,7 +64,7 @@ pub struct RecoveryHandle {
 }
 
 impl RecoveryHandle {
-    ghost use Rattle.fit_device.specs.Windowed.{story_of, asked_of, asked_file, IsRecovery, HasWindow};
+    ghost use Rattle.fit_device.specs.Windowed.{story_of, asked_of, asked_file, IsRecovery, AsksForJournal, HasWindow};
     ghost use Rattle.fit_recorder.specs.Calls.Windows.{CanReadOn, ReadsOn};
 
     // Whether it asks for a window.
@@ -72,6 +74,13 @@ impl RecoveryHandle {
         self.mark == MARK
             && self.seal == seal_of_recovery(&self.reading, &self.asked())
             && usize::from(self.filled) <= WINDOW
+    }
+
+    // Whether it asks for the journal, and nothing was read yet.
+    pub(crate) fn asks_for_journal(&self) -> bool
+        ensures { IsTrue result ↔ AsksForJournal self.now }
+    {
+        self.is_recovery() && self.phase == FINDS
     }
 
     fn asked(&self) -> [u64; ASKED]
@@ -91,6 +100,7 @@ impl RecoveryHandle {
     pub(crate) fn take_files(&mut self) -> Plan
         ensures story { story_in result ≡ story_of self.old }
         ensures since { since_in result ≡ story_of self.old }
+        ensures none { (counts_in result ≡ no_calls) × (room_in result ≡ whole_room) }
         ensures window { (self.new.at ≡ self.old.at) × (self.new.file ≡ self.old.file)
             × (self.new.filled ≡ self.old.filled) × (self.new.window ≡ self.old.window) }
         ensures reading { self.new.reading ≡ self.old.reading }
@@ -102,12 +112,36 @@ impl RecoveryHandle {
         plan
     }
 
+    // Makes this recovery the one that reads on, and takes the two files out of the handle.
+    // Not inlined: its copy of the files is off the stack while the body is read.
+    #[inline(never)]
+    pub(crate) fn take_reading(&mut self, recovery: &mut Recovery) -> Plan
+        requires asks { IsRecovery self.old }
+        requires reads { self.old.phase ≡ 1 → ⊥ }
+        ensures reads { CanReadOn recovery.new × ReadsOn (story_in result) recovery.new }
+        ensures story { story_in result ≡ story_of self.old }
+        ensures since { since_in result ≡ story_of self.old }
+        ensures none { (counts_in result ≡ no_calls) × (room_in result ≡ whole_room) }
+        ensures window { (self.new.at ≡ self.old.at) × (self.new.file ≡ self.old.file)
+            × (self.new.filled ≡ self.old.filled) × (self.new.window ≡ self.old.window) }
+    {
+        recovery.thaw(&self.reading); // There is one with these numbers, which carry their check code.
+        let files = self.take_files();
+        Believed {
+            recovery: &*recovery,
+            files: &files,
+        }
+        .reveal();
+        files
+    }
+
     // These files, with the window of one of them.
     pub(crate) fn lend(&self, files: Plan, journal_size: u64) -> WindowPlan<'_>
         requires window { HasWindow self.now (story_in files) }
         requires size { journal_size ≡ length (story_in files).now.journal_file.seen }
         ensures story { window_story result ≡ story_in files }
         ensures since { window_since result ≡ since_in files }
+        ensures log { window_log result ≡ log_in files }
     {
         let window = &self.window[..usize::from(self.filled)];
         let is_journal = self.file != 0;
@@ -120,63 +154,42 @@ impl RecoveryHandle {
         WindowPlan::over(files, which, self.at, window, reaches_end)
     }
 
-    // Puts the two files into the handle, which asks for nothing, and their calls into the plan.
-    pub(crate) fn put_files(&mut self, files: Plan, journal_size: u64, plan: &mut DevicePlan)
-        requires { journal_size ≡ length (story_in files).now.journal_file.seen }
-        ensures story { story_of self.new ≡ story_in files }
-        ensures planned { carried_out plan.new (since_in files) ≡ story_in files }
+    // Puts the two files into the handle, which asks for nothing.
+    pub(crate) fn put_files(&mut self, files: Files, journal_size: u64)
+        requires { journal_size ≡ length files.notes.story.now.journal_file.seen }
+        ensures { story_of self.new ≡ files.notes.story }
     {
-        plan.fill(&files.calls);
-        let Plan { size, notes, .. } = files;
         self.mark = 0;
-        self.data_size = size;
+        self.data_size = files.size;
         self.journal_size = journal_size;
-        self.notes = notes;
+        self.notes = files.notes;
     }
 
-    // Asks for the next window of the body, and puts the files and their calls as `put_files` does.
-    pub(crate) fn ask_for_body(
-        &mut self,
-        files: Plan,
-        journal_size: u64,
-        recovery: &Recovery,
-        plan: &mut DevicePlan,
-    )
-        requires size { journal_size ≡ length (story_in files).now.journal_file.seen }
-        requires reads { CanReadOn recovery.now × ReadsOn (story_in files) recovery.now }
+    // Asks for the next window of the body of these files.
+    pub(crate) fn ask_for_body(&mut self, files: Files, journal_size: u64, recovery: &Recovery)
+        requires size { journal_size ≡ length files.notes.story.now.journal_file.seen }
+        requires reads { CanReadOn recovery.now × ReadsOn files.notes.story recovery.now }
         ensures asks { IsRecovery self.new }
-        ensures story { story_of self.new ≡ story_in files }
-        ensures planned { carried_out plan.new (since_in files) ≡ story_in files }
+        ensures story { story_of self.new ≡ files.notes.story }
     {
         self.mark = 0;
         recovery.freeze(&mut self.reading);
         let count = recovery.left().min(WINDOW as u32) as u16;
-        self.ask(files, journal_size, READS, recovery.place(), count, plan);
+        self.ask(files, journal_size, READS, recovery.place(), count);
     }
 
     // Asks for so many bytes of a file, from a place in it on.
-    pub(crate) fn ask(
-        &mut self,
-        files: Plan,
-        journal_size: u64,
-        phase: u8,
-        at: u64,
-        count: u16,
-        plan: &mut DevicePlan,
-    )
-        requires size { journal_size ≡ length (story_in files).now.journal_file.seen }
-        requires reads { ReadsBy phase self.old.reading (story_in files) }
-        requires within { at ≤ length (seen_of (asked_file phase) (story_in files)) }
+    pub(crate) fn ask(&mut self, files: Files, journal_size: u64, phase: u8, at: u64, count: u16)
+        requires size { journal_size ≡ length files.notes.story.now.journal_file.seen }
+        requires reads { ReadsBy phase self.old.reading files.notes.story }
+        requires within { at ≤ length (seen_of (asked_file phase) files.notes.story) }
         ensures asks { IsRecovery self.new }
-        ensures story { story_of self.new ≡ story_in files }
-        ensures planned { carried_out plan.new (since_in files) ≡ story_in files }
+        ensures story { story_of self.new ≡ files.notes.story }
     {
-        plan.fill(&files.calls);
-        let Plan { size, notes, .. } = files;
         self.mark = 0;
-        self.data_size = size;
+        self.data_size = files.size;
         self.journal_size = journal_size;
-        self.notes = notes;
+        self.notes = files.notes;
         self.at = at;
         self.file = u8::from(phase == FINDS);
         self.phase = phase;

@@ -54,12 +54,22 @@ pub record Schedule : Type 0 where
   pub cut : Option ℕ
   pub since : Counts
 
--- what a disk knows of its calls: those that were made and those that are to fail; and which memory of a
--- caller it uses, by numbers that no call changes
+-- how many writes, cuts and syncs, with how many bytes together, a disk has room for
+pub record Room : Type 0 where
+  pub calls : ℕ
+  pub bytes : ℕ
+
+-- what a disk shows that promises no call to go well
+abbrev pub no_room : Room
+no_room = record { calls = 0; bytes = 0 }
+
+-- what a disk knows of its calls: those that were made and those that are to fail; which memory of a caller it uses, by numbers that
+-- no call changes; and the room that it has for more calls
 pub record Log : Type 0 where
   pub counts : Counts
   pub schedule : Schedule
   pub memory : List ℕ
+  pub room : Room
 
 -- the call of that number is the one that is to fail
 abbrev pub is_at : Option ℕ → ℕ → Bool

@@ -6,7 +6,7 @@ use Rattle.fit_disk.specs.declared.memory.Memory.{Memory}
 use Rattle.fit_disk.specs.Stored.{write_begun, cut_begun}
 use Rattle.fit_disk.specs.State.{file_of, seen_in}
 use Rattle.fit_disk.specs.Story.{Story, then_file, seen_of}
-use Rattle.fit_disk.specs.Counts.{Counts, Log, Schedule, must_fail, last_count}
+use Rattle.fit_disk.specs.Counts.{Counts, Log, Schedule, must_fail, last_count, no_room}
 use Rattle.fit_disk.specs.CallSchedule.{counts_of, schedule_by}
 use Rattle.fit_disk.specs.Store.{story_in}
 
@@ -26,7 +26,7 @@ abbrev pub memory_schedule : Memory → Schedule
 memory_schedule m = schedule_value m.call_schedule
 
 abbrev pub memory_log : Memory → Log
-memory_log m = record { counts = memory_counts m; schedule = memory_schedule m; memory = [] }
+memory_log m = record { counts = memory_counts m; schedule = memory_schedule m; memory = []; room = no_room }
 
 -- memory was refused in one of its calls
 abbrev pub was_refused : Memory → Bool

@@ -1,6 +1,6 @@
 -- Several calls of a disk, counted together.
 use Rattle.std.specs.Prelude.{◌≡◌, ℕ, ◌+◌, ◌≤◌}
-use Rattle.fit_disk.specs.Counts.{Counts, Log, HasFailed}
+use Rattle.fit_disk.specs.Counts.{Counts, Log, HasFailed, last_count}
 
 -- so many calls were made, and none failed
 pub record AllWent (made : ℕ) (old new : Counts) : Type 0 where
@@ -21,3 +21,14 @@ pub record Ran (most reads : ℕ) (Failed : Type 0) (old new : Log) : Type 0 whe
 pub record RanAll (calls : ℕ) (Failed : Type 0) (old new : Log) : Type 0 where
   pub ran : Ran calls 0 Failed old new
   pub all : (Failed → ⊥) → new.counts.calls ≡ old.counts.calls + calls
+
+-- A run takes at most so many calls and bytes from the room of a disk. If the disk had so much room, no call failed.
+pub record Takes (calls bytes : ℕ) (Failed : Type 0) (old new : Log) : Type 0 where
+  pub went : old.counts.calls + calls ≤ last_count → calls ≤ old.room.calls → bytes ≤ old.room.bytes → Failed → ⊥
+  pub calls_left : old.room.calls ≤ new.room.calls + calls
+  pub bytes_left : old.room.bytes ≤ new.room.bytes + bytes
+
+-- a run of writes, cuts and syncs: what it did, and the room that it took
+pub record RanIn (most bytes : ℕ) (Failed : Type 0) (old new : Log) : Type 0 where
+  pub ran : Ran most 0 Failed old new
+  pub room : Takes most bytes Failed old new

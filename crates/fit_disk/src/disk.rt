@@ -1,7 +1,8 @@
 // The trait over which recorder and recovery are proved.
 
-ghost use Rattle.std.specs.Prelude.{◌≡◌, ◌≤◌, Bool, IsTrue, IfOk, length};
+ghost use Rattle.std.specs.Prelude.{◌≡◌, ◌+◌, ◌<◌, ◌≤◌, ◌^◌, Bool, IsTrue, IfOk, IsErr, length};
 ghost use Rattle.fit_disk.specs.Counts.{Log, CountsCall, CountsRead};
+ghost use Rattle.fit_disk.specs.Runs.{Takes};
 
 /// One of the two files of a recording.
 #[derive(Clone, Copy, Debug, PartialEq, Eq)]
@@ -19,6 +20,7 @@ pub struct DeviceError;
 pub trait Disk {
     ghost use Rattle.fit_disk.specs.Story.{Story, seen_of};
     ghost use Rattle.fit_disk.specs.Calls.{ReadsAt, Wrote, Shortened, Synced, IsSound};
+    ghost use Rattle.fit_disk.specs.declared.disk.Which.TheVariants.{Data};
 
     /// Reads give what was written or left, and a successful sync keeps it. Of a disk that is not honest only its log is known.
     ghost honest: { Bool };
@@ -27,7 +29,8 @@ pub trait Disk {
     ghost story: { Self → Story };
 
     /// The number of calls, of reads of the data file among them and of failed calls; whether the last call
-    /// failed; and which calls are scheduled to fail. No call of the trait changes the schedule.
+    /// failed; which calls are scheduled to fail; and for how many calls there is room. No call of the trait changes the
+    /// schedule.
     ghost log: { Self → Log };
 
     /// The length of a file in bytes.
@@ -37,7 +40,8 @@ pub trait Disk {
         ensures counted { CountsCall result (log self.old).counts (log self.new).counts }
         ensures reads { (log self.new).counts.data_reads ≡ (log self.old).counts.data_reads }
         ensures planned { (log self.new).schedule ≡ (log self.old).schedule }
-        ensures memory { (log self.new).memory ≡ (log self.old).memory };
+        ensures memory { (log self.new).memory ≡ (log self.old).memory }
+        ensures room { Takes 1 0 (IsErr result × (which ≡ Data)) (log self.old) (log self.new) };
 
     /// Reads from a place on into the front of the buffer, and returns the number of bytes. On an honest disk
     /// it is as many as both the buffer and the file have, and 0 from the end of the file on.
@@ -49,7 +53,8 @@ pub trait Disk {
         ensures counted { CountsCall result (log self.old).counts (log self.new).counts }
         ensures reads { CountsRead which (log self.old).counts (log self.new).counts }
         ensures planned { (log self.new).schedule ≡ (log self.old).schedule }
-        ensures memory { (log self.new).memory ≡ (log self.old).memory };
+        ensures memory { (log self.new).memory ≡ (log self.old).memory }
+        ensures room { (log self.new).room ≡ (log self.old).room };
 
     /// Writes bytes at a place, which is at most the file's length, over what is there and past the end.
     /// Until a sync a crash may leave any bytes in that range. A failed write may have been done in part.
@@ -59,7 +64,9 @@ pub trait Disk {
         ensures counted { CountsCall result (log self.old).counts (log self.new).counts }
         ensures reads { (log self.new).counts.data_reads ≡ (log self.old).counts.data_reads }
         ensures planned { (log self.new).schedule ≡ (log self.old).schedule }
-        ensures memory { (log self.new).memory ≡ (log self.old).memory };
+        ensures memory { (log self.new).memory ≡ (log self.old).memory }
+        ensures room { Takes 1 (length bytes.now) (IsErr result × (at + length bytes.now < 2 ^ 64))
+            (log self.old) (log self.new) };
 
     /// Cuts a file to a length in bytes, at most its own. A failed cut may have been done in part.
     fn cut(&mut self, which: Which, len: u64) -> Result<(), DeviceError>
@@ -68,7 +75,8 @@ pub trait Disk {
         ensures counted { CountsCall result (log self.old).counts (log self.new).counts }
         ensures reads { (log self.new).counts.data_reads ≡ (log self.old).counts.data_reads }
         ensures planned { (log self.new).schedule ≡ (log self.old).schedule }
-        ensures memory { (log self.new).memory ≡ (log self.old).memory };
+        ensures memory { (log self.new).memory ≡ (log self.old).memory }
+        ensures room { Takes 1 0 (IsErr result) (log self.old) (log self.new) };
 
     /// Waits until all that reads give of the file is kept. A failed sync keeps nothing new and loses nothing.
     fn sync(&mut self, which: Which) -> Result<(), DeviceError>
@@ -76,7 +84,8 @@ pub trait Disk {
         ensures counted { CountsCall result (log self.old).counts (log self.new).counts }
         ensures reads { (log self.new).counts.data_reads ≡ (log self.old).counts.data_reads }
         ensures planned { (log self.new).schedule ≡ (log self.old).schedule }
-        ensures memory { (log self.new).memory ≡ (log self.old).memory };
+        ensures memory { (log self.new).memory ≡ (log self.old).memory }
+        ensures room { Takes 1 0 (IsErr result) (log self.old) (log self.new) };
 
     /// What reads give may itself be left.
     ghost sound: { (disk : Self) → IsTrue honest → IsSound (story disk).now };

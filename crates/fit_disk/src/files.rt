@@ -2,7 +2,7 @@
 
 ghost use Rattle.std.specs.Prelude.{[], ◌+◌, ◌<◌, ◌≡◌, ◌≤◌, false, true, length, IfOk, IsErr, IsTrue, OnOk, OnErr};
 ghost use Rattle.fit_disk.specs.Calls.{ReadsAt, Wrote, Shortened, Synced};
-ghost use Rattle.fit_disk.specs.Counts.{unplanned, no_calls, with_failure, CountsCall, CountsRead};
+ghost use Rattle.fit_disk.specs.Counts.{unplanned, no_calls, no_room, with_failure, CountsCall, CountsRead};
 ghost use Rattle.fit_disk.specs.Story.{seen_of};
 
 use crate::call_counts::CallCounts;
@@ -155,7 +155,7 @@ impl<W: Witness> Disk for Files<W> {
     ghost story = { λ files. W.story (witness_of files) };
 
     ghost log = { λ files.
-        record { counts = files_counts files; schedule = unplanned no_calls; memory = [] } };
+        record { counts = files_counts files; schedule = unplanned no_calls; memory = []; room = no_room } };
 
     ghost sound = { λ files. W.sound (witness_of files) };
 

@@ -30,6 +30,13 @@ impl Notes {
         Notes { marker: 0 }
     }
 
+    /// The same notes once more.
+    pub fn same(&self) -> Notes
+        ensures { (result.story ≡ self.now.story) × (result.since ≡ self.now.since) }
+    {
+        Notes { marker: 0 }
+    }
+
     /// Notes what a call did. The numbers are its kind, the number of the file, and a place or a length.
     pub fn note(&mut self, _numbers: &[u64], _bytes: &[u8])
         ensures { (self.new.story ≡ noted_by _numbers.now _bytes.now self.old.story)

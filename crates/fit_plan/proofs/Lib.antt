@@ -1,3 +1,4 @@
 mod Planning
+pub mod Room
 pub mod Prefix
 mod Windowed

@@ -1,8 +1,10 @@
 -- What a plan shows as a disk.
+use Rattle.std.specs.Prelude.{ℕ, ◌-◌, length}
 use Rattle.fit_disk.specs.CallSchedule.{counts_of}
-use Rattle.fit_disk.specs.Counts.{Counts, Log, no_calls, unplanned}
+use Rattle.fit_disk.specs.Counts.{Counts, Log, Room, no_calls, unplanned}
 use Rattle.fit_disk.specs.Story.{Story}
 use Rattle.fit_notes.specs.Numbers.{numbers_of}
+use Rattle.fit_plan.specs.declared.calls.Calls.{Calls}
 use Rattle.fit_plan.specs.declared.plan.Plan.{Plan}
 
 abbrev pub story_in : Plan → Story
@@ -15,7 +17,25 @@ since_in p = p.notes.since
 abbrev pub counts_in : Plan → Counts
 counts_in p = counts_of p.counts
 
+-- the most calls of a plan, and the most bytes of their writes together
+abbrev pub most_calls : ℕ
+most_calls = 12
+
+abbrev pub most_bytes : ℕ
+most_bytes = 896
+
+-- the room of a plan without calls
+abbrev pub whole_room : Room
+whole_room = record { calls = most_calls; bytes = most_bytes }
+
+-- the room for more calls
+abbrev pub room_by : Calls → Room
+room_by calls = record { calls = most_calls - length calls.calls.items; bytes = most_bytes - length calls.bytes.items }
+
+abbrev pub room_in : Plan → Room
+room_in p = room_by p.calls
+
 -- Nothing is scheduled to fail. What no call changes is the story that the plan began with: so a caller of a function over any disk knows
 -- which calls have led from it to the story now.
 abbrev pub log_in : Plan → Log
-log_in p = record { counts = counts_in p; schedule = unplanned no_calls; memory = numbers_of (since_in p) }
+log_in p = record { counts = counts_in p; schedule = unplanned no_calls; memory = numbers_of (since_in p); room = room_in p }

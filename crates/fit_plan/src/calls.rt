@@ -1,6 +1,6 @@
 // Calls of a disk, in the order in which a host carries them out.
 
-ghost use Rattle.std.specs.Prelude.{◌≡◌, ◌+◌, ◌≤◌, [], length, OnOk, OnErr, All};
+ghost use Rattle.std.specs.Prelude.{◌≡◌, ◌+◌, ◌-◌, ◌<◌, ◌≤◌, [], length, IsErr, OnOk, OnErr, All};
 ghost use Rattle.fit_disk.specs.Story.{Story};
 ghost use Rattle.fit_notes.specs.Noted.{which_of};
 ghost use Rattle.fit_plan.specs.Within.{IsWithin};
@@ -13,7 +13,7 @@ use fit_disk::DeviceError;
 pub const MOST_CALLS: usize = 12;
 
 /// The most bytes that the writes of a plan have together.
-pub const MOST_BYTES: usize = 1024;
+pub const MOST_BYTES: usize = 896;
 
 /// One call of a disk.
 #[repr(C)]
@@ -43,7 +43,8 @@ impl Calls {
 
     /// No calls.
     pub fn new() -> Calls
-        ensures { (since : Story) → planned result since ≡ since }
+        ensures planned { (since : Story) → planned result since ≡ since }
+        ensures empty { (result.calls.items ≡ []) × (result.bytes.items ≡ []) }
     {
         Calls {
             calls: ArrayVec::new(),
@@ -62,6 +63,10 @@ impl Calls {
         ensures ok { OnOk result ((since : Story) → planned self.new since
             ≡ carried kind (which_of file) at bytes.now (planned self.old since)) }
         ensures err { OnErr result (self.new ≡ self.old) }
+        ensures added { OnOk result ((length self.new.calls.items ≡ length self.old.calls.items + 1)
+            × (length self.new.bytes.items ≡ length self.old.bytes.items + length bytes.now)) }
+        ensures fits { length self.old.calls.items < MOST_CALLS
+            → length bytes.now ≤ MOST_BYTES - length self.old.bytes.items → IsErr result → ⊥ }
     {
         if self.calls.is_full() {
             return Err(DeviceError);

@@ -1,8 +1,9 @@
 // A plan over two files that lie in memory, such as in flash that the processor can read.
 
-ghost use Rattle.std.specs.Prelude.{◌≡◌, ◌≤◌, true, length, IfOk};
+ghost use Rattle.std.specs.Prelude.{◌≡◌, ◌+◌, ◌<◌, ◌≤◌, ◌^◌, true, length, IfOk, IsErr};
 ghost use Rattle.fit_disk.specs.Calls.{ReadsAt, Wrote, Shortened, Synced};
 ghost use Rattle.fit_disk.specs.Counts.{CountsCall, CountsRead, no_calls};
+ghost use Rattle.fit_disk.specs.Runs.{Takes};
 ghost use Rattle.fit_disk.specs.Story.{seen_of};
 ghost use Rattle.fit_disk.specs.declared.disk.Which.TheVariants.{Data, Journal};
 
@@ -87,6 +88,7 @@ impl Disk for LentPlan<'_, '_> {
         ensures since { lent_since self.new ≡ lent_since self.old }
         ensures counted { CountsCall result (lent_counts self.old) (lent_counts self.new) }
         ensures reads { (lent_counts self.new).data_reads ≡ (lent_counts self.old).data_reads }
+        ensures room { Takes 1 0 (IsErr result × (which ≡ Data)) (lent_log self.old) (lent_log self.new) }
     {
         self.plan.size(which)
     }
@@ -99,6 +101,7 @@ impl Disk for LentPlan<'_, '_> {
         ensures since { lent_since self.new ≡ lent_since self.old }
         ensures counted { CountsCall result (lent_counts self.old) (lent_counts self.new) }
         ensures reads { CountsRead which (lent_counts self.old) (lent_counts self.new) }
+        ensures room { (lent_log self.new).room ≡ (lent_log self.old).room }
     {
         if !self.is_lent(which) {
             return self.plan.read(which, at, buffer);
@@ -113,6 +116,8 @@ impl Disk for LentPlan<'_, '_> {
         ensures since { lent_since self.new ≡ lent_since self.old }
         ensures counted { CountsCall result (lent_counts self.old) (lent_counts self.new) }
         ensures reads { (lent_counts self.new).data_reads ≡ (lent_counts self.old).data_reads }
+        ensures room { Takes 1 (length bytes.now) (IsErr result × (at + length bytes.now < 2 ^ 64))
+            (lent_log self.old) (lent_log self.new) }
     {
         match which {
             Which::Data => self.data_is_lent = false,
@@ -127,6 +132,7 @@ impl Disk for LentPlan<'_, '_> {
         ensures since { lent_since self.new ≡ lent_since self.old }
         ensures counted { CountsCall result (lent_counts self.old) (lent_counts self.new) }
         ensures reads { (lent_counts self.new).data_reads ≡ (lent_counts self.old).data_reads }
+        ensures room { Takes 1 0 (IsErr result) (lent_log self.old) (lent_log self.new) }
     {
         match which {
             Which::Data => self.data_is_lent = false,
@@ -140,6 +146,7 @@ impl Disk for LentPlan<'_, '_> {
         ensures since { lent_since self.new ≡ lent_since self.old }
         ensures counted { CountsCall result (lent_counts self.old) (lent_counts self.new) }
         ensures reads { (lent_counts self.new).data_reads ≡ (lent_counts self.old).data_reads }
+        ensures room { Takes 1 0 (IsErr result) (lent_log self.old) (lent_log self.new) }
     {
         self.plan.sync(which)
     }

@@ -1,10 +1,12 @@
 // A plan as a disk.
 
-ghost use Rattle.std.specs.Prelude.{◌≡◌, ◌<◌, ◌≤◌, true, length, IfOk, IsErr, OnOk, OnErr};
+ghost use Rattle.std.specs.Prelude.{◌≡◌, ◌+◌, ◌<◌, ◌≤◌, ◌^◌, true, length, IfOk, IsErr, OnOk, OnErr};
 ghost use Rattle.fit_disk.specs.CallSchedule.{counts_of};
 ghost use Rattle.fit_disk.specs.Calls.{ReadsAt, Wrote, Shortened, Synced, IsSound};
 ghost use Rattle.fit_disk.specs.Counts.{CountsCall, CountsRead, no_calls, with_read, with_failure, with_uncounted, last_count};
+ghost use Rattle.fit_disk.specs.Runs.{Takes};
 ghost use Rattle.fit_disk.specs.Story.{seen_of};
+ghost use Rattle.fit_disk.specs.declared.disk.Which.TheVariants.{Data};
 ghost use Rattle.fit_notes.specs.Noted.{number_of};
 ghost use Rattle.fit_plan.specs.Planned.{planned};
 
@@ -42,7 +44,7 @@ pub struct Plan {
 }
 
 impl Plan {
-    ghost use Rattle.fit_plan.specs.Plan.{story_in, since_in, counts_in};
+    ghost use Rattle.fit_plan.specs.Plan.{story_in, since_in, counts_in, room_in, whole_room};
 
     /// No calls yet, over two files with this story, of which the data file has this length in bytes.
     pub fn over(size: u64, mut notes: Notes) -> Plan
@@ -51,6 +53,7 @@ impl Plan {
         ensures story { story_in result ≡ notes.story }
         ensures since { since_in result ≡ notes.story }
         ensures counts { counts_in result ≡ no_calls }
+        ensures room { room_in result ≡ whole_room }
     {
         notes.note(&[MARK, 0, 0], &[]);
         Plan {
@@ -68,6 +71,7 @@ impl Plan {
             × (counts_in self.new ≡ with_uncounted (counts_in self.old))) }
         ensures story { story_in self.new ≡ story_in self.old }
         ensures since { since_in self.new ≡ since_in self.old }
+        ensures room { room_in self.new ≡ room_in self.old }
     {
         self.counts.read(which)
     }
@@ -79,6 +83,7 @@ impl Plan {
         ensures counts { counts_in self.new ≡ with_failure (counts_in self.old) }
         ensures story { story_in self.new ≡ story_in self.old }
         ensures since { since_in self.new ≡ since_in self.old }
+        ensures room { room_in self.new ≡ room_in self.old }
     {
         self.counts.fail();
         Err(DeviceError)
@@ -96,7 +101,7 @@ fn number(which: Which) -> u8
 }
 
 impl Disk for Plan {
-    ghost use Rattle.fit_plan.specs.Plan.{story_in, since_in, counts_in, log_in};
+    ghost use Rattle.fit_plan.specs.Plan.{story_in, since_in, counts_in, room_in, log_in};
 
     ghost honest = { true };
 
@@ -112,6 +117,7 @@ impl Disk for Plan {
         ensures since { since_in self.new ≡ since_in self.old }
         ensures counted { CountsCall result (counts_in self.old) (counts_in self.new) }
         ensures reads { (counts_in self.new).data_reads ≡ (counts_in self.old).data_reads }
+        ensures room { Takes 1 0 (IsErr result × (which ≡ Data)) (log_in self.old) (log_in self.new) }
     {
         self.counts.call()?;
         match which {
@@ -128,6 +134,7 @@ impl Disk for Plan {
         ensures since { since_in self.new ≡ since_in self.old }
         ensures counted { CountsCall result (counts_in self.old) (counts_in self.new) }
         ensures reads { CountsRead which (counts_in self.old) (counts_in self.new) }
+        ensures room { room_in self.new ≡ room_in self.old }
     {
         self.count_read(which)?;
         self.failed()
@@ -139,6 +146,8 @@ impl Disk for Plan {
         ensures since { since_in self.new ≡ since_in self.old }
         ensures counted { CountsCall result (counts_in self.old) (counts_in self.new) }
         ensures reads { (counts_in self.new).data_reads ≡ (counts_in self.old).data_reads }
+        ensures room { Takes 1 (length bytes.now) (IsErr result × (at + length bytes.now < 2 ^ 64))
+            (log_in self.old) (log_in self.new) }
     {
         self.counts.call()?;
         let file = number(which);
@@ -162,6 +171,7 @@ impl Disk for Plan {
         ensures since { since_in self.new ≡ since_in self.old }
         ensures counted { CountsCall result (counts_in self.old) (counts_in self.new) }
         ensures reads { (counts_in self.new).data_reads ≡ (counts_in self.old).data_reads }
+        ensures room { Takes 1 0 (IsErr result) (log_in self.old) (log_in self.new) }
     {
         self.counts.call()?;
         let file = number(which);
@@ -181,6 +191,7 @@ impl Disk for Plan {
         ensures since { since_in self.new ≡ since_in self.old }
         ensures counted { CountsCall result (counts_in self.old) (counts_in self.new) }
         ensures reads { (counts_in self.new).data_reads ≡ (counts_in self.old).data_reads }
+        ensures room { Takes 1 0 (IsErr result) (log_in self.old) (log_in self.new) }
     {
         self.counts.call()?;
         let file = number(which);

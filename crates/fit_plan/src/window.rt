@@ -1,10 +1,12 @@
 // A plan over a window of one file.
 
-ghost use Rattle.std.specs.Prelude.{◌≡◌, ◌+◌, ◌≤◌, ℕ, true, false, length, IsTrue, IfOk, OnErr};
+ghost use Rattle.std.specs.Prelude.{◌≡◌, ◌+◌, ◌<◌, ◌≤◌, ◌^◌, ℕ, true, false, length, IsTrue, IfOk, IsErr, OnErr};
 ghost use Rattle.fit_disk.specs.Calls.{ReadsAt, Wrote, Shortened, Synced};
 ghost use Rattle.fit_disk.specs.Counts.{CountsCall, CountsRead, last_count};
+ghost use Rattle.fit_disk.specs.Runs.{Takes};
 ghost use Rattle.fit_disk.specs.Story.{seen_of};
 ghost use Rattle.fit_disk.specs.declared.disk.Which.{Which};
+ghost use Rattle.fit_disk.specs.declared.disk.Which.TheVariants.{Data};
 ghost use Rattle.fit_plan.specs.Part.{IsPartOf, IsOther, Covers, most_read};
 
 use crate::plan::Plan;
@@ -27,8 +29,8 @@ pub struct WindowPlan<'a> {
 }
 
 impl<'a> WindowPlan<'a> {
-    ghost use Rattle.fit_plan.specs.Plan.{story_in, since_in, counts_in};
-    ghost use Rattle.fit_plan.specs.Window.{window_story, window_since, window_counts, HasAll};
+    ghost use Rattle.fit_plan.specs.Plan.{story_in, since_in, counts_in, log_in};
+    ghost use Rattle.fit_plan.specs.Window.{window_story, window_since, window_counts, window_log, HasAll};
 
     /// The plan, with these bytes of a file from a place on. Of the journal, whose length a plan does not know, `reaches_end` says
     /// that they reach the end. Of the data file it may be false.
@@ -43,6 +45,7 @@ impl<'a> WindowPlan<'a> {
         ensures story { window_story result ≡ story_in plan }
         ensures since { window_since result ≡ since_in plan }
         ensures counts { window_counts result ≡ counts_in plan }
+        ensures log { window_log result ≡ log_in plan }
         ensures gives { (start room : ℕ)
             → Covers file plan.size at (at + length window.now) reaches_end start room
             → HasAll result file start room }
@@ -106,6 +109,7 @@ impl Disk for WindowPlan<'_> {
         ensures keeps { (file : Which) → Keeps file self.old self.new }
         ensures counted { CountsCall result (window_counts self.old) (window_counts self.new) }
         ensures reads { (window_counts self.new).data_reads ≡ (window_counts self.old).data_reads }
+        ensures room { Takes 1 0 (IsErr result × (which ≡ Data)) (window_log self.old) (window_log self.new) }
     {
         self.plan.size(which)
     }
@@ -121,6 +125,7 @@ impl Disk for WindowPlan<'_> {
         ensures keeps { (file : Which) → Keeps file self.old self.new }
         ensures counted { CountsCall result (window_counts self.old) (window_counts self.new) }
         ensures reads { CountsRead which (window_counts self.old) (window_counts self.new) }
+        ensures room { (window_log self.new).room ≡ (window_log self.old).room }
     {
         if !self.has_all(which, at, buffer.len()) {
             return self.plan.read(which, at, buffer);
@@ -136,6 +141,8 @@ impl Disk for WindowPlan<'_> {
         ensures keeps { (file : Which) → IsOther which file → Keeps file self.old self.new }
         ensures counted { CountsCall result (window_counts self.old) (window_counts self.new) }
         ensures reads { (window_counts self.new).data_reads ≡ (window_counts self.old).data_reads }
+        ensures room { Takes 1 (length bytes.now) (IsErr result × (at + length bytes.now < 2 ^ 64))
+            (window_log self.old) (window_log self.new) }
     {
         self.is_lent = self.outlasts(which);
         self.plan.write(which, at, bytes)
@@ -148,6 +155,7 @@ impl Disk for WindowPlan<'_> {
         ensures keeps { (file : Which) → IsOther which file → Keeps file self.old self.new }
         ensures counted { CountsCall result (window_counts self.old) (window_counts self.new) }
         ensures reads { (window_counts self.new).data_reads ≡ (window_counts self.old).data_reads }
+        ensures room { Takes 1 0 (IsErr result) (window_log self.old) (window_log self.new) }
     {
         self.is_lent = self.outlasts(which);
         self.plan.cut(which, len)
@@ -159,6 +167,7 @@ impl Disk for WindowPlan<'_> {
         ensures keeps { (file : Which) → Keeps file self.old self.new }
         ensures counted { CountsCall result (window_counts self.old) (window_counts self.new) }
         ensures reads { (window_counts self.new).data_reads ≡ (window_counts self.old).data_reads }
+        ensures room { Takes 1 0 (IsErr result) (window_log self.old) (window_log self.new) }
     {
         self.plan.sync(which)
     }

@@ -8,6 +8,7 @@ pub mod Recovery
 pub mod Windows
 pub mod FrozenRecovery
 pub mod Resume
+pub mod Ride
 pub mod Erasing
 pub mod FaultCode
 pub mod OnMemory

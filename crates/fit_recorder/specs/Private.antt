@@ -9,6 +9,5 @@ pub mod BodyRead
 pub mod Begun
 pub mod BodyHeard
 pub mod Length
-pub mod Ride
 pub mod Closing
 pub mod Closes

@@ -2,7 +2,7 @@
 
 ghost use Rattle.std.specs.Prelude.{◌≡◌, ◌↔◌, true, false, IsTrue, List, map, take};
 ghost use Rattle.arrayvec.specs.ArrayVec.{ArrayVec as AnyArrayVec};
-ghost use Rattle.fit_recorder.specs.Calls.Recorder.{state_of, has_failed, disk_of};
+ghost use Rattle.fit_recorder.specs.Calls.Recorder.{IsIdle, state_of, has_failed, disk_of};
 ghost use Rattle.fit_recorder.specs.Calls.Frozen.{definition_in, definitions_in, state_in, has_failed_in, IsPossible};
 
 use crate::limits::{LONGEST_ITEM, PAGE};
@@ -10,7 +10,7 @@ use crate::recorder::Recorder;
 use crate::recording_files::RecordingFiles;
 use crate::spelling::Spelling;
 use arrayvec::ArrayVec;
-use fit_activity::{FrozenTotals, Speech, Sport, Start, Totals};
+use fit_activity::{FrozenTotals, Sport, Start, Totals};
 use fit_base::Crc;
 use fit_disk::Disk;
 use fit_journal::{FrozenJournal, Journal};
@@ -41,9 +41,9 @@ pub struct FrozenRecorder {
 
 impl<D: Disk> Recorder<D> {
     /// A recorder of no ride over a disk, which every call refuses with `Failed`.
-    #[inline(never)]
     pub fn idle(disk: D) -> Recorder<D>
         ensures disk { disk_of result ≡ disk }
+        ensures idle { IsIdle result }
         ensures failed { has_failed result ≡ true }
     {
         Recorder {
@@ -55,10 +55,16 @@ impl<D: Disk> Recorder<D> {
                 checksum: Crc::new(),
             },
             totals: Totals::start(&NO_RIDE),
-            speech: Speech::new(),
             spelling: Spelling::new(),
             failed: true,
         }
+    }
+
+    /// The disk of the recorder.
+    pub fn disk(&self) -> &D
+        ensures { result.now ≡ disk_of self.now }
+    {
+        &self.files.disk
     }
 
     /// Swaps the disk of the recorder and this one.

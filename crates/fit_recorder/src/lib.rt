@@ -41,4 +41,4 @@ pub use recorder::Recorder;
 pub use recovery::frozen::FrozenRecovery;
 pub use recovery::windows::Recovery;
 pub use recovery::{recover, settle};
-pub use resuming::resume;
+pub use resuming::{FoundRide, continue_with, resume, take_up};

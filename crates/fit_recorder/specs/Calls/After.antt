@@ -4,7 +4,7 @@ use Rattle.fit_activity.specs.declared.recording.entry.Entry.{Entry}
 use Rattle.fit_activity.specs.Rides.Recording.{Recorded, Added}
 use Rattle.fit_disk.specs.declared.disk.Which.TheVariants.{Data}
 use Rattle.fit_disk.specs.Counts.{Log}
-use Rattle.fit_disk.specs.Runs.{AllWent, Ran}
+use Rattle.fit_disk.specs.Runs.{AllWent, RanIn}
 use Rattle.fit_disk.specs.State.{Contents}
 use Rattle.fit_disk.specs.Story.{Story, Throughout, seen_of}
 use Rattle.fit_journal.specs.declared.slots.Slots.TheVariants.{InTurns}
@@ -57,9 +57,9 @@ module _ {D : Type 0} where
   SameHead honest story old new =
       IsTrue honest → AtEach honest story old (λ list committed. KeepsHead (story (disk_of old)) (story (disk_of new)))
 
-  -- the device calls that it made, of which none reads the data file
-  abbrev pub Made : (D → Log) → ℕ → Type 0 → Recorder D → Recorder D → Type 0
-  Made log most Reported old new = Ran most 0 Reported (log (disk_of old)) (log (disk_of new))
+  -- the device calls that it made, of which none reads the data file, and the room that they took
+  abbrev pub Made : (D → Log) → ℕ → ℕ → Type 0 → Recorder D → Recorder D → Type 0
+  Made log most bytes Reported old new = RanIn most bytes Reported (log (disk_of old)) (log (disk_of new))
 
   -- Bytes that fit into the page after those that wait there make no call. Else one call writes the page, and only they wait.
   pub record Pages (log : D → Log) (bytes : ℕ) (old new : Recorder D) : Type 0 where

@@ -6,6 +6,11 @@ use Rattle.fit_disk.specs.Story.{Story, seen_of}
 use Rattle.fit_disk.specs.declared.disk.Which.TheVariants.{Data}
 use Rattle.fit_grammar.specs.Format.Item.{Item}
 use Rattle.fit_grammar.specs.Format.Message.{Message, messages_of}
+use Rattle.fit_journal.specs.Adopting.{Adopted}
+use Rattle.fit_journal.specs.Frozen.{slots_in}
+use Rattle.fit_journal.specs.Slots.{row_slots}
+use Rattle.fit_journal.specs.Turn.{open_gates}
+use Rattle.fit_journal.specs.declared.slots.Slots.{Slots}
 use Rattle.fit_recorder.specs.Files.Committed.{HasBody}
 use Rattle.fit_recorder.specs.Files.Limits.{most_records}
 use Rattle.fit_recorder.specs.Files.Settled.{IsSettled}
@@ -22,11 +27,15 @@ reading_in f = record { table = table_in f.definitions; time = f.time; checksum 
 abbrev pub replay_of : FrozenRecovery → Replay
 replay_of f = replay_in f.heard
 
+abbrev pub journal_of : FrozenRecovery → Slots
+journal_of f = slots_in f.journal
+
 -- a recovery may have these numbers
 pub record IsPossible (f : FrozenRecovery) : Type 0 where
   pub within : f.at ≤ f.len
   pub definitions : ArePossible f.definitions
   pub heard : IsPossibleReplay f.heard
+  pub journal : open_gates (journal_of f) ≤ row_slots
 
 -- the recovery with these numbers reads on over these files
 pub record ReadsOnIn (f : FrozenRecovery) (story : Story) : Type 0 where
@@ -37,5 +46,6 @@ pub record ReadsOnIn (f : FrozenRecovery) (story : Story) : Type 0 where
   pub most : f.len ≤ most_records
   pub settled : IsSettled (seen_in story.now) story
   pub committed : CommitsLength (seen_in story.now) f.len
+  pub adopted : Adopted (journal_of f) f.len story.now.journal_file.seen
   pub read : (body : List ℕ) → length body ≡ f.len → HasBody body (seen_of Data story)
       → (items : List Item) × AreRead (reading_in f) body items × HasHeard (replay_of f) (messages_of items)

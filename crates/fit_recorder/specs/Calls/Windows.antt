@@ -1,25 +1,33 @@
 -- A recovery that reads the data file by windows.
-use Rattle.std.specs.Prelude.{◌≡◌, ◌≤◌, ℕ, List, length, Result, Ok, Err}
+use Rattle.std.specs.Prelude.{◌≡◌, ◌⊎◌, ◌+◌, ◌≤◌, ℕ, List, length, Option, Some, None, Result, Ok, Err, IfErr}
+use Rattle.fit_disk.specs.Counts.{Log, last_count}
 use Rattle.fit_disk.specs.State.{seen_in}
 use Rattle.fit_disk.specs.Story.{Story, seen_of}
 use Rattle.fit_disk.specs.declared.disk.Which.TheVariants.{Data}
+use Rattle.fit_journal.specs.Adopting.{Adopted}
+use Rattle.fit_recorder.specs.Calls.Counts.{most_body_reads}
 use Rattle.fit_recorder.specs.Calls.Recovery.{RecoveryAnswers}
+use Rattle.fit_recorder.specs.Calls.Resume.{IsResumeFault}
 use Rattle.fit_recorder.specs.Files.Committed.{HasBody}
 use Rattle.fit_recorder.specs.Files.Limits.{most_records}
 use Rattle.fit_recorder.specs.Files.Settled.{IsSettled}
 use Rattle.fit_recorder.specs.Private.BodyRead.{HasHeardItems, HeardUpTo}
 use Rattle.fit_recorder.specs.Private.Length.{CommitsLength}
+use Rattle.fit_recorder.specs.Calls.Ride.{TakesUp, MayGoOn}
 use Rattle.fit_recorder.specs.declared.fault.RecFault.{RecFault}
+use Rattle.fit_recorder.specs.declared.fault.RecFault.TheVariants as faults
+use Rattle.fit_recorder.specs.declared.resuming.FoundRide.{FoundRide}
 use Rattle.fit_recorder.specs.declared.recovery.windows.Recovery.{Recovery}
 
 -- it has heard some messages, at most one for each byte
 abbrev pub CanReadOn : Recovery → Type 0
 CanReadOn recovery = HeardUpTo recovery.reader recovery.replay × (recovery.reader.len ≤ most_records)
 
--- both files are at rest, so many bytes of the body are committed, and some of its items were read
+-- both files are at rest, so many bytes of the body are committed, the journal was adopted, and some items of the body were read
 pub record ReadsOn (story : Story) (recovery : Recovery) : Type 0 where
   pub settled : IsSettled (seen_in story.now) story
   pub committed : CommitsLength (seen_in story.now) recovery.reader.len
+  pub adopted : Adopted recovery.journal recovery.reader.len story.now.journal_file.seen
   pub heard : (body : List ℕ) → length body ≡ recovery.reader.len → HasBody body (seen_of Data story)
       → HasHeardItems recovery.reader recovery.replay body
 
@@ -27,3 +35,22 @@ pub record ReadsOn (story : Story) (recovery : Recovery) : Type 0 where
 abbrev pub FindsBody : Story → Recovery → Result (Unit {0}) RecFault → Type 0
 FindsBody story recovery (Ok _) = ReadsOn story recovery
 FindsBody story recovery (Err fault) = RecoveryAnswers (seen_in story.now) story (Err fault)
+
+-- The outcome of a step of a resume by windows: a read failed, and the recovery reads on; or the ride is taken up, or refused, which
+-- changes nothing unless it is `Device`.
+abbrev pub TakesUpOn : Story → Story → Recovery → Option (Result FoundRide RecFault) → Type 0
+TakesUpOn old new recovery (Some taken) =
+    TakesUp (seen_in old.now) new taken × IfErr taken (λ fault. (fault ≡ faults.Device) ⊎ (new ≡ old))
+TakesUpOn old new recovery None = (new ≡ old) × ReadsOn old recovery
+
+-- what is known of it over any disk
+abbrev pub MayTakeUpOn : Recovery → Option (Result FoundRide RecFault) → Type 0
+MayTakeUpOn recovery (Some (Ok ride)) = MayGoOn ride
+MayTakeUpOn recovery (Some (Err fault)) = IsResumeFault fault
+MayTakeUpOn recovery None = CanReadOn recovery
+
+-- the disk has room for so many calls with so many bytes, after all reads of a body
+pub record HasRoom (calls bytes : ℕ) (log : Log) : Type 0 where
+  pub counted : log.counts.calls + most_body_reads + calls ≤ last_count
+  pub for_calls : calls ≤ log.room.calls
+  pub for_bytes : bytes ≤ log.room.bytes

@@ -7,12 +7,14 @@ use crate::recovery::windows::Recovery;
 use fit_activity::FrozenReplay;
 use fit_base::Crc;
 use fit_grammar::FrozenShort;
+use fit_journal::{FrozenJournal, Journal};
 
 /// A recovery by windows as plain numbers.
 #[repr(C)]
 #[derive(Clone, Copy)]
 pub struct FrozenRecovery {
     pub heard: FrozenReplay,
+    pub journal: FrozenJournal,
     pub time: u32,
     pub at: u32,
     pub len: u32,
@@ -21,12 +23,13 @@ pub struct FrozenRecovery {
 }
 
 impl Recovery {
-    ghost use Rattle.fit_recorder.specs.Calls.FrozenRecovery.{reading_in, replay_of, IsPossible};
+    ghost use Rattle.fit_recorder.specs.Calls.FrozenRecovery.{reading_in, replay_of, journal_of, IsPossible};
 
     /// Writes the recovery as plain numbers.
     pub fn freeze(&self, numbers: &mut FrozenRecovery)
         ensures reading { reading_in numbers.new ≡ reading_of self.now.reader }
         ensures replay { replay_of numbers.new ≡ self.now.replay }
+        ensures journal { journal_of numbers.new ≡ self.now.journal }
         ensures possible { IsPossible numbers.new }
     {
         numbers.time = self.reader.time;
@@ -35,17 +38,23 @@ impl Recovery {
         numbers.checksum = self.reader.checksum.value();
         self.reader.table.freeze(&mut numbers.definitions);
         self.replay.freeze(&mut numbers.heard);
+        numbers.journal = self.journal.freeze();
     }
 
     /// Makes this the recovery with these numbers. Reports `false` if no recovery has them.
     pub fn thaw(&mut self, numbers: &FrozenRecovery) -> bool
         ensures reading { result ≡ true → reading_of self.new.reader ≡ reading_in numbers.now }
         ensures replay { result ≡ true → self.new.replay ≡ replay_of numbers.now }
+        ensures journal { result ≡ true → self.new.journal ≡ journal_of numbers.now }
         ensures possible { IsPossible numbers.now → result ≡ true }
     {
+        let Some(journal) = Journal::thaw(&numbers.journal) else {
+            return false;
+        };
         if numbers.at > numbers.len {
             return false;
         }
+        self.journal = journal;
         self.reader.time = numbers.time;
         self.reader.at = 0; // At each moment the place is within the body.
         self.reader.len = numbers.len;

@@ -1,8 +1,11 @@
-use Rattle.std.proofs.Common.{◌≡◌, inl, inr, refl, sym, subst, arith}
+use Rattle.std.proofs.Common.{◌≡◌, ◌∙◌, refl, sym, ap, subst, arith}
+use Rattle.std.specs.Prelude.{is_err}
 use Rattle.fit_disk.specs.State.{BothLeft, seen_in}
 use Rattle.fit_disk.specs.Story.{Story, Throughout}
 use Rattle.fit_plan.specs.Plan.{story_in}
 use Rattle.fit_recorder.specs.Files.Settled.{IsSettled}
+use Rattle.fit_recorder.specs.Calls.Counts.{settling_calls}
+use Rattle.fit_plan.proofs.Room.{has_room}
 use Rattle.fit_device.proofs.ByWindows.{led}
 use Rattle.fit_device.proofs.by_windows.fitrec_recover_begin.Goals as goal
 
@@ -11,24 +14,21 @@ run : (before after earlier later : Story) → before ≡ earlier → after ≡ 
 run before after earlier later olds news is =
     subst (λ (story : Story). Throughout (BothLeft earlier.now) earlier story) news (subst (λ (story : Story). Throughout (BothLeft story.now) story after) olds is)
 
+-- a plan has room for two syncs
 pub returns-in-Err : goal.returns-in-Err
 returns-in-Err c =
-    let old = c.take_files-files.ensures in
-    let put = c.put_files.ensures in
-    record {
-      planned = led c.args.recovery.now c.put_files.new.self c.put_files.new.plan c.take_files-files.result c.settle.new.disk old.since c.settle.ensures.ran.ran.memory put.story put.planned;
-      known = inr c.code_of_fault.ensures;
-      asks = λ wants. absurd (omega (arith, wants, c.code_of_fault.ensures));
-      any_moment = run _ _ _ _ old.story (sym put.story) (c.settle.ensures.any_moment refl);
-    }
+    absurd (has_room settling_calls 0 _ c.take_files-files.result c.settle-answer.new.disk c.take_files-files.ensures.none.0 c.take_files-files.ensures.none.1 (omega arith) (omega arith) c.settle-answer.ensures.takes
+    (ap is_err c.in-Err.is))
 
 pub returns-in-Ok : goal.returns-in-Ok
 returns-in-Ok c =
     let old = c.take_files-files.ensures in
     let asked = c.ask.ensures in
+    let left = c.after-files.ensures in
     record {
-      planned = led c.args.recovery.now c.ask.new.self c.ask.new.plan c.take_files-files.result c.settle.new.disk old.since c.settle.ensures.ran.ran.memory asked.story asked.planned;
-      known = inl refl;
-      asks = λ _. (asked.asks, subst (IsSettled _) (sym asked.story) (subst (λ (story : Story). IsSettled (seen_in story.now) (story_in c.settle.new.disk)) old.story (c.in-Ok.ensures.settled refl)));
-      any_moment = run _ _ _ _ old.story (sym asked.story) (c.settle.ensures.any_moment refl);
+      planned = led c.args.recovery.now c.ask.new.self c.after-files.new.plan c.take_files-files.result c.settle-answer.new.disk old.since c.settle-answer.ensures.ran.ran.memory (asked.story ∙ left.story) left.planned;
+      wanted = refl;
+      asks = asked.asks;
+      settled = subst (IsSettled _) (sym (asked.story ∙ left.story)) (subst (λ (story : Story). IsSettled (seen_in story.now) (story_in c.settle-answer.new.disk)) old.story (c.in-Ok.ensures.settled refl));
+      any_moment = run _ _ _ _ old.story (sym (asked.story ∙ left.story)) (c.settle-answer.ensures.any_moment refl);
     }

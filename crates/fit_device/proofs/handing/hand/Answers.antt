@@ -1,9 +1,11 @@
-use Rattle.std.proofs.Common.{rules, refl, ap, subst, ◌++◌, ◌∷◌, []}
+use Rattle.std.proofs.Common.{rules, refl, ap, subst, ◌++◌, ◌∷◌, [], arith}
 use Rattle.fit_activity.specs.Rides.Recording.{Added}
 use Rattle.fit_recorder.specs.Calls.Answers.{HandAnswers}
 use Rattle.fit_recorder.specs.Files.Body.{StandsFor}
 use Rattle.fit_recorder.specs.Private.State.{RecorderState}
-use Rattle.fit_device.proofs.Stepping.{stood, was_going, was_handed, stands, steps, throughout, on_ok}
+use Rattle.fit_recorder.specs.Files.Limits.{page_size}
+use Rattle.fit_recorder.specs.Calls.Counts.{entry_calls}
+use Rattle.fit_device.proofs.Stepping.{never_device, still_going, stood, was_going, was_handed, stands, steps, throughout, on_ok}
 use Rattle.fit_device.proofs.handing.hand.Goals as goal
 
 pub returns : goal.returns
@@ -17,7 +19,7 @@ returns c =
     let taken = c.if-not-take.ensures.taken refl in
     let put = c.put.ensures in
     record {
-      steps = steps new plan after put old before taken c.hand-answer.result c.code_of.result c.code_of.ensures did.after did.ran.memory;
+      steps = steps new plan after put old before taken c.hand-answer.result c.code_of.result c.code_of.ensures did.after (never_device old before taken entry_calls page_size _ after (omega arith) (omega arith) did.ran.room) did.ran.ran.memory;
       answers = λ list handed. (
         c.hand-answer.result,
         (
@@ -35,3 +37,10 @@ returns c =
 
 pub returns-then-not-take : goal.returns-then-not-take
 returns-then-not-take c = search rules
+
+pub put-requires-clause-going : goal.put-requires-clause-going
+put-requires-clause-going c =
+    let before = c.take.new.recorder in
+    let after = c.hand-answer.new.self in
+    still_going c.hand-answer.result before after c.hand-answer.ensures.after (c.if-not-take.ensures.goes_on refl).1
+    (never_device c.args.handle.now before (c.if-not-take.ensures.taken refl) entry_calls page_size _ after (omega arith) (omega arith) c.hand-answer.ensures.ran.room)

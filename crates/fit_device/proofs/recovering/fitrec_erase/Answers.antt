@@ -1,15 +1,10 @@
 use Rattle.std.proofs.Common.{◌≡◌, [], refl, subst, Err}
 use Rattle.fit_disk.specs.Stored.{at_rest}
-use Rattle.fit_disk.specs.Story.{Story, Throughout}
-use Rattle.fit_recorder.specs.Calls.Erasing.{LeftOrErased}
+use Rattle.fit_disk.specs.Story.{Story}
 use Rattle.fit_device.specs.Recovering.{left_by}
-use Rattle.fit_device.proofs.Lending.{left}
+use Rattle.fit_device.proofs.Lending.{left, moments}
 use Rattle.fit_device.proofs.Stepping.{on_ok}
 use Rattle.fit_device.proofs.recovering.fitrec_erase.Goals as goal
-
-moments : (old earlier new later : Story) → old ≡ earlier → new ≡ later → Throughout (LeftOrErased old.now) old new → Throughout (LeftOrErased earlier.now) earlier later
-moments old earlier new later olds news is =
-    subst (λ (story : Story). Throughout (LeftOrErased earlier.now) earlier story) news (subst (λ (story : Story). Throughout (LeftOrErased story.now) story new) olds is)
 
 pub returns-in-Ok : goal.returns-in-Ok
 returns-in-Ok c =

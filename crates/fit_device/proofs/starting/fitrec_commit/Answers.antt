@@ -1,10 +1,11 @@
-use Rattle.std.proofs.Common.{rules, ◌⊎◌, refl, ap, subst}
+use Rattle.std.proofs.Common.{rules, ◌⊎◌, refl, ap, subst, arith}
 use Rattle.fit_disk.specs.State.{Contents}
 use Rattle.fit_journal.specs.declared.slots.Slots.{Slots}
 use Rattle.fit_recorder.specs.Calls.Answers.{CommitAnswers}
 use Rattle.fit_recorder.specs.Files.Body.{StandsFor}
 use Rattle.fit_recorder.specs.Private.State.{RecorderState}
-use Rattle.fit_device.proofs.Stepping.{stood, was_going, was_handed, stands, steps, throughout, on_ok}
+use Rattle.fit_recorder.specs.Calls.Counts.{commit_bytes, most_commit_calls}
+use Rattle.fit_device.proofs.Stepping.{never_device, still_going, stood, was_going, was_handed, stands, steps, throughout, on_ok}
 use Rattle.fit_device.proofs.starting.fitrec_commit.Goals as goal
 
 pub returns : goal.returns
@@ -18,7 +19,7 @@ returns c =
     let taken = c.if-not-take.ensures.taken refl in
     let put = c.put.ensures in
     record {
-      steps = steps new plan after put old before taken c.commit-answer.result c.code_of.result c.code_of.ensures did.after did.ran.memory;
+      steps = steps new plan after put old before taken c.commit-answer.result c.code_of.result c.code_of.ensures did.after (never_device old before taken most_commit_calls commit_bytes _ after (omega arith) (omega arith) did.ran.room) did.ran.ran.memory;
       answers = λ list handed. (
         c.commit-answer.result,
         (
@@ -37,3 +38,10 @@ returns c =
 
 pub returns-then-not-take : goal.returns-then-not-take
 returns-then-not-take c = search rules
+
+pub put-requires-clause-going : goal.put-requires-clause-going
+put-requires-clause-going c =
+    let before = c.take.new.recorder in
+    let after = c.commit-answer.new.self in
+    still_going c.commit-answer.result before after c.commit-answer.ensures.after (c.if-not-take.ensures.goes_on refl).1
+    (never_device c.args.handle.now before (c.if-not-take.ensures.taken refl) most_commit_calls commit_bytes _ after (omega arith) (omega arith) c.commit-answer.ensures.ran.room)

@@ -1,33 +1,73 @@
-use Rattle.std.proofs.Common.{◌≡◌, [], ◌∷◌, refl, sym, ap, ◌∙◌, subst, Err}
+use Rattle.std.proofs.Common.{◌≡◌, ℕ, true, [], ◌∷◌, refl, sym, ap, ◌∙◌, subst, Err, arith}
 use Rattle.fit_activity.specs.declared.recording.start.Start.{Start}
 use Rattle.fit_activity.specs.declared.recording.start.Sport.{Sport}
 use Rattle.fit_activity.specs.Rides.Recording.{Started}
-use Rattle.fit_disk.specs.Story.{Story}
+use Rattle.fit_disk.specs.State.{seen_in}
+use Rattle.fit_disk.specs.Story.{Story, seen_of}
+use Rattle.fit_disk.specs.declared.disk.Which.TheVariants.{Data}
 use Rattle.fit_notes.proofs.Numbers.{same_story}
-use Rattle.fit_recorder.specs.Calls.Start.{InStart}
+use Rattle.fit_recorder.specs.Calls.Counts.{start_bytes, start_calls}
+use Rattle.fit_plan.specs.Plan.{story_in, since_in, counts_in, room_in, log_in}
+use Rattle.fit_plan.specs.declared.plan.Plan.{Plan}
+use Rattle.fit_recorder.specs.Calls.Answers.{StartAnswers}
+use Rattle.fit_recorder.specs.Calls.FaultCode.{fault_code}
+use Rattle.fit_recorder.specs.Calls.Start.{HandsBack, InStart}
+use Rattle.fit_recorder.specs.declared.fault.RecFault.{RecFault}
+use Rattle.fit_recorder.specs.declared.fault.RecFault.TheVariants.{NotEmpty, Refused, Full, JournalFull, Device, Failed, NothingRecorded, Damaged}
+use Rattle.fit_plan.proofs.Room.{has_room}
+use Rattle.fit_device.specs.Answer.{code_of_fault}
 use Rattle.fit_device.specs.Handle.{Stands}
 use Rattle.fit_device.specs.Planned.{carried_out}
 use Rattle.fit_device.specs.Starts.{Starts}
-use Rattle.fit_device.proofs.Stepping.{stands, on_ok}
+use Rattle.fit_device.proofs.Stepping.{not_device, stands, on_ok}
 use Rattle.fit_device.proofs.starting.fitrec_start.Goals as goal
 
 in_start : (start : Start) (old earlier new later : Story) → old ≡ earlier → new ≡ later → InStart start old new → InStart start earlier later
 in_start start old earlier new later olds news is =
     subst (λ (story : Story). InStart start earlier story) news (subst (λ (story : Story). InStart start story new) olds is)
 
+-- a refused start gives the files back as they were read
+same_files : (start : Start) (fault : RecFault) (before after : Plan) → StartAnswers start fault → (fault ≡ Device → ⊥)
+    → HandsBack true story_in log_in before (after, fault) → seen_in (story_in after).now ≡ seen_in (story_in before).now
+same_files start NotEmpty before after is never back = (back.not_empty refl refl).1
+same_files start (Refused refusal) before after is never back = ap (λ (plan : Plan). seen_in (story_in plan).now) (back.same refusal refl)
+same_files start Device before after is never back = absurd (never refl)
+same_files start Full before after is never back = absurd is
+same_files start JournalFull before after is never back = absurd is
+same_files start Failed before after is never back = absurd is
+same_files start NothingRecorded before after is never back = absurd is
+same_files start Damaged before after is never back = absurd is
+
+-- only one has the number of a data file that is not empty
+is_not_empty : (fault : RecFault) (code : ℕ) → code ≡ code_of_fault fault → code ≡ fault_code NotEmpty → fault ≡ NotEmpty
+is_not_empty NotEmpty code is not_empty = refl
+is_not_empty (Refused refusal) code is not_empty = absurd (omega (arith, is, not_empty))
+is_not_empty Device code is not_empty = absurd (omega (arith, is, not_empty))
+is_not_empty Full code is not_empty = absurd (omega (arith, is, not_empty))
+is_not_empty JournalFull code is not_empty = absurd (omega (arith, is, not_empty))
+is_not_empty Failed code is not_empty = absurd (omega (arith, is, not_empty))
+is_not_empty NothingRecorded code is not_empty = absurd (omega (arith, is, not_empty))
+is_not_empty Damaged code is not_empty = absurd (omega (arith, is, not_empty))
+
 pub returns-in-Ok-clause-starts : goal.returns-in-Ok-clause-starts
 returns-in-Ok-clause-starts c = λ _.
     let old = c.args.handle.now in
     let new = c.put.new.self in
     let plan = c.put.new.plan in
-    let recorder = c.in-Ok.recorder in
+    let recorder = c.begin.new.self in
     let start : Start = record { time = c.args.time; serial = c.args.serial; sport = c.in-Some.sport } in
     let put = c.put.ensures in
     let did = c.in-Ok.ensures in
+    let here = ap story_in c.idle-recorder.ensures.disk ∙ c.take_files.ensures.story in
     let starts : Starts start old new plan 0 = record {
-      planned = put.story ∙ sym put.planned ∙ ap (carried_out plan) (same_story _ _ did.ran.memory ∙ c.take_files.ensures.since);
+      planned = put.story ∙ sym put.planned ∙ ap (carried_out plan) (same_story (since_in c.begin.new.self.files.disk) (since_in c.idle-recorder.result.files.disk) did.ran.ran.memory ∙ ap since_in c.idle-recorder.ensures.disk ∙ c.take_files.ensures.since);
+      no_device = λ device. omega (arith, device);
       ok = λ _. stands new plan recorder put (Started start ∷ []) (Started start ∷ []) did.ok.0 did.ok.1;
-      any_moment = in_start start _ _ _ _ c.take_files.ensures.story (sym put.story) (did.any_moment refl);
+      was_empty = λ _. ap (seen_of Data) (sym here) ∙ did.empty refl;
+      refused = λ no. absurd (no refl);
+      not_empty = λ is. absurd (omega (arith, is));
+      same = λ no. absurd (no refl);
+      any_moment = in_start start _ _ _ _ here (sym put.story) (did.any_moment refl);
     } in
     subst (λ (sport : Sport). Starts (record { time = c.args.time; serial = c.args.serial; sport = sport }) old new plan 0) c.in-Some.ensures.some starts
 
@@ -35,13 +75,24 @@ pub returns-in-Err-clause-starts : goal.returns-in-Err-clause-starts
 returns-in-Err-clause-starts c = λ _.
     let old = c.args.handle.now in
     let new = c.put_files.new.self in
-    let plan = c.put_files.new.plan in
+    let plan = c.after.new.plan in
     let start : Start = record { time = c.args.time; serial = c.args.serial; sport = c.in-Some.sport } in
     let did = c.in-Err.ensures in
     let code = c.code_of_fault.result in
+    let here = ap story_in c.idle-recorder.ensures.disk ∙ c.take_files.ensures.story in
+    let left = c.put_files.ensures ∙ c.after.ensures.story ∙ ap story_in c.disk.ensures in
+    let fault = c.in-Err.fault in
+    let is = c.code_of_fault.ensures in
+    let never : fault ≡ Device → ⊥ =
+    λ device. has_room start_calls start_bytes _ c.idle-recorder.result.files.disk c.begin.new.self.files.disk (ap counts_in c.idle-recorder.ensures.disk ∙ c.take_files.ensures.none.0) (ap room_in c.idle-recorder.ensures.disk ∙ c.take_files.ensures.none.1) (omega arith) (omega arith) did.ran.room (ap Err device) in
     let starts : Starts start old new plan code = record {
-      planned = c.put_files.ensures.story ∙ sym c.put_files.ensures.planned ∙ ap (carried_out plan) (same_story _ _ did.ran.memory ∙ c.take_files.ensures.since);
-      ok = λ zero. on_ok {P = Stands new (Started start ∷ []) (Started start ∷ [])} (Err c.in-Err.fault) code c.code_of_fault.ensures zero tt;
-      any_moment = in_start start _ _ _ _ c.take_files.ensures.story (sym c.put_files.ensures.story) (did.any_moment refl);
+      planned = c.put_files.ensures ∙ c.after.ensures.story ∙ sym c.after.ensures.planned ∙ ap (carried_out plan) (ap since_in c.disk.ensures ∙ same_story (since_in c.begin.new.self.files.disk) (since_in c.idle-recorder.result.files.disk) did.ran.ran.memory ∙ ap since_in c.idle-recorder.ensures.disk ∙ c.take_files.ensures.since);
+      no_device = not_device fault code is never;
+      ok = λ zero. on_ok {P = Stands new (Started start ∷ []) (Started start ∷ [])} (Err fault) code is zero tt;
+      was_empty = λ zero. absurd (on_ok {P = ⊥} (Err fault) code is zero tt);
+      refused = λ _. (fault, is, did.answers);
+      not_empty = λ number empty. (did.handed_back.not_empty refl (is_not_empty fault code is number)).0 (ap (seen_of Data) here ∙ empty);
+      same = λ _. ap (λ (story : Story). seen_in story.now) left ∙ same_files start fault _ _ did.answers never did.handed_back ∙ ap (λ (story : Story). seen_in story.now) here;
+      any_moment = in_start start _ _ _ _ here (sym left) (did.any_moment refl);
     } in
     subst (λ (sport : Sport). Starts (record { time = c.args.time; serial = c.args.serial; sport = sport }) old new plan code) c.in-Some.ensures.some starts

@@ -12,5 +12,5 @@ pub ask-requires-clause-reads : goal.ask-requires-clause-reads
 ask-requires-clause-reads c =
     let reading = c.freeze.ensures in (
       λ first. absurd (omega (arith, first)),
-      λ _. reads_on_in c.args.recovery.now c.freeze.new.numbers _ (sym reading.reading) (sym reading.replay) reading.possible c.requires.reads.0 c.requires.reads.1,
+      λ _. reads_on_in c.args.recovery.now c.freeze.new.numbers _ (sym reading.reading) (sym reading.replay) (sym reading.journal) reading.possible c.requires.reads.0 c.requires.reads.1,
     )

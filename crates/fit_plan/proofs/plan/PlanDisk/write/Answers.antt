@@ -1,7 +1,10 @@
-use Rattle.std.proofs.Common.{◌≤◌, length, subst, arith}
+use Rattle.std.proofs.Common.{◌≤◌, ◌∙◌, length, subst, ap, arith}
 use Rattle.fit_disk.specs.Story.{seen_of}
 use Rattle.fit_disk.proofs.Leaving.{length-over}
 use Rattle.fit_disk.proofs.Sound.{write_sound}
+use Rattle.std.specs.Prelude.{is_err}
+use Rattle.fit_plan.specs.Plan.{room_by}
+use Rattle.fit_plan.proofs.Room.{refused}
 use Rattle.fit_plan.proofs.plan.PlanDisk.write.Goals as goal
 use Rattle.fit_plan.proofs.plan.PlanDisk.write.Goals.{in-Data, in-Journal}
 
@@ -34,3 +37,7 @@ invariant_of-self-2-clause-sized c =
           rw (c.note.ensures.0, c.from.ensures, c.number-file.ensures, w.in-Data.is, w.self-is) (omega (arith, c.in-Some.ensures, old.sized, length-over c.args.at c.args.bytes.now state.data_file.seen within))
       | in-Journal w ↦ rw (c.note.ensures.0, c.from.ensures, c.number-file.ensures, w.in-Journal.is, w.self-is) old.sized
     ]
+
+pub returns-in_default-add-clause-room : goal.returns-in_default-add-clause-room
+returns-in_default-add-clause-room c = refused (length c.args.bytes.now) _ c.args.self.now c.failed-in_default-add.new.self (c.failed-in_default-add.ensures.room ∙ ap room_by c.in_default-add.ensures.err)
+    (λ few fits. c.add.ensures.fits few fits (ap is_err c.in_default-add.is))

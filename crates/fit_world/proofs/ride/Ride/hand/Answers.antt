@@ -39,7 +39,7 @@ returns-in-Riding-clause-goes g c honest = record {
 
 pub returns-in-Riding-clause-called : goal.returns-in-Riding-clause-called
 returns-in-Riding-clause-called g c =
-    rw c.in-Riding.is (record { counted = counted_by c.hand.result c.into.result _ _ c.into.ensures c.hand.ensures.ran; planned = c.hand.ensures.ran.planned })
+    rw c.in-Riding.is (record { counted = counted_by c.hand.result c.into.result _ _ c.into.ensures c.hand.ensures.ran.ran; planned = c.hand.ensures.ran.ran.planned })
 
 pub returns-in-Riding-clause-never_full : goal.returns-in-Riding-clause-never_full
 returns-in-Riding-clause-never_full g c honest before stands never =

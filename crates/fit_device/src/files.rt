@@ -1,0 +1,34 @@
+// The two files of a handle, once their calls are in the plan of C.
+
+ghost use Rattle.std.specs.Prelude.{◌≡◌, length};
+ghost use Rattle.fit_disk.specs.Calls.{IsSound};
+ghost use Rattle.fit_device.specs.Planned.{carried_out};
+ghost use Rattle.fit_plan.specs.Plan.{story_in, since_in};
+
+use crate::plan::DevicePlan;
+use fit_notes::Notes;
+use fit_plan::Plan;
+
+/// Two files without planned calls.
+#[derive(Drop)]
+pub struct Files {
+    pub(crate) size: u64,
+    pub(crate) notes: Notes,
+    pub(crate) ghost sound: { IsSound notes.story.now },
+    pub(crate) ghost sized: { size ≡ length notes.story.now.data_file.seen },
+}
+
+impl Files {
+    // Puts the calls that are planned into the plan of C, and returns the files.
+    // By reference: a plan is large, and each copy takes stack.
+    pub(crate) fn after(files: &Plan, plan: &mut DevicePlan) -> Files
+        ensures story { result.notes.story ≡ story_in files.now }
+        ensures planned { carried_out plan.new (since_in files.now) ≡ story_in files.now }
+    {
+        plan.fill(&files.calls);
+        Files {
+            size: files.size,
+            notes: files.notes.same(),
+        }
+    }
+}
