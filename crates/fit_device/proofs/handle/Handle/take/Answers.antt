@@ -14,13 +14,12 @@ invariant_of-reveal c =
     let same = c.take_files-files.ensures.recorder in
     let thawed = c.if-not-thaw.ensures in
     record {
-      goes_on = ∥∥₁_map (old.believed sealed) (λ (believed : GoesOnIn old.recorder old.notes.story).
-          (
-            goes_on_at _ _ _ _ _ _
-                (sym (thawed.state refl ∙ ap state_in same))
-                (sym (thawed.failed refl ∙ ap has_failed_in same))
-                (sym (ap story_in (thawed.disk ∙ c.swap_disk.ensures.disk) ∙ c.take_files-files.ensures.story))
-                believed.goes_on,
-            thawed.failed refl ∙ ap has_failed_in same ∙ believed.going,
-          ));
+      goes_on = ∥∥₁_map (old.believed sealed) (λ (believed : GoesOnIn old.recorder old.notes.story). (
+        goes_on_at _ _ _ _ _ _
+            (sym (thawed.state refl ∙ ap state_in same))
+            (sym (thawed.failed refl ∙ ap has_failed_in same))
+            (sym (ap story_in (thawed.disk ∙ c.swap_disk.ensures.disk) ∙ c.take_files-files.ensures.story))
+            believed.goes_on,
+        thawed.failed refl ∙ ap has_failed_in same ∙ believed.going,
+      ));
     }
