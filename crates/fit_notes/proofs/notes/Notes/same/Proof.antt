@@ -1,4 +1,4 @@
--- `same` makes a value of no bytes, with the two stories behind the reference.
+-- `same` makes a value with the two stories that it is lent.
 use mathlib.Core.Path.{refl}
 use mathlib.Core.List.{[], ◌∷◌}
 use Prim.Native.Nat.{ℕ}
