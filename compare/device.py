@@ -11,6 +11,7 @@ import subprocess
 import tempfile
 
 import library
+import released
 import told
 from library import COMPILERS
 from replacing import bytes_of
@@ -202,6 +203,8 @@ def of_32_bits(fitrec, count, seed):
                 most = [max(pair) for pair in zip(most, map(int, re.findall(r"\d+", found[2] or "0 0")))]
             allowed = OF_C if form.startswith("in C") else OF_OBJECT
             yield "the stacks of 32 bits, " + form, None if 0 < most[0] <= allowed[0] and most[1] <= allowed[1] else most
+        for it in released.OBJECTS:
+            yield released.same(it, "%s/made/%s" % (folder, it))
 
 
 def of_flash(fitrec, program, calls, seed):
@@ -286,6 +289,7 @@ def check(fitrec, count, seed):
         if why is not None:
             yield "the library for devices", ("was not proved and built", why)
             return
+        yield released.same("libfit_device.a", archive.name)
         yield from names_of(archive.name)
         with programs(archive.name) as made:
             yield from of_rides(fitrec, made["as it is"], count, seed)

@@ -9,6 +9,7 @@ import shutil
 import subprocess
 import tempfile
 
+import released
 import told
 from files import damaged as damaged_file, made
 from kit import load_rt
@@ -190,6 +191,7 @@ def check(fitrec, count, seed):
         yield "library: proved and built", why and ("fit_c was not built", why)
         if why:
             return
+        yield released.same("libfit_c.a", archive)
         for name, difference in names_of(archive):
             yield "library: " + name, difference
         with programs(archive) as made_so:

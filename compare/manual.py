@@ -1,6 +1,7 @@
-"""Checks what is made from the help of the program: the man page and the completions are those that `completions/make` makes, each shell
-completes by them, `install` puts all in place and takes it away, and `fitrec version` names what README and CHANGELOG name."""
+"""Checks what is made from the help of the program: the man page and the completions are those that `completions/make` makes, and each
+shell completes by them. `fitrec version` names what README and CHANGELOG name."""
 
+import os
 import pathlib
 import re
 import shutil
@@ -11,8 +12,6 @@ from rides import differs, run
 
 ROOT = pathlib.Path(__file__).resolve().parent.parent
 MADE = ["docs/fitrec.1", "completions/fitrec.bash", "completions/_fitrec", "completions/fitrec.fish"]
-PLACES = ["bin/fitrec", "share/man/man1/fitrec.1", "share/bash-completion/completions/fitrec", "share/zsh/site-functions/_fitrec",
-          "share/fish/vendor_completions.d/fitrec.fish"]
 
 
 def of_the_help():
@@ -29,43 +28,49 @@ def of_the_page():
 
 
 # The words of a command line, the last of which is completed, and what comes of it.
-ASKED = [(["sa"], ["salvage", "save"]), (["rec"], ["record"]), (["show", "--"], ["--help", "--json", "--utc"]), (["show", "one"], ["one.fit"]),
-         (["help", "ver"], ["version"]), (["record", "--c"], ["--commit"])]
+ASKED = [(["sa"], ["salvage", "save"]), (["rec"], ["record"]), (["show", "--"], ["--help", "--json", "--utc"]), (["help", "ver"], ["version"]),
+         (["record", "--c"], ["--commit"])]
+# The name of a file, what is typed of it, and what the program then gets.
+TYPED = [("one.fit", "show on"), ("a long ride.fit", "show a"), ("a long ride.fit", r"show a\ l"), ("a long ride.fit", 'show "a l'), ("it's (1).fit", "plain it")]
 
 
 def of_bash():
-    script = "cd $1; shift; source %s; COMP_WORDS=(fitrec \"$@\"); COMP_CWORD=$#; _fitrec; printf '%%s\\n' \"${COMPREPLY[@]}\"" % (
-        ROOT / "completions/fitrec.bash")
+    script = "source %s; COMP_WORDS=(fitrec \"$@\"); COMP_CWORD=$#; _fitrec; printf '%%s\\n' \"${COMPREPLY[@]}\"" % (ROOT / "completions/fitrec.bash")
+    for words, answers in ASKED:
+        said = run("bash", "-c", script, "bash", *words)[1].split()
+        yield "completed by bash", differs(sorted(said), answers)
+    for name, line in TYPED:
+        yield "a name completed by bash", differs(typed(name, line), [line.split()[0], name])
+
+
+def typed(name, line):
+    """The words that the program gets of a line that is typed with a tab at its end, in a folder with a file of this name."""
     with tempfile.TemporaryDirectory() as folder:
-        pathlib.Path(folder, "one.fit").touch()
-        for words, answers in ASKED:
-            said = run("bash", "-c", script, "bash", folder, *words)[1].split()
-            yield "completed by bash", differs(sorted(said), answers)
+        pathlib.Path(folder, "files").mkdir()
+        pathlib.Path(folder, "files", name).touch()
+        begin = "source %s; fitrec() { printf '%%s\\n' \"$@\" >../got; exit; }; cd files\n" % (ROOT / "completions/fitrec.bash")
+        ours, its = os.openpty()
+        words = ["bash", "--noprofile", "--norc", "-i"]
+        with subprocess.Popen(words, cwd=folder, stdin=its, stdout=its, stderr=its, start_new_session=True, env={"PATH": os.environ["PATH"], "TERM": "dumb"}) as shell:
+            os.close(its)
+            os.write(ours, (begin + "fitrec " + line + "\t\n").encode())
+            try:
+                shell.wait(20)
+            except subprocess.TimeoutExpired:
+                shell.kill()
+        os.close(ours)
+        got = pathlib.Path(folder, "got")
+        return got.read_text().splitlines() if got.exists() else []
 
 
 def of_other_shells():
     if shutil.which("fish"):
-        for words, answers in ASKED[:2] + ASKED[5:]:
+        for words, answers in ASKED[:2] + ASKED[4:]:
             line = "complete -C 'fitrec %s'" % " ".join(words)
             said = run("fish", "--no-config", "-c", "source %s; %s" % (ROOT / "completions/fitrec.fish", line))
             yield "completed by fish", differs(([it.split("\t")[0] for it in said[1].splitlines()], said[2]), (answers, ""))
     if shutil.which("zsh"):
         yield "read by zsh", differs(run("zsh", "-n", ROOT / "completions/_fitrec"), (0, "", ""))
-
-
-def of_the_install():
-    with tempfile.TemporaryDirectory() as folder:
-        prefix = pathlib.Path(folder, "usr")
-        said = run(ROOT / "install", prefix)
-        there = sorted(str(it.relative_to(prefix)) for it in prefix.rglob("*") if it.is_file())
-        yield "installed", differs((said, there), ((0, "", ""), sorted(PLACES)))
-        said = run(prefix / "bin/fitrec", "version")
-        yield "installed: runs", differs(said, run(ROOT / "crates/fitrec/out/fitrec", "version"))
-        yield "installed: man page", differs(run("man", "-M", prefix / "share/man", "-w", "fitrec")[:2], (0, "%s/share/man/man1/fitrec.1\n" % prefix))
-        said = run(ROOT / "install", "--remove", prefix)
-        there = [it for it in prefix.rglob("*") if it.is_file()]
-        yield "taken away", differs((said, there), ((0, "", ""), []))
-        yield "wrong words", differs(run(ROOT / "install", "--other")[0], 2)
 
 
 def of_the_version(fitrec):
@@ -77,6 +82,6 @@ def of_the_version(fitrec):
 
 
 def check(fitrec):
-    for part in (of_the_help, of_the_page, of_bash, of_other_shells, of_the_install):
+    for part in (of_the_help, of_the_page, of_bash, of_other_shells):
         yield from part()
     yield from of_the_version(fitrec)

@@ -14,6 +14,7 @@ import subprocess
 import sys
 import tempfile
 
+import released
 from library import of_files, of_looks, of_recordings
 from replacing import bytes_of
 from rides import differs, run
@@ -122,6 +123,7 @@ def check(fitrec, count, seed):
     yield "module: proved and built", None if built.returncode == 0 else ("web/build failed", built.stdout[-2000:])
     if built.returncode:
         return
+    yield released.same("fitrec.html", WEB / "out/fitrec.html")
     yield from of_module(fitrec, count, seed)
     if is_there("the page in a browser", "chromium"):
         with tempfile.TemporaryDirectory() as folder:

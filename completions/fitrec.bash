@@ -1,6 +1,7 @@
 # Completes the words of fitrec in bash.
 _fitrec() {
     local word=${COMP_WORDS[COMP_CWORD]} options=
+    COMPREPLY=()
     if [ "$COMP_CWORD" -eq 1 ]; then
         COMPREPLY=($(compgen -W 'show check replay record save repair salvage plain simulate version help --help' -- "$word"))
         return
@@ -20,7 +21,7 @@ _fitrec() {
     esac
     case $word in
         -*) COMPREPLY=($(compgen -W "$options" -- "$word")) ;;
-        *) compopt -o filenames; COMPREPLY=($(compgen -f -- "$word")) ;;
     esac
 }
-complete -F _fitrec fitrec
+# Where the function has no answer, the shell completes the name of a file.
+complete -o default -F _fitrec fitrec

@@ -1,0 +1,99 @@
+"""Checks `install` and the package of release/: each file is in its place with its bytes, a C program finds the libraries by pkg-config, and
+what was installed is taken away again."""
+
+import gzip
+import os
+import pathlib
+import re
+import shutil
+import subprocess
+import tempfile
+
+from released import RELEASE, ROOT, stated
+from rides import differs
+from told import run
+
+PLACES = {"bin/fitrec": "release/fitrec", "share/man/man1/fitrec.1": "docs/fitrec.1", "include/fitrec.h": "include/fitrec.h",
+          "share/bash-completion/completions/fitrec": "completions/fitrec.bash", "share/zsh/site-functions/_fitrec": "completions/_fitrec",
+          "share/fish/vendor_completions.d/fitrec.fish": "completions/fitrec.fish", "share/fitrec/fitrec.html": "release/fitrec.html",
+          "share/applications/fitrec.desktop": None, "lib/pkgconfig/fitrec.pc": None, "lib/libfit_c.a": "release/libfit_c.a",
+          "lib/libfit_device.a": "release/libfit_device.a"}
+# Where the package has another place, and what it has besides.
+MULTIARCH = "lib/x86_64-linux-gnu"
+MOVED = {"share/man/man1/fitrec.1": "share/man/man1/fitrec.1.gz", "share/zsh/site-functions/_fitrec": "share/zsh/vendor-completions/_fitrec"}
+MORE = ["share/doc/fitrec/changelog.gz", "share/doc/fitrec/copyright", "share/lintian/overrides/fitrec"]
+# What lintian finds: only who hands the package on can name the copyright and an address.
+FOUND = {"bogus-mail-host", "bogus-mail-host-in-debian-changelog", "copyright-without-copyright-notice"}
+CALLER = """#include "fitrec.h"
+int main(void) {
+    struct fitrec_recorder recorder = {0};
+    struct fitrec_state state;
+    return fitrec_version() != 1 || fitrec_state_of(&recorder, &state) != FITREC_NO_RECORDER;
+}
+"""
+
+
+def files_of(top):
+    return {str(it.relative_to(top)): it.read_bytes() for it in top.rglob("*") if it.is_file()}
+
+
+def of_the_install():
+    with tempfile.TemporaryDirectory() as folder:
+        for prefix, settings in ((folder + "/usr", {}), ("/usr", {"DESTDIR": folder + "/more"})):
+            top = pathlib.Path(settings.get("DESTDIR", "") + prefix)
+            said, there = run(ROOT / "install", prefix, env=os.environ | settings), files_of(top)
+            yield "installed", differs((said, sorted(there)), ((0, "", ""), sorted(PLACES)))
+            its = {place: (ROOT / source).read_bytes() for place, source in PLACES.items() if source}
+            yield "installed: its bytes", differs([it for it in its if there.get(it) != its[it]], [])
+            texts = (there.get(it, b"").decode() for it in ("share/applications/fitrec.desktop", "lib/pkgconfig/fitrec.pc"))
+            yield "installed: named places", differs([text.count(prefix + "/share/fitrec/fitrec.html") + text.count("prefix=%s\n" % prefix) for text in texts], [1, 1])
+            said = run(top / "bin/fitrec", "version")
+            yield "installed: runs", differs(said, run(RELEASE / "fitrec", "version"))
+            yield "installed: man page", differs(run("man", "-M", top / "share/man", "-w", "fitrec")[:2], (0, "%s/share/man/man1/fitrec.1\n" % top))
+            if not settings and shutil.which("pkg-config"):
+                yield "installed: found by pkg-config", linked(top)
+            said = run(ROOT / "install", "--remove", prefix, env=os.environ | settings)
+            yield "taken away", differs((said, files_of(top)), ((0, "", ""), {}))
+        yield "wrong words", differs(run(ROOT / "install", "--other")[0], 2)
+
+
+def linked(top):
+    """What goes wrong where a C program is built by pkg-config over both libraries."""
+    settings = os.environ | {"PKG_CONFIG_PATH": str(top / "lib/pkgconfig")}
+    words = run("pkg-config", "--cflags", "--libs", "fitrec", env=settings)[1].split()
+    (top / "caller.c").write_text(CALLER)
+    made = run("cc", "-Wall", "-Werror", "-o", top / "caller", top / "caller.c", *words)
+    ran = run(top / "caller") if made[0] == 0 else None
+    for it in top.glob("caller*"):
+        it.unlink()
+    return differs((made, ran), ((0, "", ""), (0, "", "")))
+
+
+def of_the_package():
+    """The package has what `install` installs, and dpkg installs and removes it."""
+    package = RELEASE / ("fitrec_%s_amd64.deb" % stated(RELEASE)["version"])
+    with tempfile.TemporaryDirectory() as folder:
+        run(ROOT / "install", "/usr", env=os.environ | {"DESTDIR": folder + "/ours", "LIBDIR": "/usr/" + MULTIARCH})
+        ours = {re.sub("^lib", MULTIARCH, MOVED.get(it, it)): data for it, data in files_of(pathlib.Path(folder, "ours/usr")).items()}
+        root = pathlib.Path(folder, "root")
+        for it in ("info", "updates", "status"):
+            (root / "var/lib/dpkg" / it).mkdir(parents=True) if it != "status" else (root / "var/lib/dpkg/status").touch()
+        words = ["dpkg", "--root=%s" % root, "--force-not-root", "--force-bad-path", "--force-depends", "--log=/dev/null"]
+        yield "installed by dpkg", differs(run(*words, "-i", package)[0], 0)
+        there = files_of(root / "usr")
+        opened = {it: gzip.decompress(data) if it.endswith("1.gz") else data for it, data in there.items() if it not in MORE}
+        yield "installed by dpkg: its files", differs(sorted(there), sorted([*ours, *MORE]))
+        yield "installed by dpkg: its bytes", differs([it for it in ours if opened.get(it) != ours[it]], [])
+        yield "removed by dpkg", differs((run(*words, "--purge", "fitrec")[0], (root / "usr").exists()), (0, False))
+    if shutil.which("lintian"):
+        said = run("lintian", "--allow-root", package)[1]
+        yield "looked at by lintian", differs(set(re.findall(r"(?m)^[EWI]: fitrec: (\S+)", said)), FOUND)
+
+
+def check():
+    """Yields a name, and a difference or None, for each check."""
+    if not RELEASE.exists():
+        return
+    for part in (of_the_install, *([of_the_package] if shutil.which("dpkg") else [])):
+        for name, difference in part():
+            yield "packaged: " + name, difference

@@ -1,0 +1,166 @@
+"""Checks release/: it is of the sources that are there, each file has its checksum and the bytes that are made here from what is proved, and
+a clone on a machine without the kit saves a ride by it. Faults that are planted in a copy of the folder are seen.
+
+What is made here is compared where it is made: the page in page.py, the libraries in library.py and device.py, and the objects for devices
+there too."""
+
+import base64
+import functools
+import hashlib
+import os
+import pathlib
+import re
+import shutil
+import subprocess
+import tempfile
+
+from replacing import bytes_of
+from rides import differs, script_of
+from told import run
+
+HERE = pathlib.Path(__file__).resolve().parent
+ROOT = HERE.parent
+RELEASE = ROOT / "release"
+MOST = 3_000_000
+# What is taken as it stands in the tree.
+COPIED = ["include/fitrec.h", "docs/fitrec.1", "completions/fitrec.bash", "completions/_fitrec", "completions/fitrec.fish"]
+OBJECTS = ["fitrec-cortex-m0plus.o", "fitrec-cortex-m4.o", "fitrec-rv32imac.o"]
+MADE = ["fitrec", "fitrec.html", "libfit_c.a", "libfit_device.a", *OBJECTS]
+# What the launcher needs of a system.
+TOOLS = ["sh", "dirname", "readlink", "find", "sort", "xargs", "sha256sum", "grep"]
+
+
+def stated(release):
+    """The lines of BUILT-FROM, by their first words."""
+    return dict(it.split(" ", 1) for it in (bytes_of(release / "BUILT-FROM") or b"").decode().splitlines() if " " in it)
+
+
+def said_by(*words):
+    return subprocess.run(words, stdout=subprocess.PIPE, text=True, check=True, cwd=ROOT).stdout.strip()
+
+
+@functools.lru_cache
+def why_not(name):
+    """Why a file that is made here may have other bytes than the released one, or None."""
+    of = stated(RELEASE)
+    for word, here in (("kit", ("rt", "version")), *([("wasm-opt", ("wasm-opt", "--version"))] if name == "fitrec.html" else [])):
+        found = said_by(*here).removeprefix(word + " ") if shutil.which(here[0]) else "none"
+        if found != of.get(word):
+            return "the release is by %s %s, and here is %s" % (word, of.get(word), found)
+    return None
+
+
+def same(name, made):
+    """The name of a check, and how a file that was made here differs from the released one."""
+    is_compared = (RELEASE / name).exists() and why_not(name) is None
+    sums = [hashlib.sha256(bytes_of(pathlib.Path(it))).hexdigest() for it in (made, RELEASE / name)] if is_compared else [0, 0]
+    return "released: the bytes that are made here", differs(*sums) and (name, *sums)
+
+
+def faults_of(release):
+    """What is wrong with a release, whatever was made here."""
+    of, present = stated(release), sorted(it.name for it in release.iterdir()) if release.is_dir() else []
+    lines = said_by("./sources")
+    if ["%s %s" % (word, of.get(word)) for word in ("crates", "others")] != lines.splitlines():
+        yield "it is of other sources: ./build-release makes it anew"
+    package = "fitrec_%s_amd64.deb" % of.get("version")
+    wanted = ["BUILT-FROM", "SHA256SUMS", package, *MADE, *(pathlib.Path(it).name for it in COPIED)]
+    if present != sorted(wanted):
+        yield "it has other files: %s" % (set(present) ^ set(wanted))
+        return
+    sums = "".join("%s  %s\n" % (hashlib.sha256(bytes_of(release / it)).hexdigest(), it) for it in present if it != "SHA256SUMS")
+    if bytes_of(release / "SHA256SUMS") != sums.encode():
+        yield "SHA256SUMS has other checksums"
+    for it in COPIED:
+        if bytes_of(release / pathlib.Path(it).name) != bytes_of(ROOT / it):
+            yield it + " is another"
+    if run(release / "fitrec", "version")[1] != "fitrec %s\n%s\n" % (of["version"], of["kit"].replace(" ", "\n", 1)):
+        yield "the program states another version or kit than BUILT-FROM"
+    if sum(it.stat().st_size for it in release.iterdir()) > MOST:
+        yield "it has more than %d bytes" % MOST
+    if shutil.which("dpkg-deb") and run("dpkg-deb", "--field", release / package, "Depends")[1] != "libc6 (>= %s)\n" % needed_by(release / "fitrec"):
+        yield "the package needs something else than the C library of the program"
+
+
+def needed_by(program):
+    """The version of the C library that a program needs."""
+    found = re.findall(r"\bGLIBC_([\d.]+)", said_by("objdump", "-T", program))
+    return max(found, key=lambda it: [int(number) for number in it.split(".")])
+
+
+def plants():
+    """Faults of a release, each as a name and what makes it."""
+    def changed(name):
+        def plant(release):
+            data = bytearray((release / name).read_bytes())
+            data[len(data) // 2] ^= 1
+            (release / name).write_bytes(data)
+        return plant
+
+    def renamed(word, text):
+        def plant(release):
+            path = release / "BUILT-FROM"
+            path.write_text(re.sub(r"(?m)^%s .*$" % word, word + " " + text, path.read_text()))
+            with_sums(release)
+        return plant
+
+    def with_sums(release):
+        (release / "SHA256SUMS").write_text("".join("%s  %s\n" % (hashlib.sha256(it.read_bytes()).hexdigest(), it.name)
+                                                    for it in sorted(release.iterdir()) if it.name != "SHA256SUMS"))
+
+    def other_copy(release):
+        changed("fitrec.h")(release)
+        with_sums(release)
+
+    for it in sorted(RELEASE.iterdir()):
+        yield "a changed byte of " + it.name, changed(it.name)
+        yield "without " + it.name, lambda release, name=it.name: (release / name).unlink()
+    yield "another file", lambda release: (release / "more").write_text("")
+    yield "another header, with its checksum", other_copy
+    for word, text in (("version", "9.9.9"), ("kit", "rattle-kit-0 logic 0"), ("crates", "0" * 64), ("others", "0" * 64)):
+        yield "another " + word, renamed(word, text)
+
+
+def of_folder(fitrec):
+    """The folder as it is, and what is planted in a copy."""
+    found = list(faults_of(RELEASE))
+    yield "released: of these sources, with its checksums", found or None
+    yield same("fitrec", fitrec)
+    if found:
+        return
+    with tempfile.TemporaryDirectory() as folder:
+        for at, (name, plant) in enumerate(plants()):
+            copy = shutil.copytree(RELEASE, pathlib.Path(folder, str(at)))
+            plant(copy)
+            yield "released: a planted fault is seen", None if list(faults_of(copy)) else name
+
+
+def of_a_clone(fitrec):
+    """A clone on a machine without the kit saves a ride by the program and by the module of the page."""
+    with tempfile.TemporaryDirectory() as folder:
+        folder = pathlib.Path(folder)
+        shutil.copytree(ROOT, folder / "clone", ignore=shutil.ignore_patterns("out", ".git", "must-fail", "wrong"))
+        (folder / "bin").mkdir()
+        for it in TOOLS:
+            (folder / "bin" / it).symlink_to(shutil.which(it))
+        (folder / "script").write_text(script_of(50, 9))
+        (folder / "FOLDER").mkdir()
+        run(fitrec, "replay", folder / "script", folder / "FOLDER")
+        wanted = run(fitrec, "save", folder / "FOLDER", folder / "wanted.fit")
+        said = run(folder / "clone/fitrec", "save", folder / "FOLDER", folder / "ride.fit", env={"PATH": str(folder / "bin")})
+        yield "released: a clone without the kit", differs((said, bytes_of(folder / "ride.fit")), (wanted, bytes_of(folder / "wanted.fit")))
+        if shutil.which("node"):
+            module = re.search(r"atob\('([\w+/=]+)'\)", (folder / "clone/release/fitrec.html").read_text())[1]
+            (folder / "module.wasm").write_bytes(base64.b64decode(module))
+            words = ["save", folder / "FOLDER/activity.fit", folder / "FOLDER/activity.frj", folder / "page.fit"]
+            said = run(HERE / "module.mjs", *words, env=os.environ | {"FITREC_MODULE": str(folder / "module.wasm")})
+            yield "released: the page of a clone", differs((said, bytes_of(folder / "page.fit")), ((0, "0\n" + wanted[1], ""), bytes_of(folder / "wanted.fit")))
+
+
+def check(fitrec):
+    """Yields a name, and a difference or None, for each check."""
+    yield from of_folder(fitrec)
+    if (RELEASE / "fitrec").exists():
+        yield from of_a_clone(fitrec)
+    for why in {why_not(it) for it in ("fitrec", "fitrec.html")} - {None}:
+        print("released: checksums and sources are compared, but not what is made here: " + why)
