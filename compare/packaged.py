@@ -18,8 +18,8 @@ PLACES = {"bin/fitrec": "release/fitrec", "share/man/man1/fitrec.1": "docs/fitre
           "share/fish/vendor_completions.d/fitrec.fish": "completions/fitrec.fish", "share/fitrec/fitrec.html": "release/fitrec.html",
           "share/applications/fitrec.desktop": None, "lib/pkgconfig/fitrec.pc": None, "lib/libfit_c.a": "release/libfit_c.a",
           "lib/libfit_device.a": "release/libfit_device.a"}
-# Where the package has another place, and what it has besides.
-MULTIARCH = "lib/x86_64-linux-gnu"
+# Where the package has its libraries, what has another place in it, and what it has besides.
+MULTIARCH = "/usr/lib/x86_64-linux-gnu"
 MOVED = {"share/man/man1/fitrec.1": "share/man/man1/fitrec.1.gz", "share/zsh/site-functions/_fitrec": "share/zsh/vendor-completions/_fitrec"}
 MORE = ["share/doc/fitrec/changelog.gz", "share/doc/fitrec/copyright", "share/lintian/overrides/fitrec"]
 # What lintian finds: only who hands the package on can name the copyright and an address.
@@ -73,11 +73,12 @@ def of_the_package():
     """The package has what `install` installs, and dpkg installs and removes it."""
     package = RELEASE / ("fitrec_%s_amd64.deb" % stated(RELEASE)["version"])
     with tempfile.TemporaryDirectory() as folder:
-        run(ROOT / "install", "/usr", env=os.environ | {"DESTDIR": folder + "/ours", "LIBDIR": "/usr/" + MULTIARCH})
-        ours = {re.sub("^lib", MULTIARCH, MOVED.get(it, it)): data for it, data in files_of(pathlib.Path(folder, "ours/usr")).items()}
+        run(ROOT / "install", "/usr", env=os.environ | {"DESTDIR": folder + "/ours", "LIBDIR": MULTIARCH})
+        ours = {MOVED.get(it, it): data for it, data in files_of(pathlib.Path(folder, "ours/usr")).items()}
         root = pathlib.Path(folder, "root")
-        for it in ("info", "updates", "status"):
-            (root / "var/lib/dpkg" / it).mkdir(parents=True) if it != "status" else (root / "var/lib/dpkg/status").touch()
+        for it in ("info", "updates"):
+            (root / "var/lib/dpkg" / it).mkdir(parents=True)
+        (root / "var/lib/dpkg/status").touch()
         words = ["dpkg", "--root=%s" % root, "--force-not-root", "--force-bad-path", "--force-depends", "--log=/dev/null"]
         yield "installed by dpkg", differs(run(*words, "-i", package)[0], 0)
         there = files_of(root / "usr")

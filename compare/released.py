@@ -39,7 +39,17 @@ def said_by(*words):
     return subprocess.run(words, stdout=subprocess.PIPE, text=True, check=True, cwd=ROOT).stdout.strip()
 
 
-@functools.lru_cache
+@functools.cache
+def sources():
+    return said_by("./sources").splitlines()
+
+
+def is_of_these_sources(release):
+    of = stated(release)
+    return ["%s %s" % (word, of.get(word)) for word in ("crates", "others")] == sources()
+
+
+@functools.cache
 def why_not(name):
     """Why a file that is made here may have other bytes than the released one, or None."""
     of = stated(RELEASE)
@@ -51,8 +61,8 @@ def why_not(name):
 
 
 def same(name, made):
-    """The name of a check, and how a file that was made here differs from the released one."""
-    is_compared = (RELEASE / name).exists() and why_not(name) is None
+    """The name of a check, and how a file that was made here differs from the released one. A release of other sources fails elsewhere."""
+    is_compared = (RELEASE / name).exists() and is_of_these_sources(RELEASE) and why_not(name) is None
     sums = [hashlib.sha256(bytes_of(pathlib.Path(it))).hexdigest() for it in (made, RELEASE / name)] if is_compared else [0, 0]
     return "released: the bytes that are made here", differs(*sums) and (name, *sums)
 
@@ -60,8 +70,7 @@ def same(name, made):
 def faults_of(release):
     """What is wrong with a release, whatever was made here."""
     of, present = stated(release), sorted(it.name for it in release.iterdir()) if release.is_dir() else []
-    lines = said_by("./sources")
-    if ["%s %s" % (word, of.get(word)) for word in ("crates", "others")] != lines.splitlines():
+    if not is_of_these_sources(release):
         yield "it is of other sources: ./build-release makes it anew"
     package = "fitrec_%s_amd64.deb" % of.get("version")
     wanted = ["BUILT-FROM", "SHA256SUMS", package, *MADE, *(pathlib.Path(it).name for it in COPIED)]
@@ -71,10 +80,11 @@ def faults_of(release):
     sums = "".join("%s  %s\n" % (hashlib.sha256(bytes_of(release / it)).hexdigest(), it) for it in present if it != "SHA256SUMS")
     if bytes_of(release / "SHA256SUMS") != sums.encode():
         yield "SHA256SUMS has other checksums"
+        return
     for it in COPIED:
         if bytes_of(release / pathlib.Path(it).name) != bytes_of(ROOT / it):
             yield it + " is another"
-    if run(release / "fitrec", "version")[1] != "fitrec %s\n%s\n" % (of["version"], of["kit"].replace(" ", "\n", 1)):
+    if run(release / "fitrec", "version")[1] != "fitrec %s\n%s\n" % (of.get("version"), of.get("kit", "").replace(" ", "\n", 1)):
         yield "the program states another version or kit than BUILT-FROM"
     if sum(it.stat().st_size for it in release.iterdir()) > MOST:
         yield "it has more than %d bytes" % MOST
@@ -135,11 +145,22 @@ def of_folder(fitrec):
             yield "released: a planted fault is seen", None if list(faults_of(copy)) else name
 
 
+def clone(to):
+    """Copies what git keeps, and the release; without git, the whole tree."""
+    if not (ROOT / ".git").exists():
+        shutil.copytree(ROOT, to, ignore=shutil.ignore_patterns("out"))
+        return
+    for it in said_by("git", "ls-files", "-z").strip("\0").split("\0"):
+        (to / it).parent.mkdir(parents=True, exist_ok=True)
+        shutil.copy(ROOT / it, to / it)
+    shutil.copytree(RELEASE, to / "release", dirs_exist_ok=True)
+
+
 def of_a_clone(fitrec):
     """A clone on a machine without the kit saves a ride by the program and by the module of the page."""
     with tempfile.TemporaryDirectory() as folder:
         folder = pathlib.Path(folder)
-        shutil.copytree(ROOT, folder / "clone", ignore=shutil.ignore_patterns("out", ".git", "must-fail", "wrong"))
+        clone(folder / "clone")
         (folder / "bin").mkdir()
         for it in TOOLS:
             (folder / "bin" / it).symlink_to(shutil.which(it))
