@@ -47,6 +47,8 @@ def of_the_install():
             yield "installed: its bytes", differs([it for it in its if there.get(it) != its[it]], [])
             texts = (there.get(it, b"").decode() for it in ("share/applications/fitrec.desktop", "lib/pkgconfig/fitrec.pc"))
             yield "installed: named places", differs([text.count(prefix + "/share/fitrec/fitrec.html") + text.count("prefix=%s\n" % prefix) for text in texts], [1, 1])
+            if shutil.which("desktop-file-validate"):
+                yield "installed: entry", differs(run("desktop-file-validate", top / "share/applications/fitrec.desktop"), (0, "", ""))
             said = run(top / "bin/fitrec", "version")
             yield "installed: runs", differs(said, run(RELEASE / "fitrec", "version"))
             yield "installed: man page", differs(run("man", "-M", top / "share/man", "-w", "fitrec")[:2], (0, "%s/share/man/man1/fitrec.1\n" % top))
