@@ -3,6 +3,8 @@ and recovers, reopens and erases them over whole files or by windows; lets the p
 a rule of the header. The C program is compiled with all warnings as errors, without and with sanitizers."""
 
 import contextlib
+import errno
+import fcntl
 import pathlib
 import random
 import re
@@ -16,6 +18,7 @@ import told
 from library import COMPILERS
 from replacing import bytes_of
 from rides import committed, differs
+from saves import NAMES
 from told import holds, room
 
 HERE = pathlib.Path(__file__).resolve().parent
@@ -46,10 +49,35 @@ REOPENED = RIDE[:RIDE.index("stop")] + "".join("reopen\nsample %d hr=%d\ncommit\
 # Files that hold nothing, a start alone, and a ride are erased.
 ERASED = "erase\n" * 4 + "".join(more + "erase\nreopen\nrecover\nerase\n" for more in ["start 1000000000 7 running\n", *[RIDE] * 4]) + RIDE
 # What a recorder of 32 bits is built and run with, and the Debian package of each.
-MACHINE = {"wasm2c": "wabt", "arm-none-eabi-gcc": "gcc-arm-none-eabi (with libnewlib-arm-none-eabi)",
-           "qemu-system-arm": "qemu-system-arm"}
-QEMU = ["qemu-system-arm", "-M", "mps2-an386", "-display", "none", "-monitor", "none", "-serial", "none", "-semihosting-config",
-        "enable=on,target=native", "-kernel"]
+ARM_TOOLS = {"wasm2c": "wabt", "arm-none-eabi-gcc": "gcc-arm-none-eabi (with libnewlib-arm-none-eabi)", "qemu-system-arm": "qemu-system-arm"}
+RISCV_TOOLS = {"riscv64-unknown-elf-gcc": "gcc-riscv64-unknown-elf (with picolibc-riscv64-unknown-elf)", "qemu-system-riscv32": "qemu-system-misc"}
+WORDS = "cut script.txt . -1 1 0".split()
+QUIET = ["-display", "none", "-monitor", "none", "-serial", "none", "-semihosting-config"]
+ARM = ["qemu-system-arm", "-M", "mps2-an386", *QUIET, "enable=on,target=native", "-kernel"]
+RISCV = ["qemu-system-riscv32", "-M", "virt", "-bios", "none", *QUIET, ",".join(["enable=on,target=native", *["arg=" + it for it in WORDS]]), "-kernel"]
+# Where its program, its memory and its stack are.
+RISCV_MEMORY = {"__flash": 0x80000000, "__flash_size": 1 << 22, "__ram": 0x80400000, "__ram_size": 1 << 24, "_estack_low": 0x813F0000}
+# A program for a processor that has no C library. It is linked, and not run.
+ALONE = """#include "fitrec.h"
+static struct fitrec_recorder recorder;
+static struct fitrec_plan plan;
+void *memcpy(void *to, const void *from, size_t count) {
+    for (volatile size_t k = 0; k < count; k++)
+        ((char *)to)[k] = ((const char *)from)[k];
+    return to;
+}
+void *memmove(void *to, const void *from, size_t count) {
+    return memcpy(to, from, count);
+}
+void *memset(void *to, int byte, size_t count) {
+    for (volatile size_t k = 0; k < count; k++)
+        ((char *)to)[k] = (char)byte;
+    return to;
+}
+void _start(void) {
+    fitrec_start(&recorder, 1000000000, 7, 1, &plan);
+}
+"""
 # The room for the stack of the module in C; and the most bytes that rides take of the machine's stack, the C library's printing included,
 # and of the module's: with an object file, and in C.
 STACK = 65536 - 64
@@ -168,39 +196,72 @@ def of_erasings(fitrec, program, seed):
                 yield "a power cut in an erasing", None if is_right else (call, answers, done)
 
 
-def machine_programs(folder):
-    """compare/device.c for an emulated Cortex-M4, over each form of the crate for 32 bits."""
-    made = folder + "/made"
-    subprocess.run([ROOT / "device/build", made], check=True, capture_output=True)
+def machine_program(compiler, program, made, *words):
+    """compare/device.c for an emulated processor."""
+    common = ["-Os", "-w", "-ffunction-sections", "-fdata-sections", "-Wl,--gc-sections", "-DMOST=65536", "-DFITREC_STACK=%d" % STACK]
+    sources = [HERE / "device.c", ROOT / "examples/device/flash.c", ROOT / "device/emulated.c"]
+    subprocess.run([compiler, *common, "-I", made, "-I", ROOT / "include", *words, *sources, "-o", program], check=True)
+    return program
+
+
+def arm_programs(folder, made):
+    """The program for an emulated Cortex-M4, over each form of the crate that it can run."""
     module = [made + "/fitrec_module.c", made + "/runtime.c", made + "/adapter.c"]
     forms = {"for a Cortex-M4": [made + "/fitrec-cortex-m4.o"], "for a Cortex-M0+": [made + "/fitrec-cortex-m0plus.o"],
              "in C": module, "in C without bounds checks": ["-DFITREC_UNCHECKED", *module]}
+    start = [ROOT / "device/arm/start.c", "--specs=rdimon.specs", "-nostartfiles", "-T", ROOT / "device/arm/link.ld"]
     for form, sources in forms.items():
-        program = "%s/%d.elf" % (folder, len(form))
-        words = ["-mcpu=cortex-m4", "-mthumb", "-Os", "-w", "-ffunction-sections", "-fdata-sections", "-DMOST=65536", "-DFITREC_STACK=%d" % STACK]
-        words += ["-include", "stdbool.h", "-include", "setjmp.h", "-I", made, "-I", ROOT / "include", *sources]
-        words += [HERE / "device.c", ROOT / "examples/device/flash.c", ROOT / "device/arm/start.c", "--specs=rdimon.specs", "-nostartfiles"]
-        subprocess.run(["arm-none-eabi-gcc", *words, "-Wl,--gc-sections", "-T", ROOT / "device/arm/link.ld", "-o", program], check=True)
-        yield form, program
+        words = ["-mcpu=cortex-m4", "-mthumb", "-include", "stdbool.h", "-include", "setjmp.h", *sources, *start]
+        yield form, ARM, machine_program("arm-none-eabi-gcc", "%s/%d.elf" % (folder, len(form)), made, *words)
+
+
+def links_alone(folder, made):
+    """The crate in C links without a C library, given three functions."""
+    source = folder + "/alone.c"
+    pathlib.Path(source).write_text(ALONE)
+    words = ["-mcpu=cortex-m4", "-mthumb", "-Os", "-w", "-ffreestanding", "-include", "stdbool.h", "-include", "setjmp.h", "-I", made]
+    words += ["-I", ROOT / "include", "-nostdlib", source, *[made + it for it in ("/fitrec_module.c", "/runtime.c", "/adapter.c")], "-lgcc"]
+    return run("arm-none-eabi-gcc", *words, "-o", folder + "/alone.elf")
+
+
+def riscv_programs(folder, made):
+    """The program for an emulated RISC-V processor."""
+    start = ["--specs=picolibc.specs", "--crt0=semihost", "--oslib=semihost", *["-Wl,--defsym=%s=%d" % it for it in RISCV_MEMORY.items()]]
+    words = ["-march=rv32imac", "-mabi=ilp32", made + "/fitrec-rv32imac.o", *start]
+    yield "for RISC-V", RISCV, machine_program("riscv64-unknown-elf-gcc", folder + "/riscv.elf", made, *words)
+
+
+def machine_programs(folder):
+    """For each form of the crate that can be run here, its name, its emulator and the program."""
+    made, is_made = folder + "/made", False
+    for tools, programs_of in ((ARM_TOOLS, arm_programs), (RISCV_TOOLS, riscv_programs)):
+        missing = [it for it in tools if not shutil.which(it)]
+        if missing:
+            print("skipped: a recorder of 32 bits, since there is no %s here; it is in Debian's package %s" % (missing[0], tools[missing[0]]))
+            continue
+        if not is_made:
+            subprocess.run([ROOT / "device/build", made], check=True, capture_output=True)
+            is_made = True
+        yield from programs_of(folder, made)
 
 
 def of_32_bits(fitrec, count, seed):
     """The same answers and bytes on an emulated processor of 32 bits, within the stacks that docs/EMBEDDING.md gives."""
-    for word, package in MACHINE.items():
-        if not shutil.which(word):
-            print("skipped: a recorder of 32 bits, since there is no %s here; it is in Debian's package %s" % (word, package))
-            return
     with tempfile.TemporaryDirectory() as folder, room() as (script, new):
-        for form, program in machine_programs(folder):
+        for form, emulator, program in machine_programs(folder):
+            if form == "in C":
+                yield "the crate in C, without a C library", differs(links_alone(folder, folder + "/made"), (0, "", ""))
             most = [0, 0]
             for text in scripts(count, seed):
                 script.write_text(text)
                 mine, its = new(), new()
                 shutil.copy(script, mine + "/script.txt")
-                found, want = run(*QEMU, program, cwd=mine, stdin=subprocess.DEVNULL), run(fitrec, "replay", script, its)
+                found, want = run(*emulator, program, cwd=mine, stdin=subprocess.DEVNULL), run(fitrec, "replay", script, its)
+                # Semihosting may have one console for all output.
+                said, _, used = (found[1] + found[2]).rpartition("stack: ")
                 answers = re.sub(r"ok records.*", "ok", want[1])
-                yield "a ride by 32 bits, " + form, differs((found[1], holds(mine)), (answers, holds(its)))
-                most = [max(pair) for pair in zip(most, map(int, re.findall(r"\d+", found[2] or "0 0")))]
+                yield "a ride by 32 bits, " + form, differs((said, holds(mine)), (answers, holds(its)))
+                most = [max(pair) for pair in zip(most, map(int, re.findall(r"\d+", used)))]
             allowed = OF_C if form.startswith("in C") else OF_OBJECT
             yield "the stacks of 32 bits, " + form, None if 0 < most[0] <= allowed[0] and most[1] <= allowed[1] else most
         for it in released.OBJECTS:
@@ -252,6 +313,8 @@ def of_host(fitrec, archive):
             yield "the host of examples/device erases", differs((gone, run(fitrec, "repair", ride)[2], bytes_of(pathlib.Path(ride, "activity.fit"))),
                                                                 ((0, "", ""), "fitrec: NothingRecorded\n", b""))
         yield from of_cut_off_starts(fitrec, program, lines)
+        yield from of_interrupted_calls(program, lines)
+        yield from of_locked_files(program, lines)
 
 
 def of_cut_off_starts(fitrec, program, lines):
@@ -274,6 +337,44 @@ def of_cut_off_starts(fitrec, program, lines):
             else:
                 yield "the host of examples/device leaves other files", differs(
                     (done, {name: bytes_of(ride / name) for name in files}), ((1, "", "ride: no ride can begin here (7)\n"), files))
+
+
+def of_interrupted_calls(program, lines):
+    """A call that a signal interrupts is made again, in a ride that is begun, left, reopened and stopped."""
+    with told.library() as made, room() as (_, new):
+        host, halves = told.Told(program, made), (lines[:15], lines[15:])
+
+        def ride(**wrong):
+            folder = new()
+            runs = [host.run(folder, how={"input": "".join(half)}, **wrong) for half in halves]
+            again = host.run(folder, how={"input": ""}, **wrong)
+            left = [bytes_of(pathlib.Path(folder, name)) for name in NAMES]
+            return [said for said, _ in (*runs, again)], left, [log for _, log in (*runs, again)]
+
+        want = ride()
+        for kind in ("open", "lock", "sync", "write", "cut", "read"):
+            calls = max(sum(line.startswith(kind) for line in log) for log in want[2])
+            yield "the calls of the host of examples/device: " + kind, None if calls else want[2]
+            for number in range(1, calls + 1):
+                found = ride(call=kind, number=number, errno=errno.EINTR)
+                yield "the host of examples/device, interrupted", differs(found[:2], want[:2])
+
+
+def of_locked_files(program, lines):
+    """A host leaves files that another program has locked, and keeps its own locked."""
+    refused = 1, "", "ride: give a folder that can be written (0)\n"
+    with room() as (_, new):
+        folder = pathlib.Path(new())
+        for name in NAMES:
+            (folder / name).touch()
+            with open(folder / name) as file:
+                fcntl.flock(file, fcntl.LOCK_SH)
+                yield "the host of examples/device, beside a lock", differs((run(program, folder, input="".join(lines)), bytes_of(folder / name)), (refused, b""))
+        with subprocess.Popen([program, folder], stdin=subprocess.PIPE, stdout=subprocess.PIPE, text=True) as host:
+            host.stdin.write("".join(lines[:10]))
+            host.stdin.flush()
+            host.stdout.readline()
+            yield "a second host of examples/device", differs(run(program, folder, input=""), refused)
 
 
 def names_of(archive):

@@ -192,8 +192,8 @@ def messages():
     """The faults in the tables of docs/PROGRAM.md are those of the program; the refusals in docs/FORMAT.md are those of the reader."""
     rows = re.findall(r"(?m)^\| (`.*?`) \|", page("docs/PROGRAM.md").partition("## Messages")[2])
     named = {re.sub(r"\([A-Z]\)", "", name) for row in rows for name in re.findall(r"`([^`]*)`", row)}
-    texts = re.findall(r'#\[error\("(.*?)"\)\]', page("crates/fitrec/src/fault.rt"))
-    texts = [it.replace("{0}", "N" if "refused" in it else "NAME") for it in texts]
+    texts = re.findall(r'#\[error\("(.*?)"', page("crates/fitrec/src/fault.rt"))
+    texts = [it.replace("{}", "NAME").replace("{0}", "N") for it in texts if "fitrec: " not in it]
     wanted = {it for it in texts if "{" not in it and "line" not in it} | {"cannot write -", "cannot read -"} | OTHERS
     left = re.search(r'"fitrec: \{count\} (.*?)"', page("crates/fit_world/src/salvage.rt"))[1]
     wanted |= {"N " + left}

@@ -188,6 +188,8 @@ def unread(fitrec):
         yield "lines: input that cannot be read", differs(said, (1, "", "fitrec: cannot read -\n"))
         said = rides.run(fitrec, "record", folder + "/none", stdin=null)
         yield "lines: no folder", differs(said, (1, "", "fitrec: cannot open %s/none\n" % folder))
+        said = rides.run(fitrec, "record", "", input="start 1 7 running\n", cwd=folder)
+        yield "lines: a folder without a name", differs(said, (1, "", "fitrec: cannot open \n"))
 
 
 def peak(fitrec, text):
@@ -215,9 +217,15 @@ def of_long_rides(fitrec):
 
 
 def of_the_example(fitrec):
-    """The client of examples/, which is killed: its ride is saved."""
-    with tempfile.TemporaryDirectory() as folder:
-        words = [sys.executable, EXAMPLES / "heart_rate.py", folder, "1000", "0.001"]
+    """The client of examples/, which makes its folder and is killed: its ride is saved. Without words it says how it is used."""
+    client = [sys.executable, EXAMPLES / "heart_rate.py"]
+    for words in ([], ["a", "b", "c", "d"]):
+        said = rides.run(*client, *words)
+        is_told = said[:2] == (1, "") and "heart_rate.py FOLDER [SECONDS [PACE]]" in said[2] and "Traceback" not in said[2]
+        yield "lines: the client of a strap, with no words or too many", None if is_told else said
+    with tempfile.TemporaryDirectory() as above:
+        folder = above + "/new"
+        words = [*client, folder, "1000", "0.001"]
         with subprocess.Popen(words, stdout=subprocess.PIPE, stderr=subprocess.DEVNULL, text=True) as running:
             answers = [running.stdout.readline().rstrip("\n") for _ in range(60)]
             running.kill()

@@ -9,7 +9,8 @@ struct files {
     int of[2]; /* the data file and the journal */
 };
 
-/* Opens both files, and makes those that are missing. Answers 0, or -1 where one cannot be opened. */
+/* Opens and locks both files, and makes those that are missing. Answers 0, or -1 where one cannot be opened or another program has it
+   locked. */
 int open_files(struct files *files, const char *folder);
 
 /* The length of one of the two files, or -1. */

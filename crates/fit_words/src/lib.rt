@@ -1,26 +1,36 @@
 //! The command line of `fitrec`: the words it takes, the requests they make, and the errors for all others.
 //!
 //! `read_words` reads the words after the program's name. `request` turns the words of a subcommand into a request, `subcommands`
-//! has the help line and the words of each subcommand, and `arguments` has the help of each word. This crate depends on `clap`
-//! alone.
+//! has the help line and the words of each subcommand, and `arguments` has the help of each word. `ShownWord` is a word as a message
+//! shows it. This crate depends on `clap` alone.
 //!
-//! The contracts use the definitions of `specs/Requests`.
+//! The contracts use the definitions of `specs/`.
 #![tactic(auto)]
 
 mod arguments;
 mod request;
+mod shown;
 mod subcommands;
 
 use clap::Error;
 use clap::error::ErrorKind;
 pub use request::Request;
 use request::request_in;
+pub use shown::ShownWord;
 use std::alloc::Global;
 use std::convert::AsStr;
 use subcommands::fitrec_command;
 
-/// Reads the words after the program's name. An `Error` carries the text to print: help, or what is wrong.
+/// Reads the words after the program's name. An `Error` carries the text to print: help, or what is wrong. It has each word as
+/// `ShownWord` shows it.
 pub fn read_words<'a, S: AsStr>(alloc: Global, words: &'a [S]) -> Result<Request<'a>, Error> {
+    match request_of_words(alloc, words) {
+        Ok(request) => Ok(request),
+        Err(refusal) => Err(shown_refusal(alloc, words, refusal)?),
+    }
+}
+
+fn request_of_words<'a, S: AsStr>(alloc: Global, words: &'a [S]) -> Result<Request<'a>, Error> {
     let mut fitrec = fitrec_command(alloc)?;
     let matches = fitrec.try_get_matches_from_mut(words)?;
     match request_in(&matches) {
@@ -29,10 +39,24 @@ pub fn read_words<'a, S: AsStr>(alloc: Global, words: &'a [S]) -> Result<Request
     }
 }
 
+// The refusal of these words as they are shown, which takes the place of this one. What is wrong with a word stays wrong with it.
+fn shown_refusal<S: AsStr>(alloc: Global, words: &[S], refusal: Error) -> Result<Error, Error> {
+    let mut shown: Vec<String> = Vec::new(alloc);
+    for word in words {
+        let text = word.as_str();
+        shown.push(format!(in alloc; "{}", ShownWord(text))?)?;
+    }
+    match request_of_words(alloc, shown.as_slice()) {
+        Ok(_) => Ok(refusal),
+        Err(of_shown) => Ok(of_shown),
+    }
+}
+
 /// The error for a word of `--choices` that is not an even number of hexadecimal digits.
 pub fn no_choices(alloc: Global, word: &str) -> Result<Error, Error> {
     let why = format!(in alloc;
-        "invalid value '{word}' for '--choices <HEX>': it is no even number of hexadecimal digits"
+        "invalid value '{}' for '--choices <HEX>': it is no even number of hexadecimal digits",
+        ShownWord(word)
     )?;
     let mut fitrec = fitrec_command(alloc)?;
     Ok(fitrec.error(ErrorKind::ValueValidation, why.as_str())?)
@@ -41,7 +65,8 @@ pub fn no_choices(alloc: Global, word: &str) -> Result<Error, Error> {
 /// The error for a word of `--commit` that is not a number of seconds.
 pub fn no_seconds(alloc: Global, word: &str) -> Result<Error, Error> {
     let why = format!(in alloc;
-        "invalid value '{word}' for '--commit <SECONDS>': it is no number from 0 to 4294967295"
+        "invalid value '{}' for '--commit <SECONDS>': it is no number from 0 to 4294967295",
+        ShownWord(word)
     )?;
     let mut fitrec = fitrec_command(alloc)?;
     Ok(fitrec.error(ErrorKind::ValueValidation, why.as_str())?)
