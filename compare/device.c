@@ -111,6 +111,11 @@ static size_t read_file(const char *name, uint8_t *to) {
     return len;
 }
 
+static void fill_at_random(uint8_t *bytes, size_t count) {
+    while (count > 0)
+        bytes[--count] = (uint8_t)chance(256);
+}
+
 /* What a power cut leaves of a file. */
 static void keep_rest(struct memory_file *it, const char *name) {
     static uint8_t rest[MOST];
@@ -296,14 +301,15 @@ static int turn_over(const char *word, uint8_t *answer) {
     return is_taken;
 }
 
-/* Over whole files the answer, the recorder and the calls are the same. A recovery and a reopening begin with two syncs more. */
+/* Over whole files the answer, the recorder and the calls are the same. A recovery and a reopening begin with two syncs more, unless they
+   refuse. */
 static void look_at_whole_files(const char *word, uint8_t answer) {
     static struct fitrec_recorder recorder;
     static struct fitrec_plan plan;
     recorder = room.recorder, plan = room.plan;
     memset(&room.recorder, 0, sizeof recorder);
     uint8_t whole = step_over_files(word);
-    uint32_t more = strcmp(word, "erase") ? 2 : 0;
+    uint32_t more = strcmp(word, "erase") && !answer ? 2 : 0;
     int is_same = whole == answer && room.plan.count == plan.count + more && room.plan.used == plan.used;
     is_same = is_same && !memcmp(room.plan.bytes, plan.bytes, plan.used);
     for (uint32_t k = 0; is_same && k < plan.count; k++) {
@@ -315,6 +321,12 @@ static void look_at_whole_files(const char *word, uint8_t answer) {
     room.recorder = recorder, room.plan = plan;
 }
 
+/* The mark of a struct stands where the header ends it: the last 8 bytes are the mark, the check code, and two that are unused. */
+static void look_at_mark(const void *whole, size_t size, const char *mark) {
+    if (memcmp((const uint8_t *)whole + size - 8, mark, 4))
+        fail("a struct of another size than in the header");
+}
+
 /* A recovery, a reopening or an erasing by windows. Its last plan is still to be carried out. */
 static uint8_t step_by_windows(const char *word) {
     struct fitrec_recovery *it = &room.recovery;
@@ -322,6 +334,7 @@ static uint8_t step_by_windows(const char *word) {
     it->data_size = size_of_data();
     it->journal_size = in_flash ? in_area.journal_len : in_memory ? memory[1].len : (uint64_t)file_size(&files, FITREC_JOURNAL_FILE);
     uint8_t answer = fitrec_recover_begin(it, &room.plan);
+    look_at_mark(it, sizeof *it, "fitw");
     for (uint32_t most = 2; answer == FITREC_WANTS; most = 0) {
         for (uint32_t k = 0; k < room.plan.count; k++)
             if (k >= most || room.plan.calls[k].kind != FITREC_SYNC)
@@ -335,9 +348,24 @@ static uint8_t step_by_windows(const char *word) {
         if (!strcmp(word, "erase") || chance(3) || !turn_over(word, &answer))
             answer = go_on(word);
     }
+    /* A row of slots that is longer than a window is for whole files, unless the ride is erased. */
+    int is_too_long = it->journal_size > sizeof it->window && strcmp(word, "erase");
+    if (is_too_long != (answer == FITREC_DEVICE))
+        fail("a journal that is too long for a window");
+    if (is_too_long)
+        return step_over_files(word);
     if (rule == 0)
         look_at_whole_files(word, answer);
     return answer;
+}
+
+/* A start with a sport that is none leaves the recorder, and plans nothing. */
+static void start_without_a_sport(void) {
+    struct fitrec_recorder before = room.recorder;
+    if (fitrec_start(&room.recorder, 1000000000, 7, 3 + (uint8_t)chance(253), &room.plan) != FITREC_NO_SPORT || room.plan.count)
+        fail("a start with a sport that is none");
+    if (memcmp(&before, &room.recorder, sizeof before))
+        fail("a start with a sport that is none changed the recorder");
 }
 
 /* Makes the step of a line. */
@@ -348,8 +376,9 @@ static uint8_t step(char *line, char word[16]) {
     /* Drawn for each line, so it differs with the place of a recovery in its script. */
     int used = 0, is_by_windows = (int)chance(2);
     sscanf(line, "%15s %llu %n", word, &time, &used);
-    if (strstr("start recover reopen erase", word))
-        memset(recorder, 0, sizeof *recorder);
+    /* A recorder may lie where anything was. */
+    if (strstr("start recover reopen erase", word) && chance(2))
+        fill_at_random((uint8_t *)recorder, sizeof *recorder);
     if (strstr("recover reopen erase", word)) return is_by_windows ? step_by_windows(word) : step_over_files(word);
     if (!strcmp(word, "start")) {
         sscanf(line, "%*s %*u %llu %15s", &serial, sport);
@@ -424,13 +453,12 @@ static void play(const char *script) {
         carry_out_plan();
         if (rule != 3)
             report(number, word, answer);
+        if (!answer && strstr("start reopen commit", word)) {
+            look_at_mark(&room.recorder, sizeof room.recorder, "fitr");
+            start_without_a_sport();
+        }
     }
     fclose(file);
-}
-
-static void fill_at_random(uint8_t *bytes, size_t count) {
-    while (count > 0)
-        bytes[--count] = (uint8_t)chance(256);
 }
 
 /* A recovery of random bytes is refused, and stays as it is. */

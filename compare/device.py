@@ -12,6 +12,8 @@ import shutil
 import subprocess
 import tempfile
 
+import folders
+import layout
 import library
 import released
 import told
@@ -48,6 +50,12 @@ REOPENED = RIDE[:RIDE.index("stop")] + "".join("reopen\nsample %d hr=%d\ncommit\
                                                for it in range(1000000700, 1000000780, 10)) + "stop 1000000900\n" + "reopen\n" * 4
 # Files that hold nothing, a start alone, and a ride are erased.
 ERASED = "erase\n" * 4 + "".join(more + "erase\nreopen\nrecover\nerase\n" for more in ["start 1000000000 7 running\n", *[RIDE] * 4]) + RIDE
+# Rides of over 64 KB, of which the last samples are not committed: each is recovered, reopened and ended, or erased, twice.
+SAMPLES = "".join("sample %d lat=%d long=%d alt=%d hr=%d cad=80 dist=%d speed=3100 power=210 temp=-3\n%s" %
+                  (1000000001 + k, 566012345 + k, 102345678 - k, 2655 + k % 100, 90 + k % 80, 310 * k, "commit\n" * (k % 500 == 499))
+                  for k in range(5100))
+LONG = ["start 1000000000 7 cycling\n%s%s" % (SAMPLES, end)
+        for end in ("recover\n" * 4, ("reopen\nsample 1000006000 hr=99\ncommit\n" * 4) + "stop 1000006001\nrecover\n", "reopen\nerase\nrecover\n" * 2)]
 # What a recorder of 32 bits is built and run with, and the Debian package of each.
 ARM_TOOLS = {"wasm2c": "wabt", "arm-none-eabi-gcc": "gcc-arm-none-eabi (with libnewlib-arm-none-eabi)", "qemu-system-arm": "qemu-system-arm"}
 RISCV_TOOLS = {"riscv64-unknown-elf-gcc": "gcc-riscv64-unknown-elf (with picolibc-riscv64-unknown-elf)", "qemu-system-riscv32": "qemu-system-misc"}
@@ -130,12 +138,31 @@ def scripts(count, seed):
 def of_rides(fitrec, program, count, seed):
     """The same answers and the same bytes, whichever way a ride is recorded and recovered."""
     with room() as (script, new):
-        for at, text in enumerate(scripts(count, seed)):
+        for at, text in enumerate([*LONG, *LONG, *scripts(count, seed)]):
             script.write_text(text)
             mine, its = new(), new()
             found, want = run(program, "play", script, mine, seed + at), run(fitrec, "replay", script, its)
             answers = re.sub(r"ok records.*", "ok", want[1])
             yield "a ride by plan", differs((found[0], found[1], holds(mine)), (0, answers, holds(its)))
+
+
+def of_rows_of_slots(fitrec, program, seed):
+    """An older recorder's ride, whose journal is a row of slots: within a window, and longer than one."""
+    with room() as (script, new):
+        script.write_text("start 1000000000 7 running\n")
+        first = new()
+        run(fitrec, "replay", script, first)
+        data = holds(first)[0]
+        for size in (300, 600):
+            for at, end in enumerate(("recover\n", "reopen\nsample 1000000001 hr=99\ncommit\nstop 1000000002\n", "erase\nrecover\n") * 4):
+                script.write_text(end)
+                mine, its = (pathlib.Path(new()) for _ in range(2))
+                for folder in (mine, its):
+                    (folder / "activity.fit").write_bytes(data)
+                    (folder / "activity.frj").write_bytes(folders.row_of(*[len(data) - 14] * (size // 8 - 2 + size % 8 // 4))[:size])
+                found, want = run(program, "play", script, mine, seed + at), run(fitrec, "replay", script, its)
+                answers = re.sub(r"ok records.*", "ok", want[1])
+                yield "a row of slots of %d bytes" % size, differs((found[0], found[1], holds(mine)), (0, answers, holds(its)))
 
 
 def lost(fitrec, program, script, folder, call, seed, rule, later=None):
@@ -392,9 +419,11 @@ def check(fitrec, count, seed):
             return
         yield released.same("libfit_device.a", archive.name)
         yield from names_of(archive.name)
+        yield from layout.check()
         with programs(archive.name) as made:
             yield from of_rides(fitrec, made["as it is"], count, seed)
             yield from of_rides(fitrec, made["under sanitizers"], count // 20 + 1, seed)
+            yield from of_rows_of_slots(fitrec, made["as it is"], seed)
             yield from of_cuts(fitrec, made["as it is"], 60, seed)
             yield from of_erasings(fitrec, made["as it is"], seed)
             yield from of_flash(fitrec, made["as it is"], 150, seed)

@@ -1,8 +1,9 @@
 -- A step of a recovery by windows: which files it leaves.
-use Rattle.std.proofs.Common.{⊎_elim, ◌≡◌, ◌≤◌, ℕ, inl, inr, refl, sym, ap, ◌∙◌, subst, arith, Result, Ok, Err}
+use Rattle.std.proofs.Common.{⊎_elim, ◌≡◌, ◌≤◌, ℕ, List, [], length, inl, inr, refl, sym, ap, ◌∙◌, subst, arith, Result, Ok, Err}
 use Rattle.fit_activity.specs.declared.activity.Summary.{Summary}
 use Rattle.fit_device.specs.Answer.{code_of_fault, wants}
-use Rattle.fit_device.specs.Planned.{carried_out}
+use Rattle.fit_device.specs.Planned.{carried_out, Leads}
+use Rattle.fit_device.proofs.Leading.{leads_for, leads_since}
 use Rattle.fit_device.specs.Handle.{story_of as story_in_handle}
 use Rattle.fit_device.specs.Recovering.{GoesOnWith}
 use Rattle.fit_device.specs.Windowed.{story_of, IsRecovery, IsTakenUp, Finds, GoesOn, ReopensOn}
@@ -14,7 +15,6 @@ use Rattle.fit_device.proofs.Stepping.{on_ok}
 use Rattle.fit_disk.specs.Counts.{Counts, Log, Room, no_calls}
 use Rattle.fit_disk.specs.State.{Contents, seen_in}
 use Rattle.fit_disk.specs.Story.{Story}
-use Rattle.fit_notes.proofs.Numbers.{same_story}
 use Rattle.fit_notes.specs.Numbers.{numbers_of}
 use Rattle.fit_plan.specs.declared.plan.Plan.{Plan}
 use Rattle.fit_plan.specs.Plan.{story_in, since_in, counts_in, room_in, whole_room, log_in, most_calls, most_bytes}
@@ -22,7 +22,7 @@ use Rattle.fit_plan.specs.Window.{window_log}
 use Rattle.fit_plan.specs.declared.window.WindowPlan.{WindowPlan}
 use Rattle.fit_recorder.specs.Calls.Windows.{HasRoom}
 use Rattle.fit_recorder.specs.Calls.FaultCode.{fault_code}
-use Rattle.fit_recorder.specs.Calls.Recovery.{RecoveryAnswers, Rebuilds, unchanged}
+use Rattle.fit_recorder.specs.Calls.Recovery.{RecoveryAnswers, Rebuilds, unchanged, standing}
 use Rattle.fit_recorder.specs.Calls.Resume.{IsRefusedFor}
 use Rattle.fit_recorder.specs.Calls.Ride.{TakesUp}
 use Rattle.fit_recorder.specs.declared.resuming.FoundRide.{FoundRide}
@@ -32,9 +32,8 @@ use Rattle.fit_recorder.specs.declared.fault.RecFault.TheVariants.{NotEmpty, Ref
 -- the planned calls lead from the files before to those after
 pub led : (old new : RecoveryHandle) (plan : DevicePlan) (before after : Plan) → since_in before ≡ story_of old
     → numbers_of (since_in after) ≡ numbers_of (since_in before) → story_of new ≡ story_in after
-    → carried_out plan (since_in after) ≡ story_in after → story_of new ≡ carried_out plan (story_of old)
-led old new plan before after since same story planned =
-    story ∙ sym planned ∙ ap (carried_out plan) (same_story _ _ same ∙ since)
+    → Leads plan (since_in after) (story_in after) → Leads plan (story_of old) (story_of new)
+led old new plan before after since same story planned = leads_since plan before after _ _ _ since same (sym story) planned
 
 pub answers_for : (answer : Result Summary RecFault) (before after earlier later : Story) → before ≡ earlier → after ≡ later
     → RecoveryAnswers (seen_in before.now) after answer → RecoveryAnswers (seen_in earlier.now) later answer
@@ -93,7 +92,9 @@ module _ (old new : RecoveryHandle) (plan : DevicePlan) (code : ℕ) (asks : IsR
   goes_on = record {
     planned = found.planned;
     none = λ no. absurd (no asks);
-    asks = λ _ wants. (found.asks wants, found.same);
+    asks = λ _ wants. found.asks wants;
+    ended = found.ended;
+    same = λ _. found.same;
     answers = λ _. ⊎_elim (λ wants. inl wants) (λ answered. inr (Err answered.0, answered.1, answered.2)) found.answers;
     no_device = λ reads _. reads finds;
     any_moment = λ _. unchanged found.same;
@@ -106,29 +107,45 @@ module _ (old new : RecoveryHandle) (plan : DevicePlan) (code : ℕ) (asks : IsR
   reopens_on handle = record {
     planned = (λ zero. absurd (not_zero zero), λ _. found.planned);
     none = λ no. absurd (no asks);
-    handle = λ _. refl;
-    same = λ _. found.same;
     asks = λ _ wants. found.asks wants;
+    ended = found.ended;
+    same = λ _. (refl, found.same);
     answers = λ _. ⊎_elim (λ wants. inl wants) (λ answered. inr (inr (answered.0, answered.1, as_a_resume (seen_in (story_of old).now) (story_of new) answered.0 answered.2))) found.answers;
     no_device = λ reads _. reads finds;
-    any_moment = λ _. unchanged (sym found.planned ∙ found.same);
+    any_moment = λ _. unchanged (sym found.planned.ends ∙ found.same);
   }
 
 -- after a ride was taken up, and a recorder of it was put into a handle
 pub reopened : (old new : RecoveryHandle) (before after : Handle) (plan : DevicePlan) (ride : FoundRide) (files : Files) → IsRecovery old
-    → IsTakenUp old plan ride files → GoesOnWith (seen_in (story_of old).now) after → story_in_handle after ≡ files.notes.story
+    → IsTakenUp old new plan ride files → GoesOnWith (seen_in (story_of old).now) after → story_in_handle after ≡ files.notes.story
     → ReopensOn old new before after plan 0
 reopened old new before after plan ride files asks taken goes story =
     record {
-      planned = (λ _. story ∙ taken.planned, λ no. absurd (no refl));
+      planned = (λ _. leads_for plan _ _ _ _ refl (sym story) taken.planned, λ no. absurd (no refl));
       none = λ no. absurd (no asks);
-      handle = λ no. absurd (no refl);
-      same = λ no. absurd (no refl);
-      no_device = λ _ device. omega (arith, device);
       asks = λ _ wants. absurd (omega (arith, wants));
+      ended = λ _. taken.ended;
+      same = λ no. absurd (no refl);
       answers = λ _. inr (inl (refl, goes));
-      any_moment = λ _. subst (λ (later : Story). Rebuilds (seen_in (story_of old).now) (story_of old) later) taken.planned taken.any_moment;
+      no_device = λ _ device. omega (arith, device);
+      any_moment = λ _. subst (λ (later : Story). Rebuilds (seen_in (story_of old).now) (story_of old) later) taken.planned.ends taken.any_moment;
     }
+
+-- a recovery that refuses has changed nothing
+pub refuses_quietly : (fault : RecFault) (contents : Contents) (old new : Story) → RecoveryAnswers contents new (Err fault) → (fault ≡ Device → ⊥)
+    → Rebuilds contents old new → new ≡ old
+refuses_quietly fault contents old new is never (unchanged same) = same
+refuses_quietly NothingRecorded contents old new is never (standing body list recording commits run) = absurd (⊎_elim
+    (λ (empty : contents.in_data ≡ []). omega (arith, commits.in_data.long, ap (λ (xs : List ℕ). length xs) empty))
+    (λ nothing. cc) is)
+refuses_quietly Damaged contents old new is never (standing body list recording commits run) =
+    absurd (is.no_list list (record { allowed = recording.allowed; body = body; is_body = recording.is_body; within = recording.within; commits = commits }))
+refuses_quietly Device contents old new is never (standing body list recording commits run) = absurd (never refl)
+refuses_quietly NotEmpty contents old new is never (standing body list recording commits run) = absurd is
+refuses_quietly (Refused refusal) contents old new is never (standing body list recording commits run) = absurd is
+refuses_quietly Full contents old new is never (standing body list recording commits run) = absurd is
+refuses_quietly JournalFull contents old new is never (standing body list recording commits run) = absurd is
+refuses_quietly Failed contents old new is never (standing body list recording commits run) = absurd is
 
 -- no fault has the number of a wish for a window
 pub never_wants : (fault : RecFault) (code : ℕ) → code ≡ code_of_fault fault → code ≡ wants → ⊥

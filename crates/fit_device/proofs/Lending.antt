@@ -1,28 +1,62 @@
--- The calls over lent files lead from their contents to the story of the disk.
-use Rattle.std.proofs.Common.{◌≡◌, ℕ, List, sym, ap, ◌∙◌, subst}
-use Rattle.fit_device.specs.declared.plan.DevicePlan.{DevicePlan}
-use Rattle.fit_device.specs.Planned.{carried_out}
-use Rattle.fit_device.specs.Recovering.{left_by}
-use Rattle.fit_disk.specs.Story.{Story, Throughout}
-use Rattle.fit_notes.proofs.Numbers.{same_story}
-use Rattle.fit_notes.specs.Numbers.{numbers_of}
-use Rattle.fit_plan.specs.declared.lent.LentPlan.{LentPlan}
-use Rattle.fit_plan.specs.declared.plan.Plan.{Plan}
-use Rattle.fit_plan.specs.Plan.{story_in, since_in}
-use Rattle.fit_plan.specs.Lent.{rests, lent_story, lent_since}
-use Rattle.fit_plan.specs.Planned.{planned}
+-- The calls over lent files lead from any files of which reads give these bytes.
+use Rattle.std.proofs.Common.{◌≡◌, inl, ℕ, Bool, true, false, List, [], refl, sym, ap, ◌∙◌, subst, Result, Err}
+use Rattle.std.specs.Str.{bytes_eq}
+use Rattle.std.proofs.lemmas.Slice.Eq.{bytes_eq-Decides}
+use Rattle.fit_device.specs.Recovering.{SoundFiles, AreLent}
+use Rattle.fit_disk.proofs.Leaving.{left_rest}
+use Rattle.fit_disk.proofs.Moments.{begins}
+use Rattle.fit_disk.specs.Calls.{IsSound}
+use Rattle.fit_disk.specs.Content.{IsBytes}
+use Rattle.fit_disk.specs.State.{Contents, BothLeft}
+use Rattle.fit_disk.specs.Stored.{at_rest}
+use Rattle.fit_disk.specs.Story.{Story, Throughout, seen_of}
+use Rattle.fit_disk.specs.declared.disk.Which.TheVariants.{Data, Journal}
 use Rattle.fit_recorder.specs.Calls.Erasing.{LeftOrErased}
-use Rattle.fit_recorder.specs.Calls.Recovery.{InRecovery}
+use Rattle.fit_recorder.specs.Calls.Recovery.{RecoveryAnswers, InRecovery}
+use Rattle.fit_recorder.specs.declared.fault.RecFault.{RecFault}
+use Rattle.fit_recorder.specs.declared.fault.RecFault.TheVariants.{NotEmpty, Refused, Full, JournalFull, Device, Failed, NothingRecorded, Damaged}
 
--- from any files
-pub led_by : (before after : Plan) (plan : DevicePlan) (old : Story) → since_in before ≡ old → numbers_of (since_in after) ≡ numbers_of (since_in before)
-    → ((story : Story) → carried_out plan story ≡ planned after.calls story) → story_in after ≡ carried_out plan old
-led_by before after plan old since same filled = after.written ∙ ap (planned after.calls) (same_story _ _ same ∙ since) ∙ sym (filled old)
+-- files with these contents, all of which is kept
+abbrev rests : List ℕ → List ℕ → Story
+rests in_data in_journal = record { now = record { data_file = at_rest in_data; journal_file = at_rest in_journal }; past = [] }
 
-pub left : (before after : LentPlan) (plan : DevicePlan) (in_data in_journal : List ℕ) → lent_since before ≡ rests in_data in_journal
-    → numbers_of (lent_since after) ≡ numbers_of (lent_since before) → ((story : Story) → carried_out plan story ≡ planned after.plan.calls story)
-    → lent_story after ≡ left_by plan in_data in_journal
-left before after plan in_data in_journal since same filled = led_by before.plan after.plan plan (rests in_data in_journal) since same filled
+choose : (same_data same_journal : Bool) → Story → Story → Story
+choose true true files others = files
+choose true false files others = others
+choose false same_journal files others = others
+
+-- the files, if reads of them give these bytes, and else files that are at rest with these
+pub chosen : SoundFiles → List ℕ → List ℕ → Story
+chosen files in_data in_journal =
+    choose (bytes_eq (seen_of Data files.story) in_data) (bytes_eq (seen_of Journal files.story) in_journal) files.story (rests in_data in_journal)
+
+choice : (P : Story → Type 0) (same_data same_journal : Bool) (files others : Story) → (same_data ≡ true → same_journal ≡ true → P files) → P others
+    → P (choose same_data same_journal files others)
+unfolding choose
+choice P true true files others here there = here refl refl
+choice P true false files others here there = there
+choice P false same_journal files others here there = there
+
+pub chosen_sound : (files : SoundFiles) (in_data in_journal : List ℕ) → IsBytes in_data → IsBytes in_journal → IsSound (chosen files in_data in_journal).now
+unfolding chosen
+chosen_sound files in_data in_journal data_bytes journal_bytes =
+    choice (λ (story : Story). IsSound story.now) _ _ files.story (rests in_data in_journal) (λ _ _. files.sound)
+    (record { data_left = left_rest in_data data_bytes; journal_left = left_rest in_journal journal_bytes })
+
+pub chosen_lent : (files : SoundFiles) (in_data in_journal : List ℕ)
+    → (seen_of Data (chosen files in_data in_journal) ≡ in_data) × (seen_of Journal (chosen files in_data in_journal) ≡ in_journal)
+unfolding chosen
+chosen_lent files in_data in_journal =
+    choice (λ (story : Story). (seen_of Data story ≡ in_data) × (seen_of Journal story ≡ in_journal)) _ _ files.story (rests in_data in_journal)
+    (λ same_data same_journal. ((bytes_eq-Decides _ _).0 same_data, (bytes_eq-Decides _ _).0 same_journal)) (refl, refl)
+
+pub chosen_is : (files : SoundFiles) (in_data in_journal : List ℕ) → AreLent files in_data in_journal → chosen files in_data in_journal ≡ files.story
+unfolding chosen choose
+chosen_is files in_data in_journal lent =
+    let same_data : bytes_eq (seen_of Data files.story) in_data ≡ true = (bytes_eq-Decides _ _).1 lent.0 in
+    let same_journal : bytes_eq (seen_of Journal files.story) in_journal ≡ true = (bytes_eq-Decides _ _).1 lent.1 in
+    ap (λ (same : Bool). choose same (bytes_eq (seen_of Journal files.story) in_journal) files.story (rests in_data in_journal)) same_data
+    ∙ ap (λ (same : Bool). choose true same files.story (rests in_data in_journal)) same_journal
 
 pub moments : (old earlier new later : Story) → old ≡ earlier → new ≡ later → Throughout (LeftOrErased old.now) old new → Throughout (LeftOrErased earlier.now) earlier later
 moments old earlier new later olds news is =
@@ -30,3 +64,26 @@ moments old earlier new later olds news is =
 
 pub in_recovery : (old earlier new later : Story) → old ≡ earlier → new ≡ later → InRecovery old new → InRecovery earlier later
 in_recovery old earlier new later olds news is = subst (λ story. InRecovery earlier story) news (subst (λ story. InRecovery story new) olds is)
+
+-- a plan without calls leaves what could be left
+pub no_erasing : (old new : Story) → new ≡ old → Throughout (LeftOrErased old.now) old new
+no_erasing old new same =
+    subst (λ (story : Story). Throughout (LeftOrErased old.now) old story) (sym same) (begins (LeftOrErased old.now) old (λ contents left. inl left))
+
+pub no_recovery : (old new : Story) → new ≡ old → InRecovery old new
+no_recovery old new same = record { found = old; before = begins (BothLeft old.now) old (λ contents left. left); after = inl same }
+
+-- why a recovery refuses does not depend on what its plan does
+pub refusal_for : (fault : RecFault) (contents earlier : Contents) (before after : Story) → contents ≡ earlier → RecoveryAnswers contents before (Err fault)
+    → RecoveryAnswers earlier after (Err fault)
+refusal_for fault contents earlier before after same is = for fault (subst (λ (files : Contents). RecoveryAnswers files before (Err fault)) same is)
+  where
+    for : (fault : RecFault) → RecoveryAnswers earlier before (Err fault) → RecoveryAnswers earlier after (Err fault)
+    for NothingRecorded is = is
+    for Damaged is = is
+    for Device is = is
+    for NotEmpty is = is
+    for (Refused refusal) is = is
+    for Full is = is
+    for JournalFull is = is
+    for Failed is = is

@@ -1,3 +1,6 @@
+mod Leading
 mod Stepping
+mod NeverFull
+mod NoRecorder
 mod Lending
 mod ByWindows

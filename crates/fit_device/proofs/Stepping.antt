@@ -1,19 +1,18 @@
 -- A step of the recorder in a handle: what it was taken out as, and what it was put back as.
 use Rattle.std.proofs.Common.{⊎_elim, ◌≡◌, ℕ, Bool, true, false, List, sym, ap, ◌∙◌, subst, arith, Result, Ok, Err}
-use Rattle.std.specs.Prelude.{◌≤◌, OnOk, IsErrOf, refl}
+use Rattle.std.specs.Prelude.{◌≤◌, None, OnOk, IsErrOf, refl}
 use Rattle.fit_activity.specs.Rides.Recording.{Recorded}
 use Rattle.fit_activity.specs.Rides.RunningTotals.{AreTotals}
 use Rattle.fit_device.specs.declared.handle.Handle.{Handle}
 use Rattle.fit_device.specs.declared.plan.DevicePlan.{DevicePlan}
 use Rattle.fit_device.specs.Answer.{code_of, code_of_fault}
-use Rattle.fit_device.specs.Handle.{story_of, WasHanded, Stands}
-use Rattle.fit_device.specs.Planned.{carried_out}
+use Rattle.fit_device.specs.Handle.{story_of, NeverFills, WasHanded, Stands}
+use Rattle.fit_device.proofs.Leading.{leads_since}
 use Rattle.fit_device.specs.Steps.{Steps, IsSame}
 use Rattle.fit_device.specs.Taken.{IsTaken, IsPut}
 use Rattle.fit_disk.specs.Runs.{Takes}
 use Rattle.fit_disk.specs.State.{Contents}
 use Rattle.fit_disk.specs.Story.{Story, Throughout}
-use Rattle.fit_notes.proofs.Numbers.{same_story}
 use Rattle.fit_notes.specs.Numbers.{numbers_of}
 use Rattle.fit_plan.proofs.Room.{has_room}
 use Rattle.fit_plan.specs.declared.plan.Plan.{Plan}
@@ -24,7 +23,8 @@ use Rattle.fit_recorder.specs.declared.recorder.Recorder.{Recorder}
 use Rattle.fit_recorder.specs.Calls.FaultCode.{fault_code}
 use Rattle.fit_recorder.specs.Calls.Frozen.{GoesOnAt}
 use Rattle.fit_recorder.specs.Calls.After.{AfterCall}
-use Rattle.fit_recorder.specs.Calls.Recorder.{StandsAt, state_of, has_failed, disk_of}
+use Rattle.fit_journal.specs.Turn.{slots_left}
+use Rattle.fit_recorder.specs.Calls.Recorder.{StandsAt, state_of, has_failed, disk_of, journal_slots}
 use Rattle.fit_recorder.specs.Private.State.{RecorderState, IsAt}
 
 -- the same of equal numbers
@@ -118,7 +118,7 @@ module _ (new : Handle) (plan : DevicePlan) (after : Recorder Plan) (put : IsPut
     pub steps : (result : Result (Unit {0}) RecFault) (code : ℕ) → code ≡ code_of result → AfterCall true story_in result before after
         → (IsErrOf result Device → ⊥) → numbers_of (since_in (disk_of after)) ≡ numbers_of (since_in (disk_of before)) → Steps old new plan code
     steps result code is called never same = record {
-      planned = put.story ∙ sym put.planned ∙ ap (carried_out plan) (same_story _ _ same ∙ taken.since);
+      planned = leads_since plan (disk_of before) (disk_of after) _ _ _ taken.since same (sym put.story) put.planned;
       none = λ no. absurd (no taken.is_recorder);
       known = λ _. put.is_recorder;
       refused = λ _. refused result code is called never;
@@ -127,3 +127,8 @@ module _ (new : Handle) (plan : DevicePlan) (after : Recorder Plan) (put : IsPut
 
     pub throughout : (P : Contents → Type 0) → Throughout P (story_in (disk_of before)) (story_in (disk_of after)) → Throughout P (story_of old) (story_of new)
     throughout P run = subst (λ later. Throughout P (story_of old) later) (sym put.story) (subst (λ earlier. Throughout P earlier (story_in (disk_of after))) taken.story run)
+
+    -- the journal keeps slots that take turns
+    pub never_fills : (slots_left (journal_slots before) ≡ None → slots_left (journal_slots after) ≡ None) → NeverFills old → NeverFills new
+    never_fills keeps never =
+        ap slots_left (ap (λ (state : RecorderState). state.journal_slots) put.state) ∙ keeps (ap slots_left (ap (λ (state : RecorderState). state.journal_slots) taken.state) ∙ never)

@@ -1,11 +1,13 @@
 -- What a handle in the memory of C stands for.
-use Rattle.std.specs.Prelude.{◌≡◌, true, false, List}
+use Rattle.std.specs.Prelude.{◌≡◌, true, false, List, None}
 use Rattle.fit_activity.specs.Rides.Frozen.{totals_in}
 use Rattle.fit_activity.specs.Rides.Recording.{Recorded}
 use Rattle.fit_activity.specs.Rides.RunningTotals.{AreTotals}
 use Rattle.fit_device.specs.declared.handle.Handle.{Handle}
 use Rattle.fit_device.specs.Sealed.{IsSealed}
 use Rattle.fit_disk.specs.Story.{Story}
+use Rattle.fit_journal.specs.Frozen.{slots_in}
+use Rattle.fit_journal.specs.Turn.{slots_left}
 use Rattle.fit_recorder.specs.Calls.Frozen.{StandsFrozen, has_failed_in}
 
 -- the story of the two files, once the last plan was carried out
@@ -15,6 +17,10 @@ story_of h = h.notes.story
 -- its numbers are those of a recorder
 abbrev pub IsRecorder : Handle → Type 0
 IsRecorder h = IsSealed h.mark h.seal h.recorder h.data_size
+
+-- its journal has no last slot
+abbrev pub NeverFills : Handle → Type 0
+NeverFills h = slots_left (slots_in h.recorder.journal) ≡ None
 
 -- a recorder that was handed this list and has not failed
 pub record WasHanded (h : Handle) (list : List Recorded) : Type 0 where

@@ -5,46 +5,64 @@ use Rattle.fit_activity.specs.Rides.Recording.{Recorded}
 use Rattle.fit_device.specs.declared.handle.Handle.{Handle}
 use Rattle.fit_device.specs.declared.plan.DevicePlan.{DevicePlan}
 use Rattle.fit_device.specs.Answer.{code_of, code_of_fault}
-use Rattle.fit_device.specs.Handle.{story_of, Stands}
-use Rattle.fit_device.specs.Planned.{carried_out}
-use Rattle.fit_disk.specs.State.{Contents}
+use Rattle.fit_device.specs.Handle.{story_of, IsRecorder, Stands}
+use Rattle.fit_device.specs.Planned.{carried_out, IsWellFormed}
+use Rattle.fit_disk.specs.Calls.{IsSound}
+use Rattle.fit_disk.specs.State.{Contents, seen_in}
 use Rattle.fit_disk.specs.Stored.{at_rest}
-use Rattle.fit_disk.specs.Story.{Story, Throughout}
-use Rattle.fit_plan.specs.Lent.{rests}
+use Rattle.fit_disk.specs.Story.{Story, Throughout, seen_of}
+use Rattle.fit_disk.specs.declared.disk.Which.TheVariants.{Data, Journal}
+use Rattle.fit_journal.specs.Adopting.{Adopted}
+use Rattle.fit_journal.specs.Frozen.{slots_in}
 use Rattle.fit_recorder.specs.Calls.Erasing.{LeftOrErased}
+use Rattle.fit_recorder.specs.Calls.FaultCode.{fault_code}
 use Rattle.fit_recorder.specs.Calls.Recovery.{RecoveryAnswers, InRecovery}
 use Rattle.fit_recorder.specs.Calls.Resume.{IsRefusedFor}
 use Rattle.fit_recorder.specs.Files.Body.{StandsFor}
 use Rattle.fit_recorder.specs.declared.fault.RecFault.{RecFault}
+use Rattle.fit_recorder.specs.declared.fault.RecFault.TheVariants.{Device}
 
-abbrev pub both : List ℕ → List ℕ → Contents
-both in_data in_journal = record { in_data = in_data; in_journal = in_journal }
+-- two files with any past, whatever was kept of them
+pub record SoundFiles : Type 0 where
+  pub story : Story
+  pub sound : IsSound story.now
 
--- the files with the planned calls
-abbrev pub left_by : DevicePlan → List ℕ → List ℕ → Story
-left_by plan in_data in_journal = carried_out plan (rests in_data in_journal)
+-- reads of them give what C lends
+abbrev pub AreLent : SoundFiles → List ℕ → List ℕ → Type 0
+AreLent files in_data in_journal = (seen_of Data files.story ≡ in_data) × (seen_of Journal files.story ≡ in_journal)
 
--- The answer is that of a recovery. Any part of the plan leaves what the files stood for.
-pub record Recovers (in_data in_journal : List ℕ) (plan : DevicePlan) (code : ℕ) : Type 0 where
+-- The answer is that of a recovery, and any part of the plan leaves what the files stood for. After codes but 0 the plan has no calls.
+pub record Recovers (old : Story) (plan : DevicePlan) (code : ℕ) : Type 0 where
+  pub well_formed : IsWellFormed plan old
   pub answer : Result Summary RecFault
   pub code_is : code ≡ code_of answer
-  pub decides : RecoveryAnswers (both in_data in_journal) (left_by plan in_data in_journal) answer
-  pub any_moment : InRecovery (rests in_data in_journal) (left_by plan in_data in_journal)
+  pub decides : RecoveryAnswers (seen_in old.now) (carried_out plan old) answer
+  pub refused : (code ≡ 0 → ⊥) → plan.count ≡ 0
+  pub any_moment : InRecovery old (carried_out plan old)
 
--- the recorder in the handle goes on with the list that the files stood for, all of which is committed
+-- the recorder in the handle goes on with the list that the files stood for, all of which is committed, and with their journal
 pub record GoesOnWith (contents : Contents) (new : Handle) : Type 0 where
   pub list : List Recorded
   pub stood : StandsFor list contents
   pub stands : Stands new list list
+  pub adopted : Adopted (slots_in new.recorder.journal) new.recorder.len contents.in_journal
 
--- After 0 the recorder goes on; the other answers are those of a resume.
-pub record Reopens (in_data in_journal : List ℕ) (new : Handle) (plan : DevicePlan) (code : ℕ) : Type 0 where
-  pub planned : story_of new ≡ left_by plan in_data in_journal
-  pub answers : ((code ≡ 0) × GoesOnWith (both in_data in_journal) new)
-      ⊎ ((fault : RecFault) × ((code ≡ code_of_fault fault) × IsRefusedFor (both in_data in_journal) fault))
-  pub any_moment : InRecovery (rests in_data in_journal) (left_by plan in_data in_journal)
+-- no ride continues, for this reason
+abbrev pub IsRefused : Story → ℕ → Type 0
+IsRefused old code = (fault : RecFault) × (code ≡ code_of_fault fault) × IsRefusedFor (seen_in old.now) fault
 
--- After 0 the data file is empty. Any part of the plan leaves the files, or a recording that is forgotten.
-pub record Erases (in_data in_journal : List ℕ) (plan : DevicePlan) (code : ℕ) : Type 0 where
-  pub ok : code ≡ 0 → (left_by plan in_data in_journal).now.data_file ≡ at_rest []
-  pub any_moment : Throughout (LeftOrErased (rests in_data in_journal).now) (rests in_data in_journal) (left_by plan in_data in_journal)
+-- After 0 the recorder goes on over the files after the plan. After the other answers, which are those of a resume, the handle is none of
+-- a recorder, and the plan has no calls.
+pub record Reopens (old : Story) (new : Handle) (plan : DevicePlan) (code : ℕ) : Type 0 where
+  pub well_formed : IsWellFormed plan old
+  pub ok : code ≡ 0 → (story_of new ≡ carried_out plan old) × GoesOnWith (seen_in old.now) new
+  pub refused : (code ≡ 0 → ⊥) → IsRefused old code × (IsRecorder new → ⊥) × (plan.count ≡ 0)
+  pub any_moment : InRecovery old (carried_out plan old)
+
+-- After 0 the data file is empty. Any part of the plan leaves the files, or a recording that is forgotten. After 5 the plan has no calls.
+pub record Erases (old : Story) (plan : DevicePlan) (code : ℕ) : Type 0 where
+  pub well_formed : IsWellFormed plan old
+  pub known : (code ≡ 0) ⊎ (code ≡ fault_code Device)
+  pub ok : code ≡ 0 → (carried_out plan old).now.data_file ≡ at_rest []
+  pub refused : (code ≡ 0 → ⊥) → plan.count ≡ 0
+  pub any_moment : Throughout (LeftOrErased old.now) old (carried_out plan old)

@@ -5,8 +5,8 @@ use Rattle.fit_activity.specs.Rides.Recording.{Started}
 use Rattle.fit_device.specs.Answer.{code_of_fault}
 use Rattle.fit_device.specs.declared.handle.Handle.{Handle}
 use Rattle.fit_device.specs.declared.plan.DevicePlan.{DevicePlan}
-use Rattle.fit_device.specs.Handle.{story_of, Stands}
-use Rattle.fit_device.specs.Planned.{carried_out}
+use Rattle.fit_device.specs.Handle.{story_of, IsRecorder, NeverFills, Stands}
+use Rattle.fit_device.specs.Planned.{Leads}
 use Rattle.fit_disk.specs.State.{seen_in}
 use Rattle.fit_disk.specs.Story.{seen_of}
 use Rattle.fit_disk.specs.declared.disk.Which.TheVariants.{Data}
@@ -16,14 +16,16 @@ use Rattle.fit_recorder.specs.Calls.Start.{InStart}
 use Rattle.fit_recorder.specs.declared.fault.RecFault.{RecFault}
 use Rattle.fit_recorder.specs.declared.fault.RecFault.TheVariants.{Device, NotEmpty}
 
--- After 0 the start is committed. Else a rule refuses it, or the data file has bytes, and the plan changes nothing that reads of the files
--- give. No call of the plan fails for want of room. Any part of it leaves nothing recorded, or the start alone.
+-- After 0 the start is committed, and the journal never fills. Else a rule refuses it, or the data file has bytes; the handle is none of a
+-- recorder, and the plan changes nothing that reads of the files give. No call of the plan fails for want of room. Any part of it leaves
+-- nothing recorded, or the start alone.
 pub record Starts (start : Start) (old new : Handle) (plan : DevicePlan) (code : ℕ) : Type 0 where
-  pub planned : story_of new ≡ carried_out plan (story_of old)
+  pub planned : Leads plan (story_of old) (story_of new)
   pub no_device : code ≡ fault_code Device → ⊥
-  pub ok : code ≡ 0 → Stands new (Started start ∷ []) (Started start ∷ [])
+  pub ok : code ≡ 0 → Stands new (Started start ∷ []) (Started start ∷ []) × NeverFills new
   pub was_empty : code ≡ 0 → seen_of Data (story_of old) ≡ []
   pub refused : (code ≡ 0 → ⊥) → (fault : RecFault) × (code ≡ code_of_fault fault) × StartAnswers start fault
+  pub gone : (code ≡ 0 → ⊥) → IsRecorder new → ⊥
   pub not_empty : code ≡ fault_code NotEmpty → seen_of Data (story_of old) ≡ [] → ⊥
   pub same : (code ≡ 0 → ⊥) → seen_in (story_of new).now ≡ seen_in (story_of old).now
   pub any_moment : InStart start (story_of old) (story_of new)

@@ -6,8 +6,8 @@ use Rattle.fit_activity.specs.Rides.Recording.{Recorded, Added}
 use Rattle.fit_device.specs.declared.handle.Handle.{Handle}
 use Rattle.fit_device.specs.declared.plan.DevicePlan.{DevicePlan}
 use Rattle.fit_device.specs.Answer.{code_of, no_recorder}
-use Rattle.fit_device.specs.Handle.{story_of, IsRecorder, WasHanded, Stands}
-use Rattle.fit_device.specs.Planned.{carried_out}
+use Rattle.fit_device.specs.Handle.{story_of, IsRecorder, NeverFills, WasHanded, Stands}
+use Rattle.fit_device.specs.Planned.{Leads}
 use Rattle.fit_disk.specs.Story.{Throughout}
 use Rattle.fit_journal.specs.Frozen.{slots_in}
 use Rattle.fit_recorder.specs.Calls.FaultCode.{fault_code}
@@ -16,7 +16,7 @@ use Rattle.fit_recorder.specs.Calls.Answers.{HandAnswers, CommitAnswers, StopAns
 use Rattle.fit_recorder.specs.Files.Body.{StandsFor}
 use Rattle.fit_recorder.specs.Files.Finished.{IsFinished}
 use Rattle.fit_recorder.specs.declared.fault.RecFault.{RecFault}
-use Rattle.fit_recorder.specs.declared.fault.RecFault.TheVariants.{Device}
+use Rattle.fit_recorder.specs.declared.fault.RecFault.TheVariants.{Device, JournalFull}
 
 -- the answer with this number
 abbrev pub Answers : (Result (Unit {0}) RecFault → Type 0) → ℕ → Type 0
@@ -31,7 +31,7 @@ pub record IsSame (old new : Handle) : Type 0 where
 -- The files are those before with the planned calls. After a refusal nothing changed. A plan has room for all calls of a step, so none of them
 -- fails. A handle that is none of a recorder stays as it is, and nothing is planned.
 pub record Steps (old new : Handle) (plan : DevicePlan) (code : ℕ) : Type 0 where
-  pub planned : story_of new ≡ carried_out plan (story_of old)
+  pub planned : Leads plan (story_of old) (story_of new)
   pub none : (IsRecorder old → ⊥) → (code ≡ no_recorder) × (new ≡ old)
   pub known : IsRecorder old → IsRecorder new
   pub refused : IsRecorder old → (code ≡ 0 → ⊥) → IsSame old new
@@ -42,6 +42,7 @@ pub record Hands (e : Entry) (old new : Handle) (plan : DevicePlan) (code : ℕ)
   pub steps : Steps old new plan code
   pub answers : (list : List Recorded) → WasHanded old list → Answers (HandAnswers list old.recorder.len e) code
   pub ok : (list committed : List Recorded) → Stands old list committed → code ≡ 0 → Stands new (list ++ Added e ∷ []) committed
+  pub never_fills : NeverFills old → NeverFills new
   pub any_moment : (list committed : List Recorded) → Stands old list committed → Throughout (StandsFor committed) (story_of old) (story_of new)
 
 -- All entries are committed. Any part of the plan leaves what was committed before, or all entries.
@@ -49,6 +50,8 @@ pub record Commits (old new : Handle) (plan : DevicePlan) (code : ℕ) : Type 0 
   pub steps : Steps old new plan code
   pub answers : (list : List Recorded) → WasHanded old list → Answers (CommitAnswers list (slots_in old.recorder.journal)) code
   pub ok : (list committed : List Recorded) → Stands old list committed → code ≡ 0 → Stands new list list
+  pub never_fills : NeverFills old → NeverFills new
+  pub not_full : (list : List Recorded) → WasHanded old list → NeverFills old → code ≡ fault_code JournalFull → ⊥
   pub any_moment : (list committed : List Recorded) → Stands old list committed
       → Throughout (λ contents. StandsFor committed contents ⊎ StandsFor list contents) (story_of old) (story_of new)
 

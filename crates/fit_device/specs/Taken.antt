@@ -3,7 +3,7 @@ use Rattle.std.specs.Prelude.{◌≡◌}
 use Rattle.fit_device.specs.declared.handle.Handle.{Handle}
 use Rattle.fit_device.specs.declared.plan.DevicePlan.{DevicePlan}
 use Rattle.fit_device.specs.Handle.{story_of, IsRecorder}
-use Rattle.fit_device.specs.Planned.{carried_out}
+use Rattle.fit_device.specs.Planned.{Leads}
 use Rattle.fit_disk.specs.Counts.{no_calls}
 use Rattle.fit_plan.specs.declared.plan.Plan.{Plan}
 use Rattle.fit_plan.specs.Plan.{story_in, since_in, counts_in, room_in, whole_room}
@@ -27,4 +27,4 @@ pub record IsPut (new : Handle) (plan : DevicePlan) (recorder : Recorder Plan) :
   pub state : state_in new.recorder ≡ state_of recorder
   pub failed : has_failed_in new.recorder ≡ has_failed recorder
   pub story : story_of new ≡ story_in (disk_of recorder)
-  pub planned : carried_out plan (since_in (disk_of recorder)) ≡ story_in (disk_of recorder)
+  pub planned : Leads plan (since_in (disk_of recorder)) (story_in (disk_of recorder))

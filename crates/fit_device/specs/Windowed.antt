@@ -1,5 +1,5 @@
 -- A recovery, a reopening and an erasing by windows in the memory of C.
-use Rattle.std.specs.Prelude.{◌≡◌, ◌⊎◌, ◌≤◌, ℕ, ◌==◌, false, if◌then◌else◌, List, [], take, Result, Ok, Err}
+use Rattle.std.specs.Prelude.{◌≡◌, ◌⊎◌, ◌+◌, ◌≤◌, min, length, ℕ, ◌==◌, false, if◌then◌else◌, List, [], take, Result, Ok, Err}
 use Rattle.fit_activity.specs.declared.activity.Summary.{Summary}
 use Rattle.fit_disk.specs.State.{BothLeft, seen_in}
 use Rattle.fit_disk.specs.Stored.{at_rest}
@@ -20,7 +20,7 @@ use Rattle.fit_recorder.specs.declared.fault.RecFault.TheVariants.{Device}
 use Rattle.fit_device.specs.Answer.{code_of, code_of_fault, no_recorder, wants}
 use Rattle.fit_device.specs.Asking.{asked_numbers, IsAsking}
 use Rattle.fit_device.specs.Handle.{story_of as story_in}
-use Rattle.fit_device.specs.Planned.{carried_out}
+use Rattle.fit_device.specs.Planned.{carried_out, IsWellFormed, Leads}
 use Rattle.fit_device.specs.Recovering.{GoesOnWith}
 use Rattle.fit_device.specs.declared.files.Files.{Files}
 use Rattle.fit_device.specs.declared.handle.Handle.{Handle}
@@ -50,28 +50,38 @@ AsksForJournal h = IsRecovery h × (h.phase ≡ 1)
 abbrev pub HasWindow : RecoveryHandle → Story → Type 0
 HasWindow h story = (h.filled ≤ 512) × IsPartOf (seen_of (which_of h.file) story) h.at (take h.filled h.window) false
 
--- A recovery is begun: both files are synced, and then it asks for a window.
+-- it asks for at most 512 bytes of the data file, which has them
+pub record AsksForBody (h : RecoveryHandle) : Type 0 where
+  pub asks : IsRecovery h
+  pub of_data : h.file ≡ 0
+  pub few : h.count ≤ 512
+  pub inside : h.at + h.count ≤ length (seen_of Data (story_of h))
+
+-- A recovery is begun: both files are synced, and then it asks for the start of the journal, or all of it.
 pub record Begins (old new : RecoveryHandle) (plan : DevicePlan) (code : ℕ) : Type 0 where
-  pub planned : story_of new ≡ carried_out plan (story_of old)
+  pub planned : Leads plan (story_of old) (story_of new)
   pub wanted : code ≡ wants
-  pub asks : IsRecovery new
+  pub asks : IsRecovery new × (new.file ≡ 1) × (new.at ≡ 0) × (new.count ≡ min 512 (length (seen_of Journal (story_of new))))
   pub settled : IsSettled (seen_in (story_of old).now) (story_of new)
   pub any_moment : Throughout (BothLeft (story_of old).now) (story_of old) (story_of new)
 
 -- The window of the journal was filled. It asks for the first of the body, or reports why there is none. Nothing is planned.
 pub record Finds (old new : RecoveryHandle) (plan : DevicePlan) (code : ℕ) : Type 0 where
-  pub planned : story_of new ≡ carried_out plan (story_of old)
+  pub planned : Leads plan (story_of old) (story_of new)
   pub same : story_of new ≡ story_of old
-  pub asks : code ≡ wants → IsRecovery new
+  pub asks : code ≡ wants → AsksForBody new
+  pub ended : (code ≡ wants → ⊥) → IsRecovery new → ⊥
   pub answers : (code ≡ wants) ⊎ ((fault : RecFault) × (code ≡ code_of_fault fault)
       × RecoveryAnswers (seen_in (story_of old).now) (story_of new) (Err fault))
 
--- A window was filled. It asks for the next, and nothing is planned; or it answers as a recovery does. No call of a plan fails for want of
--- room; a journal may be too long for its window.
+-- A window was filled. It asks for the next, or it has ended, and answers as a recovery does. Nothing is planned unless it answers 0. No call
+-- of a plan fails for want of room; a journal may be too long for its window.
 pub record GoesOn (old new : RecoveryHandle) (plan : DevicePlan) (code : ℕ) : Type 0 where
-  pub planned : story_of new ≡ carried_out plan (story_of old)
+  pub planned : Leads plan (story_of old) (story_of new)
   pub none : (IsRecovery old → ⊥) → (code ≡ no_recorder) × (new ≡ old)
-  pub asks : IsRecovery old → code ≡ wants → IsRecovery new × (story_of new ≡ story_of old)
+  pub asks : IsRecovery old → code ≡ wants → AsksForBody new
+  pub ended : (code ≡ wants → ⊥) → IsRecovery new → ⊥
+  pub same : (code ≡ 0 → ⊥) → story_of new ≡ story_of old
   pub answers : IsRecovery old → (code ≡ wants) ⊎ ((answer : Result Summary RecFault) × (code ≡ code_of answer)
       × RecoveryAnswers (seen_in (story_of old).now) (story_of new) answer)
   pub no_device : (old.phase ≡ 1 → ⊥) → code ≡ fault_code Device → ⊥
@@ -81,35 +91,39 @@ pub record GoesOn (old new : RecoveryHandle) (plan : DevicePlan) (code : ℕ) : 
 abbrev pub left_by : DevicePlan → RecoveryHandle → Story
 left_by plan old = carried_out plan (story_of old)
 
--- A window was filled. It asks for the next, and nothing is planned; or the recorder in the handle goes on with the list that the files
--- stood for; or it answers why no ride can continue. Only a recorder that goes on takes the place of what the handle held.
+-- A window was filled. It asks for the next, or it has ended: the recorder in the handle goes on with the list that the files stood for; or
+-- it answers why no ride can continue. Nothing is planned unless it answers 0, and only then another recorder takes the place of what the
+-- handle held.
 pub record ReopensOn (old new : RecoveryHandle) (before after : Handle) (plan : DevicePlan) (code : ℕ) : Type 0 where
-  pub planned : (code ≡ 0 → story_in after ≡ left_by plan old) × ((code ≡ 0 → ⊥) → story_of new ≡ left_by plan old)
+  pub planned : (code ≡ 0 → Leads plan (story_of old) (story_in after)) × ((code ≡ 0 → ⊥) → Leads plan (story_of old) (story_of new))
   pub none : (IsRecovery old → ⊥) → (code ≡ no_recorder) × (new ≡ old)
-  pub handle : (code ≡ 0 → ⊥) → after ≡ before
-  pub same : (code ≡ 0 → ⊥) → story_of new ≡ story_of old
-  pub asks : IsRecovery old → code ≡ wants → IsRecovery new
+  pub asks : IsRecovery old → code ≡ wants → AsksForBody new
+  pub ended : (code ≡ wants → ⊥) → IsRecovery new → ⊥
+  pub same : (code ≡ 0 → ⊥) → (after ≡ before) × (story_of new ≡ story_of old)
   pub answers : IsRecovery old → (code ≡ wants) ⊎ (((code ≡ 0) × GoesOnWith (seen_in (story_of old).now) after)
       ⊎ ((fault : RecFault) × (code ≡ code_of_fault fault) × IsRefusedFor (seen_in (story_of old).now) fault))
   pub no_device : (old.phase ≡ 1 → ⊥) → code ≡ fault_code Device → ⊥
   pub any_moment : IsRecovery old → Rebuilds (seen_in (story_of old).now) (story_of old) (left_by plan old)
 
--- A ride was taken up over these files, and the calls are in the plan.
-pub record IsTakenUp (old : RecoveryHandle) (plan : DevicePlan) (ride : FoundRide) (files : Files) : Type 0 where
+-- A ride was taken up over these files, the calls are in the plan, and no window is asked for.
+pub record IsTakenUp (old new : RecoveryHandle) (plan : DevicePlan) (ride : FoundRide) (files : Files) : Type 0 where
   pub goes_on : MayGoOn ride
-  pub planned : files.notes.story ≡ left_by plan old
+  pub planned : Leads plan (story_of old) files.notes.story
+  pub ended : IsRecovery new → ⊥
   pub taken : TakesUp (seen_in (story_of old).now) files.notes.story (Ok ride)
   pub any_moment : Rebuilds (seen_in (story_of old).now) (story_of old) files.notes.story
 
 -- The outcome of reading on in it: it is taken up, or a code that leaves any handle.
 abbrev pub ReadsRide : RecoveryHandle → RecoveryHandle → DevicePlan → Result (FoundRide × Files) ℕ → Type 0
-ReadsRide old new plan (Ok found) = IsTakenUp old plan found.0 found.1
+ReadsRide old new plan (Ok found) = IsTakenUp old new plan found.0 found.1
 ReadsRide old new plan (Err code) = (handle : Handle) → ReopensOn old new handle handle plan code
 
--- The window of the journal was filled. After 0 the data file is empty. Any part of the plan leaves the files, or a recording that is
--- forgotten. What asks for no journal stays as it is, and nothing is planned.
+-- The window of the journal was filled, and no other is asked for. After 0 the data file is empty. Any part of the plan leaves the files, or a
+-- recording that is forgotten. After 5 the plan has no calls. What asks for no journal stays as it is, and nothing is planned.
 pub record ErasesOn (old new : RecoveryHandle) (plan : DevicePlan) (code : ℕ) : Type 0 where
-  pub none : (AsksForJournal old → ⊥) → (code ≡ no_recorder) × (new ≡ old) × (left_by plan old ≡ story_of old)
-  pub known : AsksForJournal old → (code ≡ 0) ⊎ (code ≡ fault_code Device)
+  pub well_formed : IsWellFormed plan (story_of old)
+  pub none : (AsksForJournal old → ⊥) → (code ≡ no_recorder) × (new ≡ old)
+  pub known : AsksForJournal old → ((code ≡ 0) ⊎ (code ≡ fault_code Device)) × (IsRecovery new → ⊥)
   pub ok : code ≡ 0 → (left_by plan old).now.data_file ≡ at_rest []
+  pub refused : (code ≡ 0 → ⊥) → plan.count ≡ 0
   pub any_moment : AsksForJournal old → Throughout (LeftOrErased (story_of old).now) (story_of old) (left_by plan old)

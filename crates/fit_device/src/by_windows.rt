@@ -86,11 +86,15 @@ pub extern "C" fn fitrec_erase_on(recovery: &mut RecoveryHandle, plan: &mut Devi
     let journal_size = recovery.journal_size;
     let files = recovery.take_files();
     let mut disk = recovery.lend(files, journal_size);
-    let answer = erase(&mut disk);
-    plan.fill(&disk.plan.calls);
-    match answer {
-        Ok(()) => 0,
-        Err(fault) => code_of_fault(&fault),
+    match erase(&mut disk) {
+        Ok(()) => {
+            plan.fill(&disk.plan);
+            0
+        }
+        Err(fault) => {
+            plan.clear();
+            code_of_fault(&fault)
+        }
     }
 }
 

@@ -2,7 +2,7 @@
 
 ghost use Rattle.std.specs.Prelude.{◌≡◌, length};
 ghost use Rattle.fit_disk.specs.Calls.{IsSound};
-ghost use Rattle.fit_device.specs.Planned.{carried_out};
+ghost use Rattle.fit_device.specs.Planned.{Leads};
 ghost use Rattle.fit_plan.specs.Plan.{story_in, since_in};
 
 use crate::plan::DevicePlan;
@@ -23,9 +23,9 @@ impl Files {
     // By reference: a plan is large, and each copy takes stack.
     pub(crate) fn after(files: &Plan, plan: &mut DevicePlan) -> Files
         ensures story { result.notes.story ≡ story_in files.now }
-        ensures planned { carried_out plan.new (since_in files.now) ≡ story_in files.now }
+        ensures planned { Leads plan.new (since_in files.now) (story_in files.now) }
     {
-        plan.fill(&files.calls);
+        plan.fill(files);
         Files {
             size: files.size,
             notes: files.notes.same(),

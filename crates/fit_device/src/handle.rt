@@ -2,7 +2,6 @@
 
 ghost use Rattle.std.specs.Prelude.{◌≡◌, ◌↔◌, true, false, length, IsTrue, Ok};
 ghost use Rattle.fit_disk.specs.Calls.{IsSound};
-ghost use Rattle.fit_device.specs.Planned.{carried_out};
 ghost use Rattle.fit_device.specs.Sealed.{IsSealed, GoesOnIn};
 ghost use Rattle.fit_disk.specs.Counts.{no_calls};
 ghost use Rattle.fit_plan.specs.Plan.{story_in, since_in, counts_in, room_in, whole_room};
@@ -66,11 +65,19 @@ impl Handle {
 
     // Puts the two files into the handle, which is none of a recorder.
     pub(crate) fn put_files(&mut self, files: Files)
-        ensures { story_of self.new ≡ files.notes.story }
+        ensures none { IsRecorder self.new → ⊥ }
+        ensures story { story_of self.new ≡ files.notes.story }
     {
         self.mark = 0;
         self.data_size = files.size;
         self.notes = files.notes;
+    }
+
+    // Leaves no recorder in the handle.
+    pub(crate) fn leave(&mut self)
+        ensures { IsRecorder self.new → ⊥ }
+    {
+        self.mark = 0;
     }
 
     // Makes this recorder the one in the handle, which is none of a recorder then. Reports whether it was one before.

@@ -10,6 +10,7 @@ mod by_windows;
 mod files;
 mod handing;
 mod handle;
+pub mod laws;
 mod plan;
 mod recovering;
 mod sample;

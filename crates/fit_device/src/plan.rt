@@ -2,10 +2,9 @@
 
 ghost use Rattle.std.specs.Prelude.{◌≡◌, ◌≤◌, take, length};
 ghost use Rattle.fit_disk.specs.Story.{Story};
-ghost use Rattle.fit_plan.specs.Planned.{planned};
-ghost use Rattle.fit_device.specs.Planned.{carried_out};
+ghost use Rattle.fit_plan.specs.Plan.{story_in, since_in};
 
-use fit_plan::{Call, Calls, MOST_BYTES, MOST_CALLS};
+use fit_plan::{Call, MOST_BYTES, MOST_CALLS, Plan};
 
 /// The calls that the host is to carry out: the first `count` of `calls`, in order. The bytes of their writes are among the
 /// first `used` of `bytes`.
@@ -18,22 +17,22 @@ pub struct DevicePlan {
 }
 
 impl DevicePlan {
+    ghost use Rattle.fit_device.specs.Planned.{Leads};
+
     // No calls.
     pub(crate) fn clear(&mut self)
-        ensures { (story : Story) → carried_out self.new story ≡ story }
+        ensures none { self.new.count ≡ 0 }
+        ensures leads { (story : Story) → Leads self.new story story }
     {
         self.count = 0;
         self.used = 0;
     }
 
-    // These calls.
-    pub(crate) fn fill(&mut self, planned_calls: &Calls)
-        ensures { (story : Story) → carried_out self.new story ≡ planned planned_calls.now story }
+    // The calls of a plan.
+    pub(crate) fn fill(&mut self, plan: &Plan)
+        ensures { Leads self.new (since_in plan.now) (story_in plan.now) }
     {
-        let (calls, bytes) = (
-            planned_calls.calls.as_slice(),
-            planned_calls.bytes.as_slice(),
-        );
+        let (calls, bytes) = (plan.calls.calls.as_slice(), plan.calls.bytes.as_slice());
         self.calls[..calls.len()].copy_from_slice(calls);
         self.bytes[..bytes.len()].copy_from_slice(bytes);
         self.count = calls.len() as u32;

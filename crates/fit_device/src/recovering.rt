@@ -1,7 +1,7 @@
 // What comes after a power cut, over files that C lends: a recovery, a reopening and an erasing.
 
 ghost use Rattle.std.specs.Prelude.{◌≡◌};
-ghost use Rattle.fit_device.specs.Recovering.{Recovers, Reopens, Erases};
+ghost use Rattle.fit_device.specs.Recovering.{SoundFiles, AreLent, Recovers, Reopens, Erases};
 
 use crate::answer::code_of_fault;
 use crate::files::Files;
@@ -18,14 +18,19 @@ pub extern "C" fn fitrec_recover(
     journal_bytes: &[u8],
     plan: &mut DevicePlan,
 ) -> u8
-    ensures { Recovers data_bytes.now journal_bytes.now plan.new result }
+    ghost before: { SoundFiles }
+    ensures { AreLent before data_bytes.now journal_bytes.now → Recovers before.story plan.new result }
 {
     let mut files = LentPlan::over(data_bytes, journal_bytes);
-    let answer = recover(&mut files);
-    plan.fill(&files.plan.calls);
-    match answer {
-        Ok(_) => 0,
-        Err(fault) => code_of_fault(&fault),
+    match recover(&mut files) {
+        Ok(_) => {
+            plan.fill(&files.plan);
+            0
+        }
+        Err(fault) => {
+            plan.clear();
+            code_of_fault(&fault)
+        }
     }
 }
 
@@ -38,18 +43,19 @@ pub extern "C" fn fitrec_reopen(
     journal_bytes: &[u8],
     plan: &mut DevicePlan,
 ) -> u8
-    ensures { Reopens data_bytes.now journal_bytes.now handle.new plan.new result }
+    ghost before: { SoundFiles }
+    ensures { AreLent before data_bytes.now journal_bytes.now
+        → Reopens before.story handle.new plan.new result }
 {
     let mut files = LentPlan::over(data_bytes, journal_bytes);
-    let answer = take_up(&mut files);
-    let files = Files::after(&files.plan, plan);
-    match answer {
+    match take_up(&mut files) {
         Ok(ride) => {
-            handle.put_ride(ride, files);
+            handle.put_ride(ride, Files::after(&files.plan, plan));
             0
         }
         Err(fault) => {
-            handle.put_files(files);
+            handle.leave();
+            plan.clear();
             code_of_fault(&fault)
         }
     }
@@ -58,13 +64,18 @@ pub extern "C" fn fitrec_reopen(
 /// Plans the calls that empty the data file for the next start. The two slices are the whole files.
 #[unsafe(no_mangle)]
 pub extern "C" fn fitrec_erase(data_bytes: &[u8], journal_bytes: &[u8], plan: &mut DevicePlan) -> u8
-    ensures { Erases data_bytes.now journal_bytes.now plan.new result }
+    ghost before: { SoundFiles }
+    ensures { AreLent before data_bytes.now journal_bytes.now → Erases before.story plan.new result }
 {
     let mut files = LentPlan::over(data_bytes, journal_bytes);
-    let answer = erase(&mut files);
-    plan.fill(&files.plan.calls);
-    match answer {
-        Ok(()) => 0,
-        Err(fault) => code_of_fault(&fault),
+    match erase(&mut files) {
+        Ok(()) => {
+            plan.fill(&files.plan);
+            0
+        }
+        Err(fault) => {
+            plan.clear();
+            code_of_fault(&fault)
+        }
     }
 }

@@ -26,7 +26,7 @@ pub extern "C" fn fitrec_start(
     ensures starts { sport ≤ 2
         → Starts (record { time = time; serial = serial; sport = sport_in sport })
         handle.old handle.new plan.new result }
-    ensures no_sport { 2 < sport → (result ≡ no_sport) × (handle.new ≡ handle.old) }
+    ensures no_sport { 2 < sport → (result ≡ no_sport) × (handle.new ≡ handle.old) × (plan.new.count ≡ 0) }
 {
     let Some(sport) = sport_of(sport) else {
         plan.clear();

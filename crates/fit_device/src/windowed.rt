@@ -1,6 +1,6 @@
 // A recovery by windows in the memory of C.
 
-ghost use Rattle.std.specs.Prelude.{◌≡◌, ◌↔◌, ◌≤◌, ℕ, false, length, take, IsTrue};
+ghost use Rattle.std.specs.Prelude.{◌≡◌, ◌↔◌, ◌≤◌, ◌==◌, if◌then◌else◌, ℕ, false, length, take, IsTrue};
 ghost use Rattle.fit_disk.specs.Calls.{IsSound};
 ghost use Rattle.fit_disk.specs.Story.{seen_of};
 ghost use Rattle.fit_notes.specs.Noted.{which_of};
@@ -64,7 +64,7 @@ pub struct RecoveryHandle {
 }
 
 impl RecoveryHandle {
-    ghost use Rattle.fit_device.specs.Windowed.{story_of, asked_of, asked_file, IsRecovery, AsksForJournal, HasWindow};
+    ghost use Rattle.fit_device.specs.Windowed.{story_of, asked_of, asked_file, IsRecovery, AsksForBody, AsksForJournal, HasWindow};
     ghost use Rattle.fit_recorder.specs.Calls.Windows.{CanReadOn, ReadsOn};
 
     // Whether it asks for a window.
@@ -104,6 +104,7 @@ impl RecoveryHandle {
         ensures window { (self.new.at ≡ self.old.at) × (self.new.file ≡ self.old.file)
             × (self.new.filled ≡ self.old.filled) × (self.new.window ≡ self.old.window) }
         ensures reading { self.new.reading ≡ self.old.reading }
+        ensures ended { IsRecovery self.new → ⊥ }
     {
         let plan = Plan::over(self.data_size, mem::replace(&mut self.notes, Notes::new()));
         self.data_size = 0;
@@ -124,6 +125,7 @@ impl RecoveryHandle {
         ensures none { (counts_in result ≡ no_calls) × (room_in result ≡ whole_room) }
         ensures window { (self.new.at ≡ self.old.at) × (self.new.file ≡ self.old.file)
             × (self.new.filled ≡ self.old.filled) × (self.new.window ≡ self.old.window) }
+        ensures ended { IsRecovery self.new → ⊥ }
     {
         recovery.thaw(&self.reading); // There is one with these numbers, which carry their check code.
         let files = self.take_files();
@@ -157,7 +159,8 @@ impl RecoveryHandle {
     // Puts the two files into the handle, which asks for nothing.
     pub(crate) fn put_files(&mut self, files: Files, journal_size: u64)
         requires { journal_size ≡ length files.notes.story.now.journal_file.seen }
-        ensures { story_of self.new ≡ files.notes.story }
+        ensures ended { IsRecovery self.new → ⊥ }
+        ensures story { story_of self.new ≡ files.notes.story }
     {
         self.mark = 0;
         self.data_size = files.size;
@@ -169,7 +172,7 @@ impl RecoveryHandle {
     pub(crate) fn ask_for_body(&mut self, files: Files, journal_size: u64, recovery: &Recovery)
         requires size { journal_size ≡ length files.notes.story.now.journal_file.seen }
         requires reads { CanReadOn recovery.now × ReadsOn files.notes.story recovery.now }
-        ensures asks { IsRecovery self.new }
+        ensures asks { AsksForBody self.new }
         ensures story { story_of self.new ≡ files.notes.story }
     {
         self.mark = 0;
@@ -184,6 +187,8 @@ impl RecoveryHandle {
         requires reads { ReadsBy phase self.old.reading files.notes.story }
         requires within { at ≤ length (seen_of (asked_file phase) files.notes.story) }
         ensures asks { IsRecovery self.new }
+        ensures window { (self.new.file ≡ (if phase == 1 then 1 else 0)) × (self.new.at ≡ at)
+            × (self.new.count ≡ count) }
         ensures story { story_of self.new ≡ files.notes.story }
     {
         self.mark = 0;

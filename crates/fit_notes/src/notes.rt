@@ -30,6 +30,14 @@ impl Notes {
         Notes { marker: 0 }
     }
 
+    /// Two files with any story.
+    pub fn over() -> Notes
+        ghost begun: { Story }
+        ensures { (result.story ≡ begun) × (result.since ≡ begun) }
+    {
+        Notes { marker: 0 }
+    }
+
     /// The same notes once more.
     pub fn same(&self) -> Notes
         ensures { (result.story ≡ self.now.story) × (result.since ≡ self.now.since) }

@@ -1,4 +1,5 @@
 mod Planning
+mod Inside
 pub mod Room
 pub mod Prefix
 mod Windowed

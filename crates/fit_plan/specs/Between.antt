@@ -1,6 +1,6 @@
--- A story that lies between two others: it goes on from the one, and the other goes on from it.
-use Rattle.std.specs.Prelude.{◌≡◌, List, ◌∷◌, ◌++◌}
-use Rattle.fit_disk.specs.State.{State}
+-- What a crash between two stories leaves, of which one goes on from the other.
+use Rattle.std.specs.Prelude.{◌≡◌, ◌⊎◌, List, ◌∷◌, ◌++◌, Contains}
+use Rattle.fit_disk.specs.State.{State, Contents, BothLeft}
 use Rattle.fit_disk.specs.Story.{Story}
 
 abbrev pub states_of : Story → List State
@@ -10,6 +10,10 @@ states_of story = story.now ∷ story.past
 abbrev pub GoesOnTo : Story → Story → Type 0
 GoesOnTo old new = (since : List State) × (states_of new ≡ since ++ states_of old)
 
-pub record IsBetween (old mid new : Story) : Type 0 where
-  pub before : GoesOnTo old mid
-  pub after : GoesOnTo mid new
+-- at some moment from the old story to the new one a crash may leave these contents
+pub record IsLeftBetween (old new : Story) (contents : Contents) : Type 0 where
+  pub since : List State
+  pub states : states_of new ≡ since ++ states_of old
+  pub state : State
+  pub moment : (state ≡ old.now) ⊎ Contains since state
+  pub left : BothLeft state contents

@@ -1,14 +1,8 @@
 -- What a plan over lent files shows as a disk.
-use Rattle.std.specs.Prelude.{ℕ, List, []}
 use Rattle.fit_disk.specs.Counts.{Counts, Log}
-use Rattle.fit_disk.specs.Stored.{at_rest}
 use Rattle.fit_disk.specs.Story.{Story}
 use Rattle.fit_plan.specs.declared.lent.LentPlan.{LentPlan}
 use Rattle.fit_plan.specs.Plan.{story_in, since_in, counts_in, log_in}
-
--- both files are at rest with these contents, and no earlier state is known
-abbrev pub rests : List ℕ → List ℕ → Story
-rests in_data in_journal = record { now = record { data_file = at_rest in_data; journal_file = at_rest in_journal }; past = [] }
 
 abbrev pub lent_story : LentPlan → Story
 lent_story l = story_in l.plan

@@ -1,6 +1,9 @@
--- The bytes of a call are among the first so many.
+-- A call that a host can follow.
 use Rattle.std.specs.Prelude.{ℕ, ◌+◌, ◌≤◌}
 use Rattle.fit_plan.specs.declared.calls.Call.{Call}
 
-abbrev pub IsWithin : ℕ → Call → Type 0
-IsWithin most call = call.start + call.count ≤ most
+-- it is of a known kind, on one of the two files, and its bytes are among the first so many
+pub record IsWithin (most : ℕ) (call : Call) : Type 0 where
+  pub known : (1 ≤ call.kind) × (call.kind ≤ 3)
+  pub on_file : call.file ≤ 1
+  pub within : call.start + call.count ≤ most

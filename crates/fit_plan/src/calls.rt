@@ -1,7 +1,7 @@
 // Calls of a disk, in the order in which a host carries them out.
 
 ghost use Rattle.std.specs.Prelude.{◌≡◌, ◌+◌, ◌-◌, ◌<◌, ◌≤◌, [], length, IsErr, OnOk, OnErr, All};
-ghost use Rattle.fit_disk.specs.Story.{Story};
+ghost use Rattle.fit_disk.specs.Story.{Story, seen_of};
 ghost use Rattle.fit_notes.specs.Noted.{which_of};
 ghost use Rattle.fit_plan.specs.Within.{IsWithin};
 ghost use Rattle.fit_plan.specs.Carried.{carried};
@@ -39,11 +39,12 @@ pub struct Calls {
 }
 
 impl Calls {
-    ghost use Rattle.fit_plan.specs.Planned.{planned};
+    ghost use Rattle.fit_plan.specs.Planned.{planned, AreInside};
 
     /// No calls.
     pub fn new() -> Calls
         ensures planned { (since : Story) → planned result since ≡ since }
+        ensures inside { (since : Story) → AreInside result since }
         ensures empty { (result.calls.items ≡ []) × (result.bytes.items ≡ []) }
     {
         Calls {
@@ -60,8 +61,11 @@ impl Calls {
         at: u64,
         bytes: &[u8],
     ) -> Result<(), DeviceError>
+        requires known { (1 ≤ kind) × (kind ≤ 3) × (file ≤ 1) }
         ensures ok { OnOk result ((since : Story) → planned self.new since
             ≡ carried kind (which_of file) at bytes.now (planned self.old since)) }
+        ensures inside { OnOk result ((since : Story) → AreInside self.old since
+            → at ≤ length (seen_of (which_of file) (planned self.old since)) → AreInside self.new since) }
         ensures err { OnErr result (self.new ≡ self.old) }
         ensures added { OnOk result ((length self.new.calls.items ≡ length self.old.calls.items + 1)
             × (length self.new.bytes.items ≡ length self.old.bytes.items + length bytes.now)) }

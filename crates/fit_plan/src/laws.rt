@@ -3,21 +3,9 @@
 ghost use Rattle.std.specs.Prelude.{◌≡◌, ◌≤◌, ℕ, Result, IsErr};
 ghost use Rattle.fit_disk.specs.Counts.{no_calls};
 ghost use Rattle.fit_disk.specs.Runs.{Takes};
-ghost use Rattle.fit_disk.specs.Story.{Story};
 ghost use Rattle.fit_disk.specs.declared.disk.DeviceError.{DeviceError};
-ghost use Rattle.fit_plan.specs.declared.calls.Calls.{Calls};
 ghost use Rattle.fit_plan.specs.declared.plan.Plan.{Plan};
-ghost use Rattle.fit_plan.specs.Between.{IsBetween};
 ghost use Rattle.fit_plan.specs.Plan.{counts_in, room_in, whole_room, log_in, most_calls, most_bytes};
-ghost use Rattle.fit_plan.specs.Planned.{planned, planned_first};
-
-/// The files of a host that is cut off after the first calls of a plan have one of the states that the step goes through. So
-/// what its clause `any_moment` says of every moment is true of them too (`left_between` of `proofs/Prefix`). A host that is cut off
-/// inside the next call leaves nothing else than before it or after it.
-pub fn prefix()
-    ensures { (calls : Calls) (count : ℕ) (since : Story)
-        → IsBetween since (planned_first count calls since) (planned calls since) }
-{}
 
 /// Over a plan without calls no run of calls fails that takes at most twelve calls and 896 bytes. Each call of a recorder says how
 /// many it takes (`Made` of `fit_recorder`), and none takes more.

@@ -1,18 +1,15 @@
 // A plan over two files that lie in memory, such as in flash that the processor can read.
 
 ghost use Rattle.std.specs.Prelude.{◌≡◌, ◌+◌, ◌<◌, ◌≤◌, ◌^◌, true, length, IfOk, IsErr};
-ghost use Rattle.fit_disk.specs.Calls.{ReadsAt, Wrote, Shortened, Synced};
+ghost use Rattle.fit_disk.specs.Calls.{ReadsAt, Wrote, Shortened, Synced, IsSound};
 ghost use Rattle.fit_disk.specs.Counts.{CountsCall, CountsRead, no_calls};
 ghost use Rattle.fit_disk.specs.Runs.{Takes};
-ghost use Rattle.fit_disk.specs.Story.{seen_of};
+ghost use Rattle.fit_disk.specs.Story.{Story, seen_of};
 ghost use Rattle.fit_disk.specs.declared.disk.Which.TheVariants.{Data, Journal};
 
 use crate::plan::Plan;
 use fit_disk::{DeviceError, Disk, Which, copy_from};
 use fit_notes::Notes;
-
-// The kind of a note: the file was found with these bytes.
-const FOUND: u64 = 0;
 
 /// Two files that the caller lends, and the calls that a host is to carry out on them. Reads give what is lent, until a write or
 /// a cut of that file is planned; after that they fail.
@@ -29,19 +26,19 @@ pub struct LentPlan<'a, 'b> {
 }
 
 impl<'a, 'b> LentPlan<'a, 'b> {
-    ghost use Rattle.fit_plan.specs.Lent.{rests, lent_story, lent_since, lent_counts};
+    ghost use Rattle.fit_plan.specs.Lent.{lent_story, lent_since, lent_counts};
 
-    /// No calls yet, over files with these contents, both of which are at rest.
+    /// No calls yet, over files of which reads give these bytes.
     pub fn over(data_bytes: &'a [u8], journal_bytes: &'b [u8]) -> LentPlan<'a, 'b>
-        ensures story { lent_story result ≡ rests data_bytes.now journal_bytes.now }
-        ensures since { lent_since result ≡ rests data_bytes.now journal_bytes.now }
+        ghost before: { Story }
+        requires sound { IsSound before.now }
+        requires lent { (seen_of Data before ≡ data_bytes.now) × (seen_of Journal before ≡ journal_bytes.now) }
+        ensures story { lent_story result ≡ before }
+        ensures since { lent_since result ≡ before }
         ensures counts { lent_counts result ≡ no_calls }
     {
-        let mut notes = Notes::new();
-        notes.note(&[FOUND, 0, 0], data_bytes);
-        notes.note(&[FOUND, 1, 0], journal_bytes);
         LentPlan {
-            plan: Plan::over(data_bytes.len() as u64, notes),
+            plan: Plan::over(data_bytes.len() as u64, Notes::over()),
             data_bytes,
             journal_bytes,
             data_is_lent: true,

@@ -8,7 +8,7 @@ ghost use Rattle.fit_disk.specs.Runs.{Takes};
 ghost use Rattle.fit_disk.specs.Story.{seen_of};
 ghost use Rattle.fit_disk.specs.declared.disk.Which.TheVariants.{Data};
 ghost use Rattle.fit_notes.specs.Noted.{number_of};
-ghost use Rattle.fit_plan.specs.Planned.{planned};
+ghost use Rattle.fit_plan.specs.Planned.{planned, AreInside};
 
 use crate::calls::Calls;
 use fit_disk::{CallCounts, DeviceError, Disk, Which};
@@ -41,6 +41,7 @@ pub struct Plan {
     pub ghost sound: { IsSound notes.story.now },
     pub ghost sized: { size ≡ length notes.story.now.data_file.seen },
     pub ghost written: { notes.story ≡ planned calls notes.since },
+    pub ghost inside: { AreInside calls notes.since },
 }
 
 impl Plan {

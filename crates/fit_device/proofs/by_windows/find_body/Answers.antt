@@ -24,6 +24,7 @@ returns-in-Ok c =
       planned = led c.args.handle.now c.ask_for_body.new.self c.after-files.new.plan c.lend-disk.result.plan c.begin-answer.new.disk.plan (c.lend-disk.ensures.since ∙ old.since) c.begin-answer.ensures.memory (asked.story ∙ left.story) left.planned;
       same = (asked.story ∙ left.story) ∙ c.begin-answer.ensures.same refl ∙ c.lend-disk.ensures.story ∙ old.story;
       asks = λ _. asked.asks;
+      ended = λ no. absurd (no refl);
       answers = inl refl;
     }
 
@@ -35,8 +36,9 @@ returns-in-Err c =
     let here = settled _ _ (sym (c.lend-disk.ensures.story ∙ old.story)) (c.args.handle.now.settled c.requires.asks.0 c.requires.finds) in
     let found = subst (FindsBody _ c.begin-answer.new.self) c.in-Err.is (c.begin-answer.ensures.found refl here) in
     record {
-      planned = led c.args.handle.now c.put_files.new.self c.after-files.new.plan c.lend-disk.result.plan c.begin-answer.new.disk.plan (c.lend-disk.ensures.since ∙ old.since) c.begin-answer.ensures.memory (put ∙ left.story) left.planned;
-      same = (put ∙ left.story) ∙ c.begin-answer.ensures.same refl ∙ c.lend-disk.ensures.story ∙ old.story;
+      planned = led c.args.handle.now c.put_files.new.self c.after-files.new.plan c.lend-disk.result.plan c.begin-answer.new.disk.plan (c.lend-disk.ensures.since ∙ old.since) c.begin-answer.ensures.memory (put.story ∙ left.story) left.planned;
+      same = (put.story ∙ left.story) ∙ c.begin-answer.ensures.same refl ∙ c.lend-disk.ensures.story ∙ old.story;
+      ended = λ _. put.ended;
       asks = λ wants. absurd (never_wants c.in-Err.fault c.code_of_fault.result c.code_of_fault.ensures wants);
-      answers = inr (c.in-Err.fault, c.code_of_fault.ensures, answers_for (Err c.in-Err.fault) _ _ _ _ (c.lend-disk.ensures.story ∙ old.story) (sym ((put ∙ left.story) ∙ c.begin-answer.ensures.same refl)) found);
+      answers = inr (c.in-Err.fault, c.code_of_fault.ensures, answers_for (Err c.in-Err.fault) _ _ _ _ (c.lend-disk.ensures.story ∙ old.story) (sym ((put.story ∙ left.story) ∙ c.begin-answer.ensures.same refl)) found);
     }

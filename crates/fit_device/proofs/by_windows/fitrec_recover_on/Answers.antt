@@ -1,6 +1,21 @@
-use Rattle.std.proofs.Common.{refl}
+use Rattle.std.proofs.Common.{refl, arith}
+use Rattle.fit_device.specs.Windowed.{IsRecovery}
 use Rattle.fit_device.proofs.ByWindows.{goes_on}
 use Rattle.fit_device.proofs.by_windows.fitrec_recover_on.Goals as goal
 
 pub returns-then-recovery-eq-FINDS : goal.returns-then-recovery-eq-FINDS
 returns-then-recovery-eq-FINDS c = goes_on _ _ _ _ (c.if-not-is_recovery.ensures.0 refl) c.if-recovery-eq-FINDS.true c.find_body.ensures
+
+pub returns-then-not-is_recovery : goal.returns-then-not-is_recovery
+returns-then-not-is_recovery c =
+    let no : IsRecovery c.args.recovery.now → ⊥ = λ is. let clash = c.if-not-is_recovery.ensures.1 is in absurd cc in
+    record {
+      planned = c.clear.ensures.leads _;
+      none = λ _. (refl, refl);
+      asks = λ is. absurd (no is);
+      ended = λ _. no;
+      same = λ _. refl;
+      answers = λ is. absurd (no is);
+      no_device = λ _ device. omega (arith, device);
+      any_moment = λ is. absurd (no is);
+    }

@@ -1,4 +1,5 @@
-use Rattle.std.proofs.Common.{refl}
+use Rattle.std.proofs.Common.{refl, arith}
+use Rattle.fit_device.specs.Windowed.{IsRecovery}
 use Rattle.fit_device.proofs.ByWindows.{reopens_on, reopened}
 use Rattle.fit_device.proofs.by_windows.fitrec_reopen_on.Goals as goal
 
@@ -9,3 +10,17 @@ pub returns-in-Ok : goal.returns-in-Ok
 returns-in-Ok c =
     let put = c.put_ride.ensures in
     reopened _ _ _ _ _ c.in-Ok.ride c.in-Ok.files (c.if-not-is_recovery.ensures.0 refl) c.in-Ok.ensures (put.goes_on _ c.in-Ok.ensures.taken) put.story
+
+pub returns-then-not-is_recovery : goal.returns-then-not-is_recovery
+returns-then-not-is_recovery c =
+    let no : IsRecovery c.args.recovery.now → ⊥ = λ is. let clash = c.if-not-is_recovery.ensures.1 is in absurd cc in
+    record {
+      planned = (λ zero. absurd (omega (arith, zero)), λ _. c.clear.ensures.leads _);
+      none = λ _. (refl, refl);
+      asks = λ is. absurd (no is);
+      ended = λ _. no;
+      same = λ _. (refl, refl);
+      answers = λ is. absurd (no is);
+      no_device = λ _ device. omega (arith, device);
+      any_moment = λ is. absurd (no is);
+    }

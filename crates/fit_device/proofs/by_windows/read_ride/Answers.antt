@@ -1,7 +1,6 @@
 use Rattle.std.proofs.Common.{⊎_elim, ◌≡◌, inl, inr, refl, sym, ap, ◌∙◌, subst, arith, Result, Ok, Err}
 use Rattle.std.specs.Prelude.{Some}
 use Rattle.fit_plan.specs.Window.{window_story}
-use Rattle.fit_notes.proofs.Numbers.{same_story}
 use Rattle.fit_recorder.specs.Calls.Recovery.{unchanged}
 use Rattle.fit_recorder.specs.Calls.Windows.{TakesUpOn, MayTakeUpOn}
 use Rattle.fit_recorder.specs.declared.fault.RecFault.{RecFault}
@@ -11,7 +10,7 @@ use Rattle.fit_device.proofs.ByWindows.{led, rebuilds_for, refused_for, taken_fo
 use Rattle.fit_disk.specs.State.{seen_in}
 use Rattle.fit_disk.specs.Story.{Story}
 use Rattle.fit_recorder.specs.Calls.Ride.{TakesUp}
-use Rattle.fit_device.specs.Planned.{carried_out}
+use Rattle.fit_device.proofs.Leading.{leads_since}
 use Rattle.fit_device.specs.Windowed.{story_of}
 use Rattle.fit_device.proofs.Stepping.{not_device}
 use Rattle.fit_device.proofs.by_windows.read_ride.Goals as goal
@@ -26,12 +25,12 @@ returns-in-None c handle =
     record {
       planned = (λ zero. absurd (omega (arith, zero)), λ _. planned);
       none = λ no. absurd (no c.requires.asks);
-      handle = λ _. refl;
-      same = λ _. same;
       asks = λ _ _. asked.asks;
+      ended = λ no. absurd (no refl);
+      same = λ _. (refl, same);
       answers = λ _. inl refl;
       no_device = λ _ device. omega (arith, device);
-      any_moment = λ _. unchanged (sym planned ∙ same);
+      any_moment = λ _. unchanged (sym planned.ends ∙ same);
     }
 
 pub returns-in-Ok : goal.returns-in-Ok
@@ -42,7 +41,8 @@ returns-in-Ok c =
     let did = subst (λ (answer : Result FoundRide RecFault). TakesUpOn (window_story c.lend-disk.result) (window_story c.take_up_on-answer.new.disk) c.take_up_on-answer.new.self (Some answer)) c.in-Ok.is (c.in-Some.ensures.decides refl) in
     record {
       goes_on = subst (λ (answer : Result FoundRide RecFault). MayTakeUpOn c.take_up_on-answer.new.self (Some answer)) c.in-Ok.is c.in-Some.ensures.anywhere;
-      planned = left.story ∙ sym left.planned ∙ ap (carried_out c.after-files.new.plan) (same_story _ _ c.take_up_on-answer.ensures.memory ∙ c.lend-disk.ensures.since ∙ old.since);
+      planned = leads_since c.after-files.new.plan c.lend-disk.result.plan c.take_up_on-answer.new.disk.plan _ _ _ (c.lend-disk.ensures.since ∙ old.since) c.take_up_on-answer.ensures.memory (sym left.story) left.planned;
+      ended = old.ended;
       taken = subst (λ (story : Story). TakesUp (seen_in (story_of c.args.handle.now).now) story (Ok c.in-Ok.ride)) (sym left.story) (taken_for c.in-Ok.ride _ _ (window_story c.take_up_on-answer.new.disk) here did.0);
       any_moment = rebuilds_for _ _ _ _ here (sym left.story) (c.take_up_on-answer.ensures.any_moment refl);
     }
@@ -58,14 +58,14 @@ returns-in-Err c handle =
     let room = has_room 2 0 c.lend-disk.result c.take_reading-files.result c.lend-disk.ensures.log old.none.0 old.none.1 (omega arith) (omega arith) in
     let never : fault ≡ Device → ⊥ = λ device. c.in-Some.ensures.no_device room (c.in-Err.is ∙ ap Err device) in
     let did = subst (λ (answer : Result FoundRide RecFault). TakesUpOn (window_story c.lend-disk.result) (window_story c.take_up_on-answer.new.disk) c.take_up_on-answer.new.self (Some answer)) c.in-Err.is (c.in-Some.ensures.decides refl) in
-    let planned = led c.args.handle.now c.put_files.new.self c.after-files.new.plan c.lend-disk.result.plan c.take_up_on-answer.new.disk.plan (c.lend-disk.ensures.since ∙ old.since) c.take_up_on-answer.ensures.memory (put ∙ left.story) left.planned in
+    let planned = led c.args.handle.now c.put_files.new.self c.after-files.new.plan c.lend-disk.result.plan c.take_up_on-answer.new.disk.plan (c.lend-disk.ensures.since ∙ old.since) c.take_up_on-answer.ensures.memory (put.story ∙ left.story) left.planned in
     record {
       planned = (λ zero. absurd (never_zero fault c.code_of_fault.result code zero), λ _. planned);
       none = λ no. absurd (no c.requires.asks);
-      handle = λ _. refl;
-      same = λ _. ⊎_elim (λ device. absurd (never device)) (λ same. (put ∙ left.story) ∙ same ∙ here) did.1;
+      ended = λ _. put.ended;
+      same = λ _. (refl, ⊎_elim (λ device. absurd (never device)) (λ same. (put.story ∙ left.story) ∙ same ∙ here) did.1);
       asks = λ _ wants. absurd (never_wants fault c.code_of_fault.result code wants);
       answers = λ _. inr (inr (fault, code, refused_for fault _ _ here did.0));
       no_device = λ _. not_device fault c.code_of_fault.result code never;
-      any_moment = λ _. rebuilds_for _ _ _ _ here (sym (put ∙ left.story) ∙ planned) (c.take_up_on-answer.ensures.any_moment refl);
+      any_moment = λ _. rebuilds_for _ _ _ _ here (sym (put.story ∙ left.story) ∙ planned.ends) (c.take_up_on-answer.ensures.any_moment refl);
     }

@@ -1,11 +1,14 @@
-use Rattle.std.proofs.Common.{rules, refl, ap, subst, ◌++◌, ◌∷◌, [], arith}
+use Rattle.fit_device.proofs.NoRecorder.{hands}
+use Rattle.fit_device.specs.Handle.{IsRecorder}
+use Rattle.std.proofs.Common.{refl, ap, ◌∙◌, subst, ◌++◌, ◌∷◌, [], arith}
 use Rattle.fit_activity.specs.Rides.Recording.{Added}
+use Rattle.fit_journal.specs.Turn.{slots_left}
 use Rattle.fit_recorder.specs.Calls.Answers.{HandAnswers}
 use Rattle.fit_recorder.specs.Files.Body.{StandsFor}
 use Rattle.fit_recorder.specs.Private.State.{RecorderState}
 use Rattle.fit_recorder.specs.Files.Limits.{page_size}
 use Rattle.fit_recorder.specs.Calls.Counts.{entry_calls}
-use Rattle.fit_device.proofs.Stepping.{never_device, still_going, stood, was_going, was_handed, stands, steps, throughout, on_ok}
+use Rattle.fit_device.proofs.Stepping.{never_device, still_going, stood, was_going, was_handed, stands, steps, throughout, never_fills, on_ok}
 use Rattle.fit_device.proofs.handing.hand.Goals as goal
 
 pub returns : goal.returns
@@ -31,12 +34,15 @@ returns c =
       ok = λ list committed held zero.
           stands new plan after put (list ++ Added c.args.entry.now ∷ []) committed (on_ok c.hand-answer.result c.code_of.result c.code_of.ensures zero did.after.going)
           ((on_ok c.hand-answer.result c.code_of.result c.code_of.ensures zero did.ok).stands list committed (stood old before taken list committed held));
+      never_fills = never_fills new plan after put old before taken (λ none. ap slots_left did.journal.slots ∙ none);
       any_moment = λ list committed held.
           throughout new plan after put old before taken (StandsFor committed) (did.any_moment refl list committed (stood old before taken list committed held));
     }
 
 pub returns-then-not-take : goal.returns-then-not-take
-returns-then-not-take c = search rules
+returns-then-not-take c =
+    let no : IsRecorder c.args.handle.now → ⊥ = λ is. let clash = c.if-not-take.ensures.was.1 is in absurd cc in
+    hands _ _ c.clear.new.self no (c.if-not-take.ensures.none refl) c.clear.ensures.leads c.args.entry.now
 
 pub put-requires-clause-going : goal.put-requires-clause-going
 put-requires-clause-going c =

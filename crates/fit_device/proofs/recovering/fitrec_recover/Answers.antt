@@ -1,34 +1,47 @@
-use Rattle.std.proofs.Common.{◌≡◌, refl, sym, ap, ◌∙◌, subst, Result}
+use Rattle.std.proofs.Common.{◌≡◌, refl, sym, ap, ◌∙◌, subst, arith, Result, Ok, Err}
 use Rattle.fit_activity.specs.declared.activity.Summary.{Summary}
-use Rattle.fit_disk.specs.State.{seen_in}
+use Rattle.fit_disk.specs.State.{Contents, seen_in}
 use Rattle.fit_disk.specs.Story.{Story}
+use Rattle.fit_plan.specs.Lent.{lent_story}
 use Rattle.fit_recorder.specs.declared.fault.RecFault.{RecFault}
 use Rattle.fit_recorder.specs.Calls.Recovery.{RecoveryAnswers}
-use Rattle.fit_device.specs.Answer.{code_of}
-use Rattle.fit_device.proofs.Lending.{left, in_recovery}
+use Rattle.fit_device.proofs.ByWindows.{answers_for, never_zero}
+use Rattle.fit_device.specs.Planned.{carried_out}
+use Rattle.fit_device.proofs.Leading.{leads_since}
+use Rattle.fit_device.proofs.Lending.{chosen_sound, chosen_lent, chosen_is, in_recovery, no_recovery, refusal_for}
 use Rattle.fit_device.proofs.recovering.fitrec_recover.Goals as goal
 
-decided : (answer : Result Summary RecFault) (old earlier new later : Story) → old ≡ earlier → new ≡ later
-    → RecoveryAnswers (seen_in old.now) new answer → RecoveryAnswers (seen_in earlier.now) later answer
-decided answer old earlier new later olds news is =
-    subst (λ (story : Story). RecoveryAnswers (seen_in earlier.now) story answer) news (subst (λ (story : Story). RecoveryAnswers (seen_in story.now) new answer) olds is)
+pub over-files-requires : goal.over-files-requires
+over-files-requires g c = (
+  chosen_sound g.before _ _ (λ i. omega (arith, c.type_inv.data_bytes i)) (λ i. omega (arith, c.type_inv.journal_bytes i)),
+  chosen_lent g.before c.args.data_bytes.now c.args.journal_bytes.now,
+)
 
 pub returns-in-Ok : goal.returns-in-Ok
-returns-in-Ok c =
-    let is_left = left c.over-files.result c.recover-answer.new.disk c.fill.new.self c.args.data_bytes.now c.args.journal_bytes.now c.over-files.ensures.since c.recover-answer.ensures.ran.memory c.fill.ensures in
+returns-in-Ok g c lent =
+    let is = chosen_is g.before c.args.data_bytes.now c.args.journal_bytes.now lent in
+    let here = c.over-files.ensures.story ∙ is in
+    let decided = subst (RecoveryAnswers (seen_in (lent_story c.over-files.result).now) (lent_story c.recover.new.disk)) c.in-Ok.is (c.recover.ensures.decides refl) in
+    let leads = leads_since c.fill.new.self c.over-files.result.plan c.recover.new.disk.plan g.before.story _ _ (c.over-files.ensures.since ∙ is) c.recover.ensures.ran.memory refl c.fill.ensures in
     record {
-      answer = c.recover-answer.result;
-      code_is = sym (ap (code_of {T = Summary}) c.in-Ok.is);
-      decides = decided _ _ _ _ _ c.over-files.ensures.story is_left (c.recover-answer.ensures.decides refl);
-      any_moment = in_recovery _ _ _ _ c.over-files.ensures.story is_left (c.recover-answer.ensures.any_moment refl);
+      well_formed = leads.well_formed;
+      answer = Ok c.in-Ok.field-0;
+      code_is = refl;
+      decides = answers_for (Ok c.in-Ok.field-0) _ _ _ _ here leads.ends decided;
+      refused = λ no. absurd (no refl);
+      any_moment = in_recovery _ _ _ _ here leads.ends (c.recover.ensures.any_moment refl);
     }
 
 pub returns-in-Err : goal.returns-in-Err
-returns-in-Err c =
-    let is_left = left c.over-files.result c.recover-answer.new.disk c.fill.new.self c.args.data_bytes.now c.args.journal_bytes.now c.over-files.ensures.since c.recover-answer.ensures.ran.memory c.fill.ensures in
+returns-in-Err g c lent =
+    let is = chosen_is g.before c.args.data_bytes.now c.args.journal_bytes.now lent in
+    let decided = subst (RecoveryAnswers (seen_in (lent_story c.over-files.result).now) (lent_story c.recover.new.disk)) c.in-Err.is (c.recover.ensures.decides refl) in
+    let leads = c.clear.ensures.leads g.before.story in
     record {
-      answer = c.recover-answer.result;
-      code_is = c.code_of_fault.ensures ∙ sym (ap (code_of {T = Summary}) c.in-Err.is);
-      decides = decided _ _ _ _ _ c.over-files.ensures.story is_left (c.recover-answer.ensures.decides refl);
-      any_moment = in_recovery _ _ _ _ c.over-files.ensures.story is_left (c.recover-answer.ensures.any_moment refl);
+      well_formed = leads.well_formed;
+      answer = Err c.in-Err.fault;
+      code_is = c.code_of_fault.ensures;
+      decides = refusal_for c.in-Err.fault _ _ (lent_story c.recover.new.disk) (carried_out c.clear.new.self g.before.story) (ap (λ (story : Story). seen_in story.now) (c.over-files.ensures.story ∙ is)) decided;
+      refused = λ _. c.clear.ensures.none;
+      any_moment = no_recovery _ _ (sym leads.ends);
     }

@@ -16,8 +16,9 @@ use Rattle.fit_recorder.specs.declared.fault.RecFault.{RecFault}
 use Rattle.fit_recorder.specs.declared.fault.RecFault.TheVariants.{NotEmpty, Refused, Full, JournalFull, Device, Failed, NothingRecorded, Damaged}
 use Rattle.fit_plan.proofs.Room.{has_room}
 use Rattle.fit_device.specs.Answer.{code_of_fault}
-use Rattle.fit_device.specs.Handle.{Stands}
-use Rattle.fit_device.specs.Planned.{carried_out}
+use Rattle.fit_device.proofs.Leading.{leads_for, leads_since}
+use Rattle.fit_journal.specs.Turn.{slots_left}
+use Rattle.fit_recorder.specs.Private.State.{RecorderState}
 use Rattle.fit_device.specs.Starts.{Starts}
 use Rattle.fit_device.proofs.Stepping.{not_device, stands, on_ok}
 use Rattle.fit_device.proofs.starting.fitrec_start.Goals as goal
@@ -60,11 +61,15 @@ returns-in-Ok-clause-starts c = λ _.
     let did = c.in-Ok.ensures in
     let here = ap story_in c.idle-recorder.ensures.disk ∙ c.take_files.ensures.story in
     let starts : Starts start old new plan 0 = record {
-      planned = put.story ∙ sym put.planned ∙ ap (carried_out plan) (same_story (since_in c.begin.new.self.files.disk) (since_in c.idle-recorder.result.files.disk) did.ran.ran.memory ∙ ap since_in c.idle-recorder.ensures.disk ∙ c.take_files.ensures.since);
+      planned = leads_since plan c.idle-recorder.result.files.disk c.begin.new.self.files.disk _ _ _ (ap since_in c.idle-recorder.ensures.disk ∙ c.take_files.ensures.since) did.ran.ran.memory (sym put.story) put.planned;
       no_device = λ device. omega (arith, device);
-      ok = λ _. stands new plan recorder put (Started start ∷ []) (Started start ∷ []) did.ok.0 did.ok.1;
+      ok = λ _. (
+        stands new plan recorder put (Started start ∷ []) (Started start ∷ []) did.ok.0 did.ok.1,
+        ap slots_left (ap (λ (state : RecorderState). state.journal_slots) put.state ∙ did.begun.turns),
+      );
       was_empty = λ _. ap (seen_of Data) (sym here) ∙ did.empty refl;
       refused = λ no. absurd (no refl);
+      gone = λ no. absurd (no refl);
       not_empty = λ is. absurd (omega (arith, is));
       same = λ no. absurd (no refl);
       any_moment = in_start start _ _ _ _ here (sym put.story) (did.any_moment refl);
@@ -80,17 +85,18 @@ returns-in-Err-clause-starts c = λ _.
     let did = c.in-Err.ensures in
     let code = c.code_of_fault.result in
     let here = ap story_in c.idle-recorder.ensures.disk ∙ c.take_files.ensures.story in
-    let left = c.put_files.ensures ∙ c.after.ensures.story ∙ ap story_in c.disk.ensures in
+    let left = c.put_files.ensures.story ∙ c.after.ensures.story ∙ ap story_in c.disk.ensures in
     let fault = c.in-Err.fault in
     let is = c.code_of_fault.ensures in
     let never : fault ≡ Device → ⊥ =
     λ device. has_room start_calls start_bytes _ c.idle-recorder.result.files.disk c.begin.new.self.files.disk (ap counts_in c.idle-recorder.ensures.disk ∙ c.take_files.ensures.none.0) (ap room_in c.idle-recorder.ensures.disk ∙ c.take_files.ensures.none.1) (omega arith) (omega arith) did.ran.room (ap Err device) in
     let starts : Starts start old new plan code = record {
-      planned = c.put_files.ensures ∙ c.after.ensures.story ∙ sym c.after.ensures.planned ∙ ap (carried_out plan) (ap since_in c.disk.ensures ∙ same_story (since_in c.begin.new.self.files.disk) (since_in c.idle-recorder.result.files.disk) did.ran.ran.memory ∙ ap since_in c.idle-recorder.ensures.disk ∙ c.take_files.ensures.since);
+      planned = leads_for plan _ _ _ _ (ap since_in c.disk.ensures ∙ same_story (since_in c.begin.new.self.files.disk) (since_in c.idle-recorder.result.files.disk) did.ran.ran.memory ∙ ap since_in c.idle-recorder.ensures.disk ∙ c.take_files.ensures.since) (sym (c.put_files.ensures.story ∙ c.after.ensures.story)) c.after.ensures.planned;
       no_device = not_device fault code is never;
-      ok = λ zero. on_ok {P = Stands new (Started start ∷ []) (Started start ∷ [])} (Err fault) code is zero tt;
+      ok = λ zero. absurd (on_ok {P = ⊥} (Err fault) code is zero tt);
       was_empty = λ zero. absurd (on_ok {P = ⊥} (Err fault) code is zero tt);
       refused = λ _. (fault, is, did.answers);
+      gone = λ _. c.put_files.ensures.none;
       not_empty = λ number empty. (did.handed_back.not_empty refl (is_not_empty fault code is number)).0 (ap (seen_of Data) here ∙ empty);
       same = λ _. ap (λ (story : Story). seen_in story.now) left ∙ same_files start fault _ _ did.answers never did.handed_back ∙ ap (λ (story : Story). seen_in story.now) here;
       any_moment = in_start start _ _ _ _ here (sym left) (did.any_moment refl);

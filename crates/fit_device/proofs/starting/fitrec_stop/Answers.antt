@@ -1,4 +1,6 @@
-use Rattle.std.proofs.Common.{rules, ◌⊎◌, ◌++◌, ◌∷◌, [], refl, sym, subst, arith}
+use Rattle.fit_device.proofs.NoRecorder.{stops}
+use Rattle.fit_device.specs.Handle.{IsRecorder}
+use Rattle.std.proofs.Common.{◌⊎◌, ◌++◌, ◌∷◌, [], refl, sym, subst, arith}
 use Rattle.fit_activity.specs.declared.recording.entry.Entry.TheVariants.{Stop}
 use Rattle.fit_activity.specs.Rides.Recording.{Added}
 use Rattle.fit_disk.specs.State.{Contents}
@@ -35,7 +37,9 @@ returns c =
     }
 
 pub returns-then-not-take : goal.returns-then-not-take
-returns-then-not-take c = search rules
+returns-then-not-take c =
+    let no : IsRecorder c.args.handle.now → ⊥ = λ is. let clash = c.if-not-take.ensures.was.1 is in absurd cc in
+    stops _ _ c.clear.new.self no (c.if-not-take.ensures.none refl) c.clear.ensures.leads c.args.time
 
 pub put-requires-clause-going : goal.put-requires-clause-going
 put-requires-clause-going c =

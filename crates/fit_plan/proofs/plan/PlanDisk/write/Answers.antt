@@ -4,6 +4,7 @@ use Rattle.fit_disk.proofs.Leaving.{length-over}
 use Rattle.fit_disk.proofs.Sound.{write_sound}
 use Rattle.std.specs.Prelude.{is_err}
 use Rattle.fit_plan.specs.Plan.{room_by}
+use Rattle.fit_plan.proofs.Inside.{begins_inside}
 use Rattle.fit_plan.proofs.Room.{refused}
 use Rattle.fit_plan.proofs.plan.PlanDisk.write.Goals as goal
 use Rattle.fit_plan.proofs.plan.PlanDisk.write.Goals.{in-Data, in-Journal}
@@ -41,3 +42,8 @@ invariant_of-self-2-clause-sized c =
 pub returns-in_default-add-clause-room : goal.returns-in_default-add-clause-room
 returns-in_default-add-clause-room c = refused (length c.args.bytes.now) _ c.args.self.now c.failed-in_default-add.new.self (c.failed-in_default-add.ensures.room ∙ ap room_by c.in_default-add.ensures.err)
     (λ few fits. c.add.ensures.fits few fits (ap is_err c.in_default-add.is))
+
+pub invariant_of-self-2-clause-inside : goal.invariant_of-self-2-clause-inside
+invariant_of-self-2-clause-inside c =
+    let old = c.args.self.now in
+    rw (c.note.ensures.1) (c.in-Ok.ensures.inside old.notes.since old.inside (begins_inside old c.args.which c.number-file.result c.args.at c.number-file.ensures c.requires))

@@ -1,0 +1,5 @@
+use Rattle.fit_device.proofs.Lending.{chosen}
+use Rattle.fit_device.proofs.recovering.fitrec_erase.Given as goal
+
+abbrev pub ghost-over : goal.ghost-over
+ghost-over g a = chosen g.before a.data_bytes.now a.journal_bytes.now
