@@ -9,7 +9,7 @@
      library lengths DATA JOURNAL            lengths that are greater than their buffers, and buffers of no bytes
 
    It prints the answer and, if that is 0, a line on what was found. Each buffer is between two rows of known bytes, which no call
-   may change. */
+   may change. Numbers that an answer does not name have to stay as they were. */
 
 #include "fitrec.h"
 #include <stdio.h>
@@ -63,6 +63,32 @@ static void keep(struct buffer it, const char *path) {
         fail("cannot write a file");
 }
 
+/* Lets these numbers hold known bytes. */
+static void fill(void *numbers, size_t size) {
+    memset(numbers, FILLED, size);
+}
+
+/* Checks that they still hold them, or not. */
+static void look_at(const void *numbers, size_t size, bool stays) {
+    const uint8_t *bytes = numbers;
+    bool same = true;
+    for (size_t at = 0; at < size; at++)
+        same = same && bytes[at] == FILLED;
+    if (same != stays)
+        fail(stays ? "a number that the answer does not name was changed" : "a number was not reported");
+}
+
+/* Checks that both files lie in their buffers, that the journal is the file at this path, and that a refusal kept the length of the
+   data file. */
+static void look_at_recording(unsigned answer, struct buffer data, uint64_t data_len, struct buffer journal, const char *path) {
+    struct buffer was = file_at(path, 0);
+    if (data.len > data.size || (answer >= FITREC_NOTHING_RECORDED && answer <= FITREC_NO_CLOSING_ROOM && data.len != data_len))
+        fail("another length of the data file");
+    if (journal.len != was.len || memcmp(journal.bytes, was.bytes, was.size))
+        fail("the journal is not as it was");
+    look_at_guards(was);
+}
+
 static void or_dash(const char *name, uint32_t number) {
     if (number == FITREC_ABSENT)
         printf(" %s=-", name);
@@ -82,7 +108,11 @@ static void print_summary(struct fitrec_summary sum) {
 static void repair(char **words) {
     struct buffer data = file_at(words[1], (size_t)atoi(words[0])), journal = file_at(words[2], 0);
     struct fitrec_summary sum;
+    uint64_t data_len = data.len;
+    fill(&sum, sizeof sum);
     unsigned answer = fitrec_repair(data.bytes, data.size, &data.len, journal.bytes, journal.size, &journal.len, &sum);
+    look_at(&sum, sizeof sum, answer != FITREC_REPAIRED);
+    look_at_recording(answer, data, data_len, journal, words[2]);
     printf("%u\n", answer);
     if (answer == FITREC_REPAIRED)
         print_summary(sum);
@@ -96,8 +126,17 @@ static unsigned save_in(char **words, size_t size, struct buffer *data, struct b
     struct buffer journal = file_at(words[1], 0);
     *data = file_at(words[0], FITREC_CLOSING_ROOM);
     *out = room(size);
+    uint64_t data_len = data->len;
+    fill(sum, sizeof *sum);
+    fill(&out->len, sizeof out->len);
     unsigned answer = fitrec_save(data->bytes, data->size, &data->len, journal.bytes, journal.size, &journal.len, out->bytes, out->size, &out->len,
                                   sum);
+    bool is_refused = answer != FITREC_SAVED && answer != FITREC_SAVE_NO_ROOM;
+    look_at(sum, sizeof *sum, is_refused);
+    look_at(&out->len, sizeof out->len, is_refused);
+    if (is_refused)
+        look_at(out->bytes, out->size, true);
+    look_at_recording(answer, *data, data_len, journal, words[1]);
     look_at_guards(journal);
     return answer;
 }
@@ -133,7 +172,12 @@ static void save(char **words) {
 static void plain(char **words) {
     struct buffer in = file_at(words[0], 0), out = room(0);
     uint64_t place;
+    fill(&place, sizeof place);
+    fill(&out.len, sizeof out.len);
     unsigned answer = fitrec_plain(in.bytes, in.size, out.bytes, 0, &out.len, &place);
+    bool is_refused = answer && answer <= FITREC_TRAILING_BYTES;
+    look_at(&place, sizeof place, !is_refused);
+    look_at(&out.len, sizeof out.len, is_refused);
     look_at_guards(out);
     if (answer == FITREC_PLAIN_NO_ROOM) {
         out = room(out.len);
@@ -142,7 +186,7 @@ static void plain(char **words) {
         look_at_guards(out);
     }
     printf("%u\n", answer);
-    if (answer && answer <= FITREC_TRAILING_BYTES)
+    if (is_refused)
         printf("at %llu\n", (unsigned long long)place);
     look_at_guards(in);
 }
@@ -151,7 +195,11 @@ static void check(char **words) {
     struct buffer in = file_at(words[0], 0);
     struct fitrec_summary sum;
     uint64_t place;
+    fill(&sum, sizeof sum);
+    fill(&place, sizeof place);
     unsigned answer = fitrec_check(in.bytes, in.size, &sum, &place);
+    look_at(&sum, sizeof sum, answer != FITREC_ACTIVITY);
+    look_at(&place, sizeof place, !answer || answer > FITREC_TRAILING_BYTES);
     printf("%u\n", answer);
     if (answer == FITREC_ACTIVITY)
         print_summary(sum);
@@ -163,7 +211,13 @@ static void check(char **words) {
 /* Shows into a buffer of so many bytes, and says whether that had room. */
 static unsigned show_in(struct buffer in, bool utc, size_t size, struct buffer *out, uint64_t *place) {
     *out = room(size);
-    return fitrec_show(in.bytes, in.size, utc, out->bytes, out->size, &out->len, place);
+    fill(place, sizeof *place);
+    fill(&out->len, sizeof out->len);
+    unsigned answer = fitrec_show(in.bytes, in.size, utc, out->bytes, out->size, &out->len, place);
+    bool is_refused = answer && answer <= FITREC_TRAILING_BYTES;
+    look_at(place, sizeof *place, !is_refused);
+    look_at(&out->len, sizeof out->len, is_refused);
+    return answer;
 }
 
 static void show(char **words) {
@@ -190,7 +244,14 @@ static void show(char **words) {
 static void salvage(char **words) {
     struct buffer in = file_at(words[1], 0), out = room(in.size + (size_t)atoi(words[0]));
     struct fitrec_salvage_counts counts;
+    fill(&counts, sizeof counts);
+    fill(&out.len, sizeof out.len);
     unsigned answer = fitrec_salvage(in.bytes, in.size, words[3][0] == '1', out.bytes, out.size, &out.len, &counts);
+    bool is_refused = answer != FITREC_SALVAGED && answer != FITREC_SALVAGE_NO_ROOM;
+    look_at(&counts, sizeof counts, is_refused);
+    look_at(&out.len, sizeof out.len, is_refused);
+    if (is_refused)
+        look_at(out.bytes, out.size, true);
     printf("%u\n", answer);
     if (answer == FITREC_SALVAGED) {
         printf("kept %llu of %llu, %llu not looked at\n", (unsigned long long)counts.kept, (unsigned long long)counts.looked_at,
@@ -204,6 +265,7 @@ static void salvage(char **words) {
 static void lengths(char **words) {
     struct buffer data = file_at(words[0], FITREC_CLOSING_ROOM), journal = file_at(words[1], 0), nothing = room(0);
     struct fitrec_summary sum;
+    fill(&sum, sizeof sum);
     uint64_t long_data = data.size + 1, long_journal = journal.size + 1, most = UINT64_MAX, none[2] = {0, 0};
     printf("%u", fitrec_repair(data.bytes, data.size, &long_data, journal.bytes, journal.size, &journal.len, &sum));
     printf(" %u", fitrec_repair(data.bytes, data.size, &data.len, journal.bytes, journal.size, &long_journal, &sum));
@@ -211,6 +273,9 @@ static void lengths(char **words) {
     printf(" %u", fitrec_repair(data.bytes, data.size, &none[0], nothing.bytes, nothing.size, &none[1], &sum));
     printf(" %u", fitrec_save(data.bytes, data.size, &long_data, journal.bytes, journal.size, &journal.len, nothing.bytes, 0, &none[0], &sum));
     printf(" %u", fitrec_save(data.bytes, data.size, &data.len, journal.bytes, journal.size, &most, nothing.bytes, 0, &none[0], &sum));
+    look_at(&sum, sizeof sum, true);
+    if (long_data != data.size + 1 || long_journal != journal.size + 1 || most != UINT64_MAX || none[0] || none[1])
+        fail("a length was changed");
     look_at_guards(nothing);
     look_at_guards(data);
     look_at_guards(journal);

@@ -53,11 +53,12 @@ struct fitrec_summary {
    data          the data file, with room for FITREC_CLOSING_ROOM bytes more
    data_size     how many bytes the buffer has
    data_len      how many of them are the data file; after 0, how many are the finished file
-   journal       the journal, which may change too
+   journal       the journal, which stays as it is
    journal_size, journal_len   as for the data file; no room is needed
    summary       is filled after 0
 
-   Answers one of these. After every other answer than 0 the first *data_len and *journal_len bytes are as they were. */
+   Answers one of these. After every other answer than 0 both lengths and so many bytes are as they were. In this call and in those up to
+   fitrec_show a number that is not named for an answer stays as it was. */
 enum {
     FITREC_REPAIRED = 0,
     FITREC_NOTHING_RECORDED = 7, /* nothing was committed */
@@ -99,7 +100,7 @@ struct fitrec_salvage_counts {
    all           look at all bytes after the header, whatever size it gives
    out, out_size the buffer of the new file; size + FITREC_FRAME_ROOM bytes are enough
    out_len       how many bytes the new file has, after 0 and FITREC_SALVAGE_NO_ROOM
-   counts        is filled after 0
+   counts        is filled after 0 and FITREC_SALVAGE_NO_ROOM
 
    Answers one of these. After every other answer than 0 the bytes of out may have changed. */
 enum {

@@ -1,5 +1,5 @@
 -- What a repair of two files in memory leaves and returns.
-use Rattle.std.specs.Prelude.{◌≡◌, ◌⊎◌, ℕ, ◌+◌, ◌<◌, ◌++◌, List, length, take, Option, Some, None, Ok}
+use Rattle.std.specs.Prelude.{◌≡◌, ◌⊎◌, ℕ, ◌+◌, ◌<◌, ◌≤◌, ◌++◌, List, length, take, Option, Some, None, Ok}
 use Rattle.fit_activity.specs.declared.activity.Summary.{Summary}
 use Rattle.fit_activity.specs.Files.Activity.{activity_in}
 use Rattle.fit_activity.specs.Files.Finished.{summary_of_list}
@@ -18,6 +18,11 @@ use Rattle.fit_c.specs.declared.repairing.RideSummary.{RideSummary}
 abbrev pub contents_in : List ℕ → ℕ → List ℕ → ℕ → Contents
 contents_in in_data data_len in_journal journal_len = record { in_data = take data_len in_data; in_journal = take journal_len in_journal }
 
+-- both files lie in their buffers
+pub record AreWithin (in_data : List ℕ) (data_len : ℕ) (in_journal : List ℕ) (journal_len : ℕ) : Type 0 where
+  pub data_within : data_len ≤ length in_data
+  pub journal_within : journal_len ≤ length in_journal
+
 abbrev pub number_or : ℕ → Option ℕ → ℕ
 number_or other None = other
 number_or other (Some number) = number
@@ -35,7 +40,7 @@ numbers_of s = record {
 }
 
 -- The data file is the finished file of the one list that the two files stood for, with the same body. It is a valid activity
--- that states what the list adds up to, as the numbers do. The two files still stand for that list.
+-- that states what the list adds up to, as the numbers do. The two files still stand for that list, and the journal is as it was.
 pub record IsRepaired (before after : Contents) (numbers : RideSummary) : Type 0 where
   pub list : List Recorded
   pub stood : StandsFor list before
@@ -43,6 +48,7 @@ pub record IsRepaired (before after : Contents) (numbers : RideSummary) : Type 0
   pub valid : File after.in_data (spoken list ++ closing list)
   pub activity : activity_in (spoken list ++ closing list) ≡ Ok (summary_of_list list)
   pub stands : StandsFor list after
+  pub journal_kept : after.in_journal ≡ before.in_journal
   pub sums_up : numbers ≡ numbers_of (summary_of_list list)
 
 -- what the code of a refused repair says of the two buffers and the lengths of the files in them

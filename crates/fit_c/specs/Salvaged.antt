@@ -14,9 +14,10 @@ pub record IsSalvaged (all : Bool) (bytes file : List ℕ) (counts : SalvageCoun
   pub is : file ≡ saved_file salvage
   pub counted : counts ≡ counts_of salvage
 
--- the file of what is readable of `bytes` has so many bytes, more than there is room for
-pub record NeedsRoomToSalvage (all : Bool) (bytes : List ℕ) (room needed : ℕ) : Type 0 where
+-- the file of what is readable of `bytes` has so many bytes, more than there is room for, and the counts are those of its salvage
+pub record NeedsRoomToSalvage (all : Bool) (bytes : List ℕ) (room needed : ℕ) (counts : SalvageCounts) : Type 0 where
   pub salvage : Salvage
   pub found : IsSalvage all bytes salvage
   pub needed_is : needed ≡ length (saved_file salvage)
   pub short : room < needed
+  pub counted : counts ≡ counts_of salvage

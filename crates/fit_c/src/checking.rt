@@ -1,6 +1,6 @@
 // Whether a file in memory is an activity.
 
-ghost use Rattle.std.specs.Prelude.{◌≡◌, ◌≢◌, ◌≤◌};
+ghost use Rattle.std.specs.Prelude.{◌≡◌, ◌≢◌, ◌≤◌, ◌⊎◌};
 ghost use Rattle.fit_c.specs.Files.{IsActivity, IsNoFile, IsNoActivity};
 
 use crate::repairing::{RideSummary, numbers};
@@ -16,6 +16,8 @@ pub extern "C" fn fitrec_check(bytes: &[u8], summary: &mut RideSummary, fault_pl
     ensures ok { result ≡ 0 → IsActivity bytes.now summary.new }
     ensures no_file { 1 ≤ result → result ≤ 9 → IsNoFile bytes.now result fault_place.new }
     ensures no_activity { 11 ≤ result → IsNoActivity bytes.now result }
+    ensures unchanged { 1 ≤ result → summary.new ≡ summary.old }
+    ensures place { (result ≡ 0) ⊎ (11 ≤ result) → fault_place.new ≡ fault_place.old }
 {
     let file = match LentFile::read(bytes) {
         Ok(file) => file,

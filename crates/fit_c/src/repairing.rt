@@ -5,11 +5,11 @@ ghost use Rattle.fit_buffers.specs.Buffers.{story_in, counts_in, room_of};
 ghost use Rattle.fit_disk.specs.Counts.{no_calls};
 ghost use Rattle.fit_disk.specs.State.{seen_in};
 ghost use Rattle.fit_disk.specs.declared.disk.Which.TheVariants.{Data, Journal};
-ghost use Rattle.fit_recorder.specs.Calls.Recovery.{RecoveryAnswers, IsRecoveryFault};
+ghost use Rattle.fit_recorder.specs.Calls.Recovery.{RecoveryAnswers, IsRecoveryFault, KeepsJournal};
 ghost use Rattle.fit_recorder.specs.Files.Limits.{longest_end};
 ghost use Rattle.fit_recorder.specs.Files.Settled.{IsSettled};
 ghost use Rattle.fit_recorder.specs.declared.fault.RecFault.TheVariants as faults;
-ghost use Rattle.fit_c.specs.Repaired.{IsRefused, IsRepaired, IsRepairCode, contents_in, number_or, numbers_of};
+ghost use Rattle.fit_c.specs.Repaired.{AreWithin, IsRefused, IsRepaired, IsRepairCode, contents_in, number_or, numbers_of};
 
 use fit_activity::Summary;
 use fit_buffers::Buffers;
@@ -52,10 +52,12 @@ pub extern "C" fn fitrec_repair(
     ensures ok { result ≡ 0
         → IsRepaired (contents_in data_bytes.old data_len.old journal_bytes.old journal_len.old)
         (contents_in data_bytes.new data_len.new journal_bytes.new journal_len.new) summary.new }
-    ensures within { result ≡ 0 → data_len.new ≤ length data_bytes.new }
+    ensures within { result ≡ 0 → AreWithin data_bytes.new data_len.new journal_bytes.new journal_len.new }
     ensures why { IsRefused result data_bytes.old data_len.old journal_bytes.old journal_len.old }
     ensures same { 7 ≤ result → contents_in data_bytes.new data_len.new journal_bytes.new journal_len.new
         ≡ contents_in data_bytes.old data_len.old journal_bytes.old journal_len.old }
+    ensures unchanged { 7 ≤ result → (data_len.new ≡ data_len.old) × (journal_len.new ≡ journal_len.old)
+        × (summary.new ≡ summary.old) }
 {
     if *data_len > data_bytes.len() as u64 || *journal_len > journal_bytes.len() as u64 {
         return BAD_LENGTH;
@@ -91,6 +93,7 @@ fn recovered(buffers: &mut Buffers<'_, '_>) -> Result<Summary, RecFault>
     ensures no_device { IsErrOf result faults.Device → ⊥ }
     ensures settled { IfErr result
         (λ _. IsSettled (seen_in (story_in buffers.old).now) (story_in buffers.new)) }
+    ensures journal { KeepsJournal (story_in buffers.old) (story_in buffers.new) }
     ensures known_fault { IfErr result IsRecoveryFault }
     ensures same_data { buffers.new.data_bytes.ghost_name ≡ buffers.old.data_bytes.ghost_name }
     ensures same_journal { buffers.new.journal_bytes.ghost_name ≡ buffers.old.journal_bytes.ghost_name }

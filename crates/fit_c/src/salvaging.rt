@@ -42,8 +42,11 @@ pub extern "C" fn fitrec_salvage(
     ensures within { result ≡ 0 → out_len.new ≤ length out.new }
     ensures refused { 1 ≤ result → result ≤ 10
         → (fault : FileFault) × IsNotSalvaged bytes.now fault × (result ≡ kind_code fault.kind) }
-    ensures no_room { result ≡ 20 → NeedsRoomToSalvage all bytes.now (length out.old) out_len.new }
+    ensures no_room { result ≡ 20
+        → NeedsRoomToSalvage all bytes.now (length out.old) out_len.new counts.new }
     ensures too_large { result ≡ 22 → 2 ^ 32 ≤ length bytes.now }
+    ensures unchanged { ((1 ≤ result) × (result ≤ 10)) ⊎ (result ≡ 22)
+        → (out_len.new ≡ out_len.old) × (out.new ≡ out.old) × (counts.new ≡ counts.old) }
 {
     if bytes.len() >= 1 << 32 {
         return TOO_LARGE;

@@ -1,7 +1,7 @@
 // Saves the ride of a recording as a file without compressed timestamps.
 
 ghost use Rattle.std.specs.Prelude.{◌≡◌, ◌≤◌, ◌<◌, ◌+◌, ◌⊎◌, length, take};
-ghost use Rattle.fit_c.specs.Repaired.{IsRefused, IsRepaired, contents_in};
+ghost use Rattle.fit_c.specs.Repaired.{AreWithin, IsRefused, IsRepaired, contents_in};
 ghost use Rattle.fit_c.specs.Saved.{IsSaved, IsSaveCode, NeedsRoomToSave};
 
 use crate::plain::write_file;
@@ -25,7 +25,9 @@ pub extern "C" fn fitrec_save(
     ensures ok { result ≡ 0
         → IsSaved (contents_in data_bytes.old data_len.old journal_bytes.old journal_len.old)
         (take out_len.new out.new) summary.new }
-    ensures within { result ≡ 0 → out_len.new ≤ length out.new }
+    ensures fits { result ≡ 0 → out_len.new ≤ length out.new }
+    ensures within { (result ≡ 0) ⊎ (20 ≤ result)
+        → AreWithin data_bytes.new data_len.new journal_bytes.new journal_len.new }
     ensures no_room { result ≡ 20
         → NeedsRoomToSave (contents_in data_bytes.old data_len.old journal_bytes.old journal_len.old)
         (length out.old) out_len.new }
@@ -36,6 +38,9 @@ pub extern "C" fn fitrec_save(
     ensures same { 7 ≤ result → result ≤ 10
         → contents_in data_bytes.new data_len.new journal_bytes.new journal_len.new
         ≡ contents_in data_bytes.old data_len.old journal_bytes.old journal_len.old }
+    ensures unchanged { 7 ≤ result → result ≤ 10
+        → (data_len.new ≡ data_len.old) × (journal_len.new ≡ journal_len.old) × (summary.new ≡ summary.old)
+        × (out_len.new ≡ out_len.old) × (out.new ≡ out.old) }
 {
     let answer = fitrec_repair(data_bytes, data_len, journal_bytes, journal_len, summary);
     if answer != 0 {

@@ -4,3 +4,4 @@ pub mod Sample
 pub mod Script
 pub mod Replayed
 pub mod Heard
+pub mod Faults

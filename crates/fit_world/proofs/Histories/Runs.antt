@@ -24,9 +24,12 @@ use Rattle.fit_world.specs.Rides.Ride.{disk_in}
 use Rattle.fit_world.specs.Rides.NeverFull.{NeverFull, StaysNeverFull}
 use Rattle.fit_world.specs.Rides.Standing.{StandsIn, GoesBy, Rests, content_of, outcome}
 use Rattle.fit_world.specs.Simulation.Choices.{takes, IsLeftBy}
-use Rattle.fit_world.specs.Simulation.Following.{Follows, FollowsChoices}
-use Rattle.fit_world.proofs.Simulation.Counts.{moved}
+use Rattle.fit_world.specs.Simulation.Following.{Follows, FollowsChoices, Simulated, at_start}
+use Rattle.fit_world.proofs.Simulation.Counts.{moved, unspent}
 use Rattle.fit_world.proofs.Simulation.Following.{reply_of_outcome, reports_seen, stands_rests}
+
+abbrev simulated : Memory → Simulated
+simulated disk = record { files = memory_story disk; counts = memory_counts disk; schedule = memory_schedule disk }
 
 -- The ride is in the state of a history after these answers, and these of all choice bytes are left. With any answers that may come from
 -- there to the remaining events, they are answers to all events.
@@ -37,7 +40,7 @@ pub record Leads (all choices : List ℕ) (events left : List Event) (outcomes :
   pub is_arranged : IsArranged arranged (memory_counts (disk_in ride)) (memory_schedule (disk_in ride))
   pub never_full : NeverFull memory_story ride
   pub none_full : (rest : List Outcome) → NoneFull rest → NoneFull (outcomes ++ rest)
-  pub leads : (rest : List Outcome) → Follows history arranged (memory_story (disk_in ride)) choices left rest → FollowsChoices all events (outcomes ++ rest)
+  pub leads : (rest : List Outcome) → Follows history arranged (simulated (disk_in ride)) choices left rest → FollowsChoices all events (outcomes ++ rest)
 
 empty_rests : (story : Story) → story ≡ fresh → Rests at_first story
 empty_rests story is contents left =
@@ -68,7 +71,9 @@ first_leads choices events disk story counts schedule = record {
   });
   never_full = empty_never_full (memory_story disk) story;
   none_full = λ rest none. none;
-  leads = λ rest follows. subst (λ s. Follows at_first nothing_arranged s choices events rest) story follows;
+  leads = λ rest follows.
+      let same : simulated disk ≡ at_start = cc in
+      subst (λ s. Follows at_first nothing_arranged s choices events rest) same follows;
 }
 
 one_more : (all choices : List ℕ) (taken : ℕ) (events left : List Event) (event : Event) (outcomes : List Outcome) (ride next : Ride Memory)
@@ -79,11 +84,11 @@ one_more : (all choices : List ℕ) (taken : ℕ) (events left : List Event) (ev
     file ≡ content_of memory_story next → taken ≡ takes event.command choices (memory_story (disk_in ride)).now →
     IsLeftBy event.command choices reply (memory_story (disk_in ride)) (memory_story (disk_in next)) →
     Leads all (drop taken choices) events left (outcomes ++ outcome reply file ∷ []) next
-one_more all choices taken events left event outcomes ride next reply file unspent next_unspent known step stays moves file_is taken_is is_left =
+one_more all choices taken events left event outcomes ride next reply file not_spent next_not_spent known step stays moves file_is taken_is is_left =
     let goes = step known.history known.stands in
     let not = stays refl known.history known.stands known.never_full in
     let content = content_of memory_story next in
-    let may = moved known.arranged event.command reply content (disk_in ride) (disk_in next) unspent next_unspent moves known.is_arranged in
+    let may = moved known.arranged event.command reply content (disk_in ride) (disk_in next) not_spent next_not_spent moves known.is_arranged in
     let states : outcome reply file ≡ outcome reply content = ap (outcome reply) file_is in
     record {
       history = goes.after;
@@ -97,10 +102,12 @@ one_more all choices taken events left event outcomes ride next reply file unspe
           (known.leads (outcome reply file ∷ rest)
           (rw states (
             goes.after,
-            memory_story (disk_in next),
+            simulated (disk_in next),
             record {
               step = goes.step;
               may_fail = may.0;
+              moves = rw (reply_of_outcome reply content) moves;
+              as_planned = (unspent (disk_in next) next_not_spent).0;
               left = rw (reply_of_outcome reply content) is_left;
               reports = reports_seen known.history goes.after event.command reply next goes.step goes.stands;
               rests = stands_rests next goes.after goes.stands;
@@ -118,8 +125,8 @@ pub leads_on : (all choices : List ℕ) (taken : ℕ) (events : List Event) (i :
     file ≡ content_of memory_story next → taken ≡ takes (get_or events i d).command choices (memory_story (disk_in ride)).now →
     IsLeftBy (get_or events i d).command choices reply (memory_story (disk_in ride)) (memory_story (disk_in next)) →
     Leads all (drop taken choices) events (drop (i + 1) events) (outcomes ++ outcome reply file ∷ []) next
-leads_on all choices taken events i d outcomes ride next reply file within unspent next_unspent known =
-    one_more all choices taken events (drop (i + 1) events) (get_or events i d) outcomes ride next reply file unspent next_unspent
+leads_on all choices taken events i d outcomes ride next reply file within not_spent next_not_spent known =
+    one_more all choices taken events (drop (i + 1) events) (get_or events i d) outcomes ride next reply file not_spent next_not_spent
     (subst (λ left. Leads all choices events left outcomes ride) (drop_more events i d within) known)
 
 -- after the last event

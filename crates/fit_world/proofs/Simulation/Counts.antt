@@ -133,7 +133,8 @@ module _ (arranged : Arranged) (schedule : Schedule) (old new : Counts) (is_arra
       (λ broken. device_fails arranged.cut arranged.fail refl refl grown, after_broken grown)
   kept reply file within counted = (λ broken. absurd (true≢false (sym broken)), after_went (counted.went (λ same. cc)))
 
-unspent : (disk : Memory) → is_spent disk ≡ false →
+-- while nothing is spent, the calls have failed as planned
+pub unspent : (disk : Memory) → is_spent disk ≡ false →
     FailedAsPlanned (memory_counts disk) (memory_schedule disk) × ((memory_counts disk).calls < last_count)
 unspent disk spent =
     let parts = or_parts _ _ spent in

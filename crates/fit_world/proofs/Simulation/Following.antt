@@ -3,9 +3,7 @@ use Rattle.std.proofs.Common.{◌≡◌, ℕ, true, false, List, [], ◌∷◌, 
 use Rattle.fit_activity.specs.declared.activity.Summary.{Summary}
 use Rattle.fit_activity.specs.declared.recording.entry.Entry.TheVariants as entries
 use Rattle.fit_disk.specs.declared.memory.Memory.{Memory}
-use Rattle.fit_disk.specs.Events.{fresh}
 use Rattle.fit_disk.specs.Memory.{memory_story}
-use Rattle.fit_disk.specs.Story.{Story}
 use Rattle.fit_disk.proofs.Moments.{at_end}
 use Rattle.fit_recorder.specs.Files.Body.{StandsFor}
 use Rattle.fit_recorder.proofs.Commit.Standing.{stays_stand}
@@ -22,7 +20,7 @@ use Rattle.fit_world.specs.Histories.Table.{History, Idle, Riding, Step, Outcome
 use Rattle.fit_world.specs.Rides.Ride.{disk_in}
 use Rattle.fit_world.specs.Rides.Standing.{StandsIn, Rests, content_of, outcome, reply_in}
 use Rattle.fit_world.specs.Simulation.Choices.{takes}
-use Rattle.fit_world.specs.Simulation.Following.{Follows, FollowsChoices, Reports}
+use Rattle.fit_world.specs.Simulation.Following.{Follows, FollowsChoices, Reports, Simulated, at_start}
 use Rattle.fit_world.proofs.Histories.Riding.{ended_rests}
 
 -- ---- no recorder runs after a file is reported
@@ -99,18 +97,18 @@ reply_of_outcome (replies.Recovered summary) file = refl
 reply_of_outcome (replies.Refused fault) file = refl
 reply_of_outcome replies.NoRecorder file = refl
 
-follows_runs : (before : History) (arranged : Arranged) (files : Story) (choices : List ℕ) (events : List Event) (outcomes : List Outcome) →
-    Follows before arranged files choices events outcomes → Runs before arranged events outcomes
-follows_runs before arranged files choices [] [] follows = tt
-follows_runs before arranged files choices (event ∷ events) (outcome ∷ outcomes) follows = (
+follows_runs : (before : History) (arranged : Arranged) (disk : Simulated) (choices : List ℕ) (events : List Event) (outcomes : List Outcome) →
+    Follows before arranged disk choices events outcomes → Runs before arranged events outcomes
+follows_runs before arranged disk choices [] [] follows = tt
+follows_runs before arranged disk choices (event ∷ events) (outcome ∷ outcomes) follows = (
   follows.0,
   follows.2.step,
   follows.2.may_fail,
-  follows_runs follows.0 (arranged_after arranged event.command outcome) follows.1 (drop (takes event.command choices files.now) choices) events outcomes follows.3,
+  follows_runs follows.0 (arranged_after arranged event.command outcome) follows.1 (drop (takes event.command choices disk.files.now) choices) events outcomes follows.3,
 )
-follows_runs before arranged files choices [] (outcome ∷ outcomes) follows = absurd follows
-follows_runs before arranged files choices (event ∷ events) [] follows = absurd follows
+follows_runs before arranged disk choices [] (outcome ∷ outcomes) follows = absurd follows
+follows_runs before arranged disk choices (event ∷ events) [] follows = absurd follows
 
 -- answers that follow choice bytes are a history
 pub is_history : (choices : List ℕ) (events : List Event) (outcomes : List Outcome) → FollowsChoices choices events outcomes → IsHistory events outcomes
-is_history choices events outcomes follows = follows_runs at_first nothing_arranged fresh choices events outcomes follows
+is_history choices events outcomes follows = follows_runs at_first nothing_arranged at_start choices events outcomes follows

@@ -10,7 +10,8 @@ use Rattle.fit_world.specs.declared.simulating.SimulateFault.TheVariants as faul
 use Rattle.fit_world.specs.Histories.Table.{Outcome}
 use Rattle.fit_world.specs.Printed.ReplyLines.{lines_text}
 use Rattle.fit_world.specs.Rides.Standing.{reply_in}
-use Rattle.fit_world.specs.Scripts.Script.{IsLine, events_of, IsFaultOf}
+use Rattle.fit_world.specs.Scripts.Faults.{IsFaultOf}
+use Rattle.fit_world.specs.Scripts.Script.{IsLine, events_of}
 use Rattle.fit_world.specs.Simulation.Following.{FollowsChoices}
 
 -- A history of these events over two empty files, in which these bytes decide what each power cut leaves; `Printed` holds of the text with

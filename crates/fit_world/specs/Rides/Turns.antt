@@ -1,5 +1,5 @@
 -- What a recording does and answers, line by line.
-use Rattle.std.specs.Prelude.{◌≡◌, ◌⊎◌, ◌<◌, ℕ, ◌+◌, Bool, true, false, IsTrue, List, [], ◌∷◌, ◌++◌, length, Option, Some, None, Result, Ok, Err, OnOk, codes, if◌then◌else◌}
+use Rattle.std.specs.Prelude.{◌≡◌, ◌≢◌, ◌⊎◌, ◌<◌, ℕ, ◌+◌, Bool, true, false, IsTrue, List, [], ◌∷◌, ◌++◌, length, Option, Some, None, Result, Ok, Err, OnOk, codes, if◌then◌else◌}
 use Rattle.std.specs.Io.KnownBytes.{Appends, Consumes, IsAtEnd}
 use Rattle.std.specs.List.{flat_map}
 use Rattle.fit_disk.specs.Story.{Story}
@@ -22,6 +22,7 @@ use Rattle.fit_world.specs.Rides.Played.{GoesTo, LeavesAfter}
 use Rattle.fit_world.specs.Rides.Replies.{MayReplyAll, is_ok, rides_on}
 use Rattle.fit_world.specs.Rides.Ride.{is_riding}
 use Rattle.fit_world.specs.Rides.Standing.{StandsIn, Rests}
+use Rattle.fit_world.specs.Scripts.Faults.{IsWrong}
 use Rattle.fit_world.specs.Scripts.Heard.{heard_in, lines_in}
 use Rattle.fit_world.specs.Scripts.Replayed.{is_simulated}
 use Rattle.fit_world.specs.Scripts.Script.{meaning_of}
@@ -75,8 +76,7 @@ times_after times (Faulty number fault ∷ turns) = times_after times turns
 
 -- what is wrong with a line
 abbrev pub IsLineFault : List ℕ → LineFault → Type 0
-IsLineFault line (Script Memory) = Unit {0}
-IsLineFault line (Script kind) = meaning_of line ≡ None
+IsLineFault line (Script kind) = kind ≢ Memory → IsWrong line kind
 IsLineFault line OnlySimulate = (command : Command) × (meaning_of line ≡ Some (Some command)) × (is_simulated command ≡ true)
 IsLineFault line TooLong = 4096 < length line
 

@@ -9,7 +9,8 @@ use Rattle.fit_world.specs.declared.command.Command.TheVariants as commands
 use Rattle.fit_world.specs.declared.event.Event.{Event}
 use Rattle.fit_world.specs.declared.script.fault.ReplayFault.{ReplayFault}
 use Rattle.fit_world.specs.declared.script.fault.ReplayFault.TheVariants as faults
-use Rattle.fit_world.specs.Scripts.Script.{IsLine, events_of, IsFaultOf}
+use Rattle.fit_world.specs.Scripts.Faults.{IsFaultOf}
+use Rattle.fit_world.specs.Scripts.Script.{IsLine, events_of}
 
 -- it needs a disk whose failures are arranged
 abbrev pub is_simulated : Command → Bool

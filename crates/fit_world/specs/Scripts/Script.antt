@@ -1,5 +1,5 @@
 -- Scripts: their lines, the command of each line, and the events of all of them.
-use Rattle.std.specs.Prelude.{◌≡◌, ◌≢◌, ◌<◌, ◌⊎◌, ℕ, ◌+◌, Bool, true, List, [], ◌∷◌, length, take, codes, All, IsSome, Option, Some, None, option_map, ◌==◌, nat_lt, if◌then◌else◌, slice_index, slice_index_or}
+use Rattle.std.specs.Prelude.{ℕ, ◌+◌, Bool, true, List, [], ◌∷◌, codes, IsSome, Option, Some, None, option_map, ◌==◌, nat_lt, if◌then◌else◌, slice_index}
 use Rattle.std.specs.List.{cons_option}
 use Rattle.std.specs.Option.{option_and_then, option_flatten}
 use Rattle.std.specs.Str.{bytes_eq}
@@ -11,8 +11,6 @@ use Rattle.fit_activity.specs.declared.recording.entry.Entry.TheVariants as entr
 use Rattle.fit_world.specs.declared.command.Command.{Command}
 use Rattle.fit_world.specs.declared.command.Command.TheVariants as commands
 use Rattle.fit_world.specs.declared.event.Event.{Event}
-use Rattle.fit_world.specs.declared.script.fault.ScriptFault.{ScriptFault}
-use Rattle.fit_world.specs.declared.script.fault.ScriptFaultKind.TheVariants as kinds
 use Rattle.fit_world.specs.Scripts.Words.{words, number}
 use Rattle.fit_world.specs.Scripts.Sample.{are_settings, sample_at}
 
@@ -118,23 +116,3 @@ event_of number line = option_map (λ command. record { line = number; command =
 abbrev pub events_of : ℕ → List (List ℕ) → List Event
 events_of number [] = []
 events_of number (line ∷ lines) = cons_option (event_of number line) (events_of (number + 1) lines)
-
--- the line with this number, counted from 1, is the first that is not a line of a script
-pub record IsFirstFault (lines : List (List ℕ)) (number : ℕ) : Type 0 where
-  pub index : ℕ
-  pub counted : number ≡ index + 1
-  pub within : index < length lines
-  pub before : All IsLine (take index lines)
-  pub fault : meaning_of (slice_index_or lines index []) ≡ None
-
--- the line with this number, counted from 1, exists or is the first, and each line before it is one of a script
-pub record IsReached (lines : List (List ℕ)) (number : ℕ) : Type 0 where
-  pub index : ℕ
-  pub counted : number ≡ index + 1
-  pub within : (index ≡ 0) ⊎ (index < length lines)
-  pub before : All IsLine (take index lines)
-
--- the fault of lines that are not a script: memory was refused at a line that was reached, or this is the first wrong line
-abbrev pub IsFaultOf : List (List ℕ) → ScriptFault → Type 0
-IsFaultOf lines fault =
-    (fault.kind ≡ kinds.Memory → IsReached lines fault.line) × (fault.kind ≢ kinds.Memory → IsFirstFault lines fault.line)

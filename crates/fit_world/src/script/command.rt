@@ -1,9 +1,11 @@
 // The command that the words of a line state.
 
-ghost use Rattle.std.specs.Prelude.{◌≡◌, map, option_map, if◌then◌else◌};
+ghost use Rattle.std.specs.Prelude.{◌≡◌, map, option_map, if◌then◌else◌, IfErr};
 ghost use Rattle.std.specs.Result.{result_ok};
+ghost use Rattle.fit_world.specs.Scripts.Faults.{only_fault, start_fault, sample_fault, arranged_fault, called_fault, timed_fault, command_fault};
 ghost use Rattle.fit_world.specs.Scripts.Script.{number32, count, sport_named, alone, only, start_of, sample_of, entry_of, arranged_of, called_of, timed_of, command_of};
 ghost use Rattle.fit_world.specs.declared.command.Command.TheVariants as commands;
+ghost use Rattle.fit_world.specs.declared.script.fault.ScriptFaultKind.TheVariants as kinds;
 
 use crate::command::Command;
 use crate::script::fault::ScriptFaultKind;
@@ -13,7 +15,8 @@ use fit_activity::{Entry, Sport, Start};
 
 /// The command that the words of a line state. Words are judged from left to right, and the first fault is reported.
 pub fn command_of(words: &[&[u8]]) -> Result<Command, ScriptFaultKind>
-    ensures { result_ok result ≡ command_of (map (λ word. word.now) words.now) }
+    ensures value { result_ok result ≡ command_of (map (λ word. word.now) words.now) }
+    ensures fault { IfErr result (λ kind. kind ≡ command_fault (map (λ word. word.now) words.now)) }
 {
     let [name, arguments @ ..] = words else {
         return Err(ScriptFaultKind::MissingWord);
@@ -29,7 +32,8 @@ pub fn command_of(words: &[&[u8]]) -> Result<Command, ScriptFaultKind>
 
 // An entry that is a time, or one of the commands below.
 fn timed_of(name: &[u8], arguments: &[&[u8]]) -> Result<Command, ScriptFaultKind>
-    ensures { result_ok result ≡ timed_of name.now (map (λ word. word.now) arguments.now) }
+    ensures value { result_ok result ≡ timed_of name.now (map (λ word. word.now) arguments.now) }
+    ensures fault { IfErr result (λ kind. kind ≡ timed_fault name.now (map (λ word. word.now) arguments.now)) }
 {
     if name == b"lap".as_slice() {
         Ok(Command::Entry(Entry::Lap(only_number(arguments)?)))
@@ -46,7 +50,8 @@ fn timed_of(name: &[u8], arguments: &[&[u8]]) -> Result<Command, ScriptFaultKind
 
 // A call of the recorder, or one of the commands below.
 fn called_of(name: &[u8], arguments: &[&[u8]]) -> Result<Command, ScriptFaultKind>
-    ensures { result_ok result ≡ called_of name.now (map (λ word. word.now) arguments.now) }
+    ensures value { result_ok result ≡ called_of name.now (map (λ word. word.now) arguments.now) }
+    ensures fault { IfErr result (λ kind. kind ≡ called_fault name.now (map (λ word. word.now) arguments.now)) }
 {
     if name == b"commit".as_slice() {
         alone(Command::Commit, arguments)
@@ -65,7 +70,8 @@ fn called_of(name: &[u8], arguments: &[&[u8]]) -> Result<Command, ScriptFaultKin
 
 // A call that is to fail, or a power cut.
 fn arranged_of(name: &[u8], arguments: &[&[u8]]) -> Result<Command, ScriptFaultKind>
-    ensures { result_ok result ≡ arranged_of name.now (map (λ word. word.now) arguments.now) }
+    ensures value { result_ok result ≡ arranged_of name.now (map (λ word. word.now) arguments.now) }
+    ensures fault { IfErr result (λ kind. kind ≡ arranged_fault name.now (map (λ word. word.now) arguments.now)) }
 {
     if name == b"fail".as_slice() {
         Ok(Command::Fail(only_count(arguments)?))
@@ -80,7 +86,8 @@ fn arranged_of(name: &[u8], arguments: &[&[u8]]) -> Result<Command, ScriptFaultK
 
 // TIME SERIAL SPORT
 fn start_of(arguments: &[&[u8]]) -> Result<Start, ScriptFaultKind>
-    ensures { result_ok result ≡ start_of (map (λ word. word.now) arguments.now) }
+    ensures value { result_ok result ≡ start_of (map (λ word. word.now) arguments.now) }
+    ensures fault { IfErr result (λ kind. kind ≡ start_fault (map (λ word. word.now) arguments.now)) }
 {
     let [time, arguments @ ..] = arguments else {
         return Err(ScriptFaultKind::MissingWord);
@@ -105,7 +112,8 @@ fn start_of(arguments: &[&[u8]]) -> Result<Start, ScriptFaultKind>
 }
 
 fn sport_named(word: &[u8]) -> Result<Sport, ScriptFaultKind>
-    ensures { result_ok result ≡ sport_named word.now }
+    ensures value { result_ok result ≡ sport_named word.now }
+    ensures fault { IfErr result (λ kind. kind ≡ kinds.UnknownWord) }
 {
     if word == b"generic".as_slice() {
         Ok(Sport::Generic)
@@ -120,7 +128,8 @@ fn sport_named(word: &[u8]) -> Result<Sport, ScriptFaultKind>
 
 // TIME KEY=NUMBER ..
 fn sample_of(arguments: &[&[u8]]) -> Result<Entry, ScriptFaultKind>
-    ensures { result_ok result ≡ sample_of (map (λ word. word.now) arguments.now) }
+    ensures value { result_ok result ≡ sample_of (map (λ word. word.now) arguments.now) }
+    ensures fault { IfErr result (λ kind. kind ≡ sample_fault (map (λ word. word.now) arguments.now)) }
 {
     let [time, settings @ ..] = arguments else {
         return Err(ScriptFaultKind::MissingWord);
@@ -131,7 +140,8 @@ fn sample_of(arguments: &[&[u8]]) -> Result<Entry, ScriptFaultKind>
 
 // A command that takes no further words.
 fn alone(command: Command, arguments: &[&[u8]]) -> Result<Command, ScriptFaultKind>
-    ensures { result_ok result ≡ alone command (map (λ word. word.now) arguments.now) }
+    ensures value { result_ok result ≡ alone command (map (λ word. word.now) arguments.now) }
+    ensures fault { IfErr result (λ kind. kind ≡ kinds.ExtraWord) }
 {
     if arguments.is_empty() {
         Ok(command)
@@ -142,7 +152,8 @@ fn alone(command: Command, arguments: &[&[u8]]) -> Result<Command, ScriptFaultKi
 
 // A number, and no further word.
 fn only_number(arguments: &[&[u8]]) -> Result<u32, ScriptFaultKind>
-    ensures { result_ok result ≡ only number32 (map (λ word. word.now) arguments.now) }
+    ensures value { result_ok result ≡ only number32 (map (λ word. word.now) arguments.now) }
+    ensures fault { IfErr result (λ kind. kind ≡ only_fault number32 (map (λ word. word.now) arguments.now)) }
 {
     let [word, rest @ ..] = arguments else {
         return Err(ScriptFaultKind::MissingWord);
@@ -157,7 +168,8 @@ fn only_number(arguments: &[&[u8]]) -> Result<u32, ScriptFaultKind>
 
 // A number of 1 or more, and no further word.
 fn only_count(arguments: &[&[u8]]) -> Result<u32, ScriptFaultKind>
-    ensures { result_ok result ≡ only count (map (λ word. word.now) arguments.now) }
+    ensures value { result_ok result ≡ only count (map (λ word. word.now) arguments.now) }
+    ensures fault { IfErr result (λ kind. kind ≡ only_fault count (map (λ word. word.now) arguments.now)) }
 {
     let [word, rest @ ..] = arguments else {
         return Err(ScriptFaultKind::MissingWord);
@@ -173,7 +185,8 @@ fn only_count(arguments: &[&[u8]]) -> Result<u32, ScriptFaultKind>
 }
 
 fn number32(word: &[u8]) -> Result<u32, ScriptFaultKind>
-    ensures { result_ok result ≡ number32 word.now }
+    ensures value { result_ok result ≡ number32 word.now }
+    ensures fault { IfErr result (λ kind. kind ≡ kinds.BadNumber) }
 {
     number(word, u32::MAX)
 }

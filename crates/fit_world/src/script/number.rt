@@ -1,8 +1,9 @@
 // Words that are numbers.
 
-ghost use Rattle.std.specs.Prelude.{◌≡◌, ◌≤◌, ◌<◌, ◌+◌, ◌^◌, ◌≤ℤ◌, pos, neg_ℤ, IfOk};
+ghost use Rattle.std.specs.Prelude.{◌≡◌, ◌≤◌, ◌<◌, ◌+◌, ◌^◌, ◌≤ℤ◌, pos, neg_ℤ, IfOk, IfErr};
 ghost use Rattle.std.specs.Result.{result_ok};
 ghost use Rattle.fit_world.specs.Scripts.Words.{number, signed_number, number_as};
+ghost use Rattle.fit_world.specs.declared.script.fault.ScriptFaultKind.TheVariants as kinds;
 
 use crate::script::fault::ScriptFaultKind;
 use fit_base::BaseType;
@@ -10,6 +11,7 @@ use fit_base::BaseType;
 /// An unsigned decimal number of at most `most`.
 pub fn number(word: &[u8], most: u32) -> Result<u32, ScriptFaultKind>
     ensures value { result_ok result ≡ number most word.now }
+    ensures fault { IfErr result (λ kind. kind ≡ kinds.BadNumber) }
     ensures most { IfOk result (λ n. n ≤ most) }
 {
     let mut value = 0;

@@ -3,7 +3,8 @@
 ghost use Rattle.std.specs.Prelude.{◌≡◌, ◌≢◌, ◌++◌, [], Some, All, map, IfOk, OnOk, IfErr};
 ghost use Rattle.std.specs.List.{cons_option};
 ghost use Rattle.std.specs.Str.Lines.{lines};
-ghost use Rattle.fit_world.specs.Scripts.Script.{IsLine, is_silent, meaning_of, event_of, events_of, IsFaultOf};
+ghost use Rattle.fit_world.specs.Scripts.Faults.{IsFaultOf, IsWrong};
+ghost use Rattle.fit_world.specs.Scripts.Script.{IsLine, is_silent, meaning_of, event_of, events_of};
 ghost use Rattle.fit_world.specs.Histories.Runs.{CanRun};
 ghost use Rattle.fit_world.specs.declared.script.fault.ScriptFaultKind.TheVariants as kinds;
 
@@ -44,7 +45,7 @@ fn add_event(
     ensures events { OnOk result
         (events.new.items ≡ events.old.items ++ cons_option (event_of number line.now) []) }
     ensures number { IfErr result (λ fault. fault.line ≡ number) }
-    ensures fault { IfErr result (λ fault. fault.kind ≢ kinds.Memory → meaning_of line.now ≡ None) }
+    ensures fault { IfErr result (λ fault. fault.kind ≢ kinds.Memory → IsWrong line.now fault.kind) }
 {
     match event_at(alloc, number, line) {
         Ok(Some(event)) => match events.push(event) {
@@ -61,7 +62,7 @@ fn event_at(alloc: Global, number: usize, line: &str) -> Result<Option<Event>, S
     ensures line { IfOk result (λ _. IsLine line.now) }
     ensures event { IfOk result (λ event. event ≡ event_of number line.now) }
     ensures number { IfErr result (λ fault. fault.line ≡ number) }
-    ensures fault { IfErr result (λ fault. fault.kind ≢ kinds.Memory → meaning_of line.now ≡ None) }
+    ensures fault { IfErr result (λ fault. fault.kind ≢ kinds.Memory → IsWrong line.now fault.kind) }
 {
     match command_at(alloc, line.as_bytes()) {
         Ok(Some(command)) => Ok(Some(Event {
@@ -76,7 +77,7 @@ fn event_at(alloc: Global, number: usize, line: &str) -> Result<Option<Event>, S
 /// The command of a line, if it states one.
 pub(crate) fn command_at(alloc: Global, line: &[u8]) -> Result<Option<Command>, ScriptFaultKind>
     ensures meaning { IfOk result (λ found. meaning_of line.now ≡ Some found) }
-    ensures fault { IfErr result (λ kind. kind ≢ kinds.Memory → meaning_of line.now ≡ None) }
+    ensures fault { IfErr result (λ kind. kind ≢ kinds.Memory → IsWrong line.now kind) }
 {
     let Ok(words) = words_of(alloc, line) else {
         return Err(ScriptFaultKind::Memory);

@@ -1,12 +1,14 @@
 // The settings of a sample: the words after its time, such as `hr=100`.
 
-ghost use Rattle.std.specs.Prelude.{◌≡◌, ◌==◌, ◌≤◌, length, Some, None, [], map, if◌then◌else◌, IfOk, IfErr};
+ghost use Rattle.std.specs.Prelude.{◌≡◌, ◌==◌, ◌≤◌, length, true, false, Some, None, [], map, if◌then◌else◌, IfOk, IfErr};
 ghost use Rattle.std.specs.List.{list_any, position, position_or_len};
 ghost use Rattle.std.specs.Result.{result_ok};
 ghost use Rattle.std.specs.Str.{bytes_eq};
 ghost use Rattle.std.specs.Option.{is_some, option_or};
 ghost use Rattle.fit_activity.specs.Rides.Table.{sample_rows, rows_of, ValuesFit};
+ghost use Rattle.fit_world.specs.Scripts.Faults.{has_equals, value_fault, setting_fault, settings_fault};
 ghost use Rattle.fit_world.specs.Scripts.Sample.{key_in, value_in, has_number, is_new_setting, are_settings, sample_at, with_setting, number_for};
+ghost use Rattle.fit_world.specs.declared.script.fault.ScriptFaultKind.TheVariants as kinds;
 
 use crate::script::fault::ScriptFaultKind;
 use crate::script::number::number_as;
@@ -15,8 +17,9 @@ use fit_base::BaseType;
 
 /// The sample at a time, in seconds since 1989-12-31T00:00:00Z, with these settings.
 pub fn sample_at(time: u32, settings: &[&[u8]]) -> Result<Sample, ScriptFaultKind>
-    ensures { result_ok result ≡ (if are_settings (map (λ word. word.now) settings.now)
+    ensures value { result_ok result ≡ (if are_settings (map (λ word. word.now) settings.now)
         then Some (sample_at time (map (λ word. word.now) settings.now)) else None) }
+    ensures fault { IfErr result (λ kind. kind ≡ settings_fault [] (map (λ word. word.now) settings.now)) }
 {
     let mut values = [None; FIELDS];
     for (index, setting) in settings.iter().enumerate() {
@@ -34,6 +37,8 @@ fn with_next(
     requires { ValuesFit sample_rows values }
     ensures value { result_ok result ≡ (if is_new_setting (map (λ word. word.now) earlier.now) setting.now
         then Some (with_setting sample_rows values (key_in setting.now) (value_in setting.now)) else None) }
+    ensures fault { IfErr result
+        (λ kind. kind ≡ setting_fault (map (λ word. word.now) earlier.now) setting.now) }
     ensures fit { IfOk result (λ more. ValuesFit sample_rows more) }
 {
     let (key, value) = cut(setting)?;
@@ -48,6 +53,9 @@ fn cut<'a>(setting: &'a [u8]) -> Result<(&'a [u8], &'a [u8]), ScriptFaultKind>
     ensures key { IfOk result (λ parts. parts.0.now ≡ key_in setting.now) }
     ensures value { IfOk result (λ parts. parts.1.now ≡ value_in setting.now) }
     ensures none { IfErr result (λ _. value_in setting.now ≡ []) }
+    ensures parts { IfOk result (λ _. has_equals setting.now ≡ true) }
+    ensures fault { IfErr result (λ kind. (kind ≡ kinds.UnknownKey)
+        × (has_equals setting.now ≡ false)) }
 {
     let at = key_len(setting);
     if at == setting.len() {
@@ -92,6 +100,7 @@ fn with_setting(
     ensures value { result_ok result
         ≡ (if has_number key.now value.now
         then Some (with_setting sample_rows values key.now value.now) else None) }
+    ensures fault { IfErr result (λ kind. kind ≡ value_fault key.now) }
     ensures fit { IfOk result (λ more. ValuesFit sample_rows more) }
 {
     if !has_number(&SAMPLE_FIELDS, key, value) {
@@ -111,12 +120,21 @@ fn has_number(rows: &[FieldRow], key: &[u8], value: &[u8]) -> bool
 }
 
 // The fault of a setting with this key, if its value is no number of that key.
-fn fault_of(key: &[u8]) -> ScriptFaultKind {
-    if SAMPLE_FIELDS.iter().any(|row| key == row.3.as_bytes()) {
+fn fault_of(key: &[u8]) -> ScriptFaultKind
+    ensures { result ≡ value_fault key.now }
+{
+    if is_key(&SAMPLE_FIELDS, key) {
         ScriptFaultKind::BadNumber
     } else {
         ScriptFaultKind::UnknownKey
     }
+}
+
+// Whether one of the rows has this key.
+fn is_key(rows: &[FieldRow], key: &[u8]) -> bool
+    ensures { result ≡ list_any (λ row. bytes_eq key.now row.3.now) rows.now }
+{
+    rows.iter().any(|row| key == row.3.as_bytes())
 }
 
 // Sets `more` to the values of these rows, with the number of this key.

@@ -8,4 +8,4 @@ returns-in-Ok-clause-ok c = λ _.
     let new = c.recovered-answer.new.buffers in
     rw c.numbers.ensures (repaired_of old new c.in-Ok.found
     (take c.args.data_len.now c.args.data_bytes.now) (take c.args.journal_len.now c.args.journal_bytes.now) _ _
-    c.in-Ok.ensures.decides c.new-buffers.ensures.data_rests c.new-buffers.ensures.journal_rests (search rules) (search rules))
+    c.in-Ok.ensures.decides c.in-Ok.ensures.journal c.new-buffers.ensures.data_rests c.new-buffers.ensures.journal_rests (search rules) (search rules))

@@ -11,4 +11,5 @@ returns-in-Ok-clause-no_room c = λ short. record {
   found = c.in-Ok.ensures.found;
   needed_is = c.write_out.ensures.needed short;
   short = c.write_out.ensures.no_room short;
+  counted = refl;
 }

@@ -3,7 +3,7 @@ use Rattle.fit_grammar.specs.Format.File.{FileOf}
 use Rattle.fit_c.proofs.saving.fitrec_save.Goals as goal
 
 pub slice_bounds-read-end : goal.slice_bounds-read-end
-slice_bounds-read-end c = c.fitrec_repair-answer.ensures.within c.if-answer-ne0.false
+slice_bounds-read-end c = (c.fitrec_repair-answer.ensures.within c.if-answer-ne0.false).data_within
 
 pub unreachable-requires : goal.unreachable-requires
 unreachable-requires c =

@@ -2,8 +2,11 @@ use Rattle.std.proofs.Common.{◌≡◌, inr, ◌<◌, ◌+◌, ◌++◌, [], �
 use Rattle.std.proofs.lemmas.List.Elements.{All-more}
 use Rattle.std.proofs.lemmas.Result.{err_from_is_err_and}
 use Rattle.std.specs.List.{cons_option}
-use Rattle.fit_world.specs.Scripts.Script.{IsLine, meaning_of, event_of, events_of, IsFirstFault, IsReached}
+use Rattle.fit_world.specs.Scripts.Faults.{IsFirstFault, IsReached, IsWrong}
+use Rattle.fit_world.specs.Scripts.Script.{IsLine, event_of, events_of}
+use Rattle.fit_world.specs.declared.script.fault.ScriptFaultKind.{ScriptFaultKind}
 use Rattle.fit_world.specs.declared.event.Event.{Event}
+use Rattle.fit_world.specs.declared.script.fault.ScriptFault.{ScriptFault}
 use Rattle.fit_world.specs.Histories.Runs.{CanRun}
 use Rattle.fit_world.proofs.Simulation.CanRun.{events_can}
 use Rattle.fit_world.proofs.Reported.Scripts.{now_at, within_now, events_next}
@@ -12,17 +15,17 @@ use Rattle.fit_world.proofs.script.parse.parse_script.Goals as goal
 abbrev texts_of : List (Bor (List ℕ)) → List (List ℕ)
 texts_of items = map (λ item. item.now) items
 
-first_fault : (items : List (Bor (List ℕ))) (texts : List (List ℕ)) (i : ℕ) (d : Bor (List ℕ)) (number : ℕ) → texts_of items ≡ texts →
-    i < length items → All IsLine (take i (texts_of items)) → number ≡ i + 1 → meaning_of (get_or items i d).now ≡ None →
-    IsFirstFault texts number
-first_fault items texts i d number is within before counted fault =
-    subst (λ all. IsFirstFault all number) is
+first_fault : (items : List (Bor (List ℕ))) (texts : List (List ℕ)) (i : ℕ) (d : Bor (List ℕ)) (number : ℕ) (kind found : ScriptFaultKind) →
+    texts_of items ≡ texts → i < length items → All IsLine (take i (texts_of items)) → number ≡ i + 1 → kind ≡ found →
+    IsWrong (get_or items i d).now found → IsFirstFault texts number kind
+first_fault items texts i d number kind found is within before counted same wrong =
+    subst (λ all. IsFirstFault all number kind) is
     (record {
       index = i;
       counted = counted;
       within = within_now items i within;
       before = before;
-      fault = rw (now_at items i d within) fault;
+      wrong = rw (now_at items i d within, same) wrong;
     })
 
 reached : (items : List (Bor (List ℕ))) (texts : List (List ℕ)) (i number : ℕ) → texts_of items ≡ texts → i < length items →
@@ -50,8 +53,10 @@ returns-in_err-add_event-clause-fault c =
     let number = ap (λ fault. fault.line) left.2 ∙ known.number in
     rw left.1 (
       (λ want. reached items _ c.loop-index.index _ all (omega arith) c.loop-index.invariant.lines number),
-      (λ other. first_fault items _ c.loop-index.index _ _ all (omega arith) c.loop-index.invariant.lines number
-          (known.fault (λ e. other (ap (λ fault. fault.kind) left.2 ∙ e)))),
+      (λ other.
+          let kind = ap (λ (fault : ScriptFault). fault.kind) left.2 in
+          first_fault items _ c.loop-index.index _ _ left.0.kind _ all (omega arith) c.loop-index.invariant.lines number kind
+          (known.fault (λ e. other (kind ∙ e)))),
     )
 
 pub loop-index-preserved : goal.loop-index-preserved
