@@ -104,7 +104,7 @@ def of_rides(fitrec, program, count, seed):
         for at, text in enumerate(scripts(count, seed)):
             script.write_text(text)
             mine, its = new(), new()
-            found, want = run(program, "play", script, mine, seed + at), run(fitrec, "replay", script, its)
+            found, want = run(program, "play", script, mine, seed + at), run(fitrec, "replay", "--checked", script, its)
             answers = re.sub(r"ok records.*", "ok", want[1])
             yield "a ride by plan", differs((found[0], found[1], holds(mine)), (0, answers, holds(its)))
 
@@ -196,7 +196,7 @@ def of_32_bits(fitrec, count, seed):
                 script.write_text(text)
                 mine, its = new(), new()
                 shutil.copy(script, mine + "/script.txt")
-                found, want = run(*QEMU, program, cwd=mine, stdin=subprocess.DEVNULL), run(fitrec, "replay", script, its)
+                found, want = run(*QEMU, program, cwd=mine, stdin=subprocess.DEVNULL), run(fitrec, "replay", "--checked", script, its)
                 answers = re.sub(r"ok records.*", "ok", want[1])
                 yield "a ride by 32 bits, " + form, differs((found[1], holds(mine)), (answers, holds(its)))
                 most = [max(pair) for pair in zip(most, map(int, re.findall(r"\d+", found[2] or "0 0")))]

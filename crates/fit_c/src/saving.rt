@@ -1,6 +1,7 @@
 // Saves the ride of a recording as a file without compressed timestamps.
 
 ghost use Rattle.std.specs.Prelude.{◌≡◌, ◌≤◌, ◌<◌, ◌+◌, ◌⊎◌, length, take};
+ghost use Rattle.fit_recorder.specs.Files.Committed.{HasCounted};
 ghost use Rattle.fit_c.specs.Repaired.{IsRefused, IsRepaired, contents_in};
 ghost use Rattle.fit_c.specs.Saved.{IsSaved, IsSaveCode, NeedsRoomToSave};
 
@@ -32,6 +33,9 @@ pub extern "C" fn fitrec_save(
     ensures repaired { (result ≡ 0) ⊎ (20 ≤ result)
         → IsRepaired (contents_in data_bytes.old data_len.old journal_bytes.old journal_len.old)
         (contents_in data_bytes.new data_len.new journal_bytes.new journal_len.new) summary.new }
+    // The body has the checksum that the journal states, if it states one.
+    ensures checked { (result ≡ 0) ⊎ (20 ≤ result)
+        → HasCounted (take journal_len.old journal_bytes.old) (take data_len.new data_bytes.new) }
     ensures why { IsRefused result data_bytes.old data_len.old journal_bytes.old journal_len.old }
     ensures same { 7 ≤ result → result ≤ 10
         → contents_in data_bytes.new data_len.new journal_bytes.new journal_len.new
