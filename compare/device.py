@@ -141,7 +141,7 @@ def of_rides(fitrec, program, count, seed):
         for at, text in enumerate([*LONG, *LONG, *scripts(count, seed)]):
             script.write_text(text)
             mine, its = new(), new()
-            found, want = run(program, "play", script, mine, seed + at), run(fitrec, "replay", script, its)
+            found, want = run(program, "play", script, mine, seed + at), run(fitrec, "replay", "--checked", script, its)
             answers = re.sub(r"ok records.*", "ok", want[1])
             yield "a ride by plan", differs((found[0], found[1], holds(mine)), (0, answers, holds(its)))
 
@@ -283,7 +283,7 @@ def of_32_bits(fitrec, count, seed):
                 script.write_text(text)
                 mine, its = new(), new()
                 shutil.copy(script, mine + "/script.txt")
-                found, want = run(*emulator, program, cwd=mine, stdin=subprocess.DEVNULL), run(fitrec, "replay", script, its)
+                found, want = run(*emulator, program, cwd=mine, stdin=subprocess.DEVNULL), run(fitrec, "replay", "--checked", script, its)
                 # Semihosting may have one console for all output.
                 said, _, used = (found[1] + found[2]).rpartition("stack: ")
                 answers = re.sub(r"ok records.*", "ok", want[1])

@@ -77,11 +77,11 @@ class Scratch:
     def program(self, words):
         return run(self.fitrec, *words, cwd=self.folder, stdin=subprocess.DEVNULL)
 
-    def replayed(self, script):
+    def replayed(self, script, *options):
         """What a replay of this script prints, and the files that it leaves."""
         (self.folder / "script").write_text(script)
         (self.folder / "new").mkdir()
-        return self.program(["replay", "script", "new"]), holds(self.folder / "new")
+        return self.program(["replay", *options, "script", "new"]), holds(self.folder / "new")
 
     def recovered(self, data, journal):
         """What a repair of these files prints, the data file that it leaves, and whether a save makes the plain form of that file."""
@@ -162,15 +162,20 @@ def torn_slots(text):
 
 
 def torn_pair(fitrec):
-    """The pair of docs/JOURNAL-FORMAT.md: it is what a recorder leaves, and each torn journal gives the length that the page states."""
+    """The pair of docs/JOURNAL-FORMAT.md: it is what a recorder leaves, with and without checksums, and each torn journal gives the length
+    that the page states."""
     text = page("docs/JOURNAL-FORMAT.md")
     data = bytes_in(section(text, "A torn pair, worked by hand")[0])
     torn, finished, nothing = section(text, "The length is torn")
     whole, all_of_it = section(text, "The gate is written")
     ride = "start 1000000000 7 running\nsample 1000000000 hr=100\nsample 1000000001 hr=101\n"
     ride += "lap 1000000002\nsample 1000000002 hr=110\ncommit\n"
-    said, left = scratch(fitrec, lambda here: here.replayed(ride))
+    said, left = scratch(fitrec, lambda here: here.replayed(ride, "--checked"))
     yield "the torn pair: recorded", differs((said[0], *left), (0, data, bytes_in(whole)))
+    unchecked = bytearray(bytes_in(whole))
+    unchecked[3], unchecked[13:15], unchecked[21:23] = 0x32, bytes(2), bytes(2)
+    said, left = scratch(fitrec, lambda here: here.replayed(ride))
+    yield "the torn pair: without checksums", differs((said[0], *left), (0, data, bytes(unchecked)))
     finished = bytes_in(finished)
     finished = finished[:14] + data[14:86] + finished[14:]
     journal = bytes_in(whole)

@@ -12,6 +12,7 @@ import time
 
 import rides
 from rides import differs
+from told import holds
 
 EXAMPLES = pathlib.Path(__file__).resolve().parent.parent / "examples"
 
@@ -23,11 +24,11 @@ def record(fitrec, folder, text, *words):
     return done.returncode, done.stdout.decode(), done.stderr.decode()
 
 
-def replayed(fitrec, folder, text):
+def replayed(fitrec, folder, text, *options):
     with tempfile.NamedTemporaryFile("w") as script:
         script.write(text)
         script.flush()
-        return rides.run(fitrec, "replay", script.name, folder)
+        return rides.run(fitrec, "replay", *options, script.name, folder)
 
 
 def scripts():
@@ -66,12 +67,11 @@ def as_replays(fitrec):
     """The answers and the files are those of a replay."""
     for text in scripts():
         with tempfile.TemporaryDirectory() as one, tempfile.TemporaryDirectory() as other:
-            said = replayed(fitrec, one, text)
+            said = replayed(fitrec, one, text, "--checked")
             rides_on = still_rides(said[1].splitlines())
             yield "lines: as replayed", differs(record(fitrec, other, text), as_recorded(said, text.count("\n"), rides_on))
             if not rides_on:
-                same = [(pathlib.Path(it) / "activity.fit").read_bytes() for it in (one, other)]
-                yield "lines: the same file", differs(same[0], same[1])
+                yield "lines: the same files", differs(holds(one), holds(other))
             else:
                 said = rides.run(fitrec, "repair", other)
                 yield "lines: all is committed at the end", None if said[0] == 0 else said

@@ -62,7 +62,7 @@ struct fitrec_summary {
 enum {
     FITREC_REPAIRED = 0,
     FITREC_NOTHING_RECORDED = 7, /* nothing was committed */
-    FITREC_DAMAGED = 8,          /* the two are not the files of one recording */
+    FITREC_DAMAGED = 8,          /* the two are not the files of one recording, or bytes of it have changed */
     FITREC_BAD_LENGTH = 9,       /* a length is greater than its buffer */
     FITREC_NO_CLOSING_ROOM = 10  /* the data file's buffer is too small */
 };
@@ -233,7 +233,7 @@ struct fitrec_plan {
 /* A recorder. Before fitrec_start the host sets data_size to the length of activity.fit. The other numbers are the library's. */
 struct fitrec_recorder {
     uint64_t data_size;
-    uint64_t numbers[187];
+    uint64_t numbers[188];
 };
 
 /* A recovery, a reopening or an erasing that reads the files by windows. */

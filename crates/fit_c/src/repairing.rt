@@ -4,8 +4,10 @@ ghost use Rattle.std.specs.Prelude.{◌≡◌, ◌≤◌, ◌<◌, ◌+◌, ◌�
 ghost use Rattle.fit_buffers.specs.Buffers.{story_in, counts_in, room_of};
 ghost use Rattle.fit_disk.specs.Counts.{no_calls};
 ghost use Rattle.fit_disk.specs.State.{seen_in};
+ghost use Rattle.fit_disk.specs.Story.{seen_of};
 ghost use Rattle.fit_disk.specs.declared.disk.Which.TheVariants.{Data, Journal};
 ghost use Rattle.fit_recorder.specs.Calls.Recovery.{RecoveryAnswers, IsRecoveryFault, KeepsJournal};
+ghost use Rattle.fit_recorder.specs.Files.Committed.{HasCounted};
 ghost use Rattle.fit_recorder.specs.Files.Limits.{longest_end};
 ghost use Rattle.fit_recorder.specs.Files.Settled.{IsSettled};
 ghost use Rattle.fit_recorder.specs.declared.fault.RecFault.TheVariants as faults;
@@ -52,6 +54,8 @@ pub extern "C" fn fitrec_repair(
     ensures ok { result ≡ 0
         → IsRepaired (contents_in data_bytes.old data_len.old journal_bytes.old journal_len.old)
         (contents_in data_bytes.new data_len.new journal_bytes.new journal_len.new) summary.new }
+    ensures checked { result ≡ 0
+        → HasCounted (take journal_len.old journal_bytes.old) (take data_len.new data_bytes.new) }
     ensures within { result ≡ 0 → AreWithin data_bytes.new data_len.new journal_bytes.new journal_len.new }
     ensures why { IsRefused result data_bytes.old data_len.old journal_bytes.old journal_len.old }
     ensures same { 7 ≤ result → contents_in data_bytes.new data_len.new journal_bytes.new journal_len.new
@@ -90,6 +94,8 @@ fn recovered(buffers: &mut Buffers<'_, '_>) -> Result<Summary, RecFault>
         ≤ room_of Data buffers.old }
     requires journal_room { (story_in buffers.old).now.journal_file.greatest ≤ room_of Journal buffers.old }
     ensures decides { RecoveryAnswers (seen_in (story_in buffers.old).now) (story_in buffers.new) result }
+    ensures checked { OnOk result
+        (HasCounted (seen_of Journal (story_in buffers.old)) (seen_of Data (story_in buffers.new))) }
     ensures no_device { IsErrOf result faults.Device → ⊥ }
     ensures settled { IfErr result
         (λ _. IsSettled (seen_in (story_in buffers.old).now) (story_in buffers.new)) }

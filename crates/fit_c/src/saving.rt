@@ -1,6 +1,7 @@
 // Saves the ride of a recording as a file without compressed timestamps.
 
 ghost use Rattle.std.specs.Prelude.{◌≡◌, ◌≤◌, ◌<◌, ◌+◌, ◌⊎◌, length, take};
+ghost use Rattle.fit_recorder.specs.Files.Committed.{HasCounted};
 ghost use Rattle.fit_c.specs.Repaired.{AreWithin, IsRefused, IsRepaired, contents_in};
 ghost use Rattle.fit_c.specs.Saved.{IsSaved, IsSaveCode, NeedsRoomToSave};
 
@@ -24,8 +25,7 @@ pub extern "C" fn fitrec_save(
     ensures code { IsSaveCode result }
     ensures ok { result ≡ 0
         → IsSaved (contents_in data_bytes.old data_len.old journal_bytes.old journal_len.old)
-        (take out_len.new out.new) summary.new }
-    ensures fits { result ≡ 0 → out_len.new ≤ length out.new }
+        (take out_len.new out.new) summary.new × (out_len.new ≤ length out.new) }
     ensures within { (result ≡ 0) ⊎ (20 ≤ result)
         → AreWithin data_bytes.new data_len.new journal_bytes.new journal_len.new }
     ensures no_room { result ≡ 20
@@ -34,6 +34,9 @@ pub extern "C" fn fitrec_save(
     ensures repaired { (result ≡ 0) ⊎ (20 ≤ result)
         → IsRepaired (contents_in data_bytes.old data_len.old journal_bytes.old journal_len.old)
         (contents_in data_bytes.new data_len.new journal_bytes.new journal_len.new) summary.new }
+    // The body has the checksum that the journal states, if it states one.
+    ensures checked { (result ≡ 0) ⊎ (20 ≤ result)
+        → HasCounted (take journal_len.old journal_bytes.old) (take data_len.new data_bytes.new) }
     ensures why { IsRefused result data_bytes.old data_len.old journal_bytes.old journal_len.old }
     ensures same { 7 ≤ result → result ≤ 10
         → contents_in data_bytes.new data_len.new journal_bytes.new journal_len.new

@@ -114,13 +114,15 @@ fn sums_numbers(sums: &FrozenSums) -> [u64; 11]
 }
 
 // The numbers of a recorder besides its totals, page and definitions.
-fn recorder_numbers(recorder: &FrozenRecorder) -> [u64; 10]
+fn recorder_numbers(recorder: &FrozenRecorder) -> [u64; 12]
     ensures { result ≡ recorder_numbers recorder.now }
 {
     let journal = &recorder.journal;
     [
         u64::from(journal.first),
         u64::from(journal.second),
+        u64::from(journal.first_checksum),
+        u64::from(journal.second_checksum),
         u64::from(journal.form),
         u64::from(journal.has_first),
         u64::from(journal.has_second),
@@ -133,13 +135,15 @@ fn recorder_numbers(recorder: &FrozenRecorder) -> [u64; 10]
 }
 
 // The numbers of a recovery besides its totals and definitions.
-fn reading_numbers(recovery: &FrozenRecovery) -> [u64; 11]
+fn reading_numbers(recovery: &FrozenRecovery) -> [u64; 13]
     ensures { result ≡ reading_numbers recovery.now }
 {
     let journal = &recovery.journal;
     [
         u64::from(journal.first),
         u64::from(journal.second),
+        u64::from(journal.first_checksum),
+        u64::from(journal.second_checksum),
         u64::from(journal.form),
         u64::from(journal.has_first),
         u64::from(journal.has_second),

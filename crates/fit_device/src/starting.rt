@@ -1,10 +1,12 @@
 // Start, commit and stop of a recorder in the memory of C.
 
-ghost use Rattle.std.specs.Prelude.{◌≡◌, ◌≤◌, ◌<◌, ◌↔◌, IfSome, IsSome};
+ghost use Rattle.std.specs.Prelude.{◌≡◌, ◌≤◌, ◌<◌, ◌↔◌, true, IfSome, IsSome};
 ghost use Rattle.fit_activity.specs.Rides.Frozen.{sport_in};
 ghost use Rattle.fit_device.specs.Answer.{no_sport};
 ghost use Rattle.fit_device.specs.Starts.{Starts};
 ghost use Rattle.fit_device.specs.Steps.{Commits, Stops};
+ghost use Rattle.fit_journal.specs.Turn.{are_checked};
+ghost use Rattle.fit_recorder.specs.Calls.Frozen.{state_in};
 
 use crate::answer::{NO_RECORDER, NO_SPORT, code_of, code_of_fault};
 use crate::files::Files;
@@ -26,6 +28,8 @@ pub extern "C" fn fitrec_start(
     ensures starts { sport ≤ 2
         → Starts (record { time = time; serial = serial; sport = sport_in sport })
         handle.old handle.new plan.new result }
+    // The journal has checksums.
+    ensures checked { result ≡ 0 → are_checked (state_in handle.new.recorder).journal_slots ≡ true }
     ensures no_sport { 2 < sport → (result ≡ no_sport) × (handle.new ≡ handle.old) × (plan.new.count ≡ 0) }
 {
     let Some(sport) = sport_of(sport) else {
@@ -38,7 +42,7 @@ pub extern "C" fn fitrec_start(
         sport,
     };
     let mut recorder = Recorder::idle(handle.take_files());
-    match recorder.begin(&start) {
+    match recorder.begin(&start, true) {
         Ok(()) => {
             handle.put(&recorder, plan);
             0

@@ -12,3 +12,5 @@ mod equality;
 mod journal;
 #[cfg(test)]
 mod journal_adopted;
+#[cfg(test)]
+mod journal_checked;

@@ -7,6 +7,7 @@ ghost use Rattle.fit_disk.specs.State.{Contents, LeavesOnly};
 ghost use Rattle.fit_disk.specs.Story.{Story};
 ghost use Rattle.fit_recorder.specs.Files.NothingRecorded.{IsNothing};
 ghost use Rattle.fit_recorder.specs.Files.Body.{StandsFor};
+ghost use Rattle.fit_recorder.specs.Files.Committed.{HasCounted};
 ghost use Rattle.fit_recorder.specs.Calls.Recorder.{StandsAt, disk_of};
 ghost use Rattle.fit_recorder.specs.Calls.Recovery.{RecoveryAnswers, RecoversList};
 ghost use Rattle.fit_recorder.specs.declared.fault.RecFault.{RecFault};
@@ -29,6 +30,12 @@ pub fn what_stands_is_recovered()
     ensures { (list : List Recorded) (contents : Contents) (story : Story) (result : Result Summary RecFault)
         → StandsFor list contents
         → RecoveryAnswers contents story result → (result ≡ Err Device) ⊎ RecoversList list story result }
+{}
+
+/// If the files stand for a recording, its body has the checksum that the journal states, if it states one.
+pub fn what_stands_has_its_checksum()
+    ensures { (list : List Recorded) (contents : Contents) → StandsFor list contents
+        → HasCounted contents.in_journal contents.in_data }
 {}
 
 /// Whatever a power cut leaves of a recorder's disk stands for the committed entries.

@@ -21,8 +21,9 @@ abbrev pub IsAskedBy : List ℕ → Found → Request → Type 0
 IsAskedBy name found (Show file utc json) =
     (name ≡ codes "show") × IsWord found (codes "FILE") file × IsFlag found (codes "utc") utc × IsFlag found (codes "json") json
 IsAskedBy name found (Check file) = (name ≡ codes "check") × IsWord found (codes "FILE") file
-IsAskedBy name found (Replay script folder) =
+IsAskedBy name found (Replay script folder checked) =
     (name ≡ codes "replay") × IsWord found (codes "SCRIPT") script × IsWord found (codes "FOLDER") folder
+    × IsFlag found (codes "checked") checked
 IsAskedBy name found (Record folder every) =
     (name ≡ codes "record") × IsWord found (codes "FOLDER") folder × (option_map (λ word. word.now) every ≡ first_value found (codes "commit"))
 IsAskedBy name found (Save folder to) = (name ≡ codes "save") × IsWord found (codes "FOLDER") folder × IsWord found (codes "OUT") to
@@ -32,6 +33,7 @@ IsAskedBy name found (Salvage file to all plain) =
     (name ≡ codes "salvage") × IsWord found (codes "IN") file × IsWord found (codes "OUT") to
     × IsFlag found (codes "all") all × IsFlag found (codes "plain") plain
 IsAskedBy name found (Plain file to) = (name ≡ codes "plain") × IsWord found (codes "IN") file × IsWord found (codes "OUT") to
-IsAskedBy name found (Simulate script choices) =
+IsAskedBy name found (Simulate script choices checked) =
     (name ≡ codes "simulate") × IsWord found (codes "SCRIPT") script × (choices.now ≡ unwrap_or (first_value found (codes "choices")) [])
+    × IsFlag found (codes "checked") checked
 IsAskedBy name found Version = name ≡ codes "version"

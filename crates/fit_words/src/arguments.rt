@@ -48,6 +48,13 @@ pub(crate) fn commit_option<'a>(alloc: Global) -> Arg<'a> {
         .action(ArgAction::Set)
 }
 
+pub(crate) fn checked_option<'a>(alloc: Global) -> Arg<'a> {
+    Arg::new(alloc, "checked")
+        .long("checked")
+        .help("Stores a checksum with each commit, so that changed bytes are noticed")
+        .action(ArgAction::SetTrue)
+}
+
 pub(crate) fn choices_option<'a>(alloc: Global) -> Arg<'a> {
     Arg::new(alloc, "choices")
         .long("choices")

@@ -20,6 +20,7 @@ pub enum Request<'a> {
     Replay {
         script: &'a str,
         folder: &'a str,
+        checked: bool,
     },
     Record {
         folder: &'a str,
@@ -47,6 +48,7 @@ pub enum Request<'a> {
     Simulate {
         script: &'a str,
         choices: &'a str,
+        checked: bool,
     },
     Version,
 }
@@ -73,6 +75,7 @@ fn request_of<'a>(name: &str, matches: &ArgMatches<'a>) -> Option<Request<'a>>
         "replay" => Some(Request::Replay {
             script: matches.get_str("SCRIPT")?,
             folder: matches.get_str("FOLDER")?,
+            checked: matches.get_flag("checked"),
         }),
         "record" => Some(Request::Record {
             folder: matches.get_str("FOLDER")?,
@@ -99,6 +102,7 @@ fn request_of<'a>(name: &str, matches: &ArgMatches<'a>) -> Option<Request<'a>>
         "simulate" => Some(Request::Simulate {
             script: matches.get_str("SCRIPT")?,
             choices: matches.get_str("choices").unwrap_or(""),
+            checked: matches.get_flag("checked"),
         }),
         "version" => Some(Request::Version),
         _ => None,

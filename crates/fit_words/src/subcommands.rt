@@ -1,8 +1,9 @@
 // The subcommands, and the words that each takes.
 
 use crate::arguments::{
-    all_option, choices_option, commit_option, file_argument, folder_argument, in_argument,
-    json_option, out_argument, plain_option, script_argument, utc_option, verify_option,
+    all_option, checked_option, choices_option, commit_option, file_argument, folder_argument,
+    in_argument, json_option, out_argument, plain_option, script_argument, utc_option,
+    verify_option,
 };
 use clap::{Command, Error};
 use std::alloc::Global;
@@ -74,6 +75,7 @@ fn replay_command<'a>(alloc: Global) -> Result<Command<'a>, Error> {
     Ok(
         Command::new(alloc, "replay")
             .about("Records a ride into a folder, as a script tells it")
+            .arg(checked_option(alloc))?
             .arg(script_argument(alloc))?
             .arg(folder_argument(alloc))?,
     )
@@ -140,6 +142,7 @@ fn simulate_command<'a>(alloc: Global) -> Result<Command<'a>, Error> {
             .about(
                 "Runs a script over a disk in memory, whose calls fail and whose power goes where it says so",
             )
+            .arg(checked_option(alloc))?
             .arg(choices_option(alloc))?
             .arg(script_argument(alloc))?,
     )

@@ -16,19 +16,19 @@ impl<D: Disk> Ride<D> {
     ghost use Rattle.fit_world.specs.Rides.Goes.{Goes};
 
     /// Runs a command, and returns the ride after it and the reply. The command may not be `Fail`, `Cut` or `Power`.
-    pub fn ask(mut self, command: &Command) -> (Ride<D>, Reply)
+    pub fn ask(mut self, command: &Command, checked: bool) -> (Ride<D>, Reply)
         requires goes_on { CanGoOn D.honest D.story self }
         requires replayed { is_simulated command.now ≡ false }
         ensures goes_on { CanGoOn D.honest D.story result.0 }
         ensures reply { MayReply (is_riding self) command.now result.1 }
         ensures riding { is_riding result.0 ≡ rides_on (is_riding self) command.now result.1 }
-        ensures rides { Rides command.now result.1 self result.0 }
+        ensures rides { Rides checked command.now result.1 self result.0 }
         ensures goes { IsTrue D.honest → Goes D.honest D.story command.now result.1 self result.0 }
         ensures never_full { StaysNeverFull D.honest D.story self result.1 result.0 }
         ensures called { Called D.log result.1 self result.0 }
     {
         match command {
-            Command::Start(start) => self.start(*start),
+            Command::Start(start) => self.start(*start, checked),
             Command::Entry(Entry::Stop(time)) => self.stop(*time),
             Command::Entry(entry) => {
                 let reply = self.hand(entry);

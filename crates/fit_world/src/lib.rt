@@ -8,7 +8,7 @@
 //! `simulate` runs a script over the memory disk, whose failures and power cuts the script arranges. For example,
 //!
 //!     let events = read_script(alloc, b"start 1000000000 7 running\nstop 1000000001\n")?;
-//!     let (disk, played) = play(Memory::new(alloc), events.as_slice(), &mut out);
+//!     let (disk, played) = play(Memory::new(alloc), events.as_slice(), false, &mut out);
 //!     assert_eq!(rt; played, Ok(0));
 //!     check_bytes(alloc, disk.content(Which::Data), &mut out)?;
 //!

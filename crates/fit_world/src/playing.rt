@@ -16,10 +16,12 @@ use fit_text::Pen;
 use std::io::Write;
 
 /// Runs the events over a disk, and prints the reply to each before it runs the next. Returns the disk and the number of replies
-/// that were not ok. If the output fails, the event whose line it refused was run, and none after it.
+/// that were not ok. If the output fails, the event whose line it refused was run, and none after it. A start makes a checked
+/// journal or another.
 pub fn play<D: Disk, O: Write>(
     disk: D,
     events: &[Event],
+    checked: bool,
     out: &mut O,
 ) -> (D, Result<usize, ReportFault>)
     requires { All IsReplayed events.now }
@@ -33,7 +35,7 @@ pub fn play<D: Disk, O: Write>(
     ensures fault { IfErr result.1 IsOutputFault }
 {
     let mut pen = Pen::new(out);
-    let played = play_by(disk, events, &mut pen);
+    let played = play_by(disk, events, checked, &mut pen);
     let _ = pen.into_writer();
     played
 }
@@ -42,6 +44,7 @@ pub fn play<D: Disk, O: Write>(
 fn play_by<D: Disk, O: Write>(
     disk: D,
     events: &[Event],
+    checked: bool,
     pen: &mut Pen<'_, O>,
 ) -> (D, Result<usize, ReportFault>)
     requires replayed { All IsReplayed events.now }
@@ -58,7 +61,7 @@ fn play_by<D: Disk, O: Write>(
     let mut ride = Ride::Idle(disk);
     let mut refused = 0;
     for event in events {
-        let (next, reply) = ride.ask(&event.command);
+        let (next, reply) = ride.ask(&event.command, checked);
         ride = next;
         if let Err(fault) = print(&ReplyLine { event, reply }, pen) {
             return (ride.into_disk(), Err(fault));

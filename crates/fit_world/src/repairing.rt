@@ -6,8 +6,12 @@ ghost use Rattle.fit_activity.specs.declared.activity.Summary.{Summary as AnySum
 ghost use Rattle.fit_disk.specs.Counts.{HasFailed};
 ghost use Rattle.fit_disk.specs.Runs.{Ran};
 ghost use Rattle.fit_disk.specs.State.{seen_in};
+ghost use Rattle.fit_disk.specs.Story.{seen_of};
+ghost use Rattle.fit_disk.specs.declared.disk.Which.TheVariants.{Data};
+ghost use Rattle.fit_journal.specs.Moments.{journal_in};
 ghost use Rattle.fit_recorder.specs.Calls.Recovery.{InRecovery, IsRecoveryFault, RecoveryAnswers};
 ghost use Rattle.fit_recorder.specs.Calls.Counts.{recovery_calls, most_body_reads};
+ghost use Rattle.fit_recorder.specs.Files.Committed.{HasCounted};
 ghost use Rattle.fit_recorder.specs.Files.Settled.{IsSettled};
 ghost use Rattle.fit_recorder.specs.declared.fault.RecFault.TheVariants as recording;
 ghost use Rattle.fit_recorder.specs.declared.fault.RecFault.{RecFault as AnyRecFault};
@@ -52,6 +56,9 @@ pub fn repair<D: Disk, O: Write>(disk: &mut D, out: &mut O) -> Result<(), Repair
     ensures repaired { IsTrue D.honest
         → Repairs (seen_in (D.story disk.old).now) (D.story disk.new) (O.contents out.old)
         (O.contents out.new) result }
+    // Whatever bytes the files had: the body has the checksum that the journal states, if it states one.
+    ensures checked { IsTrue D.honest
+        → OnOk result (HasCounted (journal_in (D.story disk.old)) (seen_of Data (D.story disk.new))) }
     ensures fault { IfErr result IsRepairFault }
     // At each moment, and if it was not recovered, the files are as a recovery leaves them.
     ensures any_moment { IsTrue D.honest → InRecovery (D.story disk.old) (D.story disk.new) }
@@ -74,6 +81,9 @@ pub fn repair_and_read<D: Disk, O: Write>(disk: &mut D, out: &mut O) -> Result<(
     ensures repaired { IsTrue D.honest
         → Repairs (seen_in (D.story disk.old).now) (D.story disk.new) (O.contents out.old)
         (O.contents out.new) result }
+    // Whatever bytes the files had: the body has the checksum that the journal states, if it states one.
+    ensures checked { IsTrue D.honest
+        → OnOk result (HasCounted (journal_in (D.story disk.old)) (seen_of Data (D.story disk.new))) }
     ensures fault { IfErr result IsRepairFault }
     // At each moment, and if it was not recovered, the files are as a recovery leaves them.
     ensures any_moment { IsTrue D.honest → InRecovery (D.story disk.old) (D.story disk.new) }
@@ -94,6 +104,8 @@ pub fn repair_and_read<D: Disk, O: Write>(disk: &mut D, out: &mut O) -> Result<(
 fn recover_and_read<D: Disk>(disk: &mut D) -> Result<Summary, RecFault>
     ensures decides { IsTrue D.honest
         → RecoveryAnswers (seen_in (D.story disk.old).now) (D.story disk.new) result }
+    ensures checked { IsTrue D.honest
+        → OnOk result (HasCounted (journal_in (D.story disk.old)) (seen_of Data (D.story disk.new))) }
     ensures any_moment { IsTrue D.honest → InRecovery (D.story disk.old) (D.story disk.new) }
     ensures settled { IsTrue D.honest → IfErr result (λ fault. (fault ≡ recording.Device)
         ⊎ IsSettled (seen_in (D.story disk.old).now) (D.story disk.new)) }

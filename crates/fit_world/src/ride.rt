@@ -1,6 +1,6 @@
 // A recording over its disk, with a recorder that runs or without one.
 
-ghost use Rattle.std.specs.Prelude.{◌≡◌, ◌≢◌, ◌↔◌, ◌++◌, ◌∷◌, [], true, false, Some, None, IsTrue};
+ghost use Rattle.std.specs.Prelude.{◌≡◌, ◌≢◌, ◌↔◌, ◌++◌, ◌∷◌, [], true, false, None, IsTrue};
 ghost use Rattle.fit_world.specs.declared.command.Command.TheVariants as commands;
 
 use crate::reply::Reply;
@@ -33,19 +33,22 @@ impl<D: Disk> Ride<D> {
     ghost use Rattle.fit_world.specs.declared.reply.Reply.TheVariants.{Done, Refused};
     ghost use Rattle.fit_world.specs.Histories.Table.{History, ended};
     ghost use Rattle.fit_world.specs.Rides.Replies.{Replies, outlives_stop, RepliesStart, RepliesRecovery, RepliesReopening, RepliesErasing, is_ok};
-    ghost use Rattle.fit_world.specs.Rides.Ride.{CanGoOn, Handed, Called, Answered, disk_in, is_riding, encoded_len, slots_of};
+    ghost use Rattle.fit_world.specs.Rides.Ride.{CanGoOn, Handed, Called, Answered, disk_in, is_riding, encoded_checksum, encoded_len, slots_of};
     ghost use Rattle.fit_world.specs.Rides.NeverFull.{NeverFull, StaysNeverFull};
     ghost use Rattle.fit_world.specs.Rides.Goes.{Goes};
     ghost use Rattle.fit_world.specs.Rides.Standing.{StandsIn, GoesBy, Rests};
     ghost use Rattle.fit_world.specs.Rides.Left.{LeftBy};
     ghost use Rattle.fit_recorder.specs.Files.NeverFull.{NeverFills};
 
-    /// Ends the recorder that runs, if one does, and begins a recording. If the reply is not `Done`, no recorder runs.
-    pub fn start(self, start: Start) -> (Ride<D>, Reply)
+    /// Ends the recorder that runs, if one does, and begins a recording, with a checked journal or another. If the reply is not
+    /// `Done`, no recorder runs.
+    pub fn start(self, start: Start, checked: bool) -> (Ride<D>, Reply)
         ensures goes_on { CanGoOn D.honest D.story result.0 }
         ensures replies { RepliesStart start result.1 }
         ensures handed { result.1 ≡ Done → Handed result.0 (Started start ∷ []) }
-        ensures made { result.1 ≡ Done → slots_of result.0 ≡ InTurns (Some (encoded_len result.0)) None }
+        ensures made { result.1 ≡ Done → slots_of result.0
+            ≡ committed_slots (InTurns checked None None)
+            (encoded_len result.0) (encoded_checksum result.0) }
         ensures not_empty { IsTrue D.honest → result.1 ≡ Refused NotEmpty
             → seen_of Data (D.story (disk_in self)) ≢ [] }
         ensures riding { is_riding result.0 ≡ is_ok result.1 }
@@ -53,7 +56,7 @@ impl<D: Disk> Ride<D> {
         ensures never_full { StaysNeverFull D.honest D.story self result.1 result.0 }
         ensures called { Called D.log result.1 self result.0 }
     {
-        match Recorder::start(self.into_disk(), start) {
+        match Recorder::start_with(self.into_disk(), start, checked) {
             Ok(recorder) => (Ride::Riding(recorder), Reply::Done),
             Err((disk, fault)) => (Ride::Idle(disk), Reply::Refused(fault)),
         }
@@ -87,7 +90,8 @@ impl<D: Disk> Ride<D> {
         ensures handed { (list : List Recorded) → Handed self.old list → result ≡ Done
             → Handed self.new list }
         ensures made { result ≡ Done
-            → slots_of self.new ≡ committed_slots (slots_of self.old) (encoded_len self.old) }
+            → slots_of self.new
+            ≡ committed_slots (slots_of self.old) (encoded_len self.old) (encoded_checksum self.old) }
         ensures answered { Answered D.honest D.story result self.old self.new }
         ensures riding { is_riding self.new ≡ is_riding self.old }
         ensures goes { IsTrue D.honest → Goes D.honest D.story commands.Commit result self.old self.new }

@@ -1,6 +1,6 @@
 // Saves a ride from the bytes of the two files of its recording. The files themselves are not written.
 
-ghost use Rattle.std.specs.Prelude.{◌≡◌, ◌+◌, ◌≤◌, ◌<◌, ◌^◌, length, vec_len, IsErrOf, IfOk};
+ghost use Rattle.std.specs.Prelude.{◌≡◌, ◌+◌, ◌≤◌, ◌<◌, ◌^◌, length, vec_len, IsErrOf, IfOk, OnOk};
 ghost use Rattle.fit_buffers.specs.Buffers.{story_in, counts_in, room_of};
 ghost use Rattle.fit_disk.specs.Counts.{no_calls};
 ghost use Rattle.fit_disk.specs.State.{seen_in};
@@ -9,6 +9,7 @@ ghost use Rattle.fit_grammar.specs.Calls.Output.{WritesText};
 ghost use Rattle.fit_grammar.specs.Format.Encoding.{encoded};
 ghost use Rattle.fit_grammar.specs.Format.File.{FileOf};
 ghost use Rattle.fit_recorder.specs.Calls.Recovery.{RecoveryAnswers};
+ghost use Rattle.fit_recorder.specs.Files.Committed.{HasCounted};
 ghost use Rattle.fit_recorder.specs.Files.Limits.{longest_end};
 ghost use Rattle.fit_recorder.specs.declared.fault.RecFault.TheVariants as recording;
 ghost use Rattle.fit_world.specs.Printed.Saved.{FinishesRide, SavesRide};
@@ -46,7 +47,10 @@ pub fn save_ride(
     data_bytes: Vec<u8>,
     journal_bytes: Vec<u8>,
 ) -> Result<SavedRide, SaveFault>
-    ensures { SavesRide (record { in_data = data_bytes.items; in_journal = journal_bytes.items }) result }
+    ensures saved { SavesRide
+        (record { in_data = data_bytes.items; in_journal = journal_bytes.items }) result }
+    // The body has the checksum that the journal states, if it states one.
+    ensures checked { OnOk result (HasCounted journal_bytes.items data_bytes.items) }
 {
     let (file, summary) = match finished_of(alloc, data_bytes, journal_bytes) {
         Ok(finished) => finished,

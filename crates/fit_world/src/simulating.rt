@@ -48,11 +48,13 @@ impl SimulateFault {
 }
 
 /// Runs the events of a script over two empty files, and then prints the reply to each. The choice bytes decide what a power cut
-/// leaves of the files. Each power cut takes the bytes after those of the one before it. Missing bytes are 0.
+/// leaves of the files. Each power cut takes the bytes after those of the one before it. Missing bytes are 0. A start makes a
+/// checked journal or another.
 pub fn simulate<O: Write>(
     alloc: Global,
     bytes: &[u8],
     choices: &[u8],
+    checked: bool,
     out: &mut O,
 ) -> Result<(), SimulateFault>
     ensures { Simulates choices.now (O.contents out.old) (O.contents out.new) bytes.now result }
@@ -64,7 +66,7 @@ pub fn simulate<O: Write>(
         Ok(events) => events,
         Err(fault) => return Err(SimulateFault::Script(fault)),
     };
-    let Ok(replies) = run_for_replies(alloc, events.as_slice(), choices) else {
+    let Ok(replies) = run_for_replies(alloc, events.as_slice(), choices, checked) else {
         return Err(SimulateFault::NoMemory);
     };
     match print_replies(events.as_slice(), replies.as_slice(), out) {

@@ -33,9 +33,25 @@ pub fn run(alloc: Global, events: &[Event], choices: &[u8]) -> Result<Vec<Answer
         FollowsChoices choices.now events.now (map outcome_in answers.items)) }
     ensures never_full { IfOk result (λ answers. NoneFull (map outcome_in answers.items)) }
 {
+    run_with(alloc, events, choices, false)
+}
+
+/// The same, with a checked journal at each start or another.
+pub fn run_with(
+    alloc: Global,
+    events: &[Event],
+    choices: &[u8],
+    checked: bool,
+) -> Result<Vec<Answer>, NoMemory>
+    requires { All (λ event. CanRun event.command) events.now }
+    ensures history { IfOk result (λ answers. IsHistory events.now (map outcome_in answers.items)) }
+    ensures follows { IfOk result (λ answers.
+        FollowsChoices choices.now events.now (map outcome_in answers.items)) }
+    ensures never_full { IfOk result (λ answers. NoneFull (map outcome_in answers.items)) }
+{
     let kept = Vec::new(alloc);
     let mut answers = Answers { alloc, kept };
-    run_for(alloc, events, choices, &mut answers)?;
+    run_for(alloc, events, choices, checked, &mut answers)?;
     Ok(answers.kept)
 }
 
@@ -44,6 +60,7 @@ pub fn run_for_replies(
     alloc: Global,
     events: &[Event],
     choices: &[u8],
+    checked: bool,
 ) -> Result<Vec<Reply>, NoMemory>
     requires { All (λ event. CanRun event.command) events.now }
     ensures history { IfOk result (λ replies. (outcomes : List Outcome) × IsHistory events.now outcomes
@@ -55,7 +72,7 @@ pub fn run_for_replies(
 {
     let kept = Vec::new(alloc);
     let mut replies = Replies { kept };
-    run_for(alloc, events, choices, &mut replies)?;
+    run_for(alloc, events, choices, checked, &mut replies)?;
     Ok(replies.kept)
 }
 
@@ -64,6 +81,7 @@ fn run_for<K: Keeper>(
     alloc: Global,
     events: &[Event],
     mut choices: &[u8],
+    checked: bool,
     keeper: &mut K,
 ) -> Result<(), NoMemory>
     requires can { All (λ event. CanRun event.command) events.now }
@@ -73,7 +91,7 @@ fn run_for<K: Keeper>(
 {
     let mut ride = Ride::Idle(Memory::new(alloc));
     for event in events {
-        let (next, reply, taken) = step(ride, &event.command, choices);
+        let (next, reply, taken) = step(ride, &event.command, choices, checked);
         ride = next;
         choices = &choices[taken..];
         if ride.spent() {

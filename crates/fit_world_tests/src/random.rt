@@ -387,9 +387,9 @@ fn replayed_lines(alloc: Global, script: &str) -> Result<String, AllocError> {
 fn try_replay(rt: &impl Abort, alloc: Global, script: &str) -> Result<(), Fail> {
     let events = read_script(alloc, script.as_bytes())?;
     let mut replayed = Vec::new(alloc);
-    let (disk, played) = play(Memory::new(alloc), events.as_slice(), &mut replayed);
+    let (disk, played) = play(Memory::new(alloc), events.as_slice(), false, &mut replayed);
     let mut simulated = Vec::new(alloc);
-    simulate(alloc, script.as_bytes(), &[], &mut simulated)?;
+    simulate(alloc, script.as_bytes(), &[], false, &mut simulated)?;
     let (file, answers) = direct::play(alloc, events.as_slice(), &[])?;
     let refused = answers
         .iter()

@@ -19,7 +19,7 @@ const TWO_COMMITS_ANSWERS: &str =
 pub fn stopped_ride(rt: &HostRuntime) -> Result<Vec<u8>, Fail> {
     let mut out = Vec::new(rt.alloc());
     let events = read_script(rt.alloc(), b"start 1000000000 7 running\nstop 1000000001\n")?;
-    let (disk, _) = play(Memory::new(rt.alloc()), events.as_slice(), &mut out);
+    let (disk, _) = play(Memory::new(rt.alloc()), events.as_slice(), false, &mut out);
     Ok(Vec::from_slice(rt.alloc(), disk.content(Which::Data))?)
 }
 
@@ -28,7 +28,7 @@ fn the_example_of_the_crate(rt: HostRuntime) -> Result<(), Fail> {
     let alloc = rt.alloc();
     let mut out = Vec::new(alloc);
     let events = read_script(alloc, b"start 1000000000 7 running\nstop 1000000001\n")?;
-    let (disk, played) = play(Memory::new(alloc), events.as_slice(), &mut out);
+    let (disk, played) = play(Memory::new(alloc), events.as_slice(), false, &mut out);
     equal(&rt, played, Ok(0));
     check_bytes(alloc, disk.content(Which::Data), &mut out)?;
     let text =
@@ -45,7 +45,7 @@ fn a_stopped_ride_is_erased_and_another_begins(rt: HostRuntime) -> Result<(), Fa
         "1 start: ok\n2 stop: ok\n3 start: NotEmpty\n4 erase: ok\n5 restart: ok\n6 start: ok\n7 sample: ok\n8 recover: ok records=0 laps=1 sessions=1 start=1000000002 elapsed_ms=0 timer_ms=0 distance_cm=-\n";
     let mut out = Vec::new(rt.alloc());
     let events = read_script(rt.alloc(), script.as_bytes())?;
-    let (_, played) = play(Memory::new(rt.alloc()), events.as_slice(), &mut out);
+    let (_, played) = play(Memory::new(rt.alloc()), events.as_slice(), false, &mut out);
     equal(&rt, played, Ok(1));
     equal(&rt, out.as_slice(), text.as_bytes());
     Ok(())
@@ -56,7 +56,7 @@ fn keeps(rt: &HostRuntime, out: &mut Failing, records: u32) -> bool {
     let Ok(events) = read_script(rt.alloc(), TWO_COMMITS.as_bytes()) else {
         return false;
     };
-    let (mut disk, played) = play(Memory::new(rt.alloc()), events.as_slice(), out);
+    let (mut disk, played) = play(Memory::new(rt.alloc()), events.as_slice(), false, out);
     let text = TWO_COMMITS_ANSWERS.as_bytes();
     let outcome = match played {
         Ok(refused) => refused == 0 && out.held.as_slice() == text,
@@ -124,7 +124,7 @@ fn a_replay_states_that_memory_is_refused(rt: HostRuntime) -> Result<(), AllocEr
     let mut out = Vec::with_capacity(rt.alloc(), 256)?;
     match read_script(rt.alloc(), TWO_COMMITS.as_bytes()) {
         Ok(events) => {
-            let (disk, played) = play(Memory::new(rt.alloc()), events.as_slice(), &mut out);
+            let (disk, played) = play(Memory::new(rt.alloc()), events.as_slice(), false, &mut out);
             let all = out.as_slice() == TWO_COMMITS_ANSWERS.as_bytes();
             assert!(rt; disk.spent() != (played == Ok(0)) && disk.spent() != all);
         }

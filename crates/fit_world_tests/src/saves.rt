@@ -15,7 +15,12 @@ const RIDE: &[u8] =
 fn a_saved_ride_is_the_plain_form_of_a_repaired_one(rt: HostRuntime) -> Result<(), Fail> {
     let events = read_script(rt.alloc(), RIDE).expect(&rt, "a script");
     let mut outcome = Vec::new(rt.alloc());
-    let (mut disk, _) = play(Memory::new(rt.alloc()), events.as_slice(), &mut outcome);
+    let (mut disk, _) = play(
+        Memory::new(rt.alloc()),
+        events.as_slice(),
+        false,
+        &mut outcome,
+    );
     let data_bytes = disk.content(Which::Data).to_vec(rt.alloc())?;
     let journal_bytes = disk.content(Which::Journal).to_vec(rt.alloc())?;
     let saved = save_ride(rt.alloc(), data_bytes, journal_bytes).expect(&rt, "a ride");

@@ -18,7 +18,7 @@ const CHOICES: [u8; 9] = [0, 0, 0, 0, 0, 0, 0, 0, 0xA5];
 #[test]
 fn a_simulation_is_reported(rt: HostRuntime) -> Result<(), Fail> {
     let mut out = Vec::new(rt.alloc());
-    simulate(rt.alloc(), CUT_OFF.as_bytes(), &CHOICES, &mut out)?;
+    simulate(rt.alloc(), CUT_OFF.as_bytes(), &CHOICES, false, &mut out)?;
     equal(&rt, out.as_slice(), CUT_OFF_ANSWERS.as_bytes());
     Ok(())
 }
@@ -29,7 +29,7 @@ fn a_simulation_states_where_its_output_fails(rt: HostRuntime) {
     let text = CUT_OFF_ANSWERS.as_bytes();
     for calls in 0..20 {
         let mut out = Failing::new(rt.alloc(), 10, calls);
-        match simulate(rt.alloc(), CUT_OFF.as_bytes(), &CHOICES, &mut out) {
+        match simulate(rt.alloc(), CUT_OFF.as_bytes(), &CHOICES, false, &mut out) {
             Ok(()) => assert_eq!(rt; out.held.as_slice(), text, "{calls}"),
             Err(fault) => {
                 assert_eq!(rt; fault, SimulateFault::Output, "{calls}");
@@ -39,7 +39,7 @@ fn a_simulation_states_where_its_output_fails(rt: HostRuntime) {
     }
     let mut kept = Failing::new(rt.alloc(), usize::MAX, usize::MAX);
     kept.flushes = 0;
-    let done = simulate(rt.alloc(), CUT_OFF.as_bytes(), &CHOICES, &mut kept);
+    let done = simulate(rt.alloc(), CUT_OFF.as_bytes(), &CHOICES, false, &mut kept);
     equal(&rt, done, Err(SimulateFault::Output));
     equal(&rt, kept.held.as_slice(), text);
 }
@@ -54,7 +54,7 @@ fn a_script_that_is_not_simulated(rt: HostRuntime) {
     ];
     for (bytes, code) in cases {
         let mut out = Vec::new(rt.alloc());
-        match simulate(rt.alloc(), bytes, &CHOICES, &mut out) {
+        match simulate(rt.alloc(), bytes, &CHOICES, false, &mut out) {
             Ok(()) => assert!(rt; false, "{bytes:?}"),
             Err(fault) => assert_eq!(rt; (fault.code(), out.len()), (code, 0), "{bytes:?}"),
         }
@@ -65,7 +65,7 @@ fn a_script_that_is_not_simulated(rt: HostRuntime) {
 #[test]
 fn a_simulation_states_that_memory_is_refused(rt: HostRuntime) -> Result<(), AllocError> {
     let mut out = Vec::with_capacity(rt.alloc(), 256)?;
-    match simulate(rt.alloc(), CUT_OFF.as_bytes(), &CHOICES, &mut out) {
+    match simulate(rt.alloc(), CUT_OFF.as_bytes(), &CHOICES, false, &mut out) {
         Ok(()) => equal(&rt, out.as_slice(), CUT_OFF_ANSWERS.as_bytes()),
         Err(fault) => {
             assert!(rt; fault.code() == 2 || fault == SimulateFault::NoMemory);

@@ -22,7 +22,7 @@ fn ridden(rt: &HostRuntime, folder: &str, out: &mut Vec<u8>) -> Result<Files<Sha
     fs::create_dir(rt, folder)?;
     let files = Files::open(rt, folder, Shadow::holding(rt.alloc(), b"", b"")?)?;
     let events = read_script(rt.alloc(), RIDE)?;
-    let (files, _) = play(files, events.as_slice(), out);
+    let (files, _) = play(files, events.as_slice(), false, out);
     Ok(files)
 }
 

@@ -66,9 +66,13 @@ pub fn command<S: AsStr, O: Write, E: Write>(
             },
         ) => status(show_as_json(rt, file, utc, out), err),
         Ok(Request::Check { file }) => status(check_file(rt, file, out), err),
-        Ok(Request::Replay { script, folder }) => {
-            status(replay_script(rt, script, folder, out), err)
-        }
+        Ok(
+            Request::Replay {
+                script,
+                folder,
+                checked,
+            },
+        ) => status(replay_script(rt, script, folder, checked, out), err),
         Ok(Request::Record { folder, every }) => record_chosen(rt, folder, every, out, err),
         Ok(Request::Save { folder, to }) => status(save_folder(rt, folder, to, out), err),
         Ok(
@@ -95,7 +99,13 @@ pub fn command<S: AsStr, O: Write, E: Write>(
             status(done, err)
         }
         Ok(Request::Plain { file, to }) => status(make_plain(rt, file, to, out), err),
-        Ok(Request::Simulate { script, choices }) => simulate_chosen(rt, script, choices, out, err),
+        Ok(
+            Request::Simulate {
+                script,
+                choices,
+                checked,
+            },
+        ) => simulate_chosen(rt, script, choices, checked, out, err),
         Ok(Request::Version) => status(print_version(out), err),
         Err(refusal) => refused(refusal, err),
     }
@@ -128,13 +138,17 @@ fn simulate_chosen<O: Write, E: Write>(
     rt: &HostRuntime,
     script: &str,
     choices: &str,
+    checked: bool,
     out: &mut O,
     err: &mut E,
 ) -> u8
     ensures { result ≤ 2 }
 {
     match read_choices(rt.alloc(), choices) {
-        Ok(Some(bytes)) => status(simulate_script(rt, script, bytes.as_slice(), out), err),
+        Ok(Some(bytes)) => {
+            let done = simulate_script(rt, script, bytes.as_slice(), checked, out);
+            status(done, err)
+        }
         Ok(None) => match no_choices(rt.alloc(), choices) {
             Ok(refusal) => refused(refusal, err),
             Err(refusal) => refused(refusal, err),

@@ -28,7 +28,7 @@ pub not_nothing : (list : List Recorded) (contents : Contents) → StandsFor lis
 not_nothing list contents stands nothing =
     let long = stands.commits.in_data.long in
     ⊎_elim (λ empty. let none : length contents.in_data ≡ 0 = ap (λ (bytes : List ℕ). length bytes) empty in omega (arith, long, none))
-    (λ none. let clash : Length (length stands.body) ≡ Nothing = sym stands.commits.counts ∙ none in absurd cc) nothing
+    (λ none. let clash : Length (length stands.body) stands.commits.counts.checksum ≡ Nothing = sym stands.commits.counts.is ∙ none in absurd cc) nothing
 
 pub is_recovered : (list : List Recorded) (contents : Contents) (story : Story) (result : Result Summary RecFault) → StandsFor list contents → RecoveryAnswers contents story result
     → (result ≡ Err Device) ⊎ RecoversList list story result

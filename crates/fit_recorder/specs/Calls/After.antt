@@ -1,5 +1,5 @@
 -- What holds after a call of a recorder, of the recorder before and after it.
-use Rattle.std.specs.Prelude.{◌≡◌, ◌⊎◌, ℕ, ◌+◌, ◌<◌, ◌≤◌, Bool, true, false, IsTrue, List, [], ◌∷◌, ◌++◌, take, Some, None, Result, OnOk, IfErr, IsErrOf}
+use Rattle.std.specs.Prelude.{◌≡◌, ◌⊎◌, ℕ, ◌+◌, ◌<◌, ◌≤◌, Bool, true, false, IsTrue, List, [], ◌∷◌, ◌++◌, take, None, Result, OnOk, IfErr, IsErrOf}
 use Rattle.fit_activity.specs.declared.recording.entry.Entry.{Entry}
 use Rattle.fit_activity.specs.Rides.Recording.{Recorded, Added}
 use Rattle.fit_disk.specs.declared.disk.Which.TheVariants.{Data}
@@ -9,7 +9,8 @@ use Rattle.fit_disk.specs.State.{Contents}
 use Rattle.fit_disk.specs.Story.{Story, Throughout, seen_of}
 use Rattle.fit_journal.specs.declared.slots.Slots.TheVariants.{InTurns}
 use Rattle.fit_journal.specs.Moments.{KeepsHead}
-use Rattle.fit_recorder.specs.Calls.Recorder.{StandsAt, AtEach, WasHanded, GoesOn, disk_of, has_failed, data_len, waiting, journal_slots}
+use Rattle.fit_journal.specs.Turn.{committed_slots}
+use Rattle.fit_recorder.specs.Calls.Recorder.{StandsAt, AtEach, WasHanded, GoesOn, disk_of, has_failed, data_len, data_checksum, waiting, journal_slots}
 use Rattle.fit_recorder.specs.Files.Header.{recorded_header}
 use Rattle.fit_recorder.specs.Files.Limits.{header_length, page_size}
 use Rattle.fit_recorder.specs.declared.fault.RecFault.{RecFault}
@@ -26,11 +27,12 @@ module _ {D : Type 0} where
     pub gone : IsErrOf result Device → has_failed new ≡ true
     pub same : IfErr result (λ fault. (fault ≡ Device) ⊎ (new ≡ old))
 
-  -- a new recorder: the header states no records, nothing waits in the page, and the slots of the journal take turns, so it never fills
-  pub record IsNew (honest : Bool) (story : D → Story) (recorder : Recorder D) : Type 0 where
+  -- a new recorder: the header states no records, nothing waits in the page, and the start is in the first of two slots that take turns,
+  -- with its checksum if the journal is checked
+  pub record IsNew (checked honest : Bool) (story : D → Story) (recorder : Recorder D) : Type 0 where
     pub header : IsTrue honest → take header_length (seen_of Data (story (disk_of recorder))) ≡ recorded_header 0
     pub waits : waiting recorder ≡ 0
-    pub turns : journal_slots recorder ≡ InTurns (Some (data_len recorder)) None
+    pub turns : journal_slots recorder ≡ committed_slots (InTurns checked None None) (data_len recorder) (data_checksum recorder)
 
   -- it was handed this entry after its list, and the same prefix is committed
   pub record Took (honest : Bool) (story : D → Story) (e : Entry) (old new : Recorder D) : Type 0 where

@@ -6,7 +6,7 @@ use Rattle.fit_disk.specs.Story.{Story, seen_of}
 use Rattle.fit_disk.specs.declared.disk.Which.TheVariants.{Data}
 use Rattle.fit_grammar.specs.Format.Item.{Item}
 use Rattle.fit_grammar.specs.Format.Message.{Message, messages_of}
-use Rattle.fit_journal.specs.Adopting.{Adopted}
+use Rattle.fit_journal.specs.Adopting.{Adopted, checksum_in}
 use Rattle.fit_journal.specs.Frozen.{slots_in}
 use Rattle.fit_journal.specs.Slots.{row_slots}
 use Rattle.fit_journal.specs.Turn.{open_gates}
@@ -45,7 +45,7 @@ pub record ReadsOnIn (f : FrozenRecovery) (story : Story) : Type 0 where
   pub few : length messages ≤ f.at
   pub most : f.len ≤ most_records
   pub settled : IsSettled (seen_in story.now) story
-  pub committed : CommitsLength (seen_in story.now) f.len
+  pub committed : CommitsLength (seen_in story.now) f.len (checksum_in (journal_of f))
   pub adopted : Adopted (journal_of f) f.len story.now.journal_file.seen
   pub read : (body : List ℕ) → length body ≡ f.len → HasBody body (seen_of Data story)
       → (items : List Item) × AreRead (reading_in f) body items × HasHeard (replay_of f) (messages_of items)

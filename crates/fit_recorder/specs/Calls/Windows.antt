@@ -4,7 +4,7 @@ use Rattle.fit_disk.specs.Counts.{Log, last_count}
 use Rattle.fit_disk.specs.State.{seen_in}
 use Rattle.fit_disk.specs.Story.{Story, seen_of}
 use Rattle.fit_disk.specs.declared.disk.Which.TheVariants.{Data}
-use Rattle.fit_journal.specs.Adopting.{Adopted}
+use Rattle.fit_journal.specs.Adopting.{Adopted, checksum_in}
 use Rattle.fit_recorder.specs.Calls.Counts.{most_body_reads}
 use Rattle.fit_recorder.specs.Calls.Recovery.{RecoveryAnswers}
 use Rattle.fit_recorder.specs.Calls.Resume.{IsResumeFault}
@@ -26,7 +26,7 @@ CanReadOn recovery = HeardUpTo recovery.reader recovery.replay × (recovery.read
 -- both files are at rest, so many bytes of the body are committed, the journal was adopted, and some items of the body were read
 pub record ReadsOn (story : Story) (recovery : Recovery) : Type 0 where
   pub settled : IsSettled (seen_in story.now) story
-  pub committed : CommitsLength (seen_in story.now) recovery.reader.len
+  pub committed : CommitsLength (seen_in story.now) recovery.reader.len (checksum_in recovery.journal)
   pub adopted : Adopted recovery.journal recovery.reader.len story.now.journal_file.seen
   pub heard : (body : List ℕ) → length body ≡ recovery.reader.len → HasBody body (seen_of Data story)
       → HasHeardItems recovery.reader recovery.replay body

@@ -38,7 +38,7 @@ fn refused(disk: Memory) -> Option<(Memory, RecFault)> {
 }
 
 // Why a resume of this disk is refused. None if it is not refused, or if it changes anything.
-fn refusal_of(alloc: Global, disk: Memory) -> Result<Option<RecFault>, Fail> {
+pub(super) fn refusal_of(alloc: Global, disk: Memory) -> Result<Option<RecFault>, Fail> {
     let data = disk.content(Which::Data).to_vec(alloc)?;
     let journal = disk.content(Which::Journal).to_vec(alloc)?;
     let Some((disk, fault)) = refused(disk) else {

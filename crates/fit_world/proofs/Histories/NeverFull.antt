@@ -1,5 +1,5 @@
 -- The journal of a ride over files that no older recorder wrote never fills: the calls of a ride keep the mark of slots that take turns.
-use Rattle.std.proofs.Common.{◌≡◌, inl, inr, ⊎_elim, ℕ, ◌≤◌, Bool, true, false, true≢false, List, [], ◌∷◌, None, length, get_or, Result, Ok, Err, refl, sym, ◌∙◌, ap, subst, arith}
+use Rattle.std.proofs.Common.{◌≡◌, drop, inl, inr, ⊎_elim, ℕ, ◌≤◌, Bool, true, false, true≢false, List, [], ◌∷◌, None, length, get_or, Result, Ok, Err, refl, sym, ◌∙◌, ap, subst, arith}
 use Rattle.std.specs.Prelude.{IsTrue, OnOk, IfErr}
 use Rattle.std.proofs.lemmas.List.{get_or-drop}
 use Rattle.fit_activity.specs.declared.activity.Summary.{Summary}
@@ -76,10 +76,13 @@ module _ (old : Story) (sound : IsSound old.now) (before : LeavesOnly NeverFills
     pub erased_fills : Throughout (LeftOrErased old.now) old new → LeavesOnly NeverFills new.now
     erased_fills run c left = ⊎_elim (λ could. before c could) erased (at_end (LeftOrErased old.now) old new run c left)
       where
+        third : drop 1 c.in_journal ≡ drop 1 old.now.journal_file.seen → get_or c.in_journal 3 0 ≡ get_or old.now.journal_file.seen 3 0
+        third same = sym (get_or-drop 1 c.in_journal 2 0) ∙ ap (λ (rest : List ℕ). get_or rest 2 0) same ∙ get_or-drop 1 old.now.journal_file.seen 2 0
+
         erased : Erased old.now c → NeverFills c
         erased is = ⊎_elim
             (λ empty. let none = ap (λ (bytes : List ℕ). length bytes) empty in let short = is.no_longer in inl (no_bytes c.in_data (omega (arith, short, none))))
-            (λ mark. inr (sym (get_or-drop 1 c.in_journal 2 0) ∙ ap (λ (rest : List ℕ). get_or rest 2 0) is.rest ∙ get_or-drop 1 old.now.journal_file.seen 2 0 ∙ mark))
+            (λ mark. inr (⊎_elim (λ plain. inl (third is.rest ∙ plain)) (λ checked. inr (third is.rest ∙ checked)) mark))
             (before (seen_in old.now) sound)
 
   -- the journal of a recording is no row
@@ -88,7 +91,7 @@ module _ (old : Story) (sound : IsSound old.now) (before : LeavesOnly NeverFills
       let long = stood.commits.in_data.long in
       ⊎_elim
       (λ empty. omega (arith, long, ap (λ (bytes : List ℕ). length bytes) empty))
-      (λ mark. omega (arith, mark, row))
+      (λ mark. ⊎_elim (λ plain. omega (arith, plain, row)) (λ checked. omega (arith, checked, row)) mark)
       (before (seen_in old.now) sound)
 
   not_full_row : HasNoRoom (seen_in old.now) → ⊥

@@ -67,7 +67,7 @@ entry_step before after (Stop time) answer other step = absurd (true≢false oth
 pub never_full : {A : Type 0} (slots : Slots) → slots_left slots ≡ None → IsLastSlot slots → A
 never_full (InRow slots) turns last = absurd cc
 never_full (HalfOpen slots) turns last = absurd cc
-never_full (InTurns first second) turns last = absurd last
+never_full (InTurns checked first second) turns last = absurd last
 
 module _ {D : Type 0} (honest : Bool) (story : D → Story) where
   -- no recorder runs after the command

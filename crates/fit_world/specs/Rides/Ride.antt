@@ -1,5 +1,5 @@
 -- What contracts see of a ride.
-use Rattle.std.specs.Prelude.{◌≡◌, ◌↔◌, ℕ, Bool, true, false, Some, None, List, [], ◌∷◌, ◌++◌}
+use Rattle.std.specs.Prelude.{◌≡◌, ◌↔◌, ℕ, Bool, true, false, None, List, [], ◌∷◌, ◌++◌}
 use Rattle.fit_activity.specs.declared.recording.entry.Entry.TheVariants as entries
 use Rattle.fit_activity.specs.Rides.Recording.{Recorded, Started, Added, is_stop}
 use Rattle.fit_disk.specs.Counts.{Log}
@@ -8,7 +8,7 @@ use Rattle.fit_journal.specs.declared.slots.Slots.{Slots}
 use Rattle.fit_journal.specs.declared.slots.Slots.TheVariants.{InTurns}
 use Rattle.fit_journal.specs.Turn.{committed_slots}
 use Rattle.fit_recorder.specs.Calls.Answers.{HandAnswers, CommitAnswers, StopAnswers}
-use Rattle.fit_recorder.specs.Calls.Recorder.{GoesOn, WasHanded, disk_of, has_failed, data_len, journal_slots}
+use Rattle.fit_recorder.specs.Calls.Recorder.{GoesOn, WasHanded, disk_of, has_failed, data_checksum, data_len, journal_slots}
 use Rattle.fit_recorder.specs.declared.fault.RecFault.TheVariants.{Device, Failed}
 use Rattle.fit_world.specs.declared.reply.Reply.{Reply}
 use Rattle.fit_world.specs.declared.reply.Reply.TheVariants.{Done, Refused, NoRecorder}
@@ -63,9 +63,14 @@ module _ {D : Type 0} where
   encoded_len (Idle disk) = 0
   encoded_len (Riding recorder) = data_len recorder
 
+  -- and their checksum
+  abbrev pub encoded_checksum : Ride D → ℕ
+  encoded_checksum (Idle disk) = 0
+  encoded_checksum (Riding recorder) = data_checksum recorder
+
   -- the slots of its journal; if no recorder runs, empty ones
   abbrev pub slots_of : Ride D → Slots
-  slots_of (Idle disk) = InTurns None None
+  slots_of (Idle disk) = InTurns false None None
   slots_of (Riding recorder) = journal_slots recorder
 
   -- what may be replied to a command after this list was handed in
@@ -79,18 +84,20 @@ module _ {D : Type 0} where
   -- after a reply that is ok: an entry is at the end of the list, and a commit took one slot more
   abbrev pub RidesOnWith : Ride D → List Recorded → Command → Ride D → Type 0
   RidesOnWith ride list (commands.Entry entry) next = is_stop (Added entry) ≡ false → Handed next (list ++ Added entry ∷ [])
-  RidesOnWith ride list commands.Commit next = Handed next list × (slots_of next ≡ committed_slots (slots_of ride) (encoded_len ride))
+  RidesOnWith ride list commands.Commit next = Handed next list × (slots_of next ≡ committed_slots (slots_of ride) (encoded_len ride) (encoded_checksum ride))
   RidesOnWith ride list _ next = Unit {0}
 
-  -- After a start that is ok the recorder was handed the start alone, in the first of two slots that take turns. After a reopening
-  -- that is ok it was handed some list.
-  abbrev pub HasBegun : Command → Ride D → Type 0
-  HasBegun (commands.Start start) next = Handed next (Started start ∷ []) × (slots_of next ≡ InTurns (Some (encoded_len next)) None)
-  HasBegun commands.Reopen next = (list : List Recorded) × Handed next list
-  HasBegun _ next = Unit {0}
+  -- After a start that is ok the recorder was handed the start alone, in the first of two slots that take turns, with its checksum if the
+  -- journal is checked. After a reopening that is ok it was handed some list.
+  abbrev pub HasBegun : Bool → Command → Ride D → Type 0
+  HasBegun checked (commands.Start start) next =
+      Handed next (Started start ∷ [])
+      × (slots_of next ≡ committed_slots (InTurns checked None None) (encoded_len next) (encoded_checksum next))
+  HasBegun checked commands.Reopen next = (list : List Recorded) × Handed next list
+  HasBegun checked _ next = Unit {0}
 
   -- what a command replies and leaves of the list that was handed in
-  pub record Rides (command : Command) (reply : Reply) (old new : Ride D) : Type 0 where
+  pub record Rides (checked : Bool) (command : Command) (reply : Reply) (old new : Ride D) : Type 0 where
     pub after : (list : List Recorded) → Handed old list → MayReplyAfter old list command reply
     pub handed : (list : List Recorded) → Handed old list → reply ≡ Done → RidesOnWith old list command new
-    pub begun : reply ≡ Done → HasBegun command new
+    pub begun : reply ≡ Done → HasBegun checked command new

@@ -218,7 +218,7 @@ impl<D: Disk> Session<D> {
             refused,
             clock,
         } = self;
-        let (ride, reply) = ride.ask(&event.command);
+        let (ride, reply) = ride.ask(&event.command, true);
         let clock = clock.note(&event.command, reply.is_ok());
         let refused = refused + refusals(reply);
         let printed = print(&ReplyLine { event, reply }, pen);

@@ -15,11 +15,13 @@ use crate::reply::Reply;
 use crate::ride::Ride;
 use fit_disk::Memory;
 
-// Runs a command. Returns the ride after it, the reply, and the number of choice bytes taken.
+// Runs a command; a start makes a checked journal or another. Returns the ride after it, the reply, and the number of choice
+// bytes taken.
 pub fn step(
     mut ride: Ride<Memory>,
     command: &Command,
     choices: &[u8],
+    checked: bool,
 ) -> (Ride<Memory>, Reply, usize)
     requires goes_on { CanGoOn true memory_story ride }
     requires can { CanRun command.now }
@@ -48,7 +50,7 @@ pub fn step(
             (ride, Reply::Done, taken)
         }
         _ => {
-            let (ride, reply) = ride.ask(command);
+            let (ride, reply) = ride.ask(command, checked);
             (ride, reply, 0)
         }
     }

@@ -3,6 +3,9 @@
 ghost use Rattle.std.specs.Prelude.{◌≡◌, IsTrue, IfErr, IfOk, OnOk};
 ghost use Rattle.fit_disk.specs.Shadow.{shadow_story};
 ghost use Rattle.fit_disk.specs.State.{seen_in};
+ghost use Rattle.fit_disk.specs.Story.{seen_of};
+ghost use Rattle.fit_disk.specs.declared.disk.Which.TheVariants.{Data, Journal};
+ghost use Rattle.fit_recorder.specs.Files.Committed.{HasCounted};
 ghost use Rattle.fit_world.specs.Printed.Repaired.{Repairs, IsRepairFault};
 ghost use Rattle.fitrec.specs.Faults.{AnswersRepair, IsFolderFault, IsOpenReported};
 ghost use Rattle.fitrec.specs.Reported.{ReportsRepair, PrintsSummary, PrintsNothing, VerifiesFolder};
@@ -58,6 +61,9 @@ pub fn repair_holding<'a, O: Write>(
     ensures repaired { IfOk result (λ done.
         Repairs (record { in_data = in_data.now; in_journal = in_journal.now }) (shadow_story done.0)
         (O.contents out.old) (O.contents out.new) done.1) }
+    // The body has the checksum that the journal states, if it states one.
+    ensures checked { IfOk result (λ done. OnOk done.1
+        (HasCounted in_journal.now (seen_of Data (shadow_story done.0)))) }
     ensures reported { IfErr result (IsOpenReported name.entry) }
     ensures quiet { IfErr result (λ _. O.contents out.new ≡ O.contents out.old) }
 {
@@ -79,6 +85,8 @@ pub fn repair_files<'a, W: Witness, O: Write>(
     ensures repaired { IsTrue W.honest → IfOk result (λ done.
         Repairs (seen_in (W.story witness).now) (W.story done.0)
         (O.contents out.old) (O.contents out.new) done.1) }
+    ensures checked { IsTrue W.honest → IfOk result (λ done. OnOk done.1
+        (HasCounted (seen_of Journal (W.story witness)) (seen_of Data (W.story done.0)))) }
     ensures fault { IfOk result (λ done. IfErr done.1 IsRepairFault) }
     ensures printed { IfOk result (λ done. ReportsRepair (O.contents out.old) (O.contents out.new) done.1) }
     ensures reported { IfErr result (IsOpenReported name.entry) }

@@ -19,11 +19,13 @@ use std::io::Write;
 use std::rt::Files;
 
 /// Runs the script of this name over the files of a folder, and prints a line for each event. If a line is wrong, or has an event
-/// that only `simulate` runs, no file of the folder is opened. If replies were not ok, the fault is `Refused` with their number.
+/// that only `simulate` runs, no file of the folder is opened. If replies were not ok, the fault is `Refused` with their number. A
+/// start makes a checked journal or another.
 pub fn replay_script<'a, O: Write>(
     rt: &HostRuntime,
     script: &'a str,
     folder: &'a str,
+    checked: bool,
     out: &mut O,
 ) -> Result<(), Fault<'a>>
     ensures reported { IfErr result (IsReplayReported script.entry folder.entry) }
@@ -33,7 +35,7 @@ pub fn replay_script<'a, O: Write>(
     ensures quiet { IfErr result (PrintsNoLine (O.contents out.old) (O.contents out.new)) }
 {
     let events = events_of(rt, script)?;
-    let (_, played) = replay_files(rt, folder, Trusting, events.as_slice(), out)?;
+    let (_, played) = replay_files(rt, folder, Trusting, events.as_slice(), checked, out)?;
     match played {
         Ok(0) => Ok(()),
         Ok(refused) => Err(Fault::Refused(refused)),
@@ -48,6 +50,7 @@ pub fn replay_files<'a, W: Witness, O: Write>(
     folder: &'a str,
     witness: W,
     events: &[Event],
+    checked: bool,
     out: &mut O,
 ) -> Result<(W, Result<usize, ReportFault>), Fault<'a>>
     requires { All IsReplayed events.now }
@@ -63,7 +66,7 @@ pub fn replay_files<'a, W: Witness, O: Write>(
     ensures quiet { IfErr result (λ _. O.contents out.new ≡ O.contents out.old) }
 {
     let files = open_folder(rt, folder, witness)?;
-    let (files, played) = play(files, events, out);
+    let (files, played) = play(files, events, checked, out);
     Ok((files.into_witness(), played))
 }
 

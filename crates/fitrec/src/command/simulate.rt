@@ -11,18 +11,19 @@ use std::io::Write;
 use std::rt::Files;
 
 /// Runs the script of this name over a disk in memory, and prints a line for each event. The choice bytes decide what a power cut
-/// leaves.
+/// leaves. A start makes a checked journal or another.
 pub fn simulate_script<'a, R: Files + AllocGlobal, O: Write>(
     rt: &R,
     name: &'a str,
     choices: &[u8],
+    checked: bool,
     out: &mut O,
 ) -> Result<(), Fault<'a>>
     ensures { Reports name.entry (O.contents out.old) (O.contents out.new) (IsSimulateFault name.entry)
         (Simulates choices.now (O.contents out.old) (O.contents out.new)) result }
 {
     let bytes = read_file(rt, name)?;
-    match simulate(rt.alloc(), bytes.as_slice(), choices, out) {
+    match simulate(rt.alloc(), bytes.as_slice(), choices, checked, out) {
         Ok(()) => Ok(()),
         Err(fault) => Err(fault_of(name, fault)),
     }

@@ -6,7 +6,10 @@ use Rattle.fit_disk.specs.State.{seen_in}
 use Rattle.fit_disk.specs.Story.{Story, seen_of}
 use Rattle.fit_disk.specs.declared.disk.Which.TheVariants.{Data}
 use Rattle.fit_notes.proofs.Numbers.{same_story}
+use Rattle.fit_journal.specs.Turn.{are_checked}
 use Rattle.fit_recorder.specs.Calls.Counts.{start_bytes, start_calls}
+use Rattle.fit_recorder.specs.Calls.Frozen.{state_in}
+use Rattle.fit_recorder.specs.Private.State.{RecorderState}
 use Rattle.fit_plan.specs.Plan.{story_in, since_in, counts_in, room_in, log_in}
 use Rattle.fit_plan.specs.declared.plan.Plan.{Plan}
 use Rattle.fit_recorder.specs.Calls.Answers.{StartAnswers}
@@ -102,3 +105,10 @@ returns-in-Err-clause-starts c = λ _.
       any_moment = in_start start _ _ _ _ here (sym left) (did.any_moment refl);
     } in
     subst (λ (sport : Sport). Starts (record { time = c.args.time; serial = c.args.serial; sport = sport }) old new plan code) c.in-Some.ensures.some starts
+
+pub returns-in-Ok-clause-checked : goal.returns-in-Ok-clause-checked
+returns-in-Ok-clause-checked c = λ _. ap (λ (state : RecorderState). are_checked state.journal_slots) c.put.ensures.state ∙ ap are_checked c.in-Ok.ensures.begun.turns
+
+pub returns-in-Err-clause-checked : goal.returns-in-Err-clause-checked
+returns-in-Err-clause-checked c = λ zero.
+    on_ok {P = are_checked (state_in c.put_files.new.self.recorder).journal_slots ≡ true} (Err c.in-Err.fault) c.code_of_fault.result c.code_of_fault.ensures zero tt

@@ -35,7 +35,7 @@ returns-in-Riding-clause-goes g c honest = record {
       let done = c.commit.ensures in
       rw c.into.ensures
       (commit_goes g.D.Disk.honest g.D.Disk.story c.in-Riding.recorder c.commit.new.self c.commit.result done.after.same done.after.failed done.after.gone
-      done.answers (λ none. on_ok_weaker c.commit.result (λ slots. ap slots_left slots ∙ committed_turns _ _ none) done.slots) done.after.going done.ok (done.any_moment honest) before here);
+      done.answers (λ none. on_ok_weaker c.commit.result (λ slots. ap slots_left slots ∙ committed_turns _ _ _ none) done.slots) done.after.going done.ok (done.any_moment honest) before here);
   left =
       rw c.in-Riding.is
       (kept_if_refused g.D.Disk.story c.in-Riding.recorder c.commit.new.self c.commit.result c.into.result c.into.ensures c.commit.ensures.after.same);
@@ -48,7 +48,7 @@ returns-in-Riding-clause-never_full g c honest before stands never =
     let done = c.commit.ensures in
     rides_on g.D.Disk.honest g.D.Disk.story honest c.in-Riding.recorder c.commit.new.self c.commit.result done.after (done.head honest) before here full
     (λ list result. CommitAnswers list (journal_slots c.in-Riding.recorder) result) done.answers (λ none list full. never_full (journal_slots c.in-Riding.recorder) none full.1)
-    (on_ok_weaker c.commit.result (λ slots none. ap slots_left slots ∙ committed_turns _ _ none) done.slots) c.into.result c.into.ensures
+    (on_ok_weaker c.commit.result (λ slots none. ap slots_left slots ∙ committed_turns _ _ _ none) done.slots) c.into.result c.into.ensures
 
 pub returns-in-Riding-clause-answered : goal.returns-in-Riding-clause-answered
 returns-in-Riding-clause-answered g c = rw c.in-Riding.is (answered_by _ _ _ _ c.commit.result c.commit.ensures.after c.into.result c.into.ensures)
