@@ -6,3 +6,4 @@ pub mod RecoveredList
 mod ResumedRide
 mod ErasedFiles
 pub mod Windowed
+mod ChangedBytes

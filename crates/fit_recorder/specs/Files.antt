@@ -6,5 +6,6 @@ pub mod Body
 pub mod Committed
 pub mod Finished
 pub mod Settled
+pub mod Changed
 pub mod NothingRecorded
 pub mod NeverFull

@@ -19,6 +19,7 @@
 #![tactic(auto)]
 
 mod body;
+mod changed;
 mod closing;
 mod erasing;
 mod fault;
@@ -33,6 +34,7 @@ mod recovery;
 mod resuming;
 mod spelling;
 
+pub use changed::has_changed;
 pub use erasing::erase;
 pub use fault::RecFault;
 pub use frozen::{FrozenDefinition, FrozenRecorder};
