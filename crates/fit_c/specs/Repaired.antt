@@ -8,6 +8,7 @@ use Rattle.fit_activity.specs.Rides.Recording.{Recorded}
 use Rattle.fit_disk.specs.State.{Contents}
 use Rattle.fit_grammar.specs.Format.File.{File}
 use Rattle.fit_recorder.specs.Files.Body.{StandsFor}
+use Rattle.fit_recorder.specs.Files.Changed.{HasChanged}
 use Rattle.fit_recorder.specs.Files.Finished.{finished}
 use Rattle.fit_recorder.specs.Files.Limits.{longest_end}
 use Rattle.fit_recorder.specs.Files.NothingRecorded.{IsNothing}
@@ -55,9 +56,12 @@ pub record IsRepaired (before after : Contents) (numbers : RideSummary) : Type 0
 pub record IsRefused (code : ℕ) (data_bytes : List ℕ) (data_len : ℕ) (journal_bytes : List ℕ) (journal_len : ℕ) : Type 0 where
   pub nothing : code ≡ 7 → IsNothing (contents_in data_bytes data_len journal_bytes journal_len)
   pub damaged : code ≡ 8 → IsDamaged (contents_in data_bytes data_len journal_bytes journal_len)
+      × (HasChanged (contents_in data_bytes data_len journal_bytes journal_len) → ⊥)
+  pub changed : code ≡ 16 → IsDamaged (contents_in data_bytes data_len journal_bytes journal_len)
+      × HasChanged (contents_in data_bytes data_len journal_bytes journal_len)
   pub too_long : code ≡ 9 → (length data_bytes < data_len) ⊎ (length journal_bytes < journal_len)
   pub no_room : code ≡ 10 → length data_bytes < data_len + longest_end
 
 -- the codes that a repair returns
 abbrev pub IsRepairCode : ℕ → Type 0
-IsRepairCode code = (code ≡ 0) ⊎ (code ≡ 7) ⊎ (code ≡ 8) ⊎ (code ≡ 9) ⊎ (code ≡ 10)
+IsRepairCode code = (code ≡ 0) ⊎ (code ≡ 7) ⊎ (code ≡ 8) ⊎ (code ≡ 9) ⊎ (code ≡ 10) ⊎ (code ≡ 16)

@@ -6,7 +6,9 @@ ghost use Rattle.fit_disk.specs.Counts.{no_calls};
 ghost use Rattle.fit_disk.specs.State.{seen_in};
 ghost use Rattle.fit_disk.specs.Story.{seen_of};
 ghost use Rattle.fit_disk.specs.declared.disk.Which.TheVariants.{Data, Journal};
+ghost use Rattle.fit_recorder.specs.Calls.FaultCode.{fault_code};
 ghost use Rattle.fit_recorder.specs.Calls.Recovery.{RecoveryAnswers, IsRecoveryFault, KeepsJournal};
+ghost use Rattle.fit_recorder.specs.Files.Changed.{HasChanged};
 ghost use Rattle.fit_recorder.specs.Files.Committed.{HasCounted};
 ghost use Rattle.fit_recorder.specs.Files.Limits.{longest_end};
 ghost use Rattle.fit_recorder.specs.Files.Settled.{IsSettled};
@@ -16,10 +18,13 @@ ghost use Rattle.fit_c.specs.Repaired.{AreWithin, IsRefused, IsRepaired, IsRepai
 use fit_activity::Summary;
 use fit_buffers::Buffers;
 use fit_disk::Which;
-use fit_recorder::{CLOSING_ROOM, RecFault, recover};
+use fit_recorder::{CLOSING_ROOM, RecFault, has_changed, recover};
 
 // A length is greater than its buffer.
 const BAD_LENGTH: u8 = 9;
+
+// The bytes that the journal counts have changed since they were committed.
+const CHANGED: u8 = 16;
 
 // The data buffer has less free room than the end of a ride needs.
 const NO_ROOM: u8 = 10;
@@ -40,8 +45,10 @@ pub struct RideSummary {
 
 /// Turns the data file into the finished file with everything that was committed, as `recover` of `fit_recorder` does. The
 /// first `data_len` and `journal_len` bytes of the buffers are the files; both lengths are updated. Returns 0; 7 if nothing is
-/// recorded; 8 if the two files are not those of one recording; 9 if a length is greater than its buffer; 10 if the data buffer
-/// has fewer than 254 bytes after the data file. With 7 to 10, neither file has changed.
+/// recorded; 8 if the two files are not those of one recording; 16 if the bytes that the journal counts
+/// have changed since they were committed; 9 if a length is greater than its buffer; 10 if the data buffer
+/// has fewer than 254 bytes after the data file. After another answer than 0 neither file has
+/// changed.
 #[unsafe(no_mangle)]
 pub extern "C" fn fitrec_repair(
     data_bytes: &mut [u8],
@@ -83,7 +90,21 @@ pub extern "C" fn fitrec_repair(
             *summary = numbers(&found);
             0
         }
-        Err(fault) => fault.code(),
+        Err(fault) => code_of(&buffers, fault),
+    }
+}
+
+// The code of why the recording in these two buffers was not recovered.
+fn code_of(buffers: &Buffers<'_, '_>, fault: RecFault) -> u8
+    ensures changed { result ≡ 16 → (fault ≡ faults.Damaged) × HasChanged (seen_in (story_in buffers.now).now) }
+    ensures others { (result ≡ 16 → ⊥) → (result ≡ fault_code fault)
+        × (fault ≡ faults.Damaged → HasChanged (seen_in (story_in buffers.now).now) → ⊥) }
+{
+    let has_changed = has_changed(buffers.content(Which::Data), buffers.content(Which::Journal));
+    if fault == RecFault::Damaged && has_changed {
+        CHANGED
+    } else {
+        fault.code()
     }
 }
 

@@ -38,10 +38,10 @@ pub extern "C" fn fitrec_save(
     ensures checked { (result ≡ 0) ⊎ (20 ≤ result)
         → HasCounted (take journal_len.old journal_bytes.old) (take data_len.new data_bytes.new) }
     ensures why { IsRefused result data_bytes.old data_len.old journal_bytes.old journal_len.old }
-    ensures same { 7 ≤ result → result ≤ 10
+    ensures same { 7 ≤ result → result ≤ 16
         → contents_in data_bytes.new data_len.new journal_bytes.new journal_len.new
         ≡ contents_in data_bytes.old data_len.old journal_bytes.old journal_len.old }
-    ensures unchanged { 7 ≤ result → result ≤ 10
+    ensures unchanged { 7 ≤ result → result ≤ 16
         → (data_len.new ≡ data_len.old) × (journal_len.new ≡ journal_len.old) × (summary.new ≡ summary.old)
         × (out_len.new ≡ out_len.old) × (out.new ≡ out.old) }
 {

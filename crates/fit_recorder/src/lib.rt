@@ -34,7 +34,7 @@ mod recovery;
 mod resuming;
 mod spelling;
 
-pub use changed::has_changed;
+pub use changed::{has_changed, leave_changed};
 pub use erasing::erase;
 pub use fault::RecFault;
 pub use frozen::{FrozenDefinition, FrozenRecorder};

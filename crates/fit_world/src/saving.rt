@@ -1,6 +1,6 @@
 // Saves a ride from the bytes of the two files of its recording. The files themselves are not written.
 
-ghost use Rattle.std.specs.Prelude.{◌≡◌, ◌+◌, ◌≤◌, ◌<◌, ◌^◌, length, vec_len, IsErrOf, IfOk, OnOk};
+ghost use Rattle.std.specs.Prelude.{◌≡◌, ◌+◌, ◌≤◌, ◌<◌, ◌^◌, length, vec_len, IsErrOf, IfErr, IfOk, Err, ◌⊎◌, OnOk};
 ghost use Rattle.fit_buffers.specs.Buffers.{story_in, counts_in, room_of};
 ghost use Rattle.fit_disk.specs.Counts.{no_calls};
 ghost use Rattle.fit_disk.specs.State.{seen_in};
@@ -8,9 +8,11 @@ ghost use Rattle.fit_disk.specs.declared.disk.Which.TheVariants.{Data, Journal};
 ghost use Rattle.fit_grammar.specs.Calls.Output.{WritesText};
 ghost use Rattle.fit_grammar.specs.Format.Encoding.{encoded};
 ghost use Rattle.fit_grammar.specs.Format.File.{FileOf};
-ghost use Rattle.fit_recorder.specs.Calls.Recovery.{RecoveryAnswers};
+ghost use Rattle.fit_recorder.specs.Calls.Recovery.{RecoveryAnswers, IsRecoveryFault};
 ghost use Rattle.fit_recorder.specs.Files.Committed.{HasCounted};
 ghost use Rattle.fit_recorder.specs.Files.Limits.{longest_end};
+ghost use Rattle.fit_recorder.specs.Files.NothingRecorded.{IsNothing};
+ghost use Rattle.fit_recorder.specs.Files.Settled.{IsDamaged, IsSettled};
 ghost use Rattle.fit_recorder.specs.declared.fault.RecFault.TheVariants as recording;
 ghost use Rattle.fit_world.specs.Printed.Saved.{FinishesRide, SavesRide};
 
@@ -19,7 +21,7 @@ use fit_activity::Summary;
 use fit_buffers::Buffers;
 use fit_disk::Which;
 use fit_grammar::{File, Places, PlainFaultKind, plain_file};
-use fit_recorder::{CLOSING_ROOM, RecFault, recover};
+use fit_recorder::{CLOSING_ROOM, RecFault, has_changed, recover};
 use std::alloc::Global;
 
 /// Why a ride was not saved.
@@ -27,6 +29,8 @@ use std::alloc::Global;
 pub enum SaveFault {
     /// The recording was not recovered: nothing is recorded, or the files are damaged.
     Recorder(RecFault),
+    /// The files are damaged: the bytes that the journal counts have changed since they were committed.
+    Changed,
     /// The plain form of its file would be too long.
     TooLarge,
     /// Memory was refused.
@@ -99,12 +103,27 @@ fn finished_in(alloc: Global, disk: &mut Buffers<'_, '_>) -> Result<(File, Summa
 {
     let summary = match recover_in(disk) {
         Ok(summary) => summary,
-        Err(fault) => return Err(SaveFault::Recorder(fault)),
+        Err(fault) => return Err(fault_of(disk, fault)),
     };
     match decode_whole(alloc, disk.content(Which::Data)) {
         Ok((file, _)) => Ok((file, summary)),
         // They are a file, which is refused only for want of memory.
         Err(_) => Err(SaveFault::NoMemory),
+    }
+}
+
+// Why the recording on this disk was not recovered, which stayed as it was.
+fn fault_of(disk: &Buffers<'_, '_>, fault: RecFault) -> SaveFault
+    requires known { fault ≡ recording.NothingRecorded → IsNothing (seen_in (story_in disk.now).now) }
+    requires damaged { fault ≡ recording.Damaged → IsDamaged (seen_in (story_in disk.now).now) }
+    requires others { (fault ≡ recording.NothingRecorded) ⊎ (fault ≡ recording.Damaged) }
+    ensures { FinishesRide (seen_in (story_in disk.now).now) (Err result) }
+{
+    let has_changed = has_changed(disk.content(Which::Data), disk.content(Which::Journal));
+    if fault == RecFault::Damaged && has_changed {
+        SaveFault::Changed
+    } else {
+        SaveFault::Recorder(fault)
     }
 }
 
@@ -115,6 +134,8 @@ fn recover_in(disk: &mut Buffers<'_, '_>) -> Result<Summary, RecFault>
     requires journal_room { (story_in disk.old).now.journal_file.greatest ≤ room_of Journal disk.old }
     ensures decides { RecoveryAnswers (seen_in (story_in disk.old).now) (story_in disk.new) result }
     ensures no_device { IsErrOf result recording.Device → ⊥ }
+    ensures settled { IfErr result (λ _. IsSettled (seen_in (story_in disk.old).now) (story_in disk.new)) }
+    ensures known_fault { IfErr result IsRecoveryFault }
 {
     let done = recover(disk);
     let _ = disk.content(Which::Data); // Its contract states that a call fails only if there is no room.

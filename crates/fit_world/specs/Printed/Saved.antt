@@ -7,6 +7,7 @@ use Rattle.fit_disk.specs.State.{Contents}
 use Rattle.fit_grammar.specs.Calls.PlainForm.{too_long_at}
 use Rattle.fit_grammar.specs.Format.File.{FileValue, FileOf}
 use Rattle.fit_recorder.specs.Files.Body.{StandsFor}
+use Rattle.fit_recorder.specs.Files.Changed.{HasChanged}
 use Rattle.fit_recorder.specs.Files.Finished.{finished}
 use Rattle.fit_recorder.specs.Files.NothingRecorded.{IsNothing}
 use Rattle.fit_recorder.specs.Files.Settled.{IsDamaged}
@@ -22,11 +23,12 @@ pub record IsFinishedOf (contents : Contents) (list : List Recorded) (v : FileVa
   pub file : FileOf (finished stood.body list) v
 
 -- The finished file of the list that the two files stand for, and the summary of that list. If `NothingRecorded` or `Damaged` is
--- answered, the two files hold nothing recorded, or are damaged.
+-- answered, the two files hold nothing recorded, or are damaged; after `Changed` the body has another checksum than the journal states.
 abbrev pub FinishesRide : Contents → Result (FileValue × Summary) SaveFault → Type 0
 FinishesRide contents (Ok found) = (list : List Recorded) × IsFinishedOf contents list found.0 × (found.1 ≡ summary_of_list list)
 FinishesRide contents (Err (faults.Recorder NothingRecorded)) = IsNothing contents
-FinishesRide contents (Err (faults.Recorder Damaged)) = IsDamaged contents
+FinishesRide contents (Err (faults.Recorder Damaged)) = IsDamaged contents × (HasChanged contents → ⊥)
+FinishesRide contents (Err faults.Changed) = IsDamaged contents × HasChanged contents
 FinishesRide contents (Err (faults.Recorder fault)) = ⊥
 FinishesRide contents (Err faults.TooLarge) = ⊥
 FinishesRide contents (Err faults.NoMemory) = Unit {0}
@@ -38,4 +40,5 @@ SavesRide contents (Ok saved) =
 SavesRide contents (Err faults.TooLarge) =
     (v : FileValue) × (summary : Summary) × FinishesRide contents (Ok (v, summary)) × (place : ℕ) × (too_long_at v ≡ Some place)
 SavesRide contents (Err faults.NoMemory) = Unit {0}
+SavesRide contents (Err faults.Changed) = FinishesRide contents (Err faults.Changed)
 SavesRide contents (Err (faults.Recorder fault)) = FinishesRide contents (Err (faults.Recorder fault))
