@@ -345,12 +345,13 @@ def of_interrupted_calls(program, lines):
             folder = new()
             runs = [host.run(folder, how={"input": "".join(half)}, **wrong) for half in halves]
             again = host.run(folder, how={"input": ""}, **wrong)
-            return [said for said, _ in (*runs, again)], holds(folder), [log for _, log in (*runs, again)]
+            left = [bytes_of(pathlib.Path(folder, name)) for name in NAMES]
+            return [said for said, _ in (*runs, again)], left, [log for _, log in (*runs, again)]
 
         want = ride()
         for kind in ("open", "lock", "sync", "write", "cut", "read"):
             calls = max(sum(line.startswith(kind) for line in log) for log in want[2])
-            yield "the host of examples/device makes a %s" % kind, None if calls else want[2]
+            yield "the calls of the host of examples/device: " + kind, None if calls else want[2]
             for number in range(1, calls + 1):
                 found = ride(call=kind, number=number, errno=errno.EINTR)
                 yield "the host of examples/device, interrupted", differs(found[:2], want[:2])
