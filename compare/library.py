@@ -66,6 +66,23 @@ def names_of(archive):
     yield "what it exports", differs(sorted(re.findall(r" T (\w+)", listed)), sorted(declared()[0]))
 
 
+def links_as_shown(archive):
+    """The example of docs/EMBEDDING.md links by the line that is there, and runs."""
+    text = (HERE.parent / "docs/EMBEDDING.md").read_text()
+    example = re.search(r'(?m)^    #include "fitrec.h"\n(?:    .*\n|\n)+?    }\n', text)[0]
+    with tempfile.TemporaryDirectory() as folder:
+        here = pathlib.Path(folder)
+        (here / "include").symlink_to(HERE.parent / "include")
+        (here / "crates/fit_c/out").mkdir(parents=True)
+        shutil.copy(archive, here / "crates/fit_c/out/libfit_c.a")
+        (here / "finish.c").write_text(re.sub("(?m)^    ", "", example))
+        (here / "main.c").write_text('#include "fitrec.h"\nint finish(uint64_t *, uint64_t *);\n'
+                                     "int main(void) { uint64_t none[2] = {0, 0}; return finish(&none[0], &none[1]); }\n")
+        line = re.search(r"`(cc -Iinclude [^`]*)`", text)[1]
+        said = told.run("sh", "-c", line + " && ./a.out", cwd=folder)
+        yield "the example of docs/EMBEDDING.md", differs(said, (ANSWERS["NothingRecorded"], "", ""))
+
+
 def answer_of(said):
     """The answer that corresponds to what the program prints."""
     return 0 if said[0] == 0 else ANSWERS[re.match(r"fitrec: (\w+)", said[2])[1]]

@@ -4,7 +4,7 @@ complete -c fitrec -n __fish_use_subcommand -a show -d 'Shows every message of a
 complete -c fitrec -n __fish_use_subcommand -a check -d 'Says whether a FIT file is an activity, and sums it up in one line'
 complete -c fitrec -n __fish_use_subcommand -a replay -d 'Records a ride into a folder, as a script tells it'
 complete -c fitrec -n __fish_use_subcommand -a record -d 'Records a ride into a folder, as the lines of standard input tell it, and answers each line'
-complete -c fitrec -n __fish_use_subcommand -a save -d 'Saves the ride of a folder as a FIT file that every program reads, and writes nothing to the folder'
+complete -c fitrec -n __fish_use_subcommand -a save -d 'Saves the ride of a folder as a plain FIT file, and writes nothing to the folder'
 complete -c fitrec -n __fish_use_subcommand -a repair -d 'Makes the recording of a folder whole again, and sums it up in one line'
 complete -c fitrec -n __fish_use_subcommand -a salvage -d 'Makes a FIT file of what is readable of a damaged one that has no journal; show and check say what it holds'
 complete -c fitrec -n __fish_use_subcommand -a plain -d 'Makes the same FIT file with the time of every message written out, for readers that take compressed ones wrong'

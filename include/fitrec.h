@@ -1,8 +1,8 @@
 /* fitrec: rides of a dead device, saved in memory; FIT files, checked and shown.
 
    A recording is two files, activity.fit (the data file) and activity.frj (the journal). These calls work on the bytes of files in
-   buffers of the caller. The library is crates/fit_c of fitrec; its exports are proved to do what this header says of them, as long as the caller
-   keeps these rules:
+   buffers of the caller. The library is crates/fit_c of fitrec; docs/PROOFS.md ("From C") has what is proved of its exports, as long as the
+   caller keeps these rules:
 
    - No pointer is NULL, and no two buffers or numbers of one call overlap.
    - A buffer has as many bytes as its size argument says, and all of them may be read.

@@ -94,7 +94,7 @@ fn save_command<'a>(alloc: Global) -> Result<Command<'a>, Error> {
     Ok(
         Command::new(alloc, "save")
             .about(
-                "Saves the ride of a folder as a FIT file that every program reads, and writes nothing to the folder",
+                "Saves the ride of a folder as a plain FIT file, and writes nothing to the folder",
             )
             .arg(folder_argument(alloc))?
             .arg(out_argument(alloc))?,
