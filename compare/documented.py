@@ -192,8 +192,8 @@ def messages():
     """The faults in the tables of docs/PROGRAM.md are those of the program; the refusals in docs/FORMAT.md are those of the reader."""
     rows = re.findall(r"(?m)^\| (`.*?`) \|", page("docs/PROGRAM.md").partition("## Messages")[2])
     named = {re.sub(r"\([A-Z]\)", "", name) for row in rows for name in re.findall(r"`([^`]*)`", row)}
-    texts = re.findall(r'#\[error\("(.*?)"\)\]', page("crates/fitrec/src/fault.rt"))
-    texts = [it.replace("{0}", "N" if "refused" in it else "NAME") for it in texts]
+    texts = re.findall(r'#\[error\("(.*?)"', page("crates/fitrec/src/fault.rt"))
+    texts = [it.replace("{}", "NAME").replace("{0}", "N") for it in texts if "fitrec: " not in it]
     wanted = {it for it in texts if "{" not in it and "line" not in it} | {"cannot write -", "cannot read -"} | OTHERS
     left = re.search(r'"fitrec: \{count\} (.*?)"', page("crates/fit_world/src/salvage.rt"))[1]
     wanted |= {"N " + left}
@@ -211,6 +211,8 @@ def sizes():
         value = int(re.search(r"const %s: \w+ = ([\d_]+)" % name, page("crates/" + file))[1])
         for it in names:
             yield "%s in docs/%s.md" % (name, it), differs("{:,}".format(value) in page("docs/%s.md" % it), True)
+    for file, lines in re.findall(r"`(examples/device/\w+\.c)`\s[^`]*?of (\d+)\b", page("docs/EMBEDDING.md")):
+        yield "the lines of " + file, None if abs(page(file).count("\n") - int(lines)) <= 5 else page(file).count("\n")
 
 
 def check(fitrec):

@@ -168,7 +168,10 @@ int open(const char *path, int flags, ...) {
     int mode = flags & O_CREAT ? va_arg(more, int) : 0;
     va_end(more);
     const char *is = named(path);
-    if (fails("open", is, ""))
+    char numbers[32] = "";
+    if (is && !strcmp(is, "beside"))
+        snprintf(numbers, sizeof numbers, " %o", mode);
+    if (fails("open", is, numbers))
         return -1;
     int file = syscall(SYS_openat, AT_FDCWD, path, flags, mode);
     name(file, is);

@@ -73,6 +73,38 @@ def answers(fitrec, small):
     yield "a refused file is no activity either", fitrec.run("check", "cut.fit"), wanted(small[:-1])
 
 
+# Names, and how a message shows them: a letter, a blank and a backslash as they are; bytes that move the cursor or begin a line, controls
+# of two bytes, and characters that turn the direction of the text or are invisible, by their bytes.
+NAMES = {"Größe 東\\京.fit": "Größe 東\\京.fit", "a\x1b[2Jb": r"a\x1B[2Jb", "a\nfitrec: b\r": r"a\x0Afitrec: b\x0D", "\x01\x7f\t": r"\x01\x7F\x09",
+         "\x80\x9f\xa0": "\\xC2\\x80\\xC2\\x9F\xa0", "a\u202eb\u2066": r"a\xE2\x80\xAEb\xE2\x81\xA6", "\ufeff\u200b\u061c": r"\xEF\xBB\xBF\xE2\x80\x8B\xD8\x9C",
+         "\u2028\U0001f6b4\u200d": "\\xE2\\x80\\xA8\U0001f6b4\u200d"}
+
+
+def names(fitrec, small):
+    """A name as each command prints it."""
+    fitrec.write("small.fit", small)
+    fitrec.write("script", b"recover\n")
+    (fitrec.folder / "ride").mkdir()
+    fitrec.run("replay", fitrec.write("start", b"start 1000000000 7 running\n"), "ride")
+    for name, shown in NAMES.items():
+        for words in (["show"], ["show", "--json"], ["check"], ["plain", name, "out"], ["salvage", name, "out"], ["replay", name, "ride"], ["simulate"],
+                      ["replay", "script"], ["record"], ["repair"], ["repair", "--verify"], ["save", name, "out"]):
+            said = fitrec.run(*words, *[name] * (name not in words))
+            yield "a name that is not opened: " + words[0], said, (1, "", "fitrec: cannot open %s\n" % shown)
+        for words in (["plain", "small.fit"], ["salvage", "small.fit"], ["save", "ride"]):
+            said = fitrec.run(*words, "none/" + name)
+            yield "a name that is not written: " + words[0], said, (1, "", "fitrec: cannot write none/%s\n" % shown)
+        (fitrec.folder / name).mkdir()
+        for words in (["show"], ["check"], ["plain", name, "out"], ["salvage", name, "out"], ["replay", name, "ride"], ["simulate"]):
+            said = fitrec.run(*words, *[name] * (name not in words))
+            yield "a name that is not read: " + words[0], said, (1, "", "fitrec: cannot read %s\n" % shown)
+        (fitrec.folder / name).rmdir()
+        for words in (["check", "small.fit", name], [name], ["show", "--" + name], ["simulate", "--choices", name, "script"],
+                      ["record", "--commit", name, "ride"]):
+            status, out, fault = fitrec.run(*words)
+            yield "a word that is wrong", (status, out, shown in fault, name in fault), (2, "", True, name == shown)
+
+
 def beginnings(fitrec, small):
     """Each prefix of a file is refused at its end as cut short."""
     for size in range(len(small)):
@@ -159,7 +191,7 @@ def check(program, small):
     """Yields a name, and a difference or None, for each run."""
     with tempfile.TemporaryDirectory() as folder:
         fitrec = Program(program, folder)
-        runs = (answers(fitrec, small), beginnings(fitrec, small), sizes(fitrec), developer_fields(fitrec), choices(fitrec),
+        runs = (answers(fitrec, small), names(fitrec, small), beginnings(fitrec, small), sizes(fitrec), developer_fields(fitrec), choices(fitrec),
                 outputs(fitrec, small), memory(fitrec))
         for rows in runs:
             for name, said, want in rows:

@@ -150,8 +150,9 @@ class Save(Command):
             lay(folder / name, content)
         lay(folder / "large", self.given)
         os.truncate(folder / "large/activity.frj", MOST + 1)
-        return {folder / "none": "cannot open %s" % (folder / "none"), folder / "empty": "NothingRecorded",
-                folder / "nothing": "NothingRecorded", folder / "other": "Damaged", folder / "large": "TooLarge"}
+        nothing = "NothingRecorded\nfitrec: activity.frj is empty; salvage copies what is readable of activity.fit"
+        return {folder / "none": "cannot open %s" % (folder / "none"), folder / "empty": "NothingRecorded", folder / "nothing": nothing,
+                folder / "other": "Damaged", folder / "large": "TooLarge"}
 
 
 # Calls that go wrong.
@@ -166,14 +167,16 @@ def calls_of(log):
 
 
 LOCKING = ["open out", "lock out"]
-MAKING = ["open folder", "open beside"]
-WRITING = ["stream beside", "sync beside", "move beside", "sync folder"]
+# The file beside OUT may not be read by others before it has the mode of the file that it replaces. After the move it is synced once more:
+# on a FAT card its new name has no length before that.
+WRITING = ["stream beside", "sync beside", "move beside", "sync beside", "sync folder"]
 
 
 def its_calls(command):
     """IN is read before anything is made. OUT is locked before the move and until after it. Its folder is synced, however it is named."""
     before = command.reading
-    for old, calls in ((OLD, [*before, *LOCKING, *MAKING, "mode beside 640", *WRITING]), (None, [*before, *MAKING, *WRITING])):
+    for old, calls in ((OLD, [*before, *LOCKING, "open folder", "open beside 600", "mode beside 640", *WRITING]),
+                       (None, [*before, "open folder", "open beside 666", *WRITING])):
         for name in (None, "out.fit", "./out.fit", "../%s/out.fit"):
             with place_of(command.given, old) as place:
                 if old is not None:

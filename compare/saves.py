@@ -54,6 +54,20 @@ def state(folder):
     return sorted(os.listdir(folder)), [(it.read_bytes(), it.stat().st_mtime_ns, it.stat().st_ctime_ns) for it in files]
 
 
+def lack(folder):
+    """The line on what a folder lacks in which nothing is recorded."""
+    data, journal = (bytes_of(pathlib.Path(folder, name)) for name in NAMES)
+    if data is None and journal is None:
+        return ""
+    if data is None:
+        return "fitrec: activity.fit is missing\n"
+    if data == b"" and journal is not None:
+        return "fitrec: activity.fit is empty\n"
+    is_damaged = bool(journal) and (len(journal) < 8 or journal[:1] != b"F")
+    why = "is missing" if journal is None else "is empty" if not journal else "is damaged in its head" if is_damaged else "states no commit"
+    return "fitrec: activity.frj %s; salvage copies what is readable of activity.fit\n" % why
+
+
 def want(fitrec, folder):
     """What a save has to print, and what OUT has to hold: from a repair of a copy, and the plain form of its result."""
     with tempfile.TemporaryDirectory() as scratch:
@@ -65,7 +79,8 @@ def want(fitrec, folder):
         said = run(fitrec, "repair", copy)
         if said[0] == 0:
             run(fitrec, "plain", copy + "/activity.fit", plain)
-        return (said[0], said[1], said[2].replace(copy, str(folder))), bytes_of(plain)
+        more = lack(folder) if said[2] == "fitrec: NothingRecorded\n" else ""
+        return (said[0], said[1], said[2].replace(copy, str(folder)) + more), bytes_of(plain)
 
 
 def judge(fitrec, folder, **how):
@@ -197,6 +212,34 @@ def other_things(fitrec):
             yield "no folder", differs((run(fitrec, "save", place, out), out.exists()), ((1, "", "fitrec: cannot open %s\n" % place), False))
 
 
+def without_a_name(fitrec):
+    """A folder without a name is not opened, even where the current one has a recording."""
+    with recorded(fitrec) as (folder, out):
+        before = state(folder)
+        said = run(fitrec, "save", "", out, cwd=folder), out.exists(), state(folder)
+        yield "a folder without a name", differs(said, ((1, "", "fitrec: cannot open \n"), False, before))
+
+
+def in_capitals(fitrec):
+    """Names in capitals, as a FAT card shows them, are found, and kept from becoming OUT. Files under the usual names come first."""
+    with recorded(fitrec) as (folder, out):
+        wanted = want(fitrec, folder)
+        whole = {name: (folder / name).read_bytes() for name in NAMES}
+        for name in NAMES:
+            (folder / name).rename(folder / name.upper())
+        before = state(folder)
+        yield "names in capitals", differs(((run(fitrec, "save", folder, out), bytes_of(out)), state(folder)), (wanted, before))
+        for name in NAMES:
+            said = run(fitrec, "save", folder, folder / name.upper()), state(folder)
+            yield "OUT at a name in capitals", differs(said, ((1, "", "fitrec: cannot write %s\n" % (folder / name.upper())), before))
+        (folder / "ACTIVITY.FRJ").write_bytes(b"")
+        said = run(fitrec, "save", folder, out)[2]
+        yield "names in capitals: an empty journal", differs(said.split(";")[0], "fitrec: NothingRecorded\nfitrec: activity.frj is empty")
+        for name, content in whole.items():
+            (folder / name).write_bytes(content)
+        yield "both kinds of names", differs((run(fitrec, "save", folder, out), bytes_of(out)), wanted)
+
+
 def on_a_read_only_card(fitrec):
     """A folder that nobody may write, because it is mounted read-only."""
     with recorded(fitrec) as (folder, out), tempfile.TemporaryDirectory() as card:
@@ -235,6 +278,6 @@ def check(fitrec, count, seed):
         own = shutil.copy(fitrec, folder)
         os.chmod(own, 0o755)
         for part in (of_killed_rides(own, Told(own, made)), of_rides(own), of_damaged_pairs(own, count, seed), other_things(own),
-                     on_a_read_only_card(own), while_recording(own)):
+                     without_a_name(own), in_capitals(own), on_a_read_only_card(own), while_recording(own)):
             for name, difference in part:
                 yield "saves: " + name, difference

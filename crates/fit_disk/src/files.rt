@@ -279,7 +279,7 @@ fn open_or_make(rt: &HostRuntime, path: &str) -> io::Result<File> {
 }
 
 // Whether nothing is there, not even a link.
-fn is_missing(rt: &HostRuntime, path: &str) -> io::Result<bool> {
+pub(crate) fn is_missing(rt: &HostRuntime, path: &str) -> io::Result<bool> {
     match fs::symlink_metadata(rt, path) {
         Ok(_) => Ok(false),
         Err(error) if error.kind() == ErrorKind::NotFound => Ok(true),
@@ -288,6 +288,6 @@ fn is_missing(rt: &HostRuntime, path: &str) -> io::Result<bool> {
 }
 
 // An empty folder name is the current folder.
-fn path_of(folder: &str) -> &str {
+pub(crate) fn path_of(folder: &str) -> &str {
     if folder.is_empty() { "." } else { folder }
 }

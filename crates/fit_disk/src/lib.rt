@@ -21,6 +21,6 @@ pub use content::copy_from;
 pub use disk::{DeviceError, Disk, Which};
 pub use files::{DATA_NAME, Files, JOURNAL_NAME, OpenFault, is_one_missing, lock};
 pub use memory::Memory;
-pub use recorded::open_to_read;
+pub use recorded::{CAPITAL_DATA_NAME, CAPITAL_JOURNAL_NAME, open_to_read};
 pub use shadow::Shadow;
 pub use witness::{Trusting, Witness};

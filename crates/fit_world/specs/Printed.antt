@@ -10,3 +10,4 @@ pub mod Salvaged
 pub mod PlainFile
 pub mod Saved
 pub mod FaultyLines
+pub mod Lacking

@@ -2,8 +2,8 @@
 //!
 //! `show_input`, `show_json_input` and `check_input` print the text, the JSON or the summary of a file read from an input; `show_bytes`
 //! and `check_bytes` take its bytes. `plain_input` makes the plain form of a file. `read_all` reads a whole input. `salvage_bytes` finds
-//! the readable part of a file that has no journal. `save_ride` makes a file from the two files of a recording, and `repair` finishes the
-//! recording itself. `read_script` reads the events of a script. `play` runs them over any `Disk`, by a `Ride`, which replies to each
+//! the readable part of a file that has no journal. `save_ride` makes a file from the two files of a recording, `Lack` says what they lack if
+//! nothing is recorded, and `repair` finishes the recording itself. `read_script` reads the events of a script. `play` runs them over any `Disk`, by a `Ride`, which replies to each
 //! `Command`; `record` does the same with lines that come one by one.
 //! `simulate` runs a script over the memory disk, whose failures and power cuts the script arranges. For example,
 //!
@@ -36,6 +36,7 @@ mod decoding;
 mod event;
 mod fault;
 mod json;
+mod lack;
 pub mod laws;
 mod naming;
 mod plain;
@@ -63,6 +64,7 @@ pub use command::Command;
 pub use event::Event;
 pub use fault::ReportFault;
 pub use json::show_json_input;
+pub use lack::Lack;
 pub use plain::{count_messages, plain_input, print_messages};
 pub use playing::play;
 pub use printing::print_summary;

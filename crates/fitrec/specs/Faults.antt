@@ -74,19 +74,28 @@ IsFolderFault folder (faults.Recorder fault) = IsRecoveryFault fault
 IsFolderFault folder (faults.Write name) = name.now ≡ codes "-"
 IsFolderFault folder _ = ⊥
 
+-- of reading the two files of a recording
+abbrev pub IsReadReported : Fault → Type 0
+IsReadReported (faults.Read name) = (name.now ≡ codes "activity.fit") ⊎ (name.now ≡ codes "activity.frj")
+IsReadReported faults.TooLarge = Unit {0}
+IsReadReported faults.NoMemory = Unit {0}
+IsReadReported _ = ⊥
+
 -- of reading the files of a folder of this name
 abbrev pub IsRecordingReported : Bor (List ℕ) → Fault → Type 0
 IsRecordingReported folder (faults.Open name) = name ≡ folder
-IsRecordingReported folder (faults.Read name) = (name.now ≡ codes "activity.fit") ⊎ (name.now ≡ codes "activity.frj")
-IsRecordingReported folder faults.TooLarge = Unit {0}
-IsRecordingReported folder faults.NoMemory = Unit {0}
 IsRecordingReported folder (faults.Recorder NothingRecorded) = Unit {0}
-IsRecordingReported folder _ = ⊥
+IsRecordingReported folder reported = IsReadReported reported
+
+-- the same; if nothing is recorded, the fault may say what the folder lacks
+abbrev pub IsLackReported : Bor (List ℕ) → Fault → Type 0
+IsLackReported folder (faults.NothingSaved lack) = Unit {0}
+IsLackReported folder reported = IsRecordingReported folder reported
 
 -- of recovering the ride of a folder of this name in memory
 abbrev pub IsSavedReported : Bor (List ℕ) → Fault → Type 0
 IsSavedReported folder (faults.Recorder Damaged) = Unit {0}
-IsSavedReported folder reported = IsRecordingReported folder reported
+IsSavedReported folder reported = IsLackReported folder reported
 
 -- of saving the ride of a folder in a file of these names
 abbrev pub IsSaveReported : Bor (List ℕ) → Bor (List ℕ) → Fault → Type 0

@@ -30,4 +30,5 @@ IsFileFault name (faults.Activity fault) = ⊥
 IsFileFault name (faults.Script fault) = ⊥
 IsFileFault name (faults.OnlySimulate line) = ⊥
 IsFileFault name (faults.Recorder fault) = ⊥
+IsFileFault name (faults.NothingSaved lack) = ⊥
 IsFileFault name (faults.Refused count) = ⊥

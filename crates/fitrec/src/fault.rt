@@ -3,20 +3,21 @@
 use fit_activity::ActivityFault;
 use fit_grammar::{FileFault, PlainFault};
 use fit_recorder::RecFault;
-use fit_world::ScriptFault;
+use fit_words::ShownWord;
+use fit_world::{Lack, ScriptFault};
 use thiserror::Error;
 
 /// A fault of the program. Its text follows `fitrec: ` on standard error.
 #[derive(Debug, Drop, Error)]
 pub enum Fault<'a> {
     /// A file or folder of this name was not opened.
-    #[error("cannot open {0}")]
+    #[error("cannot open {}", ShownWord(.0))]
     Open(&'a str),
     /// A file of this name was not read, or is a script that is not UTF-8.
-    #[error("cannot read {0}")]
+    #[error("cannot read {}", ShownWord(.0))]
     Read(&'a str),
     /// A file of this name was not written. The name of standard output is `-`.
-    #[error("cannot write {0}")]
+    #[error("cannot write {}", ShownWord(.0))]
     Write(&'a str),
     /// A file has more than 256 MiB, or the plain form of a ride would be too long.
     #[error("TooLarge")]
@@ -42,6 +43,9 @@ pub enum Fault<'a> {
     /// The recording was not recovered or saved.
     #[error("{0:?}")]
     Recorder(RecFault),
+    /// Nothing is recorded in a folder in which one of the two files is there. A second line says what it lacks.
+    #[error("NothingRecorded\nfitrec: {0}")]
+    NothingSaved(Lack),
     /// The number of replies to a script that were not ok.
     #[error("{0} refused")]
     Refused(usize),

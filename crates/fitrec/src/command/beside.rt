@@ -6,7 +6,7 @@ ghost use Rattle.fitrec.specs.Places.{other_name};
 
 use crate::command::content::Content;
 use crate::fault::Fault;
-use fit_disk::{DATA_NAME, JOURNAL_NAME, lock};
+use fit_disk::{CAPITAL_DATA_NAME, CAPITAL_JOURNAL_NAME, DATA_NAME, JOURNAL_NAME, lock};
 use fit_grammar::EncodeFault;
 use std::fs::{self, File, OpenOptions};
 use std::io::{self, ErrorKind};
@@ -17,8 +17,8 @@ use std::path::{Path, PathBuf};
 const NAMES: u32 = 100;
 
 /// Writes a content to a file of this name, which may exist. After a fault the name refers to what it referred to before, and the new
-/// file is removed if possible. There is one exception: if only the sync of the folder failed, the new file is in place, and a power
-/// cut may undo that.
+/// file is removed if possible. There is one exception: if only a sync after the move failed, the new file is in place, and a power cut
+/// may undo that.
 pub fn write_whole<'a, C: Content>(
     rt: &HostRuntime,
     name: &'a str,
@@ -42,7 +42,8 @@ fn replace<C: Content>(rt: &HostRuntime, name: &str, content: &C) -> io::Result<
         let _ = fs::remove_file(rt, beside.as_str());
         return Err(error);
     }
-    // The move is durable only after the folder is synced.
+    // On a FAT card the file has no length under its new name before it is synced again. The name is durable after the folder is synced.
+    file.sync_all()?;
     folder.sync_all()
 }
 
@@ -68,6 +69,12 @@ fn other_of(own: &str) -> Option<&'static str>
     }
     if own == JOURNAL_NAME {
         return Some(DATA_NAME);
+    }
+    if own == CAPITAL_DATA_NAME {
+        return Some(CAPITAL_JOURNAL_NAME);
+    }
+    if own == CAPITAL_JOURNAL_NAME {
+        return Some(CAPITAL_DATA_NAME);
     }
     None
 }

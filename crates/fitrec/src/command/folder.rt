@@ -3,12 +3,13 @@
 ghost use Rattle.std.specs.Prelude.{◌≡◌, IfErr, IfOk, IfSome};
 ghost use Rattle.fit_disk.specs.Files.{witness_of};
 ghost use Rattle.fit_disk.specs.declared.files.OpenFault.{OpenFault as WhyNotOpen};
-ghost use Rattle.fitrec.specs.Faults.{fault_of_open, IsRecordingReported};
+ghost use Rattle.fitrec.specs.Faults.{fault_of_open, IsReadReported, IsLackReported};
 
 use crate::command::input::read_input;
 use crate::fault::Fault;
 use fit_disk::{DATA_NAME, Files, JOURNAL_NAME, OpenFault, Witness, is_one_missing, open_to_read};
 use fit_recorder::RecFault;
+use fit_world::Lack;
 use std::fs::File;
 
 /// Opens the files of this folder under a witness, and creates those that are missing.
@@ -42,20 +43,36 @@ pub fn open_recorded<'a, W: Witness>(
     }
 }
 
-/// Reads the data file and the journal of this folder. Nothing is written. If one is missing, the fault is `NothingRecorded`.
+/// Reads the data file and the journal of this folder. Nothing is written. If one of them is missing, the fault says which, and if both
+/// are, it is `NothingRecorded`.
 pub fn read_recorded<'a>(rt: &HostRuntime, name: &'a str) -> Result<(Vec<u8>, Vec<u8>), Fault<'a>>
-    ensures { IfErr result (IsRecordingReported name.entry) }
+    ensures { IfErr result (IsLackReported name.entry) }
 {
-    let Some((mut data_file, mut journal_file)) = open_to_save(rt, name)? else {
-        return Err(Fault::Recorder(RecFault::NothingRecorded));
-    };
+    match open_files(rt, name)? {
+        (Some(data_file), Some(journal_file)) => read_files(rt, data_file, journal_file),
+        (Some(_), None) => Err(Fault::NothingSaved(Lack::NoJournal)),
+        (None, Some(_)) => Err(Fault::NothingSaved(Lack::NoData)),
+        (None, None) => Err(Fault::Recorder(RecFault::NothingRecorded)),
+    }
+}
+
+fn read_files(
+    rt: &HostRuntime,
+    mut data_file: File,
+    mut journal_file: File,
+) -> Result<(Vec<u8>, Vec<u8>), Fault<'static>>
+    ensures { IfErr result IsReadReported }
+{
     let data_bytes = read_input(rt.alloc(), DATA_NAME, &mut data_file)?;
     let journal_bytes = read_input(rt.alloc(), JOURNAL_NAME, &mut journal_file)?;
     Ok((data_bytes, journal_bytes))
 }
 
-// Opens the files of this folder for reading only. Returns `None` if one of them is missing.
-fn open_to_save<'a>(rt: &HostRuntime, name: &'a str) -> Result<Option<(File, File)>, Fault<'a>>
+// Opens the files of this folder for reading only.
+fn open_files<'a>(
+    rt: &HostRuntime,
+    name: &'a str,
+) -> Result<(Option<File>, Option<File>), Fault<'a>>
     ensures { IfErr result (λ fault. (why : WhyNotOpen) × (fault ≡ fault_of_open name.entry why)) }
 {
     match open_to_read(rt, name) {

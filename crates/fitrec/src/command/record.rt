@@ -15,7 +15,7 @@ use fit_world::{ReportFault, record};
 use std::io::{Read, Write};
 
 /// Does the lines of standard input over the files of a folder, each as it comes, and prints the answers. If answers were not ok, the fault
-/// is `Refused` with their number.
+/// is `Refused` with their number. A folder without a name is not opened.
 pub fn record_folder<'a, O: Write>(
     rt: &HostRuntime,
     folder: &'a str,
@@ -27,6 +27,9 @@ pub fn record_folder<'a, O: Write>(
     ensures refused { (count : ℕ) → result ≡ Err (Refused count)
         → RecordsLines every (O.contents out.old) (O.contents out.new) count }
 {
+    if folder.is_empty() {
+        return Err(Fault::Open(folder));
+    }
     let mut from = rt.stdin();
     let (_, recorded) = record_files(rt, folder, Trusting, &mut from, every, out)?;
     match recorded {

@@ -38,7 +38,11 @@ pub fn verify_folder<'a, O: Write>(
 ) -> Result<(), Fault<'a>>
     ensures { VerifiesFolder name.entry (O.contents out.old) (O.contents out.new) result }
 {
-    let (in_data, in_journal) = read_recorded(rt, name)?;
+    let (in_data, in_journal) = match read_recorded(rt, name) {
+        Ok(both) => both,
+        Err(Fault::NothingSaved(_)) => return Err(Fault::Recorder(RecFault::NothingRecorded)),
+        Err(fault) => return Err(fault),
+    };
     let (_, repaired) = repair_holding(rt, name, in_data.as_slice(), in_journal.as_slice(), out)?;
     stated_of(repaired)
 }

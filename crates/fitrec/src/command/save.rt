@@ -8,11 +8,12 @@ use crate::command::beside::write_whole;
 use crate::command::folder::read_recorded;
 use crate::command::input::fault_of_report;
 use crate::fault::Fault;
-use fit_world::{SaveFault, SavedRide, print_summary, save_ride};
+use fit_recorder::RecFault;
+use fit_world::{Lack, SaveFault, SavedRide, print_summary, save_ride};
 use std::io::Write;
 
 /// Writes the plain form of the file that a repair of the folder `name` would make to the file `to`, which may exist, and prints its
-/// summary.
+/// summary. A folder without a name is not opened.
 pub fn save_folder<'a, O: Write>(
     rt: &HostRuntime,
     name: &'a str,
@@ -23,6 +24,9 @@ pub fn save_folder<'a, O: Write>(
     ensures saved { OnOk result (SavesFolder (O.contents out.old) (O.contents out.new)) }
     ensures quiet { IfErr result (PrintsNothing (O.contents out.old) (O.contents out.new)) }
 {
+    if name.is_empty() {
+        return Err(Fault::Open(name));
+    }
     let saved = saved_of(rt, name)?;
     write_whole(rt, to, &saved.file)?;
     match print_summary(saved.summary, out) {
@@ -37,8 +41,10 @@ fn saved_of<'a>(rt: &HostRuntime, name: &'a str) -> Result<SavedRide, Fault<'a>>
     ensures reported { IfErr result (IsSavedReported name.entry) }
 {
     let (data_bytes, journal_bytes) = read_recorded(rt, name)?;
+    let lack = Lack::of(data_bytes.as_slice(), journal_bytes.as_slice());
     match save_ride(rt.alloc(), data_bytes, journal_bytes) {
         Ok(saved) => Ok(saved),
+        Err(SaveFault::Recorder(RecFault::NothingRecorded)) => Err(Fault::NothingSaved(lack)),
         Err(SaveFault::Recorder(fault)) => Err(Fault::Recorder(fault)),
         Err(SaveFault::TooLarge) => Err(Fault::TooLarge),
         Err(SaveFault::NoMemory) => Err(Fault::NoMemory),
