@@ -3,7 +3,7 @@
 
     examples/heart_rate.py FOLDER [SECONDS [PACE]]
 
-SECONDS is how long it records (3,600), and PACE how many seconds it waits between two samples (1)."""
+FOLDER is made if it is missing. SECONDS is how long it records (3,600), and PACE how many seconds it waits between two samples (1)."""
 import math
 import pathlib
 import subprocess
@@ -15,7 +15,8 @@ FITREC = pathlib.Path(__file__).resolve().parent.parent / "fitrec"
 
 
 def main(folder, seconds=3600, pace=1.0):
-    ride = subprocess.Popen([FITREC, "record", "--commit", "10", folder], stdin=subprocess.PIPE, stdout=subprocess.PIPE, text=True)
+    pathlib.Path(folder).mkdir(exist_ok=True)
+    ride = subprocess.Popen([FITREC, "record", folder], stdin=subprocess.PIPE, stdout=subprocess.PIPE, text=True)
 
     def tell(line):
         print(line, file=ride.stdin, flush=True)
@@ -34,4 +35,6 @@ def main(folder, seconds=3600, pace=1.0):
     return ride.wait()
 
 
+if len(sys.argv) not in (2, 3, 4):
+    sys.exit(__doc__)
 sys.exit(main(*sys.argv[1:]))
