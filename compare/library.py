@@ -207,7 +207,7 @@ def check(fitrec, count, seed):
         yield "library: proved and built", why and ("fit_c was not built", why)
         if why:
             return
-        for name, difference in names_of(archive):
+        for name, difference in (*names_of(archive), *links_as_shown(archive)):
             yield "library: " + name, difference
         with programs(archive) as made_so:
             for how, program in made_so.items():
