@@ -10,7 +10,10 @@ work=$(mktemp -d)
 trap 'rm -rf "$work"' EXIT
 
 mkdir -p "$work/repo/crates"
-printf 'fit_disk:\nbench_disk: fit_disk\n' > "$work/repo/crates.txt"
+{
+    grep '^fit_disk:' "$root/crates.txt"
+    echo 'bench_disk: fit_disk'
+} > "$work/repo/crates.txt"
 cp -r "$root/crates/fit_disk" "$work/repo/crates/fit_disk"
 mkdir -p "$work/repo/crates/bench_disk/src"
 cp "$root/bench/disk/main.rt.in" "$work/repo/crates/bench_disk/src/main.rt"

@@ -261,8 +261,9 @@ def riscv_programs(folder, made):
 def machine_programs(folder):
     """For each form of the crate that can be run here, its name, its emulator and the program."""
     made, is_made = folder + "/made", False
-    for tools, programs_of in ((ARM_TOOLS, arm_programs), (RISCV_TOOLS, riscv_programs)):
-        missing = [it for it in tools if not shutil.which(it)]
+    for tools, specs, programs_of in ((ARM_TOOLS, "rdimon.specs", arm_programs), (RISCV_TOOLS, "picolibc.specs", riscv_programs)):
+        # A compiler answers the bare name of a file that it does not have.
+        missing = [it for it in tools if not shutil.which(it) or it.endswith("gcc") and "/" not in run(it, "-print-file-name=" + specs)[1]]
         if missing:
             print("skipped: a recorder of 32 bits, since there is no %s here; it is in Debian's package %s" % (missing[0], tools[missing[0]]))
             continue

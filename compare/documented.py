@@ -216,6 +216,8 @@ def sizes():
         value = int(re.search(r"const %s: \w+ = ([\d_]+)" % name, page("crates/" + file))[1])
         for it in names:
             yield "%s in docs/%s.md" % (name, it), differs("{:,}".format(value) in page("docs/%s.md" % it), True)
+    for file, lines in re.findall(r"`(examples/device/\w+\.c)`\s[^`]*?of (\d+)\b", page("docs/EMBEDDING.md")):
+        yield "the lines of " + file, None if abs(page(file).count("\n") - int(lines)) <= 5 else page(file).count("\n")
 
 
 def check(fitrec):

@@ -209,7 +209,7 @@ def check(fitrec, count, seed):
         if why:
             return
         yield released.same("libfit_c.a", archive)
-        for name, difference in names_of(archive):
+        for name, difference in (*names_of(archive), *links_as_shown(archive)):
             yield "library: " + name, difference
         with programs(archive) as made_so:
             for how, program in made_so.items():

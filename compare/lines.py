@@ -15,6 +15,8 @@ from rides import differs
 from told import holds
 
 EXAMPLES = pathlib.Path(__file__).resolve().parent.parent / "examples"
+# Without these words it commits by itself.
+AT_THE_END = "--commit", "0"
 
 
 def record(fitrec, folder, text, *words):
@@ -69,7 +71,7 @@ def as_replays(fitrec):
         with tempfile.TemporaryDirectory() as one, tempfile.TemporaryDirectory() as other:
             said = replayed(fitrec, one, text, "--checked")
             rides_on = still_rides(said[1].splitlines())
-            yield "lines: as replayed", differs(record(fitrec, other, text), as_recorded(said, text.count("\n"), rides_on))
+            yield "lines: as replayed", differs(record(fitrec, other, text, *AT_THE_END), as_recorded(said, text.count("\n"), rides_on))
             if not rides_on:
                 yield "lines: the same files", differs(holds(one), holds(other))
             else:
@@ -81,7 +83,7 @@ def as_they_come(fitrec):
     """Each line is answered before the next is sent, also where its bytes come one by one."""
     lines = rides.script_of(40, 9).splitlines()
     with tempfile.TemporaryDirectory() as folder:
-        with subprocess.Popen([fitrec, "record", folder], stdin=subprocess.PIPE, stdout=subprocess.PIPE) as running:
+        with subprocess.Popen([fitrec, "record", *AT_THE_END, folder], stdin=subprocess.PIPE, stdout=subprocess.PIPE) as running:
             for number, line in enumerate(lines, 1):
                 for byte in line.encode() + b"\n":
                     running.stdin.write(bytes([byte]))
@@ -92,7 +94,7 @@ def as_they_come(fitrec):
             yield "lines: the folder is locked", differs(locked, (1, "", "fitrec: cannot open %s\n" % folder))
             running.stdin.close()
             yield "lines: the end", differs((running.stdout.read(), running.wait()), (b"%d commit: ok\n" % (len(lines) + 1), 0))
-        goes_on = record(fitrec, folder, "reopen\nsample 1000000099 hr=90\nstop 1000000100\n")
+        goes_on = record(fitrec, folder, "reopen\nsample 1000000099 hr=90\nstop 1000000100\n", *AT_THE_END)
         yield "lines: the ride is reopened", differs(goes_on, (0, "1 reopen: ok\n2 sample: ok\n3 stop: ok\n", ""))
 
 
@@ -123,8 +125,10 @@ def of_odd_bytes(fitrec):
 
 
 def by_itself(fitrec):
-    """With --commit a commit comes after an entry that is so many seconds after the last one, under the number of its line."""
-    for every in (0, 1, 5, 30, 4294967295):
+    """A commit comes after an entry that is so many seconds after the last one, under the number of its line: 10 if --commit gives no
+    other number, and none if that is 0."""
+    for given in (None, 0, 1, 5, 30, 4294967295):
+        every = 10 if given is None else given
         pick, second, last, lines, want = random.Random(every), 0, 0, ["start 1000000000 7 running"], ["1 start: ok"]
         for number in range(2, 60):
             word = pick.choice(["sample", "sample", "sample", "lap", "commit", "sample 1 x"])
@@ -137,13 +141,14 @@ def by_itself(fitrec):
             want.append("%d %s: ok" % (number, word))
             if word == "commit":
                 last = second
-            elif second - last >= every:
+            elif every and second - last >= every:
                 want.append("%d commit: ok" % number)
                 last = second
         lines.append("stop %d" % (1000000000 + second))
         want.append("%d stop: ok" % len(lines))
         with tempfile.TemporaryDirectory() as folder:
-            said = record(fitrec, folder, "\n".join(lines) + "\n", "--commit", str(every))
+            words = [] if given is None else ["--commit", str(given)]
+            said = record(fitrec, folder, "\n".join(lines) + "\n", *words)
             yield "lines: commits by itself", differs(said[1].splitlines(), want)
     with tempfile.TemporaryDirectory() as folder:
         for word in ("x", "", "-1", "4294967296"):

@@ -12,7 +12,7 @@ complete -c fitrec -n __fish_use_subcommand -a simulate -d 'Runs a script over a
 complete -c fitrec -n __fish_use_subcommand -a version -d 'Prints the version, and the kit and the logic that it was proved by'
 complete -c fitrec -n '__fish_seen_subcommand_from show' -l utc -d 'Shows times as dates in UTC'
 complete -c fitrec -n '__fish_seen_subcommand_from show' -l json -d 'Writes a JSON object on each line, for programs'
-complete -c fitrec -n '__fish_seen_subcommand_from record' -l commit -x -d 'Commits after an entry that comes so many seconds of the ride after the last commit'
+complete -c fitrec -n '__fish_seen_subcommand_from record' -l commit -x -d 'Commits after an entry that comes so many seconds of the ride after the last commit (10); 0 commits at the end alone'
 complete -c fitrec -n '__fish_seen_subcommand_from repair' -l verify -d 'Checks each answer of the system against what both files must hold, for a card that is dying'
 complete -c fitrec -n '__fish_seen_subcommand_from salvage' -l all -d 'Looks at every byte after the header, whatever size the header gives'
 complete -c fitrec -n '__fish_seen_subcommand_from salvage' -l plain -d 'Writes the time of every message out, as the command plain does'

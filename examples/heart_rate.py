@@ -16,7 +16,7 @@ FITREC = pathlib.Path(__file__).resolve().parent.parent / "fitrec"
 
 def main(folder, seconds=3600, pace=1.0):
     pathlib.Path(folder).mkdir(exist_ok=True)
-    ride = subprocess.Popen([FITREC, "record", "--commit", "10", folder], stdin=subprocess.PIPE, stdout=subprocess.PIPE, text=True)
+    ride = subprocess.Popen([FITREC, "record", folder], stdin=subprocess.PIPE, stdout=subprocess.PIPE, text=True)
 
     def tell(line):
         print(line, file=ride.stdin, flush=True)

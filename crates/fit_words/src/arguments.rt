@@ -44,7 +44,9 @@ pub(crate) fn commit_option<'a>(alloc: Global) -> Arg<'a> {
     Arg::new(alloc, "commit")
         .long("commit")
         .value_name("SECONDS")
-        .help("Commits after an entry that comes so many seconds of the ride after the last commit")
+        .help(
+            "Commits after an entry that comes so many seconds of the ride after the last commit (10); 0 commits at the end alone",
+        )
         .action(ArgAction::Set)
 }
 

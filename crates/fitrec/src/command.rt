@@ -111,7 +111,11 @@ pub fn command<S: AsStr, O: Write, E: Write>(
     }
 }
 
-// Records the lines of standard input. The folder is opened only if the word for the seconds between commits is a number.
+// How many seconds of the ride are between two commits of a recording, if no word gives another number.
+const SECONDS_BETWEEN_COMMITS: u32 = 10;
+
+// Records the lines of standard input. The folder is opened only if the word for the seconds between commits is a number. By 0 there is a
+// commit at the end alone.
 fn record_chosen<O: Write, E: Write>(
     rt: &HostRuntime,
     folder: &str,
@@ -122,9 +126,11 @@ fn record_chosen<O: Write, E: Write>(
     ensures { result ≤ 2 }
 {
     let Some(word) = every else {
-        return status(record_folder(rt, folder, None, out), err);
+        let seconds = Some(SECONDS_BETWEEN_COMMITS);
+        return status(record_folder(rt, folder, seconds, out), err);
     };
     match word.parse::<u32>() {
+        Ok(0) => status(record_folder(rt, folder, None, out), err),
         Ok(seconds) => status(record_folder(rt, folder, Some(seconds), out), err),
         Err(_) => match no_seconds(rt.alloc(), word) {
             Ok(refusal) => refused(refusal, err),
