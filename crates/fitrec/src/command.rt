@@ -82,7 +82,7 @@ pub fn command<S: AsStr, O: Write, E: Write>(
                 folder,
                 verify: true,
             },
-        ) => status(verify_folder(rt, folder, out), err),
+        ) => status(verify_folder(rt, folder, out).map(|_| ()), err),
         Ok(
             Request::Salvage {
                 file,

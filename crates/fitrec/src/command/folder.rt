@@ -54,8 +54,8 @@ pub fn read_recorded<'a>(rt: &HostRuntime, name: &'a str) -> Result<(Vec<u8>, Ve
     Ok((data_bytes, journal_bytes))
 }
 
-// Opens the files of this folder for reading only. Returns `None` if one of them is missing.
-fn open_to_save<'a>(rt: &HostRuntime, name: &'a str) -> Result<Option<(File, File)>, Fault<'a>>
+/// Opens the files of this folder for reading only. Returns `None` if one of them is missing.
+pub fn open_to_save<'a>(rt: &HostRuntime, name: &'a str) -> Result<Option<(File, File)>, Fault<'a>>
     ensures { IfErr result (λ fault. (why : WhyNotOpen) × (fault ≡ fault_of_open name.entry why)) }
 {
     match open_to_read(rt, name) {
