@@ -296,6 +296,39 @@ def calls_that_lie(told):
             yield "a verified repair after a first reading that lied", differs((said, holds(folder)), verified.well)
 
 
+def second_reading(folder):
+    """The calls that read both files of a folder from start to end, in windows of 4,096 bytes."""
+    for name, held in zip(("data", "journal"), holds(folder)):
+        for at in range(0, len(held) + 1, 4096):
+            given = min(len(held) - at, 4096)
+            yield "read %s %d 4096" % (name, at)
+            if 0 < given < 4096:
+                yield "read %s %d %d" % (name, at + given, 4096 - given)
+
+
+LONG = [START] + ["sample %d hr=%d" % (1000000000 + 40 * number, 60 + number % 99) for number in range(500)]
+
+
+def verified_rides(told):
+    """With --verify both files are read whole after the last sync, over 4,096 bytes too, and also after a start alone. A call that lies
+    is found or does no harm; one that fails is Device."""
+    for ride in ([START], LONG + ["commit", "sample 1000030000 hr=60"]):
+        with room(*ride) as (script, new):
+            verified = Verified(told, script, new)
+            folder, said, log = verified.run()
+            yield "a verified repair of any length", differs((said, holds(folder)), verified.well)
+            syncs = [at for at, line in enumerate(log) if line.startswith("sync ")]
+            yield "both files are read again", differs(log[syncs[-1] + 1:], list(second_reading(folder)))
+            for line, kind, number in verified.calls():
+                folder, said, _ = verified.run(call=kind, number=number, lies=1)
+                well = said == DEVICE or (said, holds(folder)) == verified.well
+                yield "any %s that lies" % kind, None if well else (len(ride), line, said)
+                folder, said, log = verified.run(call=kind, number=number, errno=errno.EIO)
+                yield "any %s that fails" % kind, differs((said, log[-1]), (DEVICE, line + " failed"))
+                said = run(told.fitrec, "repair", "--verify", folder)
+                yield "a verified repair after any %s" % kind, differs((line, said, holds(folder)), (line, *verified.well))
+
+
 def failing_calls_of_a_verified_repair(told):
     """A call that fails is Device, no other is made after it, and a repair succeeds. One that is interrupted or falls short is continued."""
     with room(*CUT_OFF) as (script, new):
@@ -358,7 +391,7 @@ def check(fitrec):
     with library() as made:
         told = Told(fitrec, made)
         for part in (the_calls, reads_of_a_body, before_an_opening, failed_syncs, failing_calls_of_a_ride,
-                     calls_that_go_wrong, calls_that_lie, failing_calls_of_a_verified_repair, first_readings_that_fail,
-                     looks_that_fail):
+                     calls_that_go_wrong, calls_that_lie, verified_rides, failing_calls_of_a_verified_repair,
+                     first_readings_that_fail, looks_that_fail):
             for name, difference in part(told):
                 yield "faults: " + name, difference

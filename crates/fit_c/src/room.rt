@@ -1,6 +1,6 @@
 // A writer into a caller's buffer. It takes all bytes, and keeps them if they have room.
 
-ghost use Rattle.std.specs.Prelude.{◌≡◌, ◌+◌, ◌≤◌, ◌++◌, [], length, take};
+ghost use Rattle.std.specs.Prelude.{◌≡◌, ◌+◌, ◌<◌, ◌≤◌, ◌^◌, ◌++◌, [], length, take};
 
 use crate::tape::Tape;
 use std::io::{self, ErrorKind, Write};
@@ -33,6 +33,20 @@ impl<'a> Room<'a> {
             tape: Tape::new(),
         }
     }
+
+    // Takes these bytes after those that were taken.
+    pub fn take(&mut self, bytes: &[u8])
+        requires { length self.old.tape.bytes + length bytes.now < 2 ^ 64 }
+        ensures name { self.new.bytes.ghost_name ≡ self.old.bytes.ghost_name }
+        ensures tape { self.new.tape.bytes ≡ self.old.tape.bytes ++ bytes.now }
+    {
+        let len = self.len + bytes.len();
+        if len <= self.bytes.len() {
+            put(self.bytes, self.len, bytes);
+        }
+        self.tape.add(bytes);
+        self.len = len;
+    }
 }
 
 impl Write for Room<'_> {
@@ -41,14 +55,10 @@ impl Write for Room<'_> {
     ghost contents = { contents_of };
 
     fn write(&mut self, buf: &[u8]) -> io::Result<usize> {
-        let Some(len) = self.len.checked_add(buf.len()) else {
+        if self.len.checked_add(buf.len()).is_none() {
             return Err(ErrorKind::WriteZero.into());
-        };
-        if len <= self.bytes.len() {
-            put(self.bytes, self.len, buf);
         }
-        self.tape.add(buf);
-        self.len = len;
+        self.take(buf);
         Ok(buf.len())
     }
 

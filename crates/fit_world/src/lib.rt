@@ -70,7 +70,7 @@ pub use playing::play;
 pub use printing::print_summary;
 pub use reading::{ReadFault, read_all};
 pub use recording::{LineFault, record};
-pub use repairing::{RepairFault, repair, repair_and_read};
+pub use repairing::{FileSums, RepairFault, repair, repair_and_read};
 pub use reply::Reply;
 pub use ride::Ride;
 pub use salvage::Salvage;

@@ -7,6 +7,7 @@ use fit_disk::{Memory, Which};
 use fit_recorder::recover;
 use fit_world::{ReadFault, ReportFault, record};
 use std::alloc::AllocError;
+use std::io::{self, ErrorKind, Read};
 
 const START: &[u8] = b"start 1000000000 7 running\n";
 
@@ -52,6 +53,53 @@ fn each_line_is_answered(rt: HostRuntime) {
         )
     );
     assert!(rt; answers(&rt, b"", None, "", 0));
+}
+
+// A reader whose first calls are interrupted, so many of them, and which then gives one byte a call.
+#[derive(Drop)]
+struct Lagging<'a> {
+    waits: usize,
+    bytes: Pieces<'a>,
+}
+
+impl Read for Lagging<'_> {
+    fn read(&mut self, buf: &mut [u8]) -> io::Result<usize> {
+        if self.waits > 0 {
+            self.waits -= 1;
+            return Err(ErrorKind::Interrupted.into());
+        }
+        self.bytes.read(buf)
+    }
+}
+
+// However many calls of its reader give nothing or little, a recording goes on.
+#[test]
+fn a_reader_that_lags_ends_no_recording(rt: HostRuntime) -> Result<(), AllocError> {
+    let mut lines = Vec::from_slice(rt.alloc(), START)?;
+    for _ in 0..35_000 {
+        lines.extend_from_slice(b"#\n")?;
+    }
+    lines.extend_from_slice(b"sample 1000000001\n")?;
+    let bytes = Pieces {
+        rest: lines.as_slice(),
+        step: 1,
+        calls: usize::MAX,
+    };
+    let mut from = Lagging {
+        waits: 70_000,
+        bytes,
+    };
+    let mut out = Vec::new(rt.alloc());
+    let disk = Memory::new(rt.alloc());
+    let (disk, recorded) = record(rt.alloc(), disk, &mut from, None, &mut out);
+    equal(&rt, recorded, Ok(0));
+    equal(
+        &rt,
+        out.as_slice(),
+        b"1 start: ok\n35002 sample: ok\n35003 commit: ok\n".as_slice(),
+    );
+    equal(&rt, records_left(disk), Some(1));
+    Ok(())
 }
 
 // A line may end with a carriage return, and the last one without a newline.

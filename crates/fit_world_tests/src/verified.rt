@@ -1,9 +1,10 @@
 // Rides over the real files of a folder, with each answer checked. The lines are from outside.
 
 use crate::equality::equal;
+use fit_base::Crc;
 use fit_disk::{Files, Shadow};
 use fit_recorder::RecFault;
-use fit_world::{RepairFault, play, read_script, repair, repair_and_read};
+use fit_world::{FileSums, RepairFault, play, read_script, repair, repair_and_read};
 use std::fs;
 use std::test::Fail;
 
@@ -33,8 +34,18 @@ fn a_ride_and_its_repair_agree_with_their_shadow(rt: HostRuntime) -> Result<(), 
     let mut files = ridden(&rt, folder, &mut out)?;
     equal(&rt, out.as_slice(), ANSWERS.as_bytes());
     out.clear();
-    equal(&rt, repair_and_read(&mut files, &mut out), Ok(()));
+    let repaired = repair_and_read(&mut files, &mut out);
     equal(&rt, out.as_slice(), LINE.as_bytes());
+    // The last two bytes of a finished file make its checksum 0.
+    let in_journal = Crc::of(fs::read(&rt, "fit_world_test_verified/activity.frj")?.as_slice());
+    equal(
+        &rt,
+        repaired,
+        Ok(FileSums {
+            in_data: 0,
+            in_journal,
+        }),
+    );
     drop(files);
     fs::remove_dir_all(&rt, folder)?;
     Ok(())
@@ -54,12 +65,12 @@ fn a_file_that_another_program_changed_is_not_repaired(rt: HostRuntime) -> Resul
         *byte ^= 1;
     }
     fs::write(&rt, name, changed.as_slice())?;
-    let device = Err(RepairFault::Recorder(RecFault::Device));
-    equal(&rt, repair(&mut files, &mut out), device);
-    equal(&rt, repair_and_read(&mut files, &mut out), device);
+    let device = RepairFault::Recorder(RecFault::Device);
+    equal(&rt, repair(&mut files, &mut out), Err(device));
+    equal(&rt, repair_and_read(&mut files, &mut out), Err(device));
     equal(&rt, out.len(), 0);
     fs::write(&rt, name, bytes.as_slice())?;
-    equal(&rt, repair_and_read(&mut files, &mut out), Ok(()));
+    assert!(rt; repair_and_read(&mut files, &mut out).is_ok());
     equal(&rt, out.as_slice(), LINE.as_bytes());
     drop(files);
     fs::remove_dir_all(&rt, folder)?;

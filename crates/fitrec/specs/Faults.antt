@@ -44,8 +44,8 @@ IsRepairReported repairs.Output (faults.Write name) = name.now ≡ codes "-"
 IsRepairReported repairs.Output _ = ⊥
 
 -- the program's result for the result of a repair
-abbrev pub AnswersRepair : Result (Unit {0}) RepairFault → Result (Unit {0}) Fault → Type 0
-AnswersRepair (Ok done) (Ok reported) = Unit {0}
+abbrev pub AnswersRepair : {T : Type 0} → Result T RepairFault → Result T Fault → Type 0
+AnswersRepair (Ok done) (Ok reported) = reported ≡ done
 AnswersRepair (Err why) (Err reported) = IsRepairReported why reported
 AnswersRepair _ _ = ⊥
 

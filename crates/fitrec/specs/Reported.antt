@@ -4,13 +4,15 @@ use Rattle.std.specs.Borrow.{Bor}
 use Rattle.std.specs.Io.KnownBytes.{Appends}
 use Rattle.std.specs.Str.Lines.{lines}
 use Rattle.fit_activity.specs.declared.activity.Summary.{Summary}
-use Rattle.fit_disk.specs.State.{Contents}
+use Rattle.fit_disk.specs.State.{Contents, seen_in}
 use Rattle.fit_disk.specs.Story.{Story}
 use Rattle.fit_grammar.specs.Format.File.{FileValue}
 use Rattle.fit_grammar.specs.Format.Message.{messages_of}
 use Rattle.fit_world.specs.declared.event.Event.{Event}
 use Rattle.fit_world.specs.declared.salvage.Salvage.{Salvage}
 use Rattle.fit_world.specs.declared.saving.SavedRide.{SavedRide}
+use Rattle.fit_world.specs.Calls.Reading.{ReadsAll}
+use Rattle.fit_world.specs.Calls.Rereading.{AreSumsOf}
 use Rattle.fit_world.specs.Printed.PlainFile.{PlainsTo, messages_text}
 use Rattle.fit_world.specs.Printed.Repaired.{Repairs}
 use Rattle.fit_world.specs.Printed.ReplyLines.{AreReported}
@@ -19,6 +21,7 @@ use Rattle.fit_world.specs.Printed.Saved.{SavesRide}
 use Rattle.fit_world.specs.Printed.Summary.{summary_text}
 use Rattle.fit_world.specs.Rides.Turns.{Finishes}
 use Rattle.fit_world.specs.Scripts.Script.{events_of}
+use Rattle.fit_world.specs.declared.repairing.FileSums.{FileSums}
 use Rattle.fit_world.specs.declared.repairing.RepairFault.{RepairFault}
 use Rattle.fit_world.specs.declared.repairing.RepairFault.TheVariants as repairs
 use Rattle.fitrec.specs.Faults.{IsRecordingReported, IsRepairReported}
@@ -73,14 +76,21 @@ ReportsRepair old new (Ok done) = PrintsSummary old new
 ReportsRepair old new (Err (repairs.Recorder fault)) = new ≡ old
 ReportsRepair old new (Err repairs.Output) = Unit {0}
 
--- The two files of a folder of this name were read, and what they held was repaired, or was not, for the reported fault; or they
--- were not opened or not read, and nothing is printed.
-abbrev pub VerifiesFolder : Bor (List ℕ) → Option (List ℕ) → Option (List ℕ) → Result (Unit {0}) Fault → Type 0
-VerifiesFolder name old new (Ok done) = (contents : Contents) × (story : Story) × Repairs contents story old new (Ok done)
-VerifiesFolder name old new (Err reported) =
+-- the two files of a recording were read from these inputs, each to its end, and held these contents
+abbrev pub AreRead : Option (List ℕ) → Option (List ℕ) → Option (List ℕ) → Option (List ℕ) → Contents → Type 0
+AreRead data_file data_left journal_file journal_left contents =
+    ReadsAll 268435456 data_file data_left contents.in_data × ReadsAll 268435456 journal_file journal_left contents.in_journal
+
+-- The two files of a folder of this name were read, and what they held was repaired, and both files read again, with these checksums. Or
+-- what they held was not repaired, for the reported fault; or they were not opened or not read, and nothing is printed.
+abbrev pub VerifiesFolder : Bor (List ℕ) → (Contents → Type 0) → Option (List ℕ) → Option (List ℕ) → Result FileSums Fault → Type 0
+VerifiesFolder name WereRead old new (Ok sums) =
+    (contents : Contents) × WereRead contents × (story : Story) × Repairs contents story old new (Ok sums)
+    × AreSumsOf (seen_in story.now) sums
+VerifiesFolder name WereRead old new (Err reported) =
     (IsRecordingReported name reported × (new ≡ old))
-    ⊎ ((why : RepairFault) × IsRepairReported why reported × (contents : Contents) × (story : Story)
-    × Repairs {T = Unit {0}} contents story old new (Err why))
+    ⊎ ((why : RepairFault) × IsRepairReported why reported × (contents : Contents) × WereRead contents × (story : Story)
+    × Repairs {T = FileSums} contents story old new (Err why))
 
 -- it is the saved ride of the two files of a recording
 abbrev pub IsSavedRide : SavedRide → Type 0

@@ -86,7 +86,7 @@ pub fn command<S: AsStr, O: Write, E: Write>(
                 folder,
                 verify: true,
             },
-        ) => status(verify_folder(rt, folder, out), err),
+        ) => status(verify_folder(rt, folder, out).map(|_| ()), err),
         Ok(
             Request::Salvage {
                 file,

@@ -68,8 +68,8 @@ fn read_files(
     Ok((data_bytes, journal_bytes))
 }
 
-// Opens the files of this folder for reading only.
-fn open_files<'a>(
+/// Opens the files of this folder for reading only, those of them that are there.
+pub fn open_files<'a>(
     rt: &HostRuntime,
     name: &'a str,
 ) -> Result<(Option<File>, Option<File>), Fault<'a>>

@@ -1,21 +1,23 @@
 // The subcommand `repair`: finishes the recording of a folder.
 
-ghost use Rattle.std.specs.Prelude.{◌≡◌, IsTrue, IfErr, IfOk, OnOk};
+ghost use Rattle.std.specs.Prelude.{◌≡◌, IsTrue, IfErr, IfOk, OnOk, None};
 ghost use Rattle.fit_disk.specs.Shadow.{shadow_story};
 ghost use Rattle.fit_disk.specs.State.{seen_in};
 ghost use Rattle.fit_disk.specs.Story.{seen_of};
 ghost use Rattle.fit_disk.specs.declared.disk.Which.TheVariants.{Data, Journal};
 ghost use Rattle.fit_recorder.specs.Files.Committed.{HasCounted};
+ghost use Rattle.fit_world.specs.Calls.Rereading.{AreSumsOf};
 ghost use Rattle.fit_world.specs.Printed.Repaired.{Repairs, IsRepairFault};
 ghost use Rattle.fitrec.specs.Faults.{AnswersRepair, IsFolderFault, IsOpenReported};
-ghost use Rattle.fitrec.specs.Reported.{ReportsRepair, PrintsSummary, PrintsNothing, VerifiesFolder};
+ghost use Rattle.fitrec.specs.Reported.{AreRead, ReportsRepair, PrintsSummary, PrintsNothing, VerifiesFolder};
 
-use crate::command::folder::{open_recorded, read_recorded};
+use crate::command::folder::{open_files, open_recorded};
+use crate::command::input::read_input;
 use crate::fault::Fault;
-use fit_disk::{Shadow, Trusting, Witness};
+use fit_disk::{DATA_NAME, JOURNAL_NAME, Shadow, Trusting, Witness};
 use fit_recorder::RecFault;
-use fit_world::{RepairFault, repair, repair_and_read};
-use std::io::Write;
+use fit_world::{FileSums, RepairFault, repair, repair_and_read};
+use std::io::{Read, Write};
 
 /// Recovers the recording of this folder, and prints its summary. If a file is missing, none is created, and the fault is
 /// `NothingRecorded`.
@@ -28,58 +30,16 @@ pub fn repair_folder<'a, O: Write>(
     ensures repaired { OnOk result (PrintsSummary (O.contents out.old) (O.contents out.new)) }
     ensures quiet { IfErr result (PrintsNothing (O.contents out.old) (O.contents out.new)) }
 {
-    let (_, repaired) = repair_files(rt, name, Trusting, false, out)?;
+    let (_, repaired) = repair_files(rt, name, Trusting, out)?;
     stated_of(repaired)
 }
 
-/// The same, but both files are read first. Each later answer of the system has to agree with what they held and with what was
-/// written since. The first one that does not is a failed call. Both files are read once more before anything is printed.
-pub fn verify_folder<'a, O: Write>(
-    rt: &HostRuntime,
-    name: &'a str,
-    out: &mut O,
-) -> Result<(), Fault<'a>>
-    ensures { VerifiesFolder name.entry (O.contents out.old) (O.contents out.new) result }
-{
-    let (in_data, in_journal) = match read_recorded(rt, name) {
-        Ok(both) => both,
-        Err(Fault::NothingSaved(_)) => return Err(Fault::Recorder(RecFault::NothingRecorded)),
-        Err(fault) => return Err(fault),
-    };
-    let (_, repaired) = repair_holding(rt, name, in_data.as_slice(), in_journal.as_slice(), out)?;
-    stated_of(repaired)
-}
-
-/// The same, if the two files have to hold these bytes. The returned shadow has the story of both files.
-pub fn repair_holding<'a, O: Write>(
-    rt: &HostRuntime,
-    name: &'a str,
-    in_data: &[u8],
-    in_journal: &[u8],
-    out: &mut O,
-) -> Result<(Shadow, Result<(), RepairFault>), Fault<'a>>
-    ensures repaired { IfOk result (λ done.
-        Repairs (record { in_data = in_data.now; in_journal = in_journal.now }) (shadow_story done.0)
-        (O.contents out.old) (O.contents out.new) done.1) }
-    // The body has the checksum that the journal states, if it states one.
-    ensures checked { IfOk result (λ done. OnOk done.1
-        (HasCounted in_journal.now (seen_of Data (shadow_story done.0)))) }
-    ensures reported { IfErr result (IsOpenReported name.entry) }
-    ensures quiet { IfErr result (λ _. O.contents out.new ≡ O.contents out.old) }
-{
-    match Shadow::holding(rt.alloc(), in_data, in_journal) {
-        Ok(shadow) => repair_files(rt, name, shadow, true, out),
-        Err(_) => Err(Fault::NoMemory),
-    }
-}
-
-/// Repairs the recording under any witness, and returns the witness. If `reads_again` is set, both files are read again at the end.
-/// Under an honest witness the files are those of its story, before and after.
+/// Repairs the recording under any witness, and returns the witness. Under an honest witness the files are those of its story, before
+/// and after.
 pub fn repair_files<'a, W: Witness, O: Write>(
     rt: &HostRuntime,
     name: &'a str,
     witness: W,
-    reads_again: bool,
     out: &mut O,
 ) -> Result<(W, Result<(), RepairFault>), Fault<'a>>
     ensures repaired { IsTrue W.honest → IfOk result (λ done.
@@ -95,20 +55,80 @@ pub fn repair_files<'a, W: Witness, O: Write>(
     let Some(mut files) = open_recorded(rt, name, witness)? else {
         return Err(Fault::Recorder(RecFault::NothingRecorded));
     };
-    let repaired = if reads_again {
-        repair_and_read(&mut files, out)
-    } else {
-        repair(&mut files, out)
+    let repaired = repair(&mut files, out);
+    Ok((files.into_witness(), repaired))
+}
+
+/// The same as `repair_folder`, but both files are read first. Each later answer of the system has to agree with what they held and with
+/// what was written since. The first one that does not is a failed call. Both files are read once more before anything is printed.
+/// Returns the checksums of what was read then.
+pub fn verify_folder<'a, O: Write>(
+    rt: &HostRuntime,
+    name: &'a str,
+    out: &mut O,
+) -> Result<FileSums, Fault<'a>>
+    ensures { VerifiesFolder name.entry (AreRead None None None None)
+        (O.contents out.old) (O.contents out.new) result }
+{
+    let (Some(mut data_file), Some(mut journal_file)) = open_files(rt, name)? else {
+        return Err(Fault::Recorder(RecFault::NothingRecorded));
     };
+    verify_read(rt, name, &mut data_file, &mut journal_file, out)
+}
+
+/// The same for a folder whose two files are read from these inputs.
+pub fn verify_read<'a, D: Read, J: Read, O: Write>(
+    rt: &HostRuntime,
+    name: &'a str,
+    data_file: &mut D,
+    journal_file: &mut J,
+    out: &mut O,
+) -> Result<FileSums, Fault<'a>>
+    ensures { VerifiesFolder name.entry
+        (AreRead (D.remaining data_file.old) (D.remaining data_file.new)
+        (J.remaining journal_file.old) (J.remaining journal_file.new))
+        (O.contents out.old) (O.contents out.new) result }
+{
+    let in_data = read_input(rt.alloc(), DATA_NAME, data_file)?;
+    let in_journal = read_input(rt.alloc(), JOURNAL_NAME, journal_file)?;
+    let (_, repaired) = repair_holding(rt, name, in_data.as_slice(), in_journal.as_slice(), out)?;
+    stated_of(repaired)
+}
+
+/// The same if the two files have to hold these bytes. The returned shadow has the story of both files.
+pub fn repair_holding<'a, O: Write>(
+    rt: &HostRuntime,
+    name: &'a str,
+    in_data: &[u8],
+    in_journal: &[u8],
+    out: &mut O,
+) -> Result<(Shadow, Result<FileSums, RepairFault>), Fault<'a>>
+    ensures repaired { IfOk result (λ done.
+        Repairs (record { in_data = in_data.now; in_journal = in_journal.now }) (shadow_story done.0)
+        (O.contents out.old) (O.contents out.new) done.1) }
+    // The body has the checksum that the journal states, if it states one.
+    ensures checked { IfOk result (λ done. OnOk done.1
+        (HasCounted in_journal.now (seen_of Data (shadow_story done.0)))) }
+    ensures read { IfOk result (λ done. IfOk done.1 (AreSumsOf (seen_in (shadow_story done.0).now))) }
+    ensures reported { IfErr result (IsOpenReported name.entry) }
+    ensures quiet { IfErr result (λ _. O.contents out.new ≡ O.contents out.old) }
+{
+    let Ok(shadow) = Shadow::holding(rt.alloc(), in_data, in_journal) else {
+        return Err(Fault::NoMemory);
+    };
+    let Some(mut files) = open_recorded(rt, name, shadow)? else {
+        return Err(Fault::Recorder(RecFault::NothingRecorded));
+    };
+    let repaired = repair_and_read(&mut files, out);
     Ok((files.into_witness(), repaired))
 }
 
 // The program's result of a repair.
-fn stated_of(repaired: Result<(), RepairFault>) -> Result<(), Fault<'static>>
+fn stated_of<T: Drop>(repaired: Result<T, RepairFault>) -> Result<T, Fault<'static>>
     ensures { AnswersRepair repaired result }
 {
     match repaired {
-        Ok(()) => Ok(()),
+        Ok(found) => Ok(found),
         Err(RepairFault::Recorder(fault)) => Err(Fault::Recorder(fault)),
         Err(RepairFault::Output) => Err(Fault::Write("-")),
     }
