@@ -1,8 +1,8 @@
 /* fitrec: rides of a dead device, saved in memory; FIT files, checked and shown.
 
    A recording is two files, activity.fit (the data file) and activity.frj (the journal). These calls work on the bytes of files in
-   buffers of the caller. The library is crates/fit_c of fitrec; its exports are proved to do what this header says of them, as long as the caller
-   keeps these rules:
+   buffers of the caller. The library is crates/fit_c of fitrec; docs/PROOFS.md says what is proved of its calls, as long as the caller keeps
+   these rules:
 
    - No pointer is NULL, and no two buffers or numbers of one call overlap.
    - A buffer has as many bytes as its size argument says, and all of them may be read.
@@ -180,7 +180,7 @@ uint8_t fitrec_show(const uint8_t *bytes, size_t size, bool utc, uint8_t *out, s
 
 /* A recorder in a device.
 
-   The library is crates/fit_device of fitrec. The device keeps the recorder as plain numbers and carries out the calls of its two files,
+   The library is crates/fit_device of fitrec; docs/PROOFS.md says what is proved of it. The device keeps the recorder as plain numbers and carries out the calls of its two files,
    activity.fit and activity.frj, itself. Each step of the recorder fills a plan of at most FITREC_MOST_CALLS calls. A step takes no
    memory, makes no call of its own, and never waits.
 
