@@ -43,6 +43,8 @@ static struct files files;
 static int in_memory, in_flash, rule;
 static long left = -1; /* calls before the power goes, or -1 */
 static const char *folder;
+/* What the memory of the recorder held before a start or a reopening. */
+static struct fitrec_recorder found_in;
 
 /* A recorder, a plan and a recovery between rows of known bytes, which no step may change. */
 static struct {
@@ -307,7 +309,7 @@ static void look_at_whole_files(const char *word, uint8_t answer) {
     static struct fitrec_recorder recorder;
     static struct fitrec_plan plan;
     recorder = room.recorder, plan = room.plan;
-    memset(&room.recorder, 0, sizeof recorder);
+    room.recorder = found_in;
     uint8_t whole = step_over_files(word);
     uint32_t more = strcmp(word, "erase") && !answer ? 2 : 0;
     int is_same = whole == answer && room.plan.count == plan.count + more && room.plan.used == plan.used;
@@ -349,9 +351,9 @@ static uint8_t step_by_windows(const char *word) {
             answer = go_on(word);
     }
     /* A row of slots that is longer than a window is for whole files, unless the ride is erased. */
-    int is_too_long = it->journal_size > sizeof it->window && strcmp(word, "erase");
+    int is_too_long = it->journal_size > sizeof it->window && it->data_size > 0 && strcmp(word, "erase");
     if (is_too_long != (answer == FITREC_DEVICE))
-        fail("a journal that is too long for a window");
+        fail("another answer than a journal of this length has");
     if (is_too_long)
         return step_over_files(word);
     if (rule == 0)
@@ -376,9 +378,12 @@ static uint8_t step(char *line, char word[16]) {
     /* Drawn for each line, so it differs with the place of a recovery in its script. */
     int used = 0, is_by_windows = (int)chance(2);
     sscanf(line, "%15s %llu %n", word, &time, &used);
-    /* A recorder may lie where anything was. */
-    if (strstr("start recover reopen erase", word) && chance(2))
+    /* A recorder may begin where anything lies, a start also over another recorder. */
+    if (strstr("recover erase", word))
+        memset(recorder, 0, sizeof *recorder);
+    else if (!strcmp(word, "reopen") || (!strcmp(word, "start") && chance(2)))
         fill_at_random((uint8_t *)recorder, sizeof *recorder);
+    found_in = *recorder;
     if (strstr("recover reopen erase", word)) return is_by_windows ? step_by_windows(word) : step_over_files(word);
     if (!strcmp(word, "start")) {
         sscanf(line, "%*s %*u %llu %15s", &serial, sport);

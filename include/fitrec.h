@@ -181,7 +181,7 @@ uint8_t fitrec_show(const uint8_t *bytes, size_t size, bool utc, uint8_t *out, s
 
 /* A recorder in a device.
 
-   The library is crates/fit_device of fitrec. The device keeps the recorder as plain numbers and carries out the calls of its two files,
+   The library is crates/fit_device of fitrec; docs/PROOFS.md says what is proved of it. The device keeps the recorder as plain numbers and carries out the calls of its two files,
    activity.fit and activity.frj, itself. Each step of the recorder fills a plan of at most FITREC_MOST_CALLS calls. A step takes no
    memory, makes no call of its own, and never waits.
 

@@ -2,7 +2,7 @@
 use Rattle.std.proofs.Common.{⊎_elim, ◌≡◌, ◌≤◌, ℕ, List, [], length, inl, inr, refl, sym, ap, ◌∙◌, subst, arith, Result, Ok, Err}
 use Rattle.fit_activity.specs.declared.activity.Summary.{Summary}
 use Rattle.fit_device.specs.Answer.{code_of_fault, wants}
-use Rattle.fit_device.specs.Planned.{carried_out, Leads}
+use Rattle.fit_device.specs.Planned.{Leads}
 use Rattle.fit_device.proofs.Leading.{leads_for, leads_since}
 use Rattle.fit_device.specs.Handle.{story_of as story_in_handle}
 use Rattle.fit_device.specs.Recovering.{GoesOnWith}

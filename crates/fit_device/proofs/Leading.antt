@@ -1,5 +1,5 @@
 -- A plan that leads from one story to another leads from and to equal ones.
-use Rattle.std.proofs.Common.{◌≡◌, ◌∙◌, sym, subst}
+use Rattle.std.proofs.Common.{◌≡◌, ◌∙◌, subst}
 use Rattle.fit_device.specs.declared.plan.DevicePlan.{DevicePlan}
 use Rattle.fit_device.specs.Planned.{Leads}
 use Rattle.fit_disk.specs.Story.{Story}

@@ -1,5 +1,5 @@
 -- The calls over lent files lead from any files of which reads give these bytes.
-use Rattle.std.proofs.Common.{◌≡◌, inl, ℕ, Bool, true, false, List, [], refl, sym, ap, ◌∙◌, subst, Result, Err}
+use Rattle.std.proofs.Common.{◌≡◌, inl, ℕ, Bool, true, false, List, [], refl, sym, ap, ◌∙◌, subst, Err}
 use Rattle.std.specs.Str.{bytes_eq}
 use Rattle.std.proofs.lemmas.Slice.Eq.{bytes_eq-Decides}
 use Rattle.fit_device.specs.Recovering.{SoundFiles, AreLent}

@@ -1,6 +1,6 @@
 -- A journal of two slots that take turns has no last slot, and a commit keeps it so.
 use Rattle.std.proofs.Common.{⊎_elim, ◌≡◌, ◌==◌, if◌then◌else◌, ℕ, Bool, true, false, List, Option, refl, ap, ◌∙◌, arith, Result, Ok, Err}
-use Rattle.std.specs.Prelude.{Some, None, OnOk, IsErrOf}
+use Rattle.std.specs.Prelude.{None, OnOk, IsErrOf}
 use Rattle.fit_activity.specs.Rides.Recording.{Recorded}
 use Rattle.fit_device.specs.Answer.{code_of}
 use Rattle.fit_journal.specs.Turn.{committed_slots, slots_left, turn_of}

@@ -1,11 +1,9 @@
-use Rattle.std.proofs.Common.{◌≡◌, refl, sym, ap, ◌∙◌, subst, arith, Result, Ok, Err}
-use Rattle.fit_activity.specs.declared.activity.Summary.{Summary}
-use Rattle.fit_disk.specs.State.{Contents, seen_in}
+use Rattle.std.proofs.Common.{refl, sym, ap, ◌∙◌, subst, arith, Ok, Err}
+use Rattle.fit_disk.specs.State.{seen_in}
 use Rattle.fit_disk.specs.Story.{Story}
 use Rattle.fit_plan.specs.Lent.{lent_story}
-use Rattle.fit_recorder.specs.declared.fault.RecFault.{RecFault}
 use Rattle.fit_recorder.specs.Calls.Recovery.{RecoveryAnswers}
-use Rattle.fit_device.proofs.ByWindows.{answers_for, never_zero}
+use Rattle.fit_device.proofs.ByWindows.{answers_for}
 use Rattle.fit_device.specs.Planned.{carried_out}
 use Rattle.fit_device.proofs.Leading.{leads_since}
 use Rattle.fit_device.proofs.Lending.{chosen_sound, chosen_lent, chosen_is, in_recovery, no_recovery, refusal_for}

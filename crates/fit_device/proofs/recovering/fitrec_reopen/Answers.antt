@@ -1,4 +1,4 @@
-use Rattle.std.proofs.Common.{refl, sym, ap, ◌∙◌, subst, arith, Ok}
+use Rattle.std.proofs.Common.{refl, sym, ◌∙◌, subst, arith, Ok}
 use Rattle.fit_disk.specs.State.{seen_in}
 use Rattle.fit_disk.specs.Story.{Story}
 use Rattle.fit_plan.specs.Lent.{lent_story}
