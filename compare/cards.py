@@ -1,0 +1,84 @@
+"""Rides on a card that changes, mixes up or forgets bytes. A recovery may refuse such a ride, or find an earlier commit of it, but never
+makes a ride that nobody recorded, since the journal states the checksum of what it counts. By chance one of 65,536 changed bodies has it.
+compare/cards.c makes the rides and judges them, for the libraries of release/. Here the same is seen of the program, for each changed bit."""
+
+import pathlib
+import re
+import subprocess
+import tempfile
+
+from replacing import bytes_of
+from rides import differs
+from told import holds, room, run
+
+HERE = pathlib.Path(__file__).resolve().parent
+ROOT = HERE.parent
+LIBRARIES = [ROOT / "release" / it for it in ("libfit_device.a", "libfit_c.a")]
+NAMES = ("activity.fit", "activity.frj")
+# What a card does, and how many states, pairs or rides of that are made.
+KINDS = {"flips": 6, "mixes": 1000, "forgets": 6000, "rots": 6000}
+# How many of them may have the right checksum by chance: three times as many as are to be expected, and one.
+BY_CHANCE = 3 / 65536
+RIDE = """start 1000000000 7 running
+sample 1000000000 hr=100
+sample 1000000031 hr=101 dist=3100
+commit
+lap 1000000040
+sample 1000000063 hr=102 dist=6000
+commit
+""".splitlines()
+
+
+def counts_of(program, *words):
+    """How many states there were, and how many of them had which outcome."""
+    said = run(program, *words)
+    found = re.fullmatch(r"(\d+) states: (\d+) refused, (\d+) last, (\d+) earlier, (\d+) wrong\n", said[1])
+    return said if said[0] or not found else tuple(map(int, found.groups()))
+
+
+def of_states(seed):
+    """With checksums no state becomes a ride that nobody recorded, but by chance. Without them some do, so the states are hard ones."""
+    with tempfile.TemporaryDirectory() as folder:
+        program = folder + "/cards"
+        cc = ["cc", "-std=gnu11", "-O2", "-Wall", "-Wextra", "-Werror", "-I", ROOT / "include"]
+        subprocess.run([*cc, HERE / "cards.c", *LIBRARIES, "-o", program], check=True)
+        for kind, many in KINDS.items():
+            found = counts_of(program, kind, str(seed), str(many))
+            is_right = len(found) == 5 and found[0] >= many and found[-1] <= 1 + BY_CHANCE * found[0] and found[2] + found[3] > 0
+            yield "a card that " + kind, None if is_right else found
+            found = counts_of(program, kind, str(seed), str(many), "unchecked")
+            yield "a card that %s, without checksums" % kind, None if len(found) == 5 and found[-1] > 0 else found
+
+
+def of_changed_bits(fitrec):
+    """Each bit of both files of a small ride is changed, and the ride saved: as one of its commits, or not at all."""
+    with room() as (script, new):
+        folder, out = pathlib.Path(new()), pathlib.Path(new(), "out.fit")
+
+        def saved(pair):
+            for name, content in zip(NAMES, pair):
+                (folder / name).write_bytes(content)
+            out.unlink(missing_ok=True)
+            return run(fitrec, "save", folder, out)[:2], bytes_of(out)
+
+        pairs = []
+        for lines in (1, 4, 7):
+            script.write_text("".join(line + "\n" for line in RIDE[:lines]))
+            run(fitrec, "replay", "--checked", script, ride := new())
+            pairs.append(holds(ride))
+        honest = [saved(pair) for pair in pairs]
+        yield "a small ride is saved", differs([said[0] for said, _ in honest], [0, 0, 0])
+        for at, first in ((0, 14), (1, 0)):
+            for bit in range(8 * first, 8 * len(pairs[-1][at])):
+                changed = [bytearray(it) for it in pairs[-1]]
+                changed[at][bit // 8] ^= 1 << bit % 8
+                said, made = saved(changed)
+                is_right = (said, made) in honest if said[0] == 0 else made is None
+                yield "a changed bit of " + NAMES[at], None if is_right else (bit, said)
+
+
+def check(fitrec, seed):
+    """Yields a name, and a difference or None, for each check."""
+    for part in (of_states(seed), of_changed_bits(fitrec)):
+        for name, difference in part:
+            yield "cards: " + name, difference
