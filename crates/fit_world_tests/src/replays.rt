@@ -2,9 +2,12 @@
 
 use crate::equality::equal;
 use crate::failing::Failing;
+use crate::reading::Pieces;
 use fit_disk::{Memory, Which};
 use fit_recorder::recover;
-use fit_world::{ReplayFault, ReportFault, ScriptFaultKind, check_bytes, play, read_script};
+use fit_world::{
+    ReplayFault, ReportFault, ScriptFaultKind, check_bytes, play, read_script, record,
+};
 use std::alloc::AllocError;
 use std::test::Fail;
 
@@ -34,6 +37,51 @@ fn the_example_of_the_crate(rt: HostRuntime) -> Result<(), Fail> {
     let text =
         "1 start: ok\n2 stop: ok\nok records=0 laps=1 sessions=1 start=1000000000 elapsed_ms=1000 timer_ms=1000 distance_cm=-\n";
     equal(&rt, out.as_slice(), text.as_bytes());
+    Ok(())
+}
+
+// The journal of a start alone; its 72 bytes have the checksum 9D80.
+const CHECKED_START: [u8; 24] = [
+    0x46, 0x52, 0x4A, 0x43, 0, 0, 0, 0, 0xA5, 0x48, 0, 0, 0, 0x80, 0x9D, 0, 0, 0, 0, 0, 0, 0, 0, 0,
+];
+
+const PLAIN_START: [u8; 24] = [
+    0x46, 0x52, 0x4A, 0x32, 0, 0, 0, 0, 0xA5, 0x48, 0, 0, 0, 0, 0, 0, 0, 0, 0, 0, 0, 0, 0, 0,
+];
+
+#[test]
+fn a_start_makes_the_journal_that_is_asked_for(rt: HostRuntime) -> Result<(), Fail> {
+    let events = read_script(rt.alloc(), b"start 1000000000 7 running\n")?;
+    for (checked, journal) in [(false, PLAIN_START), (true, CHECKED_START)] {
+        let mut out = Vec::new(rt.alloc());
+        let (disk, played) = play(
+            Memory::new(rt.alloc()),
+            events.as_slice(),
+            checked,
+            &mut out,
+        );
+        equal(&rt, played, Ok(0));
+        equal(&rt, disk.content(Which::Journal), journal.as_slice());
+    }
+    // A recording by lines is checked.
+    let mut out = Vec::new(rt.alloc());
+    let mut line = Pieces {
+        rest: b"start 1000000000 7 running\n",
+        step: usize::MAX,
+        calls: usize::MAX,
+    };
+    let (disk, _) = record(
+        rt.alloc(),
+        Memory::new(rt.alloc()),
+        &mut line,
+        None,
+        &mut out,
+    );
+    equal(
+        &rt,
+        disk.content(Which::Journal).get(..4),
+        Some(&CHECKED_START[..4]),
+    );
     Ok(())
 }
 
