@@ -77,9 +77,10 @@ ReportsRepair old new (Err (repairs.Recorder fault)) = new ≡ old
 ReportsRepair old new (Err repairs.Output) = Unit {0}
 
 -- the two files of a recording were read from these inputs, each to its end, and held these contents
-abbrev pub AreRead : Option (List ℕ) → Option (List ℕ) → Option (List ℕ) → Option (List ℕ) → Contents → Type 0
-AreRead data_file data_left journal_file journal_left contents =
-    ReadsAll 268435456 data_file data_left contents.in_data × ReadsAll 268435456 journal_file journal_left contents.in_journal
+abbrev pub AreRead : Option (List ℕ) → Option (List ℕ) → Contents → Type 0
+AreRead data_file journal_file contents =
+    ((left : Option (List ℕ)) × ReadsAll 268435456 data_file left contents.in_data)
+    × ((left : Option (List ℕ)) × ReadsAll 268435456 journal_file left contents.in_journal)
 
 -- The two files of a folder of this name were read, and what they held was repaired, and both files read again, with these checksums. Or
 -- what they held was not repaired, for the reported fault; or they were not opened or not read, and nothing is printed.

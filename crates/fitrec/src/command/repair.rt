@@ -67,30 +67,30 @@ pub fn verify_folder<'a, O: Write>(
     name: &'a str,
     out: &mut O,
 ) -> Result<FileSums, Fault<'a>>
-    ensures { VerifiesFolder name.entry (AreRead None None None None)
-        (O.contents out.old) (O.contents out.new) result }
+    ensures { VerifiesFolder name.entry (AreRead None None) (O.contents out.old) (O.contents out.new) result }
 {
-    let (Some(mut data_file), Some(mut journal_file)) = open_files(rt, name)? else {
+    let (Some(data_file), Some(journal_file)) = open_files(rt, name)? else {
         return Err(Fault::Recorder(RecFault::NothingRecorded));
     };
-    verify_read(rt, name, &mut data_file, &mut journal_file, out)
+    verify_read(rt, name, data_file, journal_file, out)
 }
 
 /// The same for a folder whose two files are read from these inputs.
-pub fn verify_read<'a, D: Read, J: Read, O: Write>(
+pub fn verify_read<'a, D: Read + Drop, J: Read + Drop, O: Write>(
     rt: &HostRuntime,
     name: &'a str,
-    data_file: &mut D,
-    journal_file: &mut J,
+    mut data_file: D,
+    mut journal_file: J,
     out: &mut O,
 ) -> Result<FileSums, Fault<'a>>
-    ensures { VerifiesFolder name.entry
-        (AreRead (D.remaining data_file.old) (D.remaining data_file.new)
-        (J.remaining journal_file.old) (J.remaining journal_file.new))
+    ensures { VerifiesFolder name.entry (AreRead (D.remaining data_file) (J.remaining journal_file))
         (O.contents out.old) (O.contents out.new) result }
 {
-    let in_data = read_input(rt.alloc(), DATA_NAME, data_file)?;
-    let in_journal = read_input(rt.alloc(), JOURNAL_NAME, journal_file)?;
+    let in_data = read_input(rt.alloc(), DATA_NAME, &mut data_file)?;
+    let in_journal = read_input(rt.alloc(), JOURNAL_NAME, &mut journal_file)?;
+    // While they are open, they cannot be opened to be written.
+    drop(data_file);
+    drop(journal_file);
     let (_, repaired) = repair_holding(rt, name, in_data.as_slice(), in_journal.as_slice(), out)?;
     stated_of(repaired)
 }
