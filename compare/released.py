@@ -147,11 +147,12 @@ def of_folder(fitrec):
 
 
 def clone(to):
-    """Copies what git keeps, and the release; without git, the whole tree."""
-    if not (ROOT / ".git").exists():
-        shutil.copytree(ROOT, to, ignore=shutil.ignore_patterns("out"))
+    """Copies what git keeps, and the release; where git does not answer, the whole tree."""
+    listed = run("git", "ls-files", "-z", cwd=ROOT)[1] if shutil.which("git") else ""
+    if not listed:
+        shutil.copytree(ROOT, to, ignore=shutil.ignore_patterns("out", ".git"))
         return
-    for it in said_by("git", "ls-files", "-z").strip("\0").split("\0"):
+    for it in listed.strip("\0").split("\0"):
         (to / it).parent.mkdir(parents=True, exist_ok=True)
         shutil.copy(ROOT / it, to / it)
     shutil.copytree(RELEASE, to / "release", dirs_exist_ok=True)
