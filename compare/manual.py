@@ -51,7 +51,8 @@ def typed(name, line):
         begin = "source %s; fitrec() { printf '%%s\\n' \"$@\" >../got; exit; }; cd files\n" % (ROOT / "completions/fitrec.bash")
         ours, its = os.openpty()
         words = ["bash", "--noprofile", "--norc", "-i"]
-        with subprocess.Popen(words, cwd=folder, stdin=its, stdout=its, stderr=its, start_new_session=True, env={"PATH": os.environ["PATH"], "TERM": "dumb"}) as shell:
+        how = {"cwd": folder, "start_new_session": True, "env": {"PATH": os.environ["PATH"], "TERM": "dumb"}}
+        with subprocess.Popen(words, stdin=its, stdout=its, stderr=its, **how) as shell:
             os.close(its)
             os.write(ours, (begin + "fitrec " + line + "\t\n").encode())
             try:

@@ -45,8 +45,9 @@ def of_the_install():
             yield "installed", differs((said, sorted(there)), ((0, "", ""), sorted(PLACES)))
             its = {place: (ROOT / source).read_bytes() for place, source in PLACES.items() if source}
             yield "installed: its bytes", differs([it for it in its if there.get(it) != its[it]], [])
-            texts = (there.get(it, b"").decode() for it in ("share/applications/fitrec.desktop", "lib/pkgconfig/fitrec.pc"))
-            yield "installed: named places", differs([text.count(prefix + "/share/fitrec/fitrec.html") + text.count("prefix=%s\n" % prefix) for text in texts], [1, 1])
+            entry, found = (there.get(it, b"").decode() for it in ("share/applications/fitrec.desktop", "lib/pkgconfig/fitrec.pc"))
+            named = prefix + "/share/fitrec/fitrec.html" in entry, "prefix=%s\n" % prefix in found
+            yield "installed: named places", differs(named, (True, True))
             if shutil.which("desktop-file-validate"):
                 yield "installed: entry", differs(run("desktop-file-validate", top / "share/applications/fitrec.desktop"), (0, "", ""))
             said = run(top / "bin/fitrec", "version")

@@ -88,7 +88,8 @@ def faults_of(release):
         yield "the program states another version or kit than BUILT-FROM"
     if sum(it.stat().st_size for it in release.iterdir()) > MOST:
         yield "it has more than %d bytes" % MOST
-    if shutil.which("dpkg-deb") and run("dpkg-deb", "--field", release / package, "Depends")[1] != "libc6 (>= %s)\n" % needed_by(release / "fitrec"):
+    depends = "libc6 (>= %s)\n" % needed_by(release / "fitrec")
+    if shutil.which("dpkg-deb") and run("dpkg-deb", "--field", release / package, "Depends")[1] != depends:
         yield "the package needs something else than the C library of the program"
 
 
@@ -146,11 +147,12 @@ def of_folder(fitrec):
 
 
 def clone(to):
-    """Copies what git keeps, and the release; without git, the whole tree."""
-    if not (ROOT / ".git").exists():
-        shutil.copytree(ROOT, to, ignore=shutil.ignore_patterns("out"))
+    """Copies what git keeps, and the release; where git does not answer, the whole tree."""
+    listed = run("git", "ls-files", "-z", cwd=ROOT)[1] if shutil.which("git") else ""
+    if not listed:
+        shutil.copytree(ROOT, to, ignore=shutil.ignore_patterns("out", ".git"))
         return
-    for it in said_by("git", "ls-files", "-z").strip("\0").split("\0"):
+    for it in listed.strip("\0").split("\0"):
         (to / it).parent.mkdir(parents=True, exist_ok=True)
         shutil.copy(ROOT / it, to / it)
     shutil.copytree(RELEASE, to / "release", dirs_exist_ok=True)
@@ -175,7 +177,8 @@ def of_a_clone(fitrec):
             (folder / "module.wasm").write_bytes(base64.b64decode(module))
             words = ["save", folder / "FOLDER/activity.fit", folder / "FOLDER/activity.frj", folder / "page.fit"]
             said = run(HERE / "module.mjs", *words, env=os.environ | {"FITREC_MODULE": str(folder / "module.wasm")})
-            yield "released: the page of a clone", differs((said, bytes_of(folder / "page.fit")), ((0, "0\n" + wanted[1], ""), bytes_of(folder / "wanted.fit")))
+            wanted = 0, "0\n" + wanted[1], ""
+            yield "released: the page of a clone", differs((said, bytes_of(folder / "page.fit")), (wanted, bytes_of(folder / "wanted.fit")))
 
 
 def check(fitrec):
