@@ -26,7 +26,7 @@ size_t pending(const struct log *log, size_t from, size_t to) {
 void settle(const struct log *log, size_t from, size_t to) {
     for (; from < to; from++)
         if (log->entry[from].type == WRITE)
-            memcpy(durable + log->entry[from].at, log->entry[from].bytes, log->entry[from].len);
+            put_durable(log->entry[from].at, log->entry[from].bytes, log->entry[from].len);
 }
 
 static int is_aimed_at(const struct entry *it) {
@@ -61,6 +61,6 @@ void cut(const struct log *log, size_t from, size_t to, int kind) {
             way = WHOLE;
         for (uint32_t at = 0; at < it->len; at += sector)
             if (way == WHOLE || (way == TORN && chance(2)))
-                memcpy(now + it->at + at, it->bytes + at, it->len - at < sector ? it->len - at : sector);
+                put_now(it->at + at, it->bytes + at, it->len - at < sector ? it->len - at : sector);
     }
 }

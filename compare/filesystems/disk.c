@@ -11,13 +11,19 @@
 #include <sys/mman.h>
 #include <sys/socket.h>
 #include <sys/stat.h>
+#include <sys/uio.h>
 
-enum { PART = 65536, MOST = 64 };
+enum { PAGE = 4096, MOST = 64 };
 
-uint8_t *durable, *now;
-uint64_t disk_size;
+static uint64_t disk_size;
 struct log *logging;
+static uint8_t *durable, *now;   /* what is sure, and what the kernel reads */
+static uint8_t *may_differ;      /* for each page, whether they may differ there */
+static uint32_t *differing;      /* the numbers of these pages */
+static uint64_t count_of_differing;
 static int device, served;
+static uint8_t waiting[1 << 20]; /* what was read of requests, of which begin to end are not taken yet */
+static size_t begin, end;
 static pthread_mutex_t gate = PTHREAD_MUTEX_INITIALIZER;
 
 struct request {
@@ -44,16 +50,43 @@ void mark(enum type type, int number) {
     pthread_mutex_unlock(&gate);
 }
 
-static void receive(void *to, size_t count) {
-    for (ssize_t more; count; to = (uint8_t *)to + more, count -= (size_t)more)
-        if ((more = read(served, to, count)) <= 0)
-            die("the disk reads a request");
+static void put(uint8_t *disk, uint64_t at, const uint8_t *bytes, uint32_t len) {
+    memcpy(disk + at, bytes, len);
+    for (uint64_t page = at / PAGE; page * PAGE < at + len; page++)
+        if (!may_differ[page])
+            may_differ[page] = 1, differing[count_of_differing++] = (uint32_t)page;
 }
 
-static void answer(const void *from, size_t count) {
-    for (ssize_t more; count; from = (const uint8_t *)from + more, count -= (size_t)more)
-        if ((more = write(served, from, count)) <= 0)
-            die("the disk answers");
+void put_durable(uint64_t at, const uint8_t *bytes, uint32_t len) { put(durable, at, bytes, len); }
+void put_now(uint64_t at, const uint8_t *bytes, uint32_t len) { put(now, at, bytes, len); }
+
+void reset_disk(void) {
+    while (count_of_differing > 0) {
+        uint64_t page = differing[--count_of_differing];
+        memcpy(now + page * PAGE, durable + page * PAGE, PAGE);
+        may_differ[page] = 0;
+    }
+}
+
+/* What waits is read at once, since each call of a guest takes long. */
+static void receive(void *to, size_t count) {
+    while (count > 0) {
+        if (begin == end) {
+            ssize_t more = read(served, waiting, sizeof waiting);
+            if (more <= 0)
+                die("the disk reads");
+            begin = 0, end = (size_t)more;
+        }
+        size_t part = end - begin < count ? end - begin : count;
+        memcpy(to, waiting + begin, part);
+        to = (uint8_t *)to + part, count -= part, begin += part;
+    }
+}
+
+static void answer(struct nbd_reply *reply, uint8_t *bytes, size_t len) {
+    struct iovec parts[] = {{reply, sizeof *reply}, {bytes, len}};
+    if (writev(served, parts, 2) != (ssize_t)(sizeof *reply + len))
+        die("the disk answers");
 }
 
 static uint32_t command(const struct request *it) { return ntohl(it->head.type) & 0xffff; }
@@ -67,15 +100,13 @@ static void serve(struct request *it) {
     if (command(it) == NBD_CMD_FLUSH)
         append((struct entry){.type = FLUSH});
     if (command(it) == NBD_CMD_WRITE) {
-        memcpy(now + at, it->bytes, len);
+        put_now(at, it->bytes, len);
         append((struct entry){WRITE, ntohl(it->head.type) >> 16 & 1, 0, len, at, it->bytes});
     }
     if (!logging)
         free(it->bytes);
     pthread_mutex_unlock(&gate);
-    answer(&reply, sizeof reply);
-    if (command(it) == NBD_CMD_READ)
-        answer(now + at, len);
+    answer(&reply, now + at, command(it) == NBD_CMD_READ ? len : 0);
     it->is_done = 1;
 }
 
@@ -90,25 +121,25 @@ static void take(struct request *it) {
 
 static int more_wait(void) {
     struct pollfd it = {.fd = served, .events = POLLIN};
-    if (poll(&it, 1, 0) > 0)
+    if (begin < end)
         return 1;
     sched_yield();
     return poll(&it, 1, 0) > 0;
 }
 
 static void *serve_all(void *unused) {
-    static struct request waiting[MOST];
+    static struct request requests[MOST];
     for (;;) {
         int count = 0;
         do
-            take(&waiting[count++]);
+            take(&requests[count++]);
         while (count < MOST && more_wait());
         for (int k = 0; k < count; k++)
-            if (command(&waiting[k]) == NBD_CMD_FLUSH)
-                serve(&waiting[k]);
+            if (command(&requests[k]) == NBD_CMD_FLUSH)
+                serve(&requests[k]);
         for (int k = 0; k < count; k++)
-            if (!waiting[k].is_done)
-                serve(&waiting[k]);
+            if (!requests[k].is_done)
+                serve(&requests[k]);
     }
     return unused;
 }
@@ -118,22 +149,38 @@ static void *attach(void *unused) {
     return unused;
 }
 
-/* The disk as mkfs left it. A page that is all zeros takes no memory, and what is written onto `now` does not reach `durable`. */
-void open_disk(const char *image) {
-    static uint8_t part[PART], zeros[PART];
+/* Pages that were never written take no memory. */
+static uint8_t *pages(uint64_t size) {
+    void *it = mmap(NULL, size, PROT_READ | PROT_WRITE, MAP_PRIVATE | MAP_ANONYMOUS | MAP_NORESERVE, -1, 0);
+    if (it == MAP_FAILED)
+        die("no memory");
+    return it;
+}
+
+/* The disk as mkfs left it. */
+static void read_image(const char *image) {
+    static uint8_t page[PAGE], zeros[PAGE];
     struct stat found;
-    int file = open(image, O_RDONLY | O_CLOEXEC), memory = memfd_create("disk", MFD_CLOEXEC), ends[2];
-    if (file < 0 || memory < 0 || fstat(file, &found) || ftruncate(memory, found.st_size))
+    int file = open(image, O_RDONLY | O_CLOEXEC);
+    if (file < 0 || fstat(file, &found))
         die("%s", image);
     disk_size = (uint64_t)found.st_size;
-    for (off_t at = 0; at < found.st_size; at += PART)
-        if (pread(file, part, PART, at) != PART || (memcmp(part, zeros, PART) && pwrite(memory, part, PART, at) != PART))
+    durable = pages(disk_size), now = pages(disk_size), may_differ = pages(disk_size / PAGE), differing = (uint32_t *)pages(disk_size / PAGE * 4);
+    for (uint64_t at = 0; at < disk_size; at += PAGE) {
+        if (read(file, page, PAGE) != PAGE)
             die("reading %s", image);
+        if (memcmp(page, zeros, PAGE))
+            put_durable(at, page, PAGE);
+    }
     close(file);
-    durable = mmap(NULL, disk_size, PROT_READ | PROT_WRITE, MAP_SHARED, memory, 0);
-    now = mmap(NULL, disk_size, PROT_READ | PROT_WRITE, MAP_PRIVATE | MAP_NORESERVE, memory, 0);
+    reset_disk();
+}
+
+void open_disk(const char *image) {
+    int ends[2];
+    read_image(image);
     device = open("/dev/nbd0", O_RDWR | O_CLOEXEC);
-    if (durable == MAP_FAILED || now == MAP_FAILED || device < 0 || socketpair(AF_UNIX, SOCK_STREAM | SOCK_CLOEXEC, 0, ends))
+    if (device < 0 || socketpair(AF_UNIX, SOCK_STREAM | SOCK_CLOEXEC, 0, ends))
         die("the disk");
     served = ends[1];
     if (ioctl(device, NBD_SET_BLKSIZE, 512L) || ioctl(device, NBD_SET_SIZE_BLOCKS, disk_size / 512) || ioctl(device, NBD_SET_SOCK, ends[0]) ||
@@ -145,21 +192,16 @@ void open_disk(const char *image) {
     usleep(100000);
 }
 
-void reset_disk(void) {
-    if (madvise(now, disk_size, MADV_DONTNEED))
-        die("madvise");
-}
-
 /* The number of pages of the disk that the kernel has in its memory. */
 static uint64_t cached(void) {
-    uint64_t pages = disk_size / 4096, count = 0;
+    uint64_t count = 0;
     static unsigned char *is_there;
     if (!is_there)
-        is_there = malloc(pages);
+        is_there = pages(disk_size / PAGE);
     void *map = mmap(NULL, disk_size, PROT_READ, MAP_SHARED, device, 0);
     if (map == MAP_FAILED || mincore(map, disk_size, is_there))
         die("mincore");
-    for (uint64_t k = 0; k < pages; k++)
+    for (uint64_t k = 0; k < disk_size / PAGE; k++)
         count += is_there[k] & 1;
     munmap(map, disk_size);
     return count;
@@ -178,12 +220,12 @@ void forget_disk(void) {
 
 /* Leaves what the kernel reads as an image. */
 void keep_disk(const char *path) {
-    static const uint8_t zeros[4096];
+    static const uint8_t zeros[PAGE];
     int file = open(path, O_WRONLY | O_CREAT | O_TRUNC | O_CLOEXEC, 0644);
     if (file < 0 || ftruncate(file, (off_t)disk_size))
         die("%s", path);
-    for (uint64_t at = 0; at < disk_size; at += 4096)
-        if (memcmp(now + at, zeros, 4096) && pwrite(file, now + at, 4096, (off_t)at) != 4096)
+    for (uint64_t at = 0; at < disk_size; at += PAGE)
+        if (memcmp(now + at, zeros, PAGE) && pwrite(file, now + at, PAGE, (off_t)at) != PAGE)
             die("writing %s", path);
     close(file);
 }

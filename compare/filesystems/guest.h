@@ -60,10 +60,10 @@ int start(int in, int out, const char *command, const char *one, const char *oth
 int run(char line[512], const char *command, const char *one, const char *other);
 
 /* disk.c */
-extern uint8_t *durable, *now;   /* what is sure, and what the kernel reads; both of `disk_size` bytes */
-extern uint64_t disk_size;
 extern struct log *logging;      /* what is logged to, or null */
 void open_disk(const char *image);
+void put_durable(uint64_t at, const uint8_t *bytes, uint32_t len);   /* this is sure */
+void put_now(uint64_t at, const uint8_t *bytes, uint32_t len);       /* the kernel reads this */
 void reset_disk(void);           /* the kernel reads what is sure */
 void forget_disk(void);          /* the kernel keeps nothing of the disk in its memory */
 void keep_disk(const char *path);

@@ -1,5 +1,6 @@
 /* Boots, records a story, and lets the power go at each place of its log; in some states once more while that is mounted and recovered. */
 #include "guest.h"
+#include <malloc.h>
 #include <stdarg.h>
 #include <sys/mount.h>
 #include <sys/reboot.h>
@@ -183,6 +184,8 @@ static void boot(void) {
 }
 
 int main(void) {
+    /* Memory that was freed stays, since a new page takes long here. */
+    mallopt(M_MMAP_THRESHOLD, 1 << 30), mallopt(M_TRIM_THRESHOLD, 1 << 30), mallopt(M_ARENA_MAX, 1);
     boot();
     dice ^= (uint64_t)number_of("seed", 1) * 0x9E3779B97F4A7C15u;
     const char *mode = setting("mode", "rules"), *promised = setting("promise", NULL);
