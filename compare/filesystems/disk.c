@@ -10,17 +10,11 @@
 #include <sys/ioctl.h>
 #include <sys/mman.h>
 #include <sys/socket.h>
-#include <sys/stat.h>
 #include <sys/uio.h>
 
-enum { PAGE = 4096, MOST = 64 };
+enum { MOST = 64 };
 
-static uint64_t disk_size;
 struct log *logging;
-static uint8_t *durable, *now;   /* what is sure, and what the kernel reads */
-static uint8_t *may_differ;      /* for each page, whether they may differ there */
-static uint32_t *differing;      /* the numbers of these pages */
-static uint64_t count_of_differing;
 static int device, served;
 static uint8_t waiting[1 << 20]; /* what was read of requests, of which begin to end are not taken yet */
 static size_t begin, end;
@@ -50,24 +44,6 @@ void mark(enum type type, int number) {
     pthread_mutex_unlock(&gate);
 }
 
-static void put(uint8_t *disk, uint64_t at, const uint8_t *bytes, uint32_t len) {
-    memcpy(disk + at, bytes, len);
-    for (uint64_t page = at / PAGE; page * PAGE < at + len; page++)
-        if (!may_differ[page])
-            may_differ[page] = 1, differing[count_of_differing++] = (uint32_t)page;
-}
-
-void put_durable(uint64_t at, const uint8_t *bytes, uint32_t len) { put(durable, at, bytes, len); }
-void put_now(uint64_t at, const uint8_t *bytes, uint32_t len) { put(now, at, bytes, len); }
-
-void reset_disk(void) {
-    while (count_of_differing > 0) {
-        uint64_t page = differing[--count_of_differing];
-        memcpy(now + page * PAGE, durable + page * PAGE, PAGE);
-        may_differ[page] = 0;
-    }
-}
-
 /* What waits is read at once, since each call of a guest takes long. */
 static void receive(void *to, size_t count) {
     while (count > 0) {
@@ -83,8 +59,8 @@ static void receive(void *to, size_t count) {
     }
 }
 
-static void answer(struct nbd_reply *reply, uint8_t *bytes, size_t len) {
-    struct iovec parts[] = {{reply, sizeof *reply}, {bytes, len}};
+static void answer(struct nbd_reply *reply, const uint8_t *bytes, size_t len) {
+    struct iovec parts[] = {{reply, sizeof *reply}, {(void *)bytes, len}};
     if (writev(served, parts, 2) != (ssize_t)(sizeof *reply + len))
         die("the disk answers");
 }
@@ -106,7 +82,7 @@ static void serve(struct request *it) {
     if (!logging)
         free(it->bytes);
     pthread_mutex_unlock(&gate);
-    answer(&reply, now + at, command(it) == NBD_CMD_READ ? len : 0);
+    answer(&reply, now_at(at), command(it) == NBD_CMD_READ ? len : 0);
     it->is_done = 1;
 }
 
@@ -149,36 +125,8 @@ static void *attach(void *unused) {
     return unused;
 }
 
-/* Pages that were never written take no memory. */
-static uint8_t *pages(uint64_t size) {
-    void *it = mmap(NULL, size, PROT_READ | PROT_WRITE, MAP_PRIVATE | MAP_ANONYMOUS | MAP_NORESERVE, -1, 0);
-    if (it == MAP_FAILED)
-        die("no memory");
-    return it;
-}
-
-/* The disk as mkfs left it. */
-static void read_image(const char *image) {
-    static uint8_t page[PAGE], zeros[PAGE];
-    struct stat found;
-    int file = open(image, O_RDONLY | O_CLOEXEC);
-    if (file < 0 || fstat(file, &found))
-        die("%s", image);
-    disk_size = (uint64_t)found.st_size;
-    durable = pages(disk_size), now = pages(disk_size), may_differ = pages(disk_size / PAGE), differing = (uint32_t *)pages(disk_size / PAGE * 4);
-    for (uint64_t at = 0; at < disk_size; at += PAGE) {
-        if (read(file, page, PAGE) != PAGE)
-            die("reading %s", image);
-        if (memcmp(page, zeros, PAGE))
-            put_durable(at, page, PAGE);
-    }
-    close(file);
-    reset_disk();
-}
-
-void open_disk(const char *image) {
+void open_disk(void) {
     int ends[2];
-    read_image(image);
     device = open("/dev/nbd0", O_RDWR | O_CLOEXEC);
     if (device < 0 || socketpair(AF_UNIX, SOCK_STREAM | SOCK_CLOEXEC, 0, ends))
         die("the disk");
@@ -197,11 +145,11 @@ static uint64_t cached(void) {
     uint64_t count = 0;
     static unsigned char *is_there;
     if (!is_there)
-        is_there = pages(disk_size / PAGE);
+        is_there = pages(disk_size / 4096);
     void *map = mmap(NULL, disk_size, PROT_READ, MAP_SHARED, device, 0);
     if (map == MAP_FAILED || mincore(map, disk_size, is_there))
         die("mincore");
-    for (uint64_t k = 0; k < disk_size / PAGE; k++)
+    for (uint64_t k = 0; k < disk_size / 4096; k++)
         count += is_there[k] & 1;
     munmap(map, disk_size);
     return count;
@@ -216,16 +164,4 @@ void forget_disk(void) {
         usleep(1000);
     }
     die("pages of the disk stay in memory");
-}
-
-/* Leaves what the kernel reads as an image. */
-void keep_disk(const char *path) {
-    static const uint8_t zeros[PAGE];
-    int file = open(path, O_WRONLY | O_CREAT | O_TRUNC | O_CLOEXEC, 0644);
-    if (file < 0 || ftruncate(file, (off_t)disk_size))
-        die("%s", path);
-    for (uint64_t at = 0; at < disk_size; at += PAGE)
-        if (memcmp(now + at, zeros, PAGE) && pwrite(file, now + at, PAGE, (off_t)at) != PAGE)
-            die("writing %s", path);
-    close(file);
 }

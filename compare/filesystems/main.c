@@ -1,48 +1,23 @@
-/* Boots, records a story, and lets the power go at each place of its log; in some states once more while that is mounted and recovered. */
+/* Boots, records, and tries the states. */
 #include "guest.h"
 #include <malloc.h>
-#include <stdarg.h>
 #include <sys/mount.h>
 #include <sys/reboot.h>
 #include <sys/stat.h>
 #include <sys/syscall.h>
 
-#define FOUND "/run/found"
-
-/* A disk that is judged: where the power goes in the recording, and again in what follows. */
-struct state {
-    size_t at, again;
-    int kind, again_kind, goes_again;
-    uint64_t dice;
-};
-
-static const struct story *story;
-static struct log recording, following;
-static size_t settled;           /* so many entries of the recording are sure */
-static long states, seconds, reports;
-static char text[1000];
-
-void wrong(const char *format, ...) {
-    va_list words;
-    size_t used = strlen(text);
-    va_start(words, format);
-    used += (size_t)snprintf(text + used, sizeof text - used, "%s", used ? "; " : "");
-    if (used < sizeof text)
-        vsnprintf(text + used, sizeof text - used, format, words);
-}
-
-static int mount_disk(int is_read_only) {
+int mount_disk(int is_read_only) {
     return mount("/dev/nbd0", MOUNTED, setting("fs", "ext4"), is_read_only ? MS_RDONLY : 0, setting("options", NULL));
 }
 
-static void unmount_disk(void) {
+void unmount_disk(void) {
     for (int times = 0; umount2(MOUNTED, 0); times++)
         if (errno != EBUSY || times > 200 || usleep(5000))
             die("umount");
 }
 
-static void record(void) {
-    logging = &recording;
+static void record(const struct story *story, struct log *recording) {
+    logging = recording;
     if (mount_disk(0) || mkdir(MOUNTED "/other", 0755) || mkdir(FOLDER, 0755))
         die("mount");
     /* The folder was there before the disk was mounted, or it was made just now. */
@@ -55,101 +30,6 @@ static void record(void) {
     story->record();
     unmount_disk();
     logging = NULL;
-}
-
-/* What was written and flushed until the power went, and what the cut left of the rest. */
-static void build(const struct state *it) {
-    dice = it->dice;
-    reset_disk();
-    cut(&recording, settled, it->at, it->kind);
-    if (it->goes_again) {
-        size_t sure = it->again;
-        while (sure > 0 && following.entry[sure - 1].type != FLUSH)
-            sure--;
-        cut(&following, 0, sure, ALL);
-        cut(&following, sure, it->again, it->again_kind);
-    }
-    forget_disk();
-}
-
-/* Mounts and judges. What is written meanwhile is logged. Half of a second is read only. */
-static int is_wrong(int again) {
-    int is_read_only = !again && !chance(4);
-    *text = 0;
-    while (following.count && !again)
-        free(following.entry[--following.count].bytes);
-    logging = again ? NULL : &following;
-    if (mount_disk(is_read_only)) {
-        wrong("mount%s: %s", is_read_only ? " read only" : "", strerror(errno));
-    } else {
-        story->judge(again, is_read_only);
-        unmount_disk();
-    }
-    logging = NULL;
-    return *text != 0;
-}
-
-static void report(const struct state *it) {
-    char path[64];
-    uint64_t before = dice;
-    snprintf(path, sizeof path, FOUND "/%ld.img", ++reports);
-    if (reports <= number_of("keep", 0)) {
-        build(it);
-        keep_disk(path);
-    }
-    dice = before;
-    printf("WRONG %ld: %s [cut at %zu of %zu, %s", reports, text, it->at, recording.count, kinds[it->kind]);
-    if (it->goes_again)
-        printf(", again at %zu of %zu, %s", it->again, following.count, kinds[it->again_kind]);
-    printf("%s%s]\n", story == &ride ? ", promise " : "", story == &ride ? promise() : "");
-}
-
-static int is_answered(size_t to) {
-    while (to > 0 && following.entry[to - 1].type != ANSWERED)
-        to--;
-    return to > 0;
-}
-
-static void try_state(size_t at) {
-    int is_sure = pending(&recording, settled, at) == 0, aimed = *setting("torn", "") != 0;
-    struct state it = {.at = at, .kind = is_sure ? NOTHING : aimed ? AIMED : (int)chance(KINDS)};
-    it.dice = dice;
-    build(&it);
-    states++;
-    if (is_wrong(0)) {
-        report(&it);
-    } else if (!chance(5)) {
-        uint64_t before = dice;
-        it.goes_again = 1, it.again = chance((uint32_t)following.count + 1), it.again_kind = (int)chance(KINDS);
-        build(&it);
-        seconds++;
-        if (is_wrong(1 + is_answered(it.again)))
-            report(&it);
-        dice = before;
-    }
-}
-
-/* The states are spread over the recording: so many at each place of the log, or one where all is sure. */
-static void try_all(void) {
-    size_t begin = 0, lie = (size_t)number_of("lie", 0);
-    while (recording.entry[begin].type != ASKED)
-        begin++;
-    double each = (double)number_of("states", 100) / (double)(recording.count - begin), owed = 0;
-    for (size_t at = 1; at <= recording.count; at++) {
-        const struct entry *it = &recording.entry[at - 1];
-        if (it->type == ASKED || it->type == ANSWERED)
-            story->follow(it);
-        /* A disk that lies about flushes writes when it pleases: here, so many entries later. */
-        size_t sure = lie ? (at > lie ? at - lie : 0) : it->type == FLUSH ? at : 0;
-        if (sure > settled) {
-            settle(&recording, settled, sure);
-            settled = sure;
-        }
-        owed += at > begin ? each : 0;
-        for (int most = pending(&recording, settled, at) ? 1000 : 1; owed >= 1; owed -= 1)
-            if (most-- > 0)
-                try_state(at);
-    }
 }
 
 static void put(const char *path, const char *words) {
@@ -189,16 +69,17 @@ int main(void) {
     boot();
     dice ^= (uint64_t)number_of("seed", 1) * 0x9E3779B97F4A7C15u;
     const char *mode = setting("mode", "rules"), *promised = setting("promise", NULL);
-    story = !strcmp(mode, "rules") ? &rules : !strcmp(mode, "ride") ? &ride : &saves;
-    open_disk(setting("image", ""));
+    const struct story *story = !strcmp(mode, "rules") ? &rules : !strcmp(mode, "ride") ? &ride : &saves;
+    read_image(setting("image", ""));
+    open_disk();
     if (promised) {
         set_promise(promised);
-        printf("JUDGED: %s\n", is_wrong(0) ? text : "well");
+        judge_one(story);
     } else {
-        record();
+        static struct log recording;
+        record(story, &recording);
         reset_disk();
-        try_all();
-        printf("DONE states %ld, second cuts %ld, wrong %ld\n", states, seconds, reports);
+        try_all(story, &recording);
     }
     fflush(stdout);
     usleep(100000);
