@@ -23,7 +23,8 @@ SETTINGS = """sector=512    the disk writes so many bytes whole; 4096 otherwise
 folder=fresh  the folder was made just before; otherwise before the disk was mounted
 lie=N         the last N writes and flushes are not sure, whatever was answered
 deaf=1        the syncs of the mode rules answer and do nothing
-torn=FROM-TO  a cut keeps all writes, but any sectors of those that begin there"""
+torn=FROM-TO  a cut keeps all writes, but any sectors of those that begin there
+still=1       nothing else happens on the disk meanwhile"""
 
 
 def fats_of(image):
@@ -55,7 +56,7 @@ def check(fitrec, seed):
             yield "a ride on " + case, look(it, "ride", case, 150, none)
         # A replacement that is cut off in the middle may lose the old file and the new name. Its bytes are in the file beside it.
         yield "files that are saved on vfat", look(it, "saves", "vfat", 800, range(9))
-        yield "a tail that cannot be read", look(it, "ride", "vfat", 150, none, sector=512, torn=fats_of(it.image("vfat")))
+        yield "tails that cannot be read", look(it, "ride", "vfat", 150, none, sector=512, still=1, torn=fats_of(it.image("vfat")))
         yield "a disk that ignores flushes loses something", look(it, "rules", "vfat", 60, some, lie=120)
         yield "a mount without barriers loses something", look(it, "rules", "ext4-no-barrier", 60, some)
         yield "syncs that do nothing lose something", look(it, "rules", "ext4", 60, some, deaf=1)

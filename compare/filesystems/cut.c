@@ -15,10 +15,19 @@
 const char *const kinds[] = {"nothing", "all", "some", "sectors", "but-one", "only-one", "first", "-", "aimed"};
 enum way { LOST, WHOLE, TORN };
 
+/* Whether the setting `torn` is for this write, or there is no such setting. */
+static int is_aimed_at(const struct entry *it) {
+    unsigned long long from, to;
+    if (sscanf(setting("torn", ""), "%llu-%llu", &from, &to) != 2)
+        return 1;
+    return from <= it->at && it->at < to;
+}
+
+/* How many writes are not sure, of those that are aimed at. */
 size_t pending(const struct log *log, size_t from, size_t to) {
     size_t count = 0;
     for (; from < to; from++)
-        count += log->entry[from].type == WRITE;
+        count += log->entry[from].type == WRITE && is_aimed_at(&log->entry[from]);
     return count;
 }
 
@@ -27,12 +36,6 @@ void settle(const struct log *log, size_t from, size_t to) {
     for (; from < to; from++)
         if (log->entry[from].type == WRITE)
             put_durable(log->entry[from].at, log->entry[from].bytes, log->entry[from].len);
-}
-
-static int is_aimed_at(const struct entry *it) {
-    unsigned long long from = 0, to = 0;
-    sscanf(setting("torn", ""), "%llu-%llu", &from, &to);
-    return from <= it->at && it->at < to;
 }
 
 static enum way way_of(const struct entry *it, int kind, size_t number, size_t chosen) {

@@ -39,7 +39,8 @@ static void record(void) {
     read_lines();
     if (pipe2(in, O_CLOEXEC) || pipe2(out, O_CLOEXEC))
         die("pipe");
-    int child = start(in[0], out[1], "record", FOLDER, NULL);
+    /* It commits only where a line says so. */
+    int child = start(in[0], out[1], "record", "--commit=4000000", FOLDER);
     FILE *answers = fdopen(out[0], "r");
     for (int k = 1; lines[k].text; k++) {
         stir();

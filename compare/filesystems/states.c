@@ -98,24 +98,39 @@ static void try_state(size_t at) {
     }
 }
 
-/* The states are spread over the recording: so many at each place of the log, or one where all is sure. */
+/* How many entries are sure once the disk has received so many. A disk that lies about flushes writes when it pleases: here, so many
+ * entries later. */
+static size_t sure_of(size_t at) {
+    size_t lie = (size_t)number_of("lie", 0);
+    if (lie)
+        return at > lie ? at - lie : 0;
+    while (at > 0 && recording->entry[at - 1].type != FLUSH)
+        at--;
+    return at;
+}
+
+/* Whether the power may go here: at each place, or with an aimed cut wherever it has something to tear. */
+static int is_place(size_t at) {
+    return !*setting("torn", "") || pending(recording, sure_of(at), at) > 0;
+}
+
+/* The states are spread over these places: so many at each, or one where all is sure. */
 void try_all(const struct story *told, const struct log *log) {
+    size_t begin = 0, places = 1;
     story = told, recording = log;
-    size_t begin = 0, lie = (size_t)number_of("lie", 0);
     while (recording->entry[begin].type != ASKED)
         begin++;
-    double each = (double)number_of("states", 100) / (double)(recording->count - begin), owed = 0;
+    for (size_t at = begin + 1; at <= recording->count; at++)
+        places += is_place(at);
+    double each = (double)number_of("states", 100) / (double)places, owed = 0;
     for (size_t at = 1; at <= recording->count; at++) {
         const struct entry *it = &recording->entry[at - 1];
+        size_t sure = sure_of(at);
         if (it->type == ASKED || it->type == ANSWERED)
             story->follow(it);
-        /* A disk that lies about flushes writes when it pleases: here, so many entries later. */
-        size_t sure = lie ? (at > lie ? at - lie : 0) : it->type == FLUSH ? at : 0;
-        if (sure > settled) {
-            settle(recording, settled, sure);
-            settled = sure;
-        }
-        owed += at > begin ? each : 0;
+        settle(recording, settled, sure);
+        settled = sure;
+        owed += at > begin && is_place(at) ? each : 0;
         for (int most = pending(recording, settled, at) ? 1000 : 1; owed >= 1; owed -= 1)
             if (most-- > 0)
                 try_state(at);

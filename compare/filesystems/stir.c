@@ -34,6 +34,8 @@ static void write_back(void) {
 }
 
 void stir(void) {
+    if (number_of("still", 0))
+        return;
     if (!chance(7))
         change_another_file();
     if (!chance(9))
