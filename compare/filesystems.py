@@ -1,0 +1,96 @@
+#!/usr/bin/env -S python3 -B
+"""Checks what a power cut leaves on real file systems: a small Linux records on one (compare/filesystems), over a disk that counts as sure
+only what was flushed, and the kernel's own driver mounts each disk that may be left.
+
+    compare/filesystems.py [--states N] [--seed S] [--set NAME=VALUE]... [--keep FOLDER] [--with COMMAND] [--program FITREC] MODE CASE...
+
+A MODE is rules (docs/RECORDING.md), ride (`record`, then `save` and `repair`) or saves (the file OUT of `save`), and a CASE one of CASES.
+With --keep the first ten disks that are wrong are kept as images. With --with a command that repairs a file system, such as 'e2fsck -fy',
+is run on each of these, and what is then recovered of a ride is judged."""
+
+import argparse
+import pathlib
+import re
+import shutil
+import subprocess
+import sys
+
+from guest import CASES, SYSTEM, Outcome, guest, missing
+
+FITREC = pathlib.Path(__file__).resolve().parent.parent / "crates/fitrec/out/fitrec"
+# What --set takes.
+SETTINGS = """sector=512    the disk writes so many bytes whole; 4096 otherwise
+folder=fresh  the folder was made just before; otherwise before the disk was mounted
+lie=N         the last N writes and flushes are not sure, whatever was answered
+deaf=1        the syncs of the mode rules answer and do nothing
+torn=FROM-TO  a cut keeps all writes, but any sectors of those that begin there
+still=1       nothing else happens on the disk meanwhile"""
+
+
+def fats_of(image):
+    """Where a FAT disk has its tables."""
+    boot = image.read_bytes()[:512]
+    reserved, count, sectors = (int.from_bytes(boot[at:at + size], "little") for at, size in ((14, 2), (16, 1), (36, 4)))
+    return "%d-%d" % (512 * reserved, 512 * (reserved + count * sectors))
+
+
+def look(it, mode, case, states, allowed, **settings):
+    """None if a number of states is wrong that is allowed, or what was found, with the command that repeats it."""
+    found = Outcome(it.run(mode, case, states=states, **settings))
+    words = ["--set %s=%s" % pair for pair in settings.items()]
+    repeat = " ".join(["compare/filesystems.py --states %d --seed %d --keep FOLDER" % (states, it.seed), *words, mode, case])
+    if found.failed or found.states < states // 2:
+        return "it did not end", found.states, found.failed, repeat
+    return None if len(found.wrong) in allowed else ("%d of %d are wrong" % (len(found.wrong), found.states), found.wrong[:3], found.kinds(), repeat)
+
+
+def check(fitrec, seed):
+    """Yields a name and a difference, or None, for each file system, and for each disk or host that keeps no rule."""
+    if missing():
+        print("skipped: what file systems keep, since there is no %s here; it is in Debian's package %s" % missing())
+        return
+    none, some = range(1), range(1, 1000)
+    with guest(fitrec, seed) as it:
+        for case in ("ext4", "xfs", "btrfs", "vfat"):
+            yield "the rules on " + case, look(it, "rules", case, 600, none)
+            yield "a ride on " + case, look(it, "ride", case, 150, none)
+        # A replacement that is cut off in the middle may lose the old file and the new name. Its bytes are in the file beside it.
+        yield "files that are saved on vfat", look(it, "saves", "vfat", 800, range(9))
+        yield "tails that cannot be read", look(it, "ride", "vfat", 150, none, sector=512, still=1, torn=fats_of(it.image("vfat")))
+        yield "a disk that ignores flushes loses something", look(it, "rules", "vfat", 60, some, lie=120)
+        yield "a mount without barriers loses something", look(it, "rules", "ext4-no-barrier", 60, some)
+        yield "syncs that do nothing lose something", look(it, "rules", "ext4", 60, some, deaf=1)
+
+
+def repaired(it, mode, case, line, command, settings):
+    """What the guest says of a kept disk after a command has repaired it."""
+    image = it.share / "found" / (re.match(r"WRONG (\d+)", line)[1] + ".img")
+    ran = subprocess.run([*command.split(), image], stdin=subprocess.DEVNULL, capture_output=True, env=SYSTEM)
+    promise = re.search(r"promise ([\d,]+)", line)[1]
+    said = it.run(mode, case, **settings | {"image": image, "promise": promise})
+    return "%s: status %d; %s" % (command, ran.returncode, next((line for line in said if line.startswith("JUDGED")), said[-3:]))
+
+
+def main():
+    words = argparse.ArgumentParser(usage=__doc__ + "\n\n" + SETTINGS)
+    for name, value in (("--states", 600), ("--seed", 1), ("--keep", pathlib.Path()), ("--with", ""), ("--program", FITREC)):
+        words.add_argument(name, type=type(value), default=value)
+    words.add_argument("--set", action="append", default=[])
+    words.add_argument("mode", choices=("rules", "ride", "saves"))
+    words.add_argument("cases", nargs="+", choices=CASES)
+    given = vars(words.parse_args())
+    mode, settings, failed = given["mode"], dict(it.split("=", 1) for it in given["set"]), False
+    for case in given["cases"]:
+        with guest(given["program"], given["seed"]) as it:
+            found = Outcome(it.run(mode, case, states=given["states"], keep=10, **settings))
+            print(mode, case, *given["set"], found, flush=True)
+            for line in found.wrong[:10] if given["with"] and mode == "ride" else []:
+                print(repaired(it, mode, case, line, given["with"], settings), flush=True)
+            if given["keep"] != pathlib.Path():
+                shutil.copytree(it.share / "found", given["keep"] / case, dirs_exist_ok=True)
+            failed |= bool(found.wrong or found.failed)
+    return failed
+
+
+if __name__ == "__main__":
+    sys.exit(main())
