@@ -19,6 +19,8 @@ NAMES = ("activity.fit", "activity.frj")
 KINDS = {"flips": 6, "mixes": 1000, "forgets": 6000, "rots": 6000}
 # How many of them may have the right checksum by chance: three times as many as are to be expected, and one.
 BY_CHANCE = 3 / 65536
+CHANGED = ("fitrec: Damaged\nfitrec: bytes of the recording have changed since they were committed; salvage copies what is readable of "
+           "activity.fit, and save --earlier what the commit before counts\n")
 RIDE = """start 1000000000 7 running
 sample 1000000000 hr=100
 sample 1000000031 hr=101 dist=3100
@@ -77,8 +79,36 @@ def of_changed_bits(fitrec):
                 yield "a changed bit of " + NAMES[at], None if is_right else (bit, said)
 
 
+def with_the_commit_before(fitrec):
+    """If what the last commit counts has changed, `save` says so, and `save --earlier` takes the commit before it."""
+    with room() as (script, new):
+        def ride(lines):
+            script.write_text("".join(line + "\n" for line in RIDE[:lines]))
+            run(fitrec, "replay", "--checked", script, folder := new())
+            return pathlib.Path(folder)
+
+        def saved(folder, *words):
+            out = pathlib.Path(new(), "out.fit")
+            return run(fitrec, "save", *words, folder, out), bytes_of(out)
+
+        before, last = ride(4), ride(7)
+        whole = saved(last)
+        yield "a whole ride by --earlier", differs((whole[0][0], saved(last, "--earlier")), (0, whole))
+        data, journal = holds(last)
+        counted = sorted(int.from_bytes(journal[at:at + 4], "little") for at in (9, 17))
+        refused = ((1, "", CHANGED), None)
+        (said, made), left_out = saved(before), counted[1] - counted[0]
+        earlier = (said[0], said[1], "fitrec: %d bytes of the last commit are left out, since what it counts has changed\n" % left_out), made
+        for place, want in ((14 + counted[1] - 1, earlier), (14 + counted[0] - 1, refused)):
+            changed = bytearray(data)
+            changed[place] ^= 4
+            (last / NAMES[0]).write_bytes(changed)
+            yield "a changed byte", differs(saved(last), refused)
+            yield "a changed byte, by --earlier", differs(saved(last, "--earlier"), want)
+
+
 def check(fitrec, seed):
     """Yields a name, and a difference or None, for each check."""
-    for part in (of_states(seed), of_changed_bits(fitrec)):
+    for part in (of_states(seed), of_changed_bits(fitrec), with_the_commit_before(fitrec)):
         for name, difference in part:
             yield "cards: " + name, difference

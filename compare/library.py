@@ -86,6 +86,8 @@ def links_as_shown(archive):
 
 def answer_of(said):
     """The answer that corresponds to what the program prints."""
+    if "have changed" in said[2]:
+        return 16
     return 0 if said[0] == 0 else ANSWERS[re.match(r"fitrec: (\w+)", said[2])[1]]
 
 
@@ -130,6 +132,14 @@ def of_recordings(fitrec, program, count, seed):
             pathlib.Path(folder, name).write_bytes(content)
         said = run(program, "repair", CLOSING - 1, *[pathlib.Path(folder, name) for name in NAMES], pathlib.Path(folder, "out.fit"))
         yield "a buffer with too little room", differs((said, bytes_of(pathlib.Path(folder, "out.fit"))), ((0, "10\n", ""), whole[0]))
+        script.write_text(script_of(20, 4))
+        run(fitrec, "replay", "--checked", script, folder := new())
+        changed = bytearray(holds(folder)[0])
+        changed[100] ^= 1
+        pathlib.Path(folder, NAMES[0]).write_bytes(changed)
+        yield "a changed body that is saved", saved(fitrec, program, folder)
+        said = run(program, "repair", CLOSING, *[pathlib.Path(folder, name) for name in NAMES], pathlib.Path(folder, "out.fit"))
+        yield "a changed body", differs((said, bytes_of(pathlib.Path(folder, "out.fit"))), ((0, "16\n", ""), bytes(changed)))
         said = run(program, "lengths", *[pathlib.Path(folder, name) for name in NAMES])
         yield "lengths that do not fit", differs(said, (0, "9 9 9 7 9 9\n", ""))
 

@@ -62,9 +62,10 @@ struct fitrec_summary {
 enum {
     FITREC_REPAIRED = 0,
     FITREC_NOTHING_RECORDED = 7, /* nothing was committed */
-    FITREC_DAMAGED = 8,          /* the two are not the files of one recording, or bytes of it have changed */
+    FITREC_DAMAGED = 8,          /* the two are not the files of one recording */
     FITREC_BAD_LENGTH = 9,       /* a length is greater than its buffer */
-    FITREC_NO_CLOSING_ROOM = 10  /* the data file's buffer is too small */
+    FITREC_NO_CLOSING_ROOM = 10, /* the data file's buffer is too small */
+    FITREC_CHANGED = 16          /* the bytes that the last commit counts have changed since; fitrec_salvage copies what is readable */
 };
 uint8_t fitrec_repair(uint8_t *data, size_t data_size, uint64_t *data_len, uint8_t *journal, size_t journal_size,
                       uint64_t *journal_len, struct fitrec_summary *summary);

@@ -13,6 +13,7 @@ async function ofRecording(data, journal) {
   const { code, file, summary } = await save(await bytesOf(data), await bytesOf(journal));
   if (code === 7) return { heading: 'nothing', reason: text('nothingRecorded'), next: text('nothingRecordedNext') };
   if (code === 8) return { heading: 'nothing', reason: text('damaged'), next: text('damagedNext') };
+  if (code === 16) return { heading: 'nothing', reason: text('changed'), next: text('damagedNext') };
   if (code) return { heading: 'nothing', reason: text('unexpected', { code }) };
   return { heading: 'saved', reason: text('savedWhy'), file, summary, name: 'ride.fit' };
 }

@@ -26,6 +26,7 @@ const TEXTS = {
   nothingRecorded: 'The recorder had not confirmed anything when it stopped, or the journal is empty.',
   nothingRecordedNext: 'If you think that there is a ride, choose activity.fit alone: then all that is readable is saved, without a summary.',
   damaged: 'The two files do not fit together: one of them is damaged, or they are of different rides.',
+  changed: 'Bytes of the ride have changed since the recorder confirmed them.',
   damagedNext: 'Copy both files from the device once more. If that does not help, choose activity.fit alone: then all that is readable is saved, without a summary.',
   notFit: 'This is not a FIT file.',
   notFitNext: 'Choose a file whose name ends with .fit. If it is one, its beginning is destroyed, and this page cannot read it.',

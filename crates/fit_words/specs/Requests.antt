@@ -26,7 +26,9 @@ IsAskedBy name found (Replay script folder checked) =
     × IsFlag found (codes "checked") checked
 IsAskedBy name found (Record folder every) =
     (name ≡ codes "record") × IsWord found (codes "FOLDER") folder × (option_map (λ word. word.now) every ≡ first_value found (codes "commit"))
-IsAskedBy name found (Save folder to) = (name ≡ codes "save") × IsWord found (codes "FOLDER") folder × IsWord found (codes "OUT") to
+IsAskedBy name found (Save folder to earlier) =
+    (name ≡ codes "save") × IsWord found (codes "FOLDER") folder × IsWord found (codes "OUT") to
+    × IsFlag found (codes "earlier") earlier
 IsAskedBy name found (Repair folder verify) =
     (name ≡ codes "repair") × IsWord found (codes "FOLDER") folder × IsFlag found (codes "verify") verify
 IsAskedBy name found (Salvage file to all plain) =

@@ -57,6 +57,13 @@ pub(crate) fn checked_option<'a>(alloc: Global) -> Arg<'a> {
         .action(ArgAction::SetTrue)
 }
 
+pub(crate) fn earlier_option<'a>(alloc: Global) -> Arg<'a> {
+    Arg::new(alloc, "earlier")
+        .long("earlier")
+        .help("Takes the commit before, if the bytes that the last one counts have changed")
+        .action(ArgAction::SetTrue)
+}
+
 pub(crate) fn choices_option<'a>(alloc: Global) -> Arg<'a> {
     Arg::new(alloc, "choices")
         .long("choices")

@@ -30,6 +30,7 @@ pub enum Request<'a> {
     Save {
         folder: &'a str,
         to: &'a str,
+        earlier: bool,
     },
     Repair {
         folder: &'a str,
@@ -84,6 +85,7 @@ fn request_of<'a>(name: &str, matches: &ArgMatches<'a>) -> Option<Request<'a>>
         "save" => Some(Request::Save {
             folder: matches.get_str("FOLDER")?,
             to: matches.get_str("OUT")?,
+            earlier: matches.get_flag("earlier"),
         }),
         "repair" => Some(Request::Repair {
             folder: matches.get_str("FOLDER")?,

@@ -1,7 +1,7 @@
 // The subcommands, and the words that each takes.
 
 use crate::arguments::{
-    all_option, checked_option, choices_option, commit_option, file_argument, folder_argument,
+    all_option, checked_option, choices_option, commit_option, earlier_option, file_argument, folder_argument,
     in_argument, json_option, out_argument, plain_option, script_argument, utc_option,
     verify_option,
 };
@@ -98,6 +98,7 @@ fn save_command<'a>(alloc: Global) -> Result<Command<'a>, Error> {
             .about(
                 "Saves the ride of a folder as a plain FIT file, and writes nothing to the folder",
             )
+            .arg(earlier_option(alloc))?
             .arg(folder_argument(alloc))?
             .arg(out_argument(alloc))?,
     )

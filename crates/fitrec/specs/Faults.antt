@@ -95,6 +95,7 @@ IsLackReported folder reported = IsRecordingReported folder reported
 -- of recovering the ride of a folder of this name in memory
 abbrev pub IsSavedReported : Bor (List ℕ) → Fault → Type 0
 IsSavedReported folder (faults.Recorder Damaged) = Unit {0}
+IsSavedReported folder faults.Changed = Unit {0}
 IsSavedReported folder reported = IsLackReported folder reported
 
 -- of saving the ride of a folder in a file of these names

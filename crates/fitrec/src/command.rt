@@ -74,7 +74,16 @@ pub fn command<S: AsStr, O: Write, E: Write>(
             },
         ) => status(replay_script(rt, script, folder, checked, out), err),
         Ok(Request::Record { folder, every }) => record_chosen(rt, folder, every, out, err),
-        Ok(Request::Save { folder, to }) => status(save_folder(rt, folder, to, out), err),
+        Ok(
+            Request::Save {
+                folder,
+                to,
+                earlier,
+            },
+        ) => {
+            let done = save_folder(rt, folder, to, earlier, out, err);
+            status(done, err)
+        }
         Ok(
             Request::Repair {
                 folder,

@@ -46,6 +46,11 @@ pub enum Fault<'a> {
     /// Nothing is recorded in a folder in which one of the two files is there. A second line says what it lacks.
     #[error("NothingRecorded\nfitrec: {0}")]
     NothingSaved(Lack),
+    /// The bytes that the last commit of a recording counts have changed. A second line says what can be done.
+    #[error(
+        "Damaged\nfitrec: bytes of the recording have changed since they were committed; salvage copies what is readable of activity.fit, and save --earlier what the commit before counts"
+    )]
+    Changed,
     /// The number of replies to a script that were not ok.
     #[error("{0} refused")]
     Refused(usize),
