@@ -100,7 +100,10 @@ fn code_of(buffers: &Buffers<'_, '_>, fault: RecFault) -> u8
     ensures others { (result ≡ 16 → ⊥) → (result ≡ fault_code fault)
         × (fault ≡ faults.Damaged → HasChanged (seen_in (story_in buffers.now).now) → ⊥) }
 {
-    let has_changed = has_changed(buffers.content(Which::Data), buffers.content(Which::Journal));
+    let has_changed = has_changed(
+        buffers.content(Which::Data),
+        buffers.content(Which::Journal),
+    );
     if fault == RecFault::Damaged && has_changed {
         CHANGED
     } else {

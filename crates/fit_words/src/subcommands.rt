@@ -1,9 +1,9 @@
 // The subcommands, and the words that each takes.
 
 use crate::arguments::{
-    all_option, checked_option, choices_option, commit_option, earlier_option, file_argument, folder_argument,
-    in_argument, json_option, out_argument, plain_option, script_argument, utc_option,
-    verify_option,
+    all_option, checked_option, choices_option, commit_option, earlier_option, file_argument,
+    folder_argument, in_argument, json_option, out_argument, plain_option, script_argument,
+    utc_option, verify_option,
 };
 use clap::{Command, Error};
 use std::alloc::Global;

@@ -47,9 +47,7 @@ pub enum Fault<'a> {
     #[error("NothingRecorded\nfitrec: {0}")]
     NothingSaved(Lack),
     /// The bytes that the last commit of a recording counts have changed. A second line says what can be done.
-    #[error(
-        "Damaged\nfitrec: bytes of the recording have changed since they were committed; salvage copies what is readable of activity.fit, and save --earlier what the commit before counts"
-    )]
+    #[error("Damaged\nfitrec: bytes of the recording have changed since they were committed; salvage copies what is readable of activity.fit, and save --earlier what the commit before counts")]
     Changed,
     /// The number of replies to a script that were not ok.
     #[error("{0} refused")]
