@@ -12,17 +12,19 @@ unreachable-requires c =
 
 pub returns-clause-ok : goal.returns-clause-ok
 returns-clause-ok c = λ done.
-    let repaired = c.fitrec_repair-answer.ensures.ok c.if-answer-ne0.false in
-    record {
-      list = repaired.list;
-      file = c.in-Ok.file;
-      finished = record {
-        stood = repaired.stood;
-        file = subst (λ (bytes : List ℕ). FileOf bytes c.in-Ok.file) repaired.is c.in-Ok.ensures.file;
-      };
-      bytes_are = c.write_file.ensures.ok done;
-      sums_up = repaired.sums_up;
-    }
+    let repaired = c.fitrec_repair-answer.ensures.ok c.if-answer-ne0.false in (
+      record {
+        list = repaired.list;
+        file = c.in-Ok.file;
+        finished = record {
+          stood = repaired.stood;
+          file = subst (λ (bytes : List ℕ). FileOf bytes c.in-Ok.file) repaired.is c.in-Ok.ensures.file;
+        };
+        bytes_are = c.write_file.ensures.ok done;
+        sums_up = repaired.sums_up;
+      },
+      c.write_file.ensures.within done,
+    )
 
 pub returns-clause-no_room : goal.returns-clause-no_room
 returns-clause-no_room c = λ short.
