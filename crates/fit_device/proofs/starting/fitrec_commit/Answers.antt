@@ -37,7 +37,7 @@ returns c =
       ok = λ list committed held zero.
           stands new plan after put list list (on_ok c.commit-answer.result c.code_of.result c.code_of.ensures zero did.after.going)
           ((on_ok c.commit-answer.result c.code_of.result c.code_of.ensures zero did.ok).stands list committed (stood old before taken list committed held));
-      never_fills = never_fills new plan after put old before taken (after_commit c.commit-answer.result _ before after did.after never did.slots);
+      never_fills = never_fills new plan after put old before taken (after_commit c.commit-answer.result _ _ before after did.after never did.slots);
       not_full = λ list handed fills.
           never_full c.commit-answer.result (slots_in old.recorder.journal) list c.code_of.result (answers list handed) c.code_of.ensures fills;
       any_moment = λ list committed held.
