@@ -1,4 +1,4 @@
-use Rattle.std.proofs.Common.{◌≡◌, ℕ, ◌+◌, ◌-◌, ◌*◌, ◌^◌, ◌<◌, ◌≤◌, min, List, length, take, drop, refl, sym, ap, ◌∙◌, arith, rules, IsTrue}
+use Rattle.std.proofs.Common.{◌≡◌, ℕ, ◌+◌, ◌*◌, ◌^◌, ◌<◌, ◌≤◌, min, List, length, take, refl, sym, ap, ◌∙◌, arith, rules, IsTrue}
 use Rattle.std.proofs.lemmas.List.{take_all}
 use Rattle.fit_base.specs.Checksum.{crc, crc_from}
 use Rattle.fit_base.proofs.Register.{crc_from-take}
