@@ -7,6 +7,7 @@ import pathlib
 import random
 import re
 import shutil
+import signal
 import subprocess
 import tempfile
 
@@ -18,6 +19,8 @@ NEEDED = {"linux.uml": "user-mode-linux", "cc": "gcc (with libc6-dev)", "mkfs.ex
 SYSTEM = os.environ | {"PATH": os.environ["PATH"] + ":/usr/sbin:/sbin"}
 # The drivers that are not part of the kernel itself, and what they need at a mount.
 MODULES = ("/usr/lib/uml/modules", ("nbd", "vfat", "f2fs", "nls_cp437", "nls_iso8859-1", "nls_utf8", "nls_ascii", "crc32_generic"))
+# The seconds that a run may take.
+LIMIT = 3600
 # A quiet kernel, whose root is that of this system, read only.
 KERNEL = ["linux.uml", "mem=640M", "rootfstype=hostfs", "rootflags=/", "ro", "con=null", "con0=fd:0,fd:1", "panic=-1", "quiet", "loglevel=1"]
 # The driver, the size in MiB, how the disk is made, and the mount options.
@@ -123,9 +126,14 @@ class Guest:
         words = [*KERNEL, "init=%s/guest" % self.share, *("%s=%s" % it for it in settings.items() if it[1] != "")]
         # Its processes trace one another, which is twice as fast on one core.
         core = {max(os.sched_getaffinity(0))}
-        ran = subprocess.run(words, stdin=subprocess.DEVNULL, stdout=subprocess.PIPE, stderr=subprocess.STDOUT,
-                             preexec_fn=lambda: os.sched_setaffinity(0, core))
-        return ran.stdout.decode(errors="replace").replace("\r", "").splitlines()
+        with subprocess.Popen(words, stdin=subprocess.DEVNULL, stdout=subprocess.PIPE, stderr=subprocess.STDOUT, start_new_session=True,
+                              preexec_fn=lambda: os.sched_setaffinity(0, core)) as child:
+            try:
+                said = child.communicate(timeout=LIMIT)[0]
+            except subprocess.TimeoutExpired:
+                os.killpg(child.pid, signal.SIGKILL)
+                said = child.communicate()[0]
+        return said.decode(errors="replace").replace("\r", "").splitlines()
 
 
 class Outcome:

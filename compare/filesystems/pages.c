@@ -7,6 +7,7 @@ enum { PAGE = 4096 };
 
 uint64_t disk_size;
 static uint8_t *durable, *now;
+static uint8_t *is_used;         /* for each page, whether it was ever written */
 static uint8_t *may_differ;      /* for each page, whether they may differ there */
 static uint32_t *differing;      /* the numbers of these pages */
 static uint64_t count_of_differing;
@@ -15,7 +16,7 @@ static void put(uint8_t *disk, uint64_t at, const uint8_t *bytes, uint32_t len) 
     memcpy(disk + at, bytes, len);
     for (uint64_t page = at / PAGE; page * PAGE < at + len; page++)
         if (!may_differ[page])
-            may_differ[page] = 1, differing[count_of_differing++] = (uint32_t)page;
+            is_used[page] = may_differ[page] = 1, differing[count_of_differing++] = (uint32_t)page;
 }
 
 void put_durable(uint64_t at, const uint8_t *bytes, uint32_t len) { put(durable, at, bytes, len); }
@@ -47,7 +48,8 @@ void read_image(const char *image) {
     if (file < 0 || fstat(file, &found))
         die("%s", image);
     disk_size = (uint64_t)found.st_size;
-    durable = pages(disk_size), now = pages(disk_size), may_differ = pages(disk_size / PAGE), differing = pages(disk_size / PAGE * 4);
+    durable = pages(disk_size), now = pages(disk_size);
+    may_differ = pages(disk_size / PAGE), is_used = pages(disk_size / PAGE), differing = pages(disk_size / PAGE * 4);
     for (uint64_t at = 0; at < disk_size; at += PAGE) {
         if (read(file, page, PAGE) != PAGE)
             die("reading %s", image);
@@ -60,12 +62,11 @@ void read_image(const char *image) {
 
 /* Leaves what the kernel reads as an image. */
 void keep_disk(const char *path) {
-    static const uint8_t zeros[PAGE];
     int file = open(path, O_WRONLY | O_CREAT | O_TRUNC | O_CLOEXEC, 0644);
     if (file < 0 || ftruncate(file, (off_t)disk_size))
         die("%s", path);
     for (uint64_t at = 0; at < disk_size; at += PAGE)
-        if (memcmp(now + at, zeros, PAGE) && pwrite(file, now + at, PAGE, (off_t)at) != PAGE)
+        if (is_used[at / PAGE] && pwrite(file, now + at, PAGE, (off_t)at) != PAGE)
             die("writing %s", path);
     close(file);
 }

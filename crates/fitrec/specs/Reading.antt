@@ -31,4 +31,5 @@ IsFileFault name (faults.Script fault) = ⊥
 IsFileFault name (faults.OnlySimulate line) = ⊥
 IsFileFault name (faults.Recorder fault) = ⊥
 IsFileFault name (faults.NothingSaved lack) = ⊥
+IsFileFault name faults.Changed = ⊥
 IsFileFault name (faults.Refused count) = ⊥
