@@ -10,13 +10,13 @@ _fitrec() {
         help) COMPREPLY=($(compgen -W 'show check replay record save repair salvage plain simulate version' -- "$word")); return ;;
         show) options='--utc --json --help' ;;
         check) options='--help' ;;
-        replay) options='--help' ;;
+        replay) options='--checked --help' ;;
         record) options='--commit --help' ;;
         save) options='--help' ;;
         repair) options='--verify --help' ;;
         salvage) options='--all --plain --help' ;;
         plain) options='--help' ;;
-        simulate) options='--choices --help' ;;
+        simulate) options='--checked --choices --help' ;;
         version) options='--help' ;;
     esac
     case $word in
