@@ -12,7 +12,7 @@ _fitrec() {
         check) options='--help' ;;
         replay) options='--checked --help' ;;
         record) options='--commit --help' ;;
-        save) options='--help' ;;
+        save) options='--earlier --help' ;;
         repair) options='--verify --help' ;;
         salvage) options='--all --plain --help' ;;
         plain) options='--help' ;;
