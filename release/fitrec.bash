@@ -1,0 +1,27 @@
+# Completes the words of fitrec in bash.
+_fitrec() {
+    local word=${COMP_WORDS[COMP_CWORD]} options=
+    COMPREPLY=()
+    if [ "$COMP_CWORD" -eq 1 ]; then
+        COMPREPLY=($(compgen -W 'show check replay record save repair salvage plain simulate version help --help' -- "$word"))
+        return
+    fi
+    case ${COMP_WORDS[1]} in
+        help) COMPREPLY=($(compgen -W 'show check replay record save repair salvage plain simulate version' -- "$word")); return ;;
+        show) options='--utc --json --help' ;;
+        check) options='--help' ;;
+        replay) options='--checked --help' ;;
+        record) options='--commit --help' ;;
+        save) options='--earlier --help' ;;
+        repair) options='--verify --help' ;;
+        salvage) options='--all --plain --help' ;;
+        plain) options='--help' ;;
+        simulate) options='--checked --choices --help' ;;
+        version) options='--help' ;;
+    esac
+    case $word in
+        -*) COMPREPLY=($(compgen -W "$options" -- "$word")) ;;
+    esac
+}
+# Where the function has no answer, the shell completes the name of a file.
+complete -o default -F _fitrec fitrec
