@@ -109,7 +109,8 @@ static uint8_t repair(struct pair *files) {
     uint64_t data_len = data->len, journal_len = journal->len;
     uint8_t answer = fitrec_repair(data->bytes, MOST, &data_len, journal->bytes, MOST, &journal_len, &summary);
     data->len = data_len, journal->len = journal_len;
-    return answer;
+    /* The other two do not tell a change from other damage. */
+    return answer == FITREC_CHANGED ? FITREC_DAMAGED : answer;
 }
 
 static bool is_same(const struct file *a, const struct file *b) {
@@ -185,7 +186,15 @@ static struct fitrec_sample any_sample(uint32_t time, uint32_t fields, uint32_t 
     return made;
 }
 
-/* Records a ride with these fields, of so many commits, with so many samples before each. */
+/* The files after a commit, and what a recovery makes of them. */
+static void note_commit(struct ride *ride, const struct pair *files) {
+    struct pair after = ride->after[ride->commits] = *files;
+    if (recover(&after))
+        fail("an honest card was refused");
+    ride->finished[ride->commits++] = after.of[0];
+}
+
+/* Records a ride with these fields, of so many commits after the start, which is one too, with so many samples before each. */
 static void record(struct ride *ride, uint32_t fields, int commits, int samples) {
     static struct fitrec_recorder recorder;
     static struct fitrec_plan plan;
@@ -197,6 +206,7 @@ static void record(struct ride *ride, uint32_t fields, int commits, int samples)
     if (fitrec_start(&recorder, time, chance(1000), (uint8_t)chance(3), &plan))
         fail("a start was refused");
     take_plan(ride, &files, &plan);
+    note_commit(ride, &files);
     for (int commit = 0; commit < commits; commit++) {
         for (int k = 0; k < samples; k++) {
             struct fitrec_sample sample = any_sample(time += 1 + chance(2), fields, &distance);
@@ -209,10 +219,7 @@ static void record(struct ride *ride, uint32_t fields, int commits, int samples)
         if (fitrec_commit(&recorder, &plan))
             fail("a commit was refused");
         take_plan(ride, &files, &plan);
-        struct pair after = ride->after[ride->commits] = files;
-        if (recover(&after))
-            fail("an honest card was refused");
-        ride->finished[ride->commits++] = after.of[0];
+        note_commit(ride, &files);
     }
 }
 
@@ -220,11 +227,11 @@ static void flips(struct ride *ride, int count) {
     static struct pair files;
     for (int times = 0; times < count; times++) {
         record(ride, 1 + chance(63), 3, 3 + (int)chance(4));
-        files = ride->after[2];
+        files = ride->after[ride->commits - 1];
         for (int file = 0; file < 2; file++)
             for (size_t bit = 8 * (file ? 0 : HEADER); bit < 8 * files.of[file].len; bit++) {
                 files.of[file].bytes[bit / 8] ^= (uint8_t)(1 << bit % 8);
-                judge(ride, &files, 3);
+                judge(ride, &files, ride->commits);
                 files.of[file].bytes[bit / 8] ^= (uint8_t)(1 << bit % 8);
             }
     }
@@ -238,17 +245,17 @@ static void mixes(struct ride *one, int count) {
         uint32_t fields = 1 + chance(63), kind = chance(4);
         int commits = 2 + (int)chance(4), samples = 4 + (int)chance(20);
         record(one, fields, commits, samples);
-        int at = (int)chance((uint32_t)commits);
-        files = one->after[commits - 1];
+        int at = (int)chance((uint32_t)one->commits);
+        files = one->after[one->commits - 1];
         if (kind == 3) {
             /* One of the two files is a copy of an earlier state. */
             int file = (int)chance(2);
             files.of[file] = one->after[at].of[file];
         } else {
             record(&other, kind ? fields : 1 + chance(63), kind == 2 ? commits : 2 + (int)chance(4), kind == 2 ? samples : 4 + (int)chance(20));
-            files.of[1] = other.after[kind == 2 ? commits - 1 : other.commits - 1].of[1];
+            files.of[1] = other.after[other.commits - 1].of[1];
         }
-        judge(one, &files, commits);
+        judge(one, &files, one->commits);
     }
 }
 

@@ -74,8 +74,8 @@ def links_as_shown(archive):
     with tempfile.TemporaryDirectory() as folder:
         here = pathlib.Path(folder)
         (here / "include").symlink_to(HERE.parent / "include")
-        (here / "crates/fit_c/out").mkdir(parents=True)
-        shutil.copy(archive, here / "crates/fit_c/out/libfit_c.a")
+        (here / "release").mkdir()
+        shutil.copy(archive, here / "release/libfit_c.a")
         (here / "finish.c").write_text(re.sub("(?m)^    ", "", example))
         (here / "main.c").write_text('#include "fitrec.h"\nint finish(uint64_t *, uint64_t *);\n'
                                      "int main(void) { uint64_t none[2] = {0, 0}; return finish(&none[0], &none[1]); }\n")
