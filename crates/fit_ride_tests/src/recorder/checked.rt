@@ -72,6 +72,8 @@ fn is_damaged(alloc: Global, data: &[u8], journal: &[u8]) -> Result<bool, Fail> 
     Ok(is_damaged && is_same && refusal == Some(RecFault::Damaged))
 }
 
+const BITS: [u8; 8] = [1, 2, 4, 8, 16, 32, 64, 128];
+
 #[test]
 fn a_changed_bit_of_the_body_is_damaged(rt: HostRuntime) -> Result<(), Fail> {
     let alloc = rt.alloc();
@@ -81,8 +83,8 @@ fn a_changed_bit_of_the_body_is_damaged(rt: HostRuntime) -> Result<(), Fail> {
     assert_eq!(rt; data.len(), 188);
     for place in 14..188 {
         let kept = data[place];
-        for bit in 0..8 {
-            data[place] = kept ^ 1 << bit;
+        for bit in BITS {
+            data[place] = kept ^ bit;
             assert!(rt;
                 is_damaged(alloc, &data, journal)?,
                 "byte {place}, bit {bit}"
@@ -105,13 +107,16 @@ fn a_changed_checksum_is_damaged(rt: HostRuntime) -> Result<(), Fail> {
     let data = disk.content(Which::Data);
     // That of the earlier commit does not count, nor do the bytes after the checksums.
     for place in [13, 14, 15, 23] {
-        journal[place] ^= 0xFF;
+        if let Some(byte) = journal.get_mut(place) {
+            *byte ^= 0xFF;
+        }
     }
+    assert_eq!(rt; journal.len(), 24);
     equal(&rt, is_damaged(alloc, data, &journal)?, false);
     for place in 21..23 {
         let kept = journal[place];
-        for bit in 0..8 {
-            journal[place] = kept ^ 1 << bit;
+        for bit in BITS {
+            journal[place] = kept ^ bit;
             assert!(rt;
                 is_damaged(alloc, data, &journal)?,
                 "byte {place}, bit {bit}"
