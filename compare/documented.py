@@ -22,7 +22,7 @@ KIT = re.compile(r"rt ")
 # The enums whose names the program prints.
 FAULTS = {"fit_grammar/src/file/fault.rt": "FaultKind", "fit_grammar/src/plain/fault.rt": "PlainFaultKind",
           "fit_activity/src/activity.rt": "ActivityFault", "fit_activity/src/recording/refusal.rt": "Refusal",
-          "fit_recorder/src/fault.rt": "RecFault", "fit_world/src/script/fault.rt": "ScriptFaultKind"}
+          "fit_recorder/src/fault.rt": "RecFault", "fit_scripts/src/script/fault.rt": "ScriptFaultKind"}
 # What else it reports: for the command line, for a replay, and for a script that can only be simulated.
 OTHERS = {"the command line is not UTF-8", "NoRecorder", "OnlySimulate"}
 # Constants, and the pages that give their values.
@@ -30,9 +30,9 @@ SIZES = {("fit_recorder/src/limits.rt", "MOST_RECORDS"): ["RECORDING", "JOURNAL-
          ("fit_recorder/src/limits.rt", "MOST_BEFORE_STOP"): ["RECORDING", "JOURNAL-FORMAT"],
          ("fit_journal/src/slots.rt", "ROW_SLOTS"): ["RECORDING", "JOURNAL-FORMAT"],
          ("fit_grammar/src/item/writing.rt", "LONGEST_DEFINITION"): ["FORMAT", "DECISIONS"],
-         ("fit_world/src/reading.rt", "CHUNK"): ["ARCHITECTURE"],
+         ("fit_files/src/reading.rt", "CHUNK"): ["ARCHITECTURE"],
          ("fitrec/src/command/input.rt", "MOST_BYTES"): ["PROGRAM", "DECISIONS"],
-         ("fit_world_tests/src/random.rt", "HISTORIES"): ["PROOFS"]}
+         ("fit_scripts_tests/src/random.rt", "HISTORIES"): ["PROOFS"]}
 
 
 def page(name):
@@ -200,7 +200,7 @@ def messages():
     texts = re.findall(r'#\[error\("(.*?)"', page("crates/fitrec/src/fault.rt"))
     texts = [it.replace("{}", "NAME").replace("{0}", "N") for it in texts if "fitrec: " not in it]
     wanted = {it for it in texts if "{" not in it and "line" not in it} | {"cannot write -", "cannot read -"} | OTHERS
-    left = re.search(r'"fitrec: \{count\} (.*?)"', page("crates/fit_world/src/salvage.rt"))[1]
+    left = re.search(r'"fitrec: \{count\} (.*?)"', page("crates/fit_files/src/salvage.rt"))[1]
     wanted |= {"N " + left}
     for file, enum in FAULTS.items():
         names = names_of(file, enum)

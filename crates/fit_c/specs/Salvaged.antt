@@ -1,7 +1,7 @@
 -- What a salvage in memory leaves and returns.
 use Rattle.std.specs.Prelude.{◌≡◌, ℕ, ◌<◌, Bool, List, length}
-use Rattle.fit_world.specs.Printed.Salvaged.{IsSalvage, saved_file}
-use Rattle.fit_world.specs.declared.salvage.Salvage.{Salvage}
+use Rattle.fit_files.specs.Printed.Salvaged.{IsSalvage, saved_file}
+use Rattle.fit_files.specs.declared.salvage.Salvage.{Salvage}
 use Rattle.fit_c.specs.declared.salvaging.SalvageCounts.{SalvageCounts}
 
 abbrev pub counts_of : Salvage → SalvageCounts

@@ -5,13 +5,13 @@ ghost use Rattle.fit_base.specs.Checksum.{crc_from};
 ghost use Rattle.fit_grammar.specs.Calls.FaultCode.{kind_code};
 ghost use Rattle.fit_grammar.specs.Format.Encoding.{encoded_header};
 ghost use Rattle.fit_grammar.specs.declared.file.fault.FileFault.{FileFault};
-ghost use Rattle.fit_world.specs.Printed.Salvaged.{IsNotSalvaged, saved_file};
+ghost use Rattle.fit_files.specs.Printed.Salvaged.{IsNotSalvaged, saved_file};
 ghost use Rattle.fit_c.specs.Salvaged.{IsSalvaged, NeedsRoomToSalvage};
 
 use crate::room::{NO_ROOM, Room};
 use fit_base::Crc;
+use fit_files::{Salvage, salvage_bytes};
 use fit_grammar::{Frame, header_front};
-use fit_world::{Salvage, salvage_bytes};
 
 // The input has 4294967296 bytes or more.
 const TOO_LARGE: u8 = 22;
@@ -28,7 +28,7 @@ pub struct SalvageCounts {
     pub not_looked_at: u64,
 }
 
-/// Writes a new file into `out`: the longest row of whole items after the header of `bytes`, as `salvage_bytes` of `fit_world`
+/// Writes a new file into `out`: the longest row of whole items after the header of `bytes`, as `salvage_bytes` of `fit_files`
 /// finds it. Returns 0, and the length of the file in `out_len`; 1 to 4 if `bytes` begins with no header (the code of the
 /// `FaultKind`); 20 if the file does not fit into `out`, with its length in `out_len`; 22 if `bytes` has 4294967296 bytes or more. An
 /// `out` that is 16 bytes longer than `bytes` is always large enough.

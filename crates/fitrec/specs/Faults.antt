@@ -3,16 +3,16 @@ use Rattle.std.specs.Prelude.{◌≡◌, ◌⊎◌, ◌≤◌, ℕ, Bool, true, 
 use Rattle.std.specs.Borrow.{Bor}
 use Rattle.fit_disk.specs.declared.files.OpenFault.{OpenFault}
 use Rattle.fit_disk.specs.declared.files.OpenFault.TheVariants.{Open, Memory}
-use Rattle.fit_world.specs.declared.fault.ReportFault.{ReportFault}
-use Rattle.fit_world.specs.declared.fault.ReportFault.TheVariants as reports
+use Rattle.fit_files.specs.declared.fault.ReportFault.{ReportFault}
+use Rattle.fit_files.specs.declared.fault.ReportFault.TheVariants as reports
 use Rattle.fit_recorder.specs.Calls.Recovery.{IsRecoveryFault}
 use Rattle.fit_recorder.specs.declared.fault.RecFault.TheVariants.{NothingRecorded, Damaged}
-use Rattle.fit_world.specs.declared.repairing.RepairFault.{RepairFault}
-use Rattle.fit_world.specs.declared.repairing.RepairFault.TheVariants as repairs
-use Rattle.fit_world.specs.declared.script.fault.ReplayFault.{ReplayFault}
-use Rattle.fit_world.specs.declared.script.fault.ReplayFault.TheVariants as replays
-use Rattle.fit_world.specs.declared.simulating.SimulateFault.{SimulateFault}
-use Rattle.fit_world.specs.declared.simulating.SimulateFault.TheVariants as simulations
+use Rattle.fit_files.specs.declared.repairing.RepairFault.{RepairFault}
+use Rattle.fit_files.specs.declared.repairing.RepairFault.TheVariants as repairs
+use Rattle.fit_scripts.specs.declared.script.fault.ReplayFault.{ReplayFault}
+use Rattle.fit_scripts.specs.declared.script.fault.ReplayFault.TheVariants as replays
+use Rattle.fit_scripts.specs.declared.simulating.SimulateFault.{SimulateFault}
+use Rattle.fit_scripts.specs.declared.simulating.SimulateFault.TheVariants as simulations
 use Rattle.fitrec.specs.Reading.{fault_of_read}
 use Rattle.fitrec.specs.declared.fault.Fault.{Fault}
 use Rattle.fitrec.specs.declared.fault.Fault.TheVariants as faults

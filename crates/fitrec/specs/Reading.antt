@@ -1,9 +1,9 @@
 -- The program's faults for an input that was not read.
 use Rattle.std.specs.Prelude.{◌≡◌, ℕ, List, Option}
 use Rattle.std.specs.Borrow.{Bor}
-use Rattle.fit_world.specs.declared.reading.ReadFault.{ReadFault}
-use Rattle.fit_world.specs.declared.reading.ReadFault.TheVariants.{Failed, TooLarge, NoMemory}
-use Rattle.fit_world.specs.Calls.Reading.{Refuses}
+use Rattle.fit_files.specs.declared.reading.ReadFault.{ReadFault}
+use Rattle.fit_files.specs.declared.reading.ReadFault.TheVariants.{Failed, TooLarge, NoMemory}
+use Rattle.fit_files.specs.Calls.Reading.{Refuses}
 use Rattle.fitrec.specs.declared.fault.Fault.{Fault}
 use Rattle.fitrec.specs.declared.fault.Fault.TheVariants as faults
 

@@ -8,22 +8,22 @@ use Rattle.fit_disk.specs.State.{Contents, seen_in}
 use Rattle.fit_disk.specs.Story.{Story}
 use Rattle.fit_grammar.specs.Format.File.{FileValue}
 use Rattle.fit_grammar.specs.Format.Message.{messages_of}
-use Rattle.fit_world.specs.declared.event.Event.{Event}
-use Rattle.fit_world.specs.declared.salvage.Salvage.{Salvage}
-use Rattle.fit_world.specs.declared.saving.SavedRide.{SavedRide}
-use Rattle.fit_world.specs.Calls.Reading.{ReadsAll}
-use Rattle.fit_world.specs.Calls.Rereading.{AreSumsOf}
-use Rattle.fit_world.specs.Printed.PlainFile.{PlainsTo, messages_text}
-use Rattle.fit_world.specs.Printed.Repaired.{Repairs}
-use Rattle.fit_world.specs.Printed.ReplyLines.{AreReported}
-use Rattle.fit_world.specs.Printed.Salvaged.{IsSalvage, saved_file, kept_text}
-use Rattle.fit_world.specs.Printed.Saved.{SavesRide}
-use Rattle.fit_world.specs.Printed.Summary.{summary_text}
-use Rattle.fit_world.specs.Rides.Turns.{Finishes}
-use Rattle.fit_world.specs.Scripts.Script.{events_of}
-use Rattle.fit_world.specs.declared.repairing.FileSums.{FileSums}
-use Rattle.fit_world.specs.declared.repairing.RepairFault.{RepairFault}
-use Rattle.fit_world.specs.declared.repairing.RepairFault.TheVariants as repairs
+use Rattle.fit_histories.specs.declared.event.Event.{Event}
+use Rattle.fit_files.specs.declared.salvage.Salvage.{Salvage}
+use Rattle.fit_files.specs.declared.saving.SavedRide.{SavedRide}
+use Rattle.fit_files.specs.Calls.Reading.{ReadsAll}
+use Rattle.fit_files.specs.Calls.Rereading.{AreSumsOf}
+use Rattle.fit_files.specs.Printed.PlainFile.{PlainsTo, messages_text}
+use Rattle.fit_files.specs.Printed.Repaired.{Repairs}
+use Rattle.fit_scripts.specs.Printed.ReplyLines.{AreReported}
+use Rattle.fit_files.specs.Printed.Salvaged.{IsSalvage, saved_file, kept_text}
+use Rattle.fit_files.specs.Printed.Saved.{SavesRide}
+use Rattle.fit_files.specs.Printed.Summary.{summary_text}
+use Rattle.fit_scripts.specs.Rides.Turns.{Finishes}
+use Rattle.fit_scripts.specs.Scripts.Script.{events_of}
+use Rattle.fit_files.specs.declared.repairing.FileSums.{FileSums}
+use Rattle.fit_files.specs.declared.repairing.RepairFault.{RepairFault}
+use Rattle.fit_files.specs.declared.repairing.RepairFault.TheVariants as repairs
 use Rattle.fitrec.specs.Faults.{IsRecordingReported, IsRepairReported}
 use Rattle.fitrec.specs.Reading.{IsFileFault}
 use Rattle.fitrec.specs.declared.fault.Fault.{Fault}

@@ -1,8 +1,8 @@
 // The program as one call: words in, text out, and the exit status.
 //
-// `fit_words` reads the words. Each subcommand has its own file, which opens what it needs and leaves the rest to `fit_world`.
-// They share `input`, which opens and reads a file, `folder`, which opens the files of a recording, `beside`, which writes a file
-// whole or not at all, and `status`, which prints a fault.
+// `fit_words` reads the words. Each subcommand has its own file, which opens what it needs and leaves the rest to `fit_files` or
+// `fit_scripts`. They share `input`, which opens and reads a file, `folder`, which opens the files of a recording, `beside`, which
+// writes a file whole or not at all, and `status`, which prints a fault.
 
 ghost use Rattle.std.specs.Prelude.{◌≤◌};
 
@@ -25,8 +25,8 @@ mod version;
 use crate::fault::Fault;
 use check::check_file;
 use clap::error::ErrorKind;
+use fit_scripts::read_choices;
 use fit_words::{Request, no_choices, no_seconds, read_words};
-use fit_world::read_choices;
 use json::show_as_json;
 use plain::make_plain;
 use record::record_folder;

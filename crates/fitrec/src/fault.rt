@@ -1,10 +1,11 @@
 // The faults of the program.
 
 use fit_activity::ActivityFault;
+use fit_files::Lack;
 use fit_grammar::{FileFault, PlainFault};
 use fit_recorder::RecFault;
+use fit_scripts::ScriptFault;
 use fit_words::ShownWord;
-use fit_world::{Lack, ScriptFault};
 use thiserror::Error;
 
 /// A fault of the program. Its text follows `fitrec: ` on standard error.

@@ -1,12 +1,12 @@
 // The subcommand `check`: whether a file is an activity, and its summary.
 
-ghost use Rattle.fit_world.specs.Printed.Checked.{ChecksBytes};
+ghost use Rattle.fit_files.specs.Printed.Checked.{ChecksBytes};
 ghost use Rattle.fitrec.specs.Faults.{IsReportFault};
 ghost use Rattle.fitrec.specs.Reported.{Reports};
 
 use crate::command::input::{MOST_BYTES, fault_of_report, open_file};
 use crate::fault::Fault;
-use fit_world::check_input;
+use fit_files::check_input;
 use std::io::Write;
 use std::rt::Files;
 

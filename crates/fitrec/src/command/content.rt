@@ -3,10 +3,10 @@
 ghost use Rattle.std.specs.Prelude.{ℕ, List};
 ghost use Rattle.fit_grammar.specs.Calls.Output.{WritesText};
 ghost use Rattle.fit_grammar.specs.Format.Encoding.{encoded};
-ghost use Rattle.fit_world.specs.Printed.Salvaged.{saved_file};
+ghost use Rattle.fit_files.specs.Printed.Salvaged.{saved_file};
 
+use fit_files::Salvage;
 use fit_grammar::{EncodeFault, File, encode_file};
-use fit_world::Salvage;
 use std::io::Write;
 
 /// The content of a file. Its bytes are known before any of them is written.

@@ -8,8 +8,8 @@ ghost use Rattle.fitrec.specs.Faults.{fault_of_open, IsReadReported, IsLackRepor
 use crate::command::input::read_input;
 use crate::fault::Fault;
 use fit_disk::{DATA_NAME, Files, JOURNAL_NAME, OpenFault, Witness, is_one_missing, open_to_read};
+use fit_files::Lack;
 use fit_recorder::RecFault;
-use fit_world::Lack;
 use std::fs::File;
 
 /// Opens the files of this folder under a witness, and creates those that are missing.

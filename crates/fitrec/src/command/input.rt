@@ -1,12 +1,12 @@
 // Opens and reads the file of a subcommand.
 
 ghost use Rattle.std.specs.Prelude.{◌≡◌, ◌<◌, ◌≤◌, ◌↔◌, vec_len, IsTrue, IfOk, IfErr};
-ghost use Rattle.fit_world.specs.Calls.Reading.{ReadsAll};
+ghost use Rattle.fit_files.specs.Calls.Reading.{ReadsAll};
 ghost use Rattle.fitrec.specs.Faults.{IsReportFault};
 ghost use Rattle.fitrec.specs.Reading.{fault_of_read, IsReadFault, IsFileFault};
 
 use crate::fault::Fault;
-use fit_world::{ReadFault, ReportFault, read_all};
+use fit_files::{ReadFault, ReportFault, read_all};
 use std::alloc::Global;
 use std::fs::{self, OpenFile};
 use std::io::Read;

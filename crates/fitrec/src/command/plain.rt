@@ -7,8 +7,8 @@ ghost use Rattle.fitrec.specs.Reported.{IsFormOfFile, PlainsFile, PrintsNothing}
 use crate::command::beside::write_whole;
 use crate::command::input::{MOST_BYTES, fault_of_report, open_file};
 use crate::fault::Fault;
+use fit_files::{count_messages, plain_input, print_messages};
 use fit_grammar::File;
-use fit_world::{count_messages, plain_input, print_messages};
 use std::io::Write;
 use std::rt::Files;
 

@@ -7,7 +7,7 @@ ghost use Rattle.fitrec.specs.Reported.{HasPlainForm, SavesFile, PrintsNothing};
 use crate::command::beside::write_whole;
 use crate::command::input::{fault_of_report, read_file};
 use crate::fault::Fault;
-use fit_world::{Salvage, salvage_bytes};
+use fit_files::{Salvage, salvage_bytes};
 use std::io::Write;
 
 /// Writes the readable part of the file `name`, or with `plain` the plain form of that, to the file `to`, which may exist. Prints how

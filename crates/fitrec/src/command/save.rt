@@ -8,8 +8,8 @@ use crate::command::beside::write_whole;
 use crate::command::folder::read_recorded;
 use crate::command::input::fault_of_report;
 use crate::fault::Fault;
+use fit_files::{Lack, SaveFault, SavedRide, print_summary, save_ride};
 use fit_recorder::{RecFault, leave_changed};
-use fit_world::{Lack, SaveFault, SavedRide, print_summary, save_ride};
 use std::io::Write;
 
 /// Writes the plain form of the file that a repair of the folder `name` would make to the file `to`, which may exist, and prints its

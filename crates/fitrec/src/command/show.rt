@@ -1,12 +1,12 @@
 // The subcommand `show`: prints the text of a file.
 
-ghost use Rattle.fit_world.specs.Printed.Shown.{ShowsBytes};
+ghost use Rattle.fit_files.specs.Printed.Shown.{ShowsBytes};
 ghost use Rattle.fitrec.specs.Faults.{IsReportFault};
 ghost use Rattle.fitrec.specs.Reported.{Reports};
 
 use crate::command::input::{MOST_BYTES, fault_of_report, open_file};
 use crate::fault::Fault;
-use fit_world::show_input;
+use fit_files::show_input;
 use std::io::Write;
 use std::rt::Files;
 

@@ -1,0 +1,3 @@
+-- For crates above, and what no crate above uses.
+pub mod Pieces
+mod Reported

@@ -1,0 +1,9 @@
+-- What is printed of a file, and the output of each call.
+pub mod Summary
+pub mod Shown
+pub mod Checked
+pub mod Repaired
+pub mod Salvaged
+pub mod PlainFile
+pub mod Saved
+pub mod Lacking

@@ -1,0 +1,39 @@
+//! What is done with a file: it is shown, checked, made plain, salvaged or saved.
+//!
+//! `show_input`, `show_json_input` and `check_input` print the text, the JSON or the summary of a file read from an input; `show_bytes`
+//! and `check_bytes` take its bytes. `plain_input` makes the plain form of a file. `read_all` reads a whole input. `salvage_bytes` finds
+//! the readable part of a file that has no journal. `save_ride` makes a file from the two files of a recording, `Lack` says what they
+//! lack if nothing is recorded, and `repair` finishes the recording itself.
+//!
+//! Contracts use the definitions of `specs/`. `Printed` has what is printed of files. `Calls` has what is taken from an input, and the
+//! numbers of faults.
+#![tactic(auto)]
+
+mod checking;
+mod decoding;
+mod fault;
+mod json;
+mod lack;
+mod plain;
+mod printing;
+mod reading;
+mod repairing;
+mod salvage;
+mod salvaging;
+mod saving;
+mod showing;
+mod summary;
+
+pub use checking::{check_bytes, check_input};
+pub use fault::ReportFault;
+pub use json::show_json_input;
+pub use lack::Lack;
+pub use plain::{count_messages, plain_input, print_messages};
+pub use printing::{flush, print, print_summary, put_line};
+pub use reading::{CHUNK, ReadFault, read_all, read_piece};
+pub use repairing::{FileSums, RepairFault, repair, repair_and_read};
+pub use salvage::Salvage;
+pub use salvaging::salvage_bytes;
+pub use saving::{SaveFault, SavedRide, save_ride};
+pub use showing::{show_bytes, show_input};
+pub use summary::SummaryLine;

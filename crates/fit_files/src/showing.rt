@@ -1,0 +1,64 @@
+// Prints the text of a file.
+
+ghost use Rattle.std.specs.Prelude.{◌≡◌, Err, IfErr};
+ghost use Rattle.fit_grammar.specs.Calls.Output.{WritesText};
+ghost use Rattle.fit_text.specs.Text.{text_of};
+ghost use Rattle.fit_files.specs.declared.fault.ReportFault.TheVariants.{Input};
+ghost use Rattle.fit_files.specs.declared.reading.ReadFault.{ReadFault};
+ghost use Rattle.fit_files.specs.Calls.Reading.{ReportsInput};
+ghost use Rattle.fit_files.specs.Printed.Shown.{ShowsBytes, IsOutputFault};
+
+use crate::decoding::decode_input;
+use crate::fault::ReportFault;
+use fit_grammar::{File, decode_file};
+use fit_text::show;
+use std::alloc::Global;
+use std::io::{Read, Write};
+
+/// Reads a file of at most `most` bytes from an input, and writes its text. With `utc`, times are dates. The input is read to its
+/// end before anything is written.
+pub fn show_input<T: Read, O: Write>(
+    alloc: Global,
+    from: &mut T,
+    most: usize,
+    utc: bool,
+    out: &mut O,
+) -> Result<(), ReportFault>
+    ensures shown { ReportsInput most (T.remaining from.old) (T.remaining from.new)
+        (ShowsBytes utc (O.contents out.old) (O.contents out.new)) result }
+    ensures quiet { (why : ReadFault) → result ≡ Err (Input why) → O.contents out.new ≡ O.contents out.old }
+{
+    match decode_input(alloc, from, most) {
+        Ok(file) => show_flushed(&file, utc, out),
+        Err(fault) => Err(fault),
+    }
+}
+
+/// Writes the text of the file that these bytes are. With `utc`, times are dates. All bytes are read before anything is written.
+pub fn show_bytes<O: Write>(
+    alloc: Global,
+    bytes: &[u8],
+    utc: bool,
+    out: &mut O,
+) -> Result<(), ReportFault>
+    ensures { ShowsBytes utc (O.contents out.old) (O.contents out.new) bytes.now result }
+{
+    match decode_file(alloc, bytes) {
+        Ok(file) => show_flushed(&file, utc, out),
+        Err(fault) => Err(ReportFault::File(fault)),
+    }
+}
+
+// Writes the text of a file, and flushes the output.
+fn show_flushed<O: Write>(file: &File, utc: bool, out: &mut O) -> Result<(), ReportFault>
+    ensures text { WritesText (O.contents out.old) (O.contents out.new) result (text_of utc file.now) }
+    ensures fault { IfErr result IsOutputFault }
+{
+    let Ok(()) = show(&file.lend(), utc, out) else {
+        return Err(ReportFault::Output);
+    };
+    match out.flush() {
+        Ok(()) => Ok(()),
+        Err(_) => Err(ReportFault::Output),
+    }
+}

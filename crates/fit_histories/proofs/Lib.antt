@@ -1,0 +1,3 @@
+-- A folder for each theorem. No crate above uses them.
+mod Histories
+mod Simulation

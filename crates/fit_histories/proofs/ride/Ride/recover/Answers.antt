@@ -1,0 +1,40 @@
+use Rattle.std.proofs.Common.{◌∙◌, refl, sym}
+use Rattle.fit_histories.proofs.Histories.NeverFull.{recovery_not_full, recovered_fills}
+use Rattle.fit_disk.specs.Story.{seen_of}
+use Rattle.fit_disk.specs.declared.disk.Which.TheVariants.{Data}
+use Rattle.fit_histories.proofs.Histories.Idle.{recover_goes}
+use Rattle.fit_histories.proofs.Histories.Replies.{replies_recovery}
+use Rattle.fit_histories.proofs.Histories.Riding.{idle_goes}
+use Rattle.fit_histories.proofs.ride.Ride.recover.Goals as goal
+
+pub returns-clause-goes : goal.returns-clause-goes
+returns-clause-goes g c honest = record {
+  step = λ before stands.
+      let done = c.recover.ensures in
+      let file = seen_of Data (g.D.Disk.story c.recover.new.disk) in
+      rw c.into-reply.ensures
+      (idle_goes g.D.Disk.honest g.D.Disk.story before _ _ _
+      (recover_goes before _ (c.into_disk-disk.ensures.rests honest before stands) (g.met.D.Disk.sound c.into_disk-disk.result honest) _ file c.recover.result refl
+      (done.decides honest) (done.any_moment honest) (done.settled honest)));
+  left =
+      let done = c.recover.ensures in
+      rw (← c.into_disk-disk.ensures.disk) (record {
+        result = c.recover.result;
+        replied = c.into-reply.ensures;
+        answers = done.decides honest;
+        settled = done.settled honest;
+        moments = done.any_moment honest;
+        journal = done.journal honest;
+      });
+}
+
+pub returns-clause-replies : goal.returns-clause-replies
+returns-clause-replies g c = rw c.into-reply.ensures (replies_recovery c.recover.result c.recover.ensures.known_fault)
+
+pub returns-clause-never_full : goal.returns-clause-never_full
+returns-clause-never_full g c honest before stands never =
+    let done = c.recover.ensures in
+    record {
+      not_full = λ is. recovery_not_full c.recover.result done.known_fault (sym c.into-reply.ensures ∙ is);
+      never_full = recovered_fills _ (g.met.D.Disk.sound c.into_disk-disk.result honest) (c.into_disk-disk.ensures.never_fills honest before stands never) _ (done.journal honest) (done.any_moment honest);
+    }

@@ -1,0 +1,20 @@
+//! Laws of the definitions in `specs/`. Each is the contract of a function that does nothing.
+
+ghost use Rattle.std.specs.Prelude.{List, ℕ};
+ghost use Rattle.fit_histories.specs.declared.event.Event.{Event};
+ghost use Rattle.fit_histories.specs.Histories.Plain.{RidesGoWell};
+ghost use Rattle.fit_histories.specs.Histories.Runs.{IsHistory};
+ghost use Rattle.fit_histories.specs.Histories.Table.{Outcome};
+ghost use Rattle.fit_histories.specs.Simulation.Following.{FollowsChoices};
+
+/// Over two empty files, a ride goes well if no failure is arranged and there is room: each entry and each commit is done, and
+/// the stop leaves a valid file of the whole ride.
+pub fn rides_without_failures_go_well()
+    ensures { RidesGoWell }
+{}
+
+/// Answers that follow choice bytes are a history.
+pub fn what_follows_choices_is_a_history()
+    ensures { (choices : List ℕ) (events : List Event) (outcomes : List Outcome)
+        → FollowsChoices choices events outcomes → IsHistory events outcomes }
+{}

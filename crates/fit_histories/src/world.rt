@@ -1,0 +1,103 @@
+//! A recording over a disk in memory. Commands arrange which calls fail and when the power is cut.
+
+ghost use Rattle.std.specs.Prelude.{◌≡◌, [], List, All, map, IfOk, OnOk};
+ghost use Rattle.fit_histories.specs.Histories.Runs.{CanRun, IsHistory, NoneFull, outcome_in};
+ghost use Rattle.fit_histories.specs.Histories.Table.{Outcome};
+ghost use Rattle.fit_histories.specs.Rides.Standing.{reply_in};
+ghost use Rattle.fit_histories.specs.Simulation.Following.{FollowsChoices};
+
+mod answering;
+mod keeping;
+mod simulated;
+mod stepping;
+
+use crate::answer::Answer;
+use crate::event::Event;
+use crate::reply::Reply;
+use crate::ride::Ride;
+use fit_disk::Memory;
+use keeping::{Answers, Keeper, Replies};
+use std::alloc::Global;
+use stepping::step;
+
+/// Memory was refused, or the disk's counts of calls are at their greatest value.
+#[derive(Clone, Copy, Debug, PartialEq, Eq)]
+pub struct NoMemory;
+
+/// Runs the events over two empty files, and returns the answer to each. The choice bytes decide what a power cut leaves of the
+/// files. Each power cut takes the bytes after those of the one before it. Missing bytes are 0.
+pub fn run(alloc: Global, events: &[Event], choices: &[u8]) -> Result<Vec<Answer>, NoMemory>
+    requires { All (λ event. CanRun event.command) events.now }
+    ensures history { IfOk result (λ answers. IsHistory events.now (map outcome_in answers.items)) }
+    ensures follows { IfOk result (λ answers.
+        FollowsChoices choices.now events.now (map outcome_in answers.items)) }
+    ensures never_full { IfOk result (λ answers. NoneFull (map outcome_in answers.items)) }
+{
+    run_with(alloc, events, choices, false)
+}
+
+/// The same, with a checked journal at each start or another.
+pub fn run_with(
+    alloc: Global,
+    events: &[Event],
+    choices: &[u8],
+    checked: bool,
+) -> Result<Vec<Answer>, NoMemory>
+    requires { All (λ event. CanRun event.command) events.now }
+    ensures history { IfOk result (λ answers. IsHistory events.now (map outcome_in answers.items)) }
+    ensures follows { IfOk result (λ answers.
+        FollowsChoices choices.now events.now (map outcome_in answers.items)) }
+    ensures never_full { IfOk result (λ answers. NoneFull (map outcome_in answers.items)) }
+{
+    let kept = Vec::new(alloc);
+    let mut answers = Answers { alloc, kept };
+    run_for(alloc, events, choices, checked, &mut answers)?;
+    Ok(answers.kept)
+}
+
+/// The same, but returns replies. No copy of a finished file is made.
+pub fn run_for_replies(
+    alloc: Global,
+    events: &[Event],
+    choices: &[u8],
+    checked: bool,
+) -> Result<Vec<Reply>, NoMemory>
+    requires { All (λ event. CanRun event.command) events.now }
+    ensures history { IfOk result (λ replies. (outcomes : List Outcome) × IsHistory events.now outcomes
+        × (replies.items ≡ map reply_in outcomes)) }
+    ensures follows { IfOk result (λ replies. (outcomes : List Outcome)
+        × FollowsChoices choices.now events.now outcomes × (replies.items ≡ map reply_in outcomes)) }
+    ensures never_full { IfOk result (λ replies. (outcomes : List Outcome) × NoneFull outcomes
+        × (replies.items ≡ map reply_in outcomes)) }
+{
+    let kept = Vec::new(alloc);
+    let mut replies = Replies { kept };
+    run_for(alloc, events, choices, checked, &mut replies)?;
+    Ok(replies.kept)
+}
+
+// The same, for any keeper of answers.
+fn run_for<K: Keeper>(
+    alloc: Global,
+    events: &[Event],
+    mut choices: &[u8],
+    checked: bool,
+    keeper: &mut K,
+) -> Result<(), NoMemory>
+    requires can { All (λ event. CanRun event.command) events.now }
+    requires first { K.WasReported keeper.old [] }
+    ensures { OnOk result ((outcomes : List Outcome) × FollowsChoices choices.entry.now events.now outcomes
+        × NoneFull outcomes × K.WasReported keeper.new outcomes) }
+{
+    let mut ride = Ride::Idle(Memory::new(alloc));
+    for event in events {
+        let (next, reply, taken) = step(ride, &event.command, choices, checked);
+        ride = next;
+        choices = &choices[taken..];
+        if ride.spent() {
+            return Err(NoMemory);
+        }
+        keeper.keep(reply, ride.file())?;
+    }
+    Ok(())
+}

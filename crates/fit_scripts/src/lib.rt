@@ -1,0 +1,34 @@
+//! Scripts of a recording. `read_script` reads the events of a script. `play` runs them over any `Disk`, by a `Ride`, and prints the
+//! replies; `record` does the same with lines that come one by one. `simulate` runs a script over the memory disk, whose failures and
+//! power cuts the script arranges. For example,
+//!
+//!     let events = read_script(alloc, b"start 1000000000 7 running\nstop 1000000001\n")?;
+//!     let (disk, played) = play(Memory::new(alloc), events.as_slice(), false, &mut out);
+//!     assert_eq!(rt; played, Ok(0));
+//!     check_bytes(alloc, disk.content(Which::Data), &mut out)?;
+//!
+//! writes
+//!
+//!     1 start: ok
+//!     2 stop: ok
+//!     ok records=0 laps=1 sessions=1 start=1000000000 elapsed_ms=1000 timer_ms=1000 distance_cm=-
+//!
+//! (The test `the_example_of_the_crate` of `fit_scripts_tests`.)
+//!
+//! Contracts use the definitions of `specs/`. `Scripts` has the lines of a script and the command of each. `Printed` has what is printed
+//! of the replies. `Rides` has what the events of a script leave of the disk.
+#![tactic(auto)]
+
+mod choices;
+mod naming;
+mod playing;
+mod recording;
+mod reply_line;
+mod script;
+mod simulating;
+
+pub use choices::read_choices;
+pub use playing::play;
+pub use recording::{LineFault, record};
+pub use script::{ReplayFault, ScriptFault, ScriptFaultKind, parse_script, read_script};
+pub use simulating::{SimulateFault, simulate};

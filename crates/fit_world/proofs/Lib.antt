@@ -1,4 +1,0 @@
--- A folder for each theorem. No crate above uses them.
-mod Histories
-mod Simulation
-mod Reported
