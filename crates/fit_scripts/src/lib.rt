@@ -30,5 +30,6 @@ mod simulating;
 pub use choices::read_choices;
 pub use playing::play;
 pub use recording::{LineFault, record};
+pub use reply_line::ReplyText;
 pub use script::{ReplayFault, ScriptFault, ScriptFaultKind, parse_script, read_script};
 pub use simulating::{SimulateFault, simulate};

@@ -12,9 +12,9 @@ pub struct ReplyLine<'a> {
     pub reply: Reply,
 }
 
-// A reply, printed as `ok`, the line of a summary, or the name of what is wrong.
+/// A reply, printed as `ok`, the line of a summary, or the name of what is wrong.
 #[derive(Drop)]
-struct ReplyText(Reply);
+pub struct ReplyText(pub Reply);
 
 impl fmt::Display for ReplyText {
     ghost use Rattle.std.specs.Prelude.{Some};

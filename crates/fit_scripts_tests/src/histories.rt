@@ -5,7 +5,7 @@ use fit_files::{check_bytes, show_bytes};
 use fit_grammar::{decode_file, encode_file};
 use fit_histories::Answer;
 use fit_histories::world::run;
-use fit_scripts::parse_script;
+use fit_scripts::{ReplyText, parse_script};
 use std::alloc::AllocError;
 use std::test::Fail;
 
@@ -66,7 +66,7 @@ pub fn text_of(rt: &HostRuntime, script: &str, choices: &[u8]) -> Result<String,
     let mut text = String::new(rt.alloc());
     if let Some(answers) = answers_to(rt, script, choices) {
         for answer in &answers {
-            let line = format!(in rt.alloc(); "{}\n", answer.reply())?;
+            let line = format!(in rt.alloc(); "{}\n", ReplyText(answer.reply()))?;
             text.push_str(line.as_str())?;
         }
     }
