@@ -32,7 +32,7 @@ SIZES = {("fit_recorder/src/limits.rt", "MOST_RECORDS"): ["RECORDING", "JOURNAL-
          ("fit_grammar/src/item/writing.rt", "LONGEST_DEFINITION"): ["FORMAT", "DECISIONS"],
          ("fit_files/src/reading.rt", "CHUNK"): ["ARCHITECTURE"],
          ("fitrec/src/command/input.rt", "MOST_BYTES"): ["PROGRAM", "DECISIONS"],
-         ("fit_scripts_tests/src/random.rt", "HISTORIES"): ["PROOFS"]}
+         ("fit_runs_tests/src/random.rt", "HISTORIES"): ["PROOFS"]}
 
 
 def page(name):

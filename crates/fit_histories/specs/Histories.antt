@@ -4,4 +4,3 @@ pub mod Table
 pub mod Arranged
 pub mod Runs
 pub mod Plain
-pub mod Commands

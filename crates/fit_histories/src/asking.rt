@@ -2,14 +2,14 @@
 
 ghost use Rattle.std.specs.Prelude.{◌≡◌, IsTrue, false};
 
-use crate::command::Command;
 use crate::reply::Reply;
 use crate::ride::Ride;
 use fit_activity::Entry;
 use fit_disk::Disk;
+use fit_scripts::Command;
 
 impl<D: Disk> Ride<D> {
-    ghost use Rattle.fit_histories.specs.Histories.Commands.{is_simulated};
+    ghost use Rattle.fit_scripts.specs.Scripts.Commands.{is_simulated};
     ghost use Rattle.fit_histories.specs.Rides.Replies.{MayReply, rides_on};
     ghost use Rattle.fit_histories.specs.Rides.Ride.{CanGoOn, Called, Rides, is_riding};
     ghost use Rattle.fit_histories.specs.Rides.NeverFull.{StaysNeverFull};

@@ -1,4 +1,4 @@
-//! Histories of a recording. A `Ride` runs each `Command` over any `Disk` and replies to it; `world::run` runs events over a disk in
+//! Histories of a recording. A `Ride` runs each command over any `Disk` and replies to it; `world::run` runs events over a disk in
 //! memory. The events arrange which calls fail and when the power is cut. Its contract covers all histories: whatever fails, what was
 //! confirmed is recovered.
 //!
@@ -9,15 +9,11 @@
 
 mod answer;
 mod asking;
-mod command;
-mod event;
 pub mod laws;
 mod reply;
 mod ride;
 pub mod world;
 
 pub use answer::Answer;
-pub use command::Command;
-pub use event::Event;
 pub use reply::Reply;
 pub use ride::Ride;

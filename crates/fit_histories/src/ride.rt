@@ -1,7 +1,7 @@
 // A recording over its disk, with a recorder that runs or without one.
 
 ghost use Rattle.std.specs.Prelude.{◌≡◌, ◌≢◌, ◌↔◌, ◌++◌, ◌∷◌, [], true, false, None, IsTrue};
-ghost use Rattle.fit_histories.specs.declared.command.Command.TheVariants as commands;
+ghost use Rattle.fit_scripts.specs.declared.command.Command.TheVariants as commands;
 
 use crate::reply::Reply;
 use fit_activity::{Entry, Start};

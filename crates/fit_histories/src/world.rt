@@ -1,7 +1,8 @@
 //! A recording over a disk in memory. Commands arrange which calls fail and when the power is cut.
 
 ghost use Rattle.std.specs.Prelude.{◌≡◌, [], List, All, map, IfOk, OnOk};
-ghost use Rattle.fit_histories.specs.Histories.Runs.{CanRun, IsHistory, NoneFull, outcome_in};
+ghost use Rattle.fit_histories.specs.Histories.Runs.{IsHistory, NoneFull, outcome_in};
+ghost use Rattle.fit_scripts.specs.Scripts.Commands.{CanRun};
 ghost use Rattle.fit_histories.specs.Histories.Table.{Outcome};
 ghost use Rattle.fit_histories.specs.Rides.Standing.{reply_in};
 ghost use Rattle.fit_histories.specs.Simulation.Following.{FollowsChoices};
@@ -12,10 +13,10 @@ mod simulated;
 mod stepping;
 
 use crate::answer::Answer;
-use crate::event::Event;
 use crate::reply::Reply;
 use crate::ride::Ride;
 use fit_disk::Memory;
+use fit_scripts::Event;
 use keeping::{Answers, Keeper, Replies};
 use std::alloc::Global;
 use stepping::step;

@@ -1,2 +1,2 @@
 -- No crate above uses it.
-mod Reported
+mod Scripts

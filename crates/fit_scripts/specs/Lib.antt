@@ -1,3 +1,1 @@
-pub mod Rides
 pub mod Scripts
-pub mod Printed

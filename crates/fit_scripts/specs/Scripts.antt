@@ -1,9 +1,9 @@
--- Scripts: their lines, which of them can be replayed, the numbers of faults, and choice bytes as a word.
+-- Scripts: commands, lines, which of them can be replayed, the numbers of faults, and choice bytes as a word.
+pub mod Commands
 pub mod Words
 pub mod Sample
 pub mod Script
 pub mod Replayed
-pub mod Heard
 pub mod Faults
 pub mod FaultCode
 pub mod Hexadecimal

@@ -1,35 +1,20 @@
-//! Scripts of a recording. `read_script` reads the events of a script. `play` runs them over any `Disk`, by a `Ride`, and prints the
-//! replies; `record` does the same with lines that come one by one. `simulate` runs a script over the memory disk, whose failures and
-//! power cuts the script arranges. For example,
+//! Scripts of a recording: text that states a command on each line.
 //!
-//!     let events = read_script(alloc, b"start 1000000000 7 running\nstop 1000000001\n")?;
-//!     let (disk, played) = play(Memory::new(alloc), events.as_slice(), false, &mut out);
-//!     assert_eq!(rt; played, Ok(0));
-//!     check_bytes(alloc, disk.content(Which::Data), &mut out)?;
+//! `parse_script` reads the events of a script, `read_script` those of one that can be replayed, and `command_at` the command of one
+//! line. `read_choices` reads the bytes that decide what a simulated power cut leaves.
 //!
-//! writes
-//!
-//!     1 start: ok
-//!     2 stop: ok
-//!     ok records=0 laps=1 sessions=1 start=1000000000 elapsed_ms=1000 timer_ms=1000 distance_cm=-
-//!
-//! (The test `the_example_of_the_crate` of `fit_scripts_tests`.)
-//!
-//! Contracts use the definitions of `specs/`. `Scripts` has the lines of a script and the command of each. `Printed` has what is printed
-//! of the replies. `Rides` has what the events of a script leave of the disk.
+//! Contracts use the definitions of `specs/Scripts`: `Commands` has the commands, `Script` the lines and the command of each, and `Faults`
+//! what is wrong with a line.
 #![tactic(auto)]
 
 mod choices;
-mod naming;
-mod playing;
-mod recording;
-mod reply_line;
+mod command;
+mod event;
 mod script;
-mod simulating;
 
 pub use choices::read_choices;
-pub use playing::play;
-pub use recording::{LineFault, record};
-pub use reply_line::ReplyText;
-pub use script::{ReplayFault, ScriptFault, ScriptFaultKind, parse_script, read_script};
-pub use simulating::{SimulateFault, simulate};
+pub use command::Command;
+pub use event::Event;
+pub use script::{
+    ReplayFault, ScriptFault, ScriptFaultKind, command_at, parse_script, read_script,
+};

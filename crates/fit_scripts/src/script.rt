@@ -9,6 +9,5 @@ mod sample;
 mod words;
 
 pub use fault::{ReplayFault, ScriptFault, ScriptFaultKind};
-pub(crate) use parse::command_at;
-pub use parse::parse_script;
+pub use parse::{command_at, parse_script};
 pub use replayed::read_script;

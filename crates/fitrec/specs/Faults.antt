@@ -11,8 +11,8 @@ use Rattle.fit_files.specs.declared.repairing.RepairFault.{RepairFault}
 use Rattle.fit_files.specs.declared.repairing.RepairFault.TheVariants as repairs
 use Rattle.fit_scripts.specs.declared.script.fault.ReplayFault.{ReplayFault}
 use Rattle.fit_scripts.specs.declared.script.fault.ReplayFault.TheVariants as replays
-use Rattle.fit_scripts.specs.declared.simulating.SimulateFault.{SimulateFault}
-use Rattle.fit_scripts.specs.declared.simulating.SimulateFault.TheVariants as simulations
+use Rattle.fit_runs.specs.declared.simulating.SimulateFault.{SimulateFault}
+use Rattle.fit_runs.specs.declared.simulating.SimulateFault.TheVariants as simulations
 use Rattle.fitrec.specs.Reading.{fault_of_read}
 use Rattle.fitrec.specs.declared.fault.Fault.{Fault}
 use Rattle.fitrec.specs.declared.fault.Fault.TheVariants as faults

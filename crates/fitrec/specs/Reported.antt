@@ -8,18 +8,18 @@ use Rattle.fit_disk.specs.State.{Contents, seen_in}
 use Rattle.fit_disk.specs.Story.{Story}
 use Rattle.fit_grammar.specs.Format.File.{FileValue}
 use Rattle.fit_grammar.specs.Format.Message.{messages_of}
-use Rattle.fit_histories.specs.declared.event.Event.{Event}
+use Rattle.fit_scripts.specs.declared.event.Event.{Event}
 use Rattle.fit_files.specs.declared.salvage.Salvage.{Salvage}
 use Rattle.fit_files.specs.declared.saving.SavedRide.{SavedRide}
 use Rattle.fit_files.specs.Calls.Reading.{ReadsAll}
 use Rattle.fit_files.specs.Calls.Rereading.{AreSumsOf}
 use Rattle.fit_files.specs.Printed.PlainFile.{PlainsTo, messages_text}
 use Rattle.fit_files.specs.Printed.Repaired.{Repairs}
-use Rattle.fit_scripts.specs.Printed.ReplyLines.{AreReported}
+use Rattle.fit_runs.specs.Printed.ReplyLines.{AreReported}
 use Rattle.fit_files.specs.Printed.Salvaged.{IsSalvage, saved_file, kept_text}
 use Rattle.fit_files.specs.Printed.Saved.{SavesRide}
 use Rattle.fit_files.specs.Printed.Summary.{summary_text}
-use Rattle.fit_scripts.specs.Rides.Turns.{Finishes}
+use Rattle.fit_runs.specs.Rides.Turns.{Finishes}
 use Rattle.fit_scripts.specs.Scripts.Script.{events_of}
 use Rattle.fit_files.specs.declared.repairing.FileSums.{FileSums}
 use Rattle.fit_files.specs.declared.repairing.RepairFault.{RepairFault}

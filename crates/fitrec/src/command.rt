@@ -1,7 +1,7 @@
 // The program as one call: words in, text out, and the exit status.
 //
 // `fit_words` reads the words. Each subcommand has its own file, which opens what it needs and leaves the rest to `fit_files` or
-// `fit_scripts`. They share `input`, which opens and reads a file, `folder`, which opens the files of a recording, `beside`, which
+// `fit_runs`. They share `input`, which opens and reads a file, `folder`, which opens the files of a recording, `beside`, which
 // writes a file whole or not at all, and `status`, which prints a fault.
 
 ghost use Rattle.std.specs.Prelude.{◌≤◌};

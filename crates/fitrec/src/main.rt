@@ -1,7 +1,7 @@
 //! The program `fitrec`: it records rides, repairs them, and reads FIT files and shows their content.
 //!
 //! `command` is the program as one call: words in, text out, and the exit status. Each subcommand has a file in `command/`, which opens
-//! a file or a folder. `fit_files` processes its bytes, and `fit_scripts` runs scripts over a recording. `fault` has the line that
+//! a file or a folder. `fit_files` processes its bytes, and `fit_runs` runs scripts over a recording. `fault` has the line that
 //! reports an error.
 //!
 //!     fitrec show row3.fit

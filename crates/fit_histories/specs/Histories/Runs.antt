@@ -1,12 +1,10 @@
 -- Whole histories: which answers may come to a list of events over two empty files.
-use Rattle.std.specs.Prelude.{◌≢◌, ◌≤◌, List, [], ◌∷◌}
+use Rattle.std.specs.Prelude.{◌≢◌, List, [], ◌∷◌}
 use Rattle.std.specs.List.{AllByRecursion}
 use Rattle.fit_recorder.specs.declared.fault.RecFault.TheVariants.{JournalFull}
 use Rattle.fit_histories.specs.declared.answer.Answer.{Answer}
 use Rattle.fit_histories.specs.declared.answer.Answer.TheVariants as answers
-use Rattle.fit_histories.specs.declared.command.Command.{Command}
-use Rattle.fit_histories.specs.declared.command.Command.TheVariants.{Fail, Cut}
-use Rattle.fit_histories.specs.declared.event.Event.{Event}
+use Rattle.fit_scripts.specs.declared.event.Event.{Event}
 use Rattle.fit_histories.specs.Histories.Arranged.{Arranged, nothing_arranged, MayFail, arranged_after}
 use Rattle.fit_histories.specs.Histories.Table.{History, at_first, Step, Outcome, Done, Stopped, Recovered, Fault, NoRecorder}
 
@@ -31,12 +29,6 @@ Runs before arranged (event ∷ events) [] = ⊥
 -- these answers may come to these events over two empty files
 abbrev pub IsHistory : List Event → List Outcome → Type 0
 IsHistory events outcomes = Runs at_first nothing_arranged events outcomes
-
--- calls of the device are counted from 1
-abbrev pub CanRun : Command → Type 0
-CanRun (Fail k) = 1 ≤ k
-CanRun (Cut k) = 1 ≤ k
-CanRun _ = Unit {0}
 
 -- no answer is that the journal is full
 abbrev pub NoneFull : List Outcome → Type 0

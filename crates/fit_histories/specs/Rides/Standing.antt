@@ -12,7 +12,7 @@ use Rattle.fit_recorder.specs.declared.recorder.Recorder.{Recorder}
 use Rattle.fit_recorder.specs.Files.NothingRecorded.{IsNothing}
 use Rattle.fit_recorder.specs.Files.Body.{StandsFor}
 use Rattle.fit_recorder.specs.Calls.Recorder.{StandsAt, disk_of, has_failed, journal_slots}
-use Rattle.fit_histories.specs.declared.command.Command.{Command}
+use Rattle.fit_scripts.specs.declared.command.Command.{Command}
 use Rattle.fit_histories.specs.declared.reply.Reply.{Reply}
 use Rattle.fit_histories.specs.declared.reply.Reply.TheVariants as replies
 use Rattle.fit_histories.specs.declared.ride.Ride.{Ride}

@@ -4,8 +4,6 @@ use Rattle.fit_scripts.specs.declared.script.fault.ReplayFault.{ReplayFault}
 use Rattle.fit_scripts.specs.declared.script.fault.ReplayFault.TheVariants.{NoText, Script, OnlySimulate}
 use Rattle.fit_scripts.specs.declared.script.fault.ScriptFaultKind.{ScriptFaultKind}
 use Rattle.fit_scripts.specs.declared.script.fault.ScriptFaultKind.TheVariants.{UnknownWord, MissingWord, ExtraWord, BadNumber, UnknownKey, RepeatedKey, Memory}
-use Rattle.fit_scripts.specs.declared.simulating.SimulateFault.{SimulateFault}
-use Rattle.fit_scripts.specs.declared.simulating.SimulateFault.TheVariants as simulations
 
 -- of a fault of a line of a script
 abbrev pub script_code : ScriptFaultKind → ℕ
@@ -22,10 +20,3 @@ abbrev pub replay_code : ReplayFault → ℕ
 replay_code NoText = 1
 replay_code (Script fault) = 2
 replay_code (OnlySimulate line) = 3
-
--- of a fault of a simulation
-abbrev pub simulate_code : SimulateFault → ℕ
-simulate_code simulations.NoText = 1
-simulate_code (simulations.Script fault) = 2
-simulate_code simulations.NoMemory = 3
-simulate_code simulations.Output = 4

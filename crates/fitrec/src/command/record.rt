@@ -2,7 +2,7 @@
 
 ghost use Rattle.std.specs.Prelude.{◌≡◌, ℕ, Err, IfOk, IfErr, OnOk};
 ghost use Rattle.fit_disk.specs.declared.files.OpenFault.{OpenFault as WhyNotOpen};
-ghost use Rattle.fit_scripts.specs.Rides.Turns.{Records};
+ghost use Rattle.fit_runs.specs.Rides.Turns.{Records};
 ghost use Rattle.fitrec.specs.declared.fault.Fault.TheVariants.{Refused};
 ghost use Rattle.fitrec.specs.Faults.{fault_of_open, IsRecordReported};
 ghost use Rattle.fitrec.specs.Reported.{RecordsLines};
@@ -12,7 +12,7 @@ use crate::command::input::fault_of_report;
 use crate::fault::Fault;
 use fit_disk::{Trusting, Witness};
 use fit_files::ReportFault;
-use fit_scripts::record;
+use fit_runs::record;
 use std::io::{Read, Write};
 
 /// Does the lines of standard input over the files of a folder, each as it comes, and prints the answers. If answers were not ok, the fault

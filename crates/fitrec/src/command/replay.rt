@@ -2,9 +2,9 @@
 
 ghost use Rattle.std.specs.Prelude.{◌≡◌, ℕ, All, Err, IfOk, IfErr, OnOk};
 ghost use Rattle.fit_disk.specs.declared.files.OpenFault.{OpenFault as WhyNotOpen};
-ghost use Rattle.fit_scripts.specs.Printed.ReplyLines.{AreReported};
+ghost use Rattle.fit_runs.specs.Printed.ReplyLines.{AreReported};
 ghost use Rattle.fit_files.specs.Printed.Shown.{IsOutputFault};
-ghost use Rattle.fit_scripts.specs.Rides.Played.{LeavesAfter, BreaksOff};
+ghost use Rattle.fit_runs.specs.Rides.Played.{LeavesAfter, BreaksOff};
 ghost use Rattle.fit_scripts.specs.Scripts.Replayed.{IsReplayed};
 ghost use Rattle.fitrec.specs.declared.fault.Fault.TheVariants.{Refused};
 ghost use Rattle.fitrec.specs.Faults.{fault_of_open, fault_of_replay, IsScriptReported, IsReplayReported};
@@ -15,8 +15,8 @@ use crate::command::input::{fault_of_report, read_file};
 use crate::fault::Fault;
 use fit_disk::{Trusting, Witness};
 use fit_files::ReportFault;
-use fit_histories::Event;
-use fit_scripts::{ReplayFault, play, read_script};
+use fit_runs::play;
+use fit_scripts::{Event, ReplayFault, read_script};
 use std::io::Write;
 use std::rt::Files;
 

@@ -1,12 +1,12 @@
 // The subcommand `simulate`: runs the events of a script over a disk in memory.
 
-ghost use Rattle.fit_scripts.specs.Printed.Simulation.{Simulates};
+ghost use Rattle.fit_runs.specs.Printed.Simulation.{Simulates};
 ghost use Rattle.fitrec.specs.Faults.{IsSimulateFault};
 ghost use Rattle.fitrec.specs.Reported.{Reports};
 
 use crate::command::input::read_file;
 use crate::fault::Fault;
-use fit_scripts::{SimulateFault, simulate};
+use fit_runs::{SimulateFault, simulate};
 use std::io::Write;
 use std::rt::Files;
 

@@ -1,6 +1,6 @@
 use Rattle.std.proofs.Common.{sym, ap, ◌∙◌, inl, inr}
 use Rattle.std.specs.Result.{result_ok}
-use Rattle.fit_scripts.proofs.Reported.Hexadecimal.{decoded_of}
+use Rattle.fit_scripts.proofs.Scripts.Hexadecimal.{decoded_of}
 use Rattle.fit_scripts.proofs.choices.read_choices.Goals as goal
 
 pub returns-in-Ok : goal.returns-in-Ok

@@ -7,7 +7,7 @@ use Rattle.fit_activity.specs.Rides.Table.{sample_rows}
 use Rattle.fit_scripts.specs.Scripts.Faults.{setting_fault, settings_fault}
 use Rattle.fit_scripts.specs.declared.script.fault.ScriptFaultKind.{ScriptFaultKind}
 use Rattle.fit_scripts.specs.Scripts.Sample.{key_in, value_in, are_settings, is_new_setting, stated_by, with_setting}
-use Rattle.fit_scripts.proofs.Reported.Scripts.{now_at, within_now, no_settings, settings_more, stated_next}
+use Rattle.fit_scripts.proofs.Scripts.Lines.{now_at, within_now, no_settings, settings_more, stated_next}
 use Rattle.fit_scripts.proofs.script.sample.sample_at.Goals as goal
 
 refused : {X E : Type 0} (result : Result X E) → IsErr result → result_ok result ≡ None

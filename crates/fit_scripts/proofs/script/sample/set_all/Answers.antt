@@ -1,6 +1,6 @@
 use Rattle.std.proofs.Common.{◌∙◌, arith}
 use Rattle.std.proofs.lemmas.List.{length-set}
-use Rattle.fit_scripts.proofs.Reported.Settings.{set-more, set-all}
+use Rattle.fit_scripts.proofs.Scripts.Settings.{set-more, set-all}
 use Rattle.fit_scripts.proofs.script.sample.set_all.Goals as goal
 
 pub loop-at-preserved : goal.loop-at-preserved

@@ -4,14 +4,14 @@ use Rattle.std.proofs.lemmas.Result.{err_from_is_err_and}
 use Rattle.std.specs.List.{list_any}
 use Rattle.std.specs.Result.{IfErr}
 use Rattle.std.specs.Result.{result_ok}
-use Rattle.fit_scripts.proofs.Reported.Numbers.{none-any}
+use Rattle.fit_scripts.proofs.Scripts.Numbers.{none-any}
 use Rattle.std.specs.Str.{bytes_eq}
 use Rattle.fit_activity.specs.Rides.Table.{sample_rows}
 use Rattle.fit_scripts.specs.Scripts.Faults.{has_equals, value_fault, setting_fault}
 use Rattle.fit_scripts.specs.declared.script.fault.ScriptFaultKind.{ScriptFaultKind}
 use Rattle.fit_scripts.specs.declared.script.fault.ScriptFaultKind.TheVariants.{RepeatedKey, UnknownKey}
 use Rattle.fit_scripts.specs.Scripts.Sample.{key_in, value_in, has_number, is_setting, is_new_setting, stands_in, with_setting}
-use Rattle.fit_scripts.proofs.Reported.Scripts.{any_map}
+use Rattle.fit_scripts.proofs.Scripts.Lines.{any_map}
 use Rattle.fit_scripts.proofs.script.sample.with_next.Goals as goal
 
 stands : (earlier : List (Bor (List ℕ))) (word key : List ℕ) (b : Bool) → key ≡ key_in word →

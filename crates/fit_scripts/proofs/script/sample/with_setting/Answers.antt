@@ -1,7 +1,7 @@
 use Rattle.std.proofs.Common.{◌≡◌, Bool, true, false, List, ℕ, Option, Some, None, refl, sym, ap, ◌∙◌, subst, if◌then◌else◌}
 use Rattle.fit_activity.specs.Rides.Table.{ValuesFit, sample_rows}
 use Rattle.fit_scripts.specs.Scripts.Sample.{has_number}
-use Rattle.fit_scripts.proofs.Reported.Numbers.{setting-fits}
+use Rattle.fit_scripts.proofs.Scripts.Numbers.{setting-fits}
 use Rattle.fit_scripts.proofs.script.sample.with_setting.Goals as goal
 
 none-if : (h : Bool) (x : List (Option ℕ)) → h ≡ false → None ≡ (if h then Some x else None)

@@ -1,0 +1,2 @@
+-- No crate above uses it.
+mod Reported

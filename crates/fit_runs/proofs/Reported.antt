@@ -1,0 +1,5 @@
+-- What is replied and printed.
+pub mod Played
+pub mod Replayed
+pub mod Recorded
+pub mod Heard

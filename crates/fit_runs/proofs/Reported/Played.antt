@@ -1,0 +1,95 @@
+-- The replies so far are steps of a history: for `playing`.
+use Rattle.std.proofs.Common.{◌≡◌, ◌<◌, ◌≤◌, ◌+◌, ℕ, Bool, List, [], ◌∷◌, ◌++◌, length, get_or, drop, refl, sym, subst, ◌∙◌, append_assoc}
+use Rattle.std.specs.Prelude.{IsTrue}
+use Rattle.std.proofs.lemmas.List.{drop_more, drop_all, append-nil, append_cancel_right}
+use Rattle.fit_disk.specs.Story.{Story}
+use Rattle.fit_scripts.specs.declared.event.Event.{Event}
+use Rattle.fit_histories.specs.declared.reply.Reply.{Reply}
+use Rattle.fit_histories.specs.declared.ride.Ride.{Ride}
+use Rattle.fit_histories.specs.declared.ride.Ride.TheVariants as rides
+use Rattle.fit_histories.specs.Histories.Claims.{Claim}
+use Rattle.fit_histories.specs.Histories.Table.{History, Idle, Step, ended}
+use Rattle.fit_runs.specs.Rides.Played.{GoesTo, LeavesAfter}
+use Rattle.fit_histories.specs.Rides.Standing.{StandsIn, GoesBy, Rests, content_of, outcome}
+
+-- one more step
+goes_on : (before middle after : History) (event : Event) (reply : Reply) (file : List ℕ) (events : List Event) (replies : List Reply) →
+    GoesTo before events replies middle → Step middle event.command (outcome reply file) after →
+    GoesTo before (events ++ event ∷ []) (replies ++ reply ∷ []) after
+goes_on before middle after event reply file [] [] goes step = (file, after, subst (λ h. Step h event.command (outcome reply file) after) goes step, refl)
+goes_on before middle after event reply file (first ∷ events) (stated ∷ replies) goes step =
+    (goes.0, goes.1, goes.2, goes_on goes.1 middle after event reply file events replies goes.3 step)
+goes_on before middle after event reply file [] (stated ∷ replies) goes step = absurd goes
+goes_on before middle after event reply file (first ∷ events) [] goes step = absurd goes
+
+module _ {D : Type 0} (honest : Bool) (story : D → Story) where
+  -- the ride is in the state of the history after these replies
+  pub record Stood (before : History) (played : List Event) (stated : List Reply) (ride : Ride D) : Type 0 where
+    pub after : History
+    pub goes : GoesTo before played stated after
+    pub stands : StandsIn honest story ride after
+
+  -- these were the replies to a prefix of the events, from any state that allows the disk as it was
+  pub record Rode (old : Story) (events left : List Event) (stated : List Reply) (ride : Ride D) : Type 0 where
+    pub played : List Event
+    pub begins : events ≡ played ++ left
+    pub stood : IsTrue honest → (claims : List Claim) (begun : Bool) → Rests (Idle claims begun) old → Stood (Idle claims begun) played stated ride
+
+  -- before the first event
+  pub not_begun : (disk : D) (events : List Event) → Rode (story disk) events events [] (rides.Idle disk)
+  not_begun disk events = record {
+    played = [];
+    begins = refl;
+    stood = λ sound claims begun rests. record { after = Idle claims begun; goes = refl; stands = rests };
+  }
+
+  one_more : (old : Story) (events left : List Event) (event : Event) (stated : List Reply) (ride next : Ride D) (reply : Reply) →
+      Rode old events (event ∷ left) stated ride →
+      (IsTrue honest → (before : History) → StandsIn honest story ride before → GoesBy honest story before event.command reply next) →
+      Rode old events left (stated ++ reply ∷ []) next
+  one_more old events left event stated ride next reply known step = record {
+    played = known.played ++ event ∷ [];
+    begins = known.begins ∙ sym (append_assoc known.played (event ∷ []) left);
+    stood = λ sound claims begun rests.
+        let stood = known.stood sound claims begun rests in
+        let by = step sound stood.after stood.stands in
+        record {
+          after = by.after;
+          goes = goes_on (Idle claims begun) stood.after by.after event reply (content_of story next) known.played stated stood.goes by.step;
+          stands = by.stands;
+        };
+  }
+
+  -- one more event
+  pub rode_on : (old : Story) (events : List Event) (i : ℕ) (d : Event) (stated : List Reply) (ride next : Ride D) (reply : Reply) →
+      i < length events → Rode old events (drop i events) stated ride →
+      (IsTrue honest → (before : History) → StandsIn honest story ride before → GoesBy honest story before (get_or events i d).command reply next) →
+      Rode old events (drop (i + 1) events) (stated ++ reply ∷ []) next
+  rode_on old events i d stated ride next reply within known =
+      one_more old events (drop (i + 1) events) (get_or events i d) stated ride next reply
+      (subst (λ left. Rode old events left stated ride) (drop_more events i d within) known)
+
+  -- what the events that were run leave if the ride is ended
+  left_of : (old new : Story) (events left : List Event) (stated : List Reply) (ride : Ride D) → (known : Rode old events left stated ride) →
+      (IsTrue honest → (before : History) → StandsIn honest story ride before → Rests (ended before) new) →
+      LeavesAfter honest old new known.played stated
+  left_of old new events left stated ride known ends sound claims begun rests =
+      let stood = known.stood sound claims begun rests in
+      record { after = stood.after; goes = stood.goes; rests = ends sound stood.after stood.stands }
+
+  -- after the last event
+  pub all_left : (old new : Story) (events : List Event) (i : ℕ) (stated : List Reply) (ride : Ride D) → length events ≤ i →
+      Rode old events (drop i events) stated ride → (IsTrue honest → (before : History) → StandsIn honest story ride before → Rests (ended before) new) →
+      LeavesAfter honest old new events stated
+  all_left old new events i stated ride past known ends =
+      let end = subst (λ left. Rode old events left stated ride) (drop_all i events past) known in
+      let all : events ≡ end.played = end.begins ∙ append-nil end.played in
+      subst (λ played. LeavesAfter honest old new played stated) (sym all) (left_of old new events [] stated ride end ends)
+
+  -- after any event, with the events that were run
+  pub some_left : (old new : Story) (events left : List Event) (stated : List Reply) (ride : Ride D) → Rode old events left stated ride →
+      (IsTrue honest → (before : History) → StandsIn honest story ride before → Rests (ended before) new) →
+      (played : List Event) → events ≡ played ++ left → LeavesAfter honest old new played stated
+  some_left old new events left stated ride known ends played is =
+      subst (λ run. LeavesAfter honest old new run stated) (append_cancel_right known.played played left (sym known.begins ∙ is))
+      (left_of old new events left stated ride known ends)

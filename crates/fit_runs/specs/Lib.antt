@@ -1,0 +1,2 @@
+pub mod Rides
+pub mod Printed

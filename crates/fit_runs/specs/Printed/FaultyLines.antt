@@ -1,0 +1,20 @@
+-- The lines that answer lines which cannot be done.
+use Rattle.std.specs.Prelude.{ℕ, List, ◌++◌, codes, decimal}
+use Rattle.fit_runs.specs.declared.recording.line_fault.LineFault.{LineFault}
+use Rattle.fit_runs.specs.declared.recording.line_fault.LineFault.TheVariants.{Script, OnlySimulate, TooLong}
+use Rattle.fit_scripts.specs.declared.script.fault.ScriptFaultKind.TheVariants.{UnknownWord, MissingWord, ExtraWord, BadNumber, UnknownKey, RepeatedKey, Memory}
+
+abbrev pub fault_text : LineFault → List ℕ
+fault_text (Script UnknownWord) = codes "UnknownWord"
+fault_text (Script MissingWord) = codes "MissingWord"
+fault_text (Script ExtraWord) = codes "ExtraWord"
+fault_text (Script BadNumber) = codes "BadNumber"
+fault_text (Script UnknownKey) = codes "UnknownKey"
+fault_text (Script RepeatedKey) = codes "RepeatedKey"
+fault_text (Script Memory) = codes "Memory"
+fault_text OnlySimulate = codes "OnlySimulate"
+fault_text TooLong = codes "TooLong"
+
+-- the number of the line, the word `line`, and the fault
+abbrev pub faulty_text : ℕ → LineFault → List ℕ
+faulty_text number fault = decimal number ++ codes " line: " ++ fault_text fault

@@ -1,0 +1,312 @@
+// A recording that does what lines state, one after another.
+
+ghost use Rattle.std.specs.Prelude.{◌≡◌, ◌<◌, ◌≤◌, ◌+◌, ◌*◌, ◌^◌, ◌++◌, ◌∷◌, [], List, ℕ, Some, None, IfOk, IfErr, IfSome, IsSome, OnOk, length, false, ◌-◌, Option};
+ghost use Rattle.fit_disk.specs.Story.{Story};
+ghost use Rattle.fit_scripts.specs.declared.event.Event.{Event as AnEvent};
+ghost use Rattle.fit_histories.specs.declared.reply.Reply.{Reply as AReply};
+ghost use Rattle.fit_files.specs.Printed.Shown.{IsOutputFault};
+ghost use Rattle.fit_histories.specs.Rides.Ride.{CanGoOn, is_riding};
+ghost use Rattle.fit_runs.specs.Rides.Played.{LeavesAfter};
+ghost use Rattle.fit_runs.specs.Rides.Turns.{Turn, Asked, Faulty, Does, count_of, refused_in, TakesLine, Commits, CommitsUnlessCut, IsLineFault, Prints, SoFar, commit_at, is_due_after, rides_after, times_after, events_in, replies_in};
+ghost use Rattle.fit_scripts.specs.Scripts.Commands.{is_simulated};
+ghost use Rattle.fit_scripts.specs.Scripts.Replayed.{IsReplayed};
+ghost use Rattle.fit_scripts.specs.Scripts.Script.{meaning_of};
+
+use crate::recording::clock::Clock;
+use crate::recording::line_fault::{FaultyLine, LineFault};
+use crate::reply_line::ReplyLine;
+use fit_disk::Disk;
+use fit_files::{ReportFault, print};
+use fit_histories::{Reply, Ride};
+use fit_scripts::{Command, Event, command_at};
+use fit_text::Pen;
+use std::alloc::Global;
+use std::io::Write;
+
+/// A ride, how many lines it took, and how many answers were not ok.
+#[derive(Drop)]
+pub struct Session<D: Disk> {
+    pub ride: Ride<D>,
+    /// The number of the last line.
+    pub line: usize,
+    /// The number of answers that were not ok.
+    pub refused: usize,
+    pub clock: Clock,
+}
+
+impl<D: Disk> Session<D> {
+    /// A session over an idle disk, before any line.
+    pub fn new(disk: D, every: Option<u32>) -> Self
+        ensures goes_on { CanGoOn D.honest D.story result.ride }
+        ensures none { result.line ≡ 0 }
+        ensures refused { result.refused ≡ 0 }
+        ensures so_far { SoFar D.honest D.story every (D.story disk) [] result }
+    {
+        Session {
+            ride: Ride::Idle(disk),
+            line: 0,
+            refused: 0,
+            clock: Clock::new(every),
+        }
+    }
+
+    /// Does what the next line states, and prints the answer. A line that is `None` is too long.
+    pub fn take_line<O: Write>(
+        self,
+        alloc: Global,
+        line: Option<&[u8]>,
+        pen: &mut Pen<'_, O>,
+    ) -> (Session<D>, Result<(), ReportFault>)
+        requires goes_on { CanGoOn D.honest D.story self.ride }
+        requires waits { pen.old.waiting ≡ [] }
+        requires room { self.line < 2 ^ 60 }
+        requires few { self.refused ≤ 2 * self.line }
+        ensures goes_on { CanGoOn D.honest D.story result.0.ride }
+        ensures same { pen.new.name ≡ pen.old.name }
+        ensures waits { OnOk result.1 (pen.new.waiting ≡ []) }
+        ensures fault { IfErr result.1 IsOutputFault }
+        ensures number { result.0.line ≡ self.line + 1 }
+        ensures few { result.0.refused ≤ 2 * (self.line + 1) }
+        ensures outcome { (bytes : List ℕ) (every : Option ℕ) (old : Story) (turns : List Turn)
+            → IfSome line.entry (λ line. line.now ≡ bytes) → (line.entry ≡ None → 4096 < length bytes)
+            → SoFar D.honest D.story every old turns self
+            → (own : List Turn) × TakesLine result.1 every (times_after [] turns) (self.line + 1) bytes own
+            × SoFar D.honest D.story every old (turns ++ own) result.0
+            × Prints pen.old.held pen.new.held result.1 own }
+    {
+        let number = self.line + 1;
+        let session = self.at(number);
+        match command_in(alloc, line) {
+            Ok(None) => (session, Ok(())),
+            Ok(Some(command)) => session.run(
+                &Event {
+                    line: number,
+                    command,
+                },
+                pen,
+            ),
+            Err(fault) => session.refuse(fault, pen),
+        }
+    }
+
+    // The same at the line with this number.
+    fn at(self, number: usize) -> Self
+        ensures { result ≡ record self { line = number } }
+    {
+        let Session {
+            ride,
+            refused,
+            clock,
+            ..
+        } = self;
+        Session {
+            ride,
+            line: number,
+            refused,
+            clock,
+        }
+    }
+
+    // Answers a line that cannot be done with its fault.
+    fn refuse<O: Write>(
+        self,
+        fault: LineFault,
+        pen: &mut Pen<'_, O>,
+    ) -> (Session<D>, Result<(), ReportFault>)
+        requires waits { pen.old.waiting ≡ [] }
+        requires room { self.refused < 2 ^ 62 }
+        ensures ride { result.0.ride ≡ self.ride }
+        ensures clock { result.0.clock ≡ self.clock }
+        ensures same { pen.new.name ≡ pen.old.name }
+        ensures waits { OnOk result.1 (pen.new.waiting ≡ []) }
+        ensures fault { IfErr result.1 IsOutputFault }
+        ensures number { result.0.line ≡ self.line }
+        ensures few { result.0.refused ≡ self.refused + 1 }
+        ensures printed { Prints pen.old.held pen.new.held result.1 (Faulty self.line fault ∷ []) }
+    {
+        let line = FaultyLine {
+            line: self.line,
+            fault,
+        };
+        let printed = print(&line, pen);
+        (self.with_refusal(), printed)
+    }
+
+    // With one answer more that is not ok.
+    fn with_refusal(self) -> Self
+        requires { self.refused < 2 ^ 62 }
+        ensures { result ≡ record self { refused = self.refused + 1 } }
+    {
+        let Session {
+            ride,
+            line,
+            refused,
+            clock,
+        } = self;
+        Session {
+            ride,
+            line,
+            refused: refused + 1,
+            clock,
+        }
+    }
+
+    // Runs an event, and a commit after it if one is due.
+    fn run<O: Write>(
+        self,
+        event: &Event,
+        pen: &mut Pen<'_, O>,
+    ) -> (Session<D>, Result<(), ReportFault>)
+        requires goes_on { CanGoOn D.honest D.story self.ride }
+        requires replayed { IsReplayed event.now }
+        requires waits { pen.old.waiting ≡ [] }
+        requires room { self.refused < 2 ^ 62 - 2 }
+        ensures goes_on { CanGoOn D.honest D.story result.0.ride }
+        ensures same { pen.new.name ≡ pen.old.name }
+        ensures waits { OnOk result.1 (pen.new.waiting ≡ []) }
+        ensures fault { IfErr result.1 IsOutputFault }
+        ensures number { result.0.line ≡ self.line }
+        ensures few { result.0.refused ≤ self.refused + 2 }
+        ensures ran { (every : Option ℕ) (old : Story) (turns : List Turn)
+            → SoFar D.honest D.story every old turns self
+            → (reply : AReply) × (more : List Turn)
+            × CommitsUnlessCut result.1 (is_due_after every (times_after [] turns) (Asked event.now reply))
+            event.now.line more
+            × SoFar D.honest D.story every old (turns ++ Asked event.now reply ∷ more) result.0
+            × Prints pen.old.held pen.new.held result.1 (Asked event.now reply ∷ more) }
+    {
+        let (session, printed) = self.ask(event, pen);
+        match printed {
+            Ok(()) if session.clock.is_due() => {
+                let commit = commit_at(event.line);
+                session.ask(&commit, pen)
+            }
+            Ok(()) => (session, Ok(())),
+            Err(fault) => (session, Err(fault)),
+        }
+    }
+
+    // Runs an event, and prints the reply.
+    fn ask<O: Write>(
+        self,
+        event: &Event,
+        pen: &mut Pen<'_, O>,
+    ) -> (Session<D>, Result<(), ReportFault>)
+        requires goes_on { CanGoOn D.honest D.story self.ride }
+        requires replayed { IsReplayed event.now }
+        requires waits { pen.old.waiting ≡ [] }
+        requires room { self.refused < 2 ^ 62 }
+        ensures goes_on { CanGoOn D.honest D.story result.0.ride }
+        ensures same { pen.new.name ≡ pen.old.name }
+        ensures waits { OnOk result.1 (pen.new.waiting ≡ []) }
+        ensures fault { IfErr result.1 IsOutputFault }
+        ensures number { result.0.line ≡ self.line }
+        ensures few { result.0.refused ≤ self.refused + 1 }
+        ensures asked { (every : Option ℕ) (old : Story) (turns : List Turn)
+            → SoFar D.honest D.story every old turns self
+            → (reply : AReply)
+            × SoFar D.honest D.story every old (turns ++ Asked event.now reply ∷ []) result.0
+            × (result.0.clock.is_due ≡ is_due_after every (times_after [] turns) (Asked event.now reply))
+            × Prints pen.old.held pen.new.held result.1 (Asked event.now reply ∷ []) }
+    {
+        let Session {
+            ride,
+            line,
+            refused,
+            clock,
+        } = self;
+        let (ride, reply) = ride.ask(&event.command, true);
+        let clock = clock.note(&event.command, reply.is_ok());
+        let refused = refused + refusals(reply);
+        let printed = print(&ReplyLine { event, reply }, pen);
+        (
+            Session {
+                ride,
+                line,
+                refused,
+                clock,
+            },
+            printed,
+        )
+    }
+
+    /// Commits after the last line, if a recorder runs, and prints the reply. Returns the disk and the number of answers that were not ok.
+    pub fn finish<O: Write>(self, pen: &mut Pen<'_, O>) -> (D, Result<usize, ReportFault>)
+        requires goes_on { CanGoOn D.honest D.story self.ride }
+        requires waits { pen.old.waiting ≡ [] }
+        requires room { self.line < 2 ^ 60 + 2 }
+        requires few { self.refused ≤ 2 * self.line }
+        ensures same { pen.new.name ≡ pen.old.name }
+        ensures fault { IfErr result.1 IsOutputFault }
+        ensures ended { (every : Option ℕ) (old : Story) (turns : List Turn)
+            → SoFar D.honest D.story every old turns self
+            → (end : List Turn) × Does D.honest old (D.story result.0) (turns ++ end)
+            × Commits (rides_after false turns) (self.line + 1) end
+            × IfOk result.1 (λ refused. refused ≡ refused_in (turns ++ end))
+            × Prints pen.old.held pen.new.held result.1 end }
+    {
+        if !is_riding(&self.ride) {
+            let refused = self.refused;
+            return (self.into_disk(), Ok(refused));
+        }
+        let commit = commit_at(self.line + 1);
+        let (session, printed) = self.ask(&commit, pen);
+        let refused = session.refused;
+        match printed {
+            Ok(()) => (session.into_disk(), Ok(refused)),
+            Err(fault) => (session.into_disk(), Err(fault)),
+        }
+    }
+
+    /// The disk.
+    pub fn into_disk(self) -> D
+        ensures { (every : Option ℕ) (old : Story) (turns : List Turn)
+            → SoFar D.honest D.story every old turns self
+            → LeavesAfter D.honest old (D.story result) (events_in turns) (replies_in turns) }
+    {
+        self.ride.into_disk()
+    }
+}
+
+// Whether a recorder runs.
+fn is_riding<D: Disk>(ride: &Ride<D>) -> bool
+    ensures { result ≡ is_riding ride.now }
+{
+    matches!(ride, Ride::Riding(_))
+}
+
+// A commit that no line states.
+fn commit_at(line: usize) -> Event
+    ensures { result ≡ commit_at line }
+{
+    Event {
+        line,
+        command: Command::Commit,
+    }
+}
+
+// How many refusals a reply is.
+fn refusals(reply: Reply) -> usize
+    ensures count { (event : AnEvent) → result ≡ count_of (Asked event reply) }
+    ensures few { result ≤ 1 }
+{
+    if reply.is_ok() { 0 } else { 1 }
+}
+
+// The command of a line, if it states one. A line that is `None` is too long.
+fn command_in(alloc: Global, line: Option<&[u8]>) -> Result<Option<Command>, LineFault>
+    ensures meaning { IfOk result (λ found. IfSome line.entry (λ line. meaning_of line.now ≡ Some found)) }
+    ensures short { IfOk result (λ found. IsSome line.entry) }
+    ensures replayed { IfOk result (λ found. IfSome found (λ command. is_simulated command ≡ false)) }
+    ensures fault { IfErr result (λ fault. (bytes : List ℕ) → IfSome line.entry (λ line. line.now ≡ bytes)
+        → (line.entry ≡ None → 4096 < length bytes) → IsLineFault bytes fault) }
+{
+    let Some(line) = line else {
+        return Err(LineFault::TooLong);
+    };
+    match command_at(alloc, line) {
+        Ok(Some(command)) if command.is_simulated() => Err(LineFault::OnlySimulate),
+        Ok(found) => Ok(found),
+        Err(kind) => Err(LineFault::Script(kind)),
+    }
+}
