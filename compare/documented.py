@@ -31,7 +31,7 @@ SIZES = {("fit_recorder/src/limits.rt", "MOST_RECORDS"): ["RECORDING", "JOURNAL-
          ("fit_journal/src/slots.rt", "ROW_SLOTS"): ["RECORDING", "JOURNAL-FORMAT"],
          ("fit_grammar/src/item/writing.rt", "LONGEST_DEFINITION"): ["FORMAT", "DECISIONS"],
          ("fit_files/src/reading.rt", "CHUNK"): ["ARCHITECTURE"],
-         ("fitrec/src/command/input.rt", "MOST_BYTES"): ["PROGRAM", "DECISIONS"],
+         ("fit_commands/src/input.rt", "MOST_BYTES"): ["PROGRAM", "DECISIONS"],
          ("fit_runs_tests/src/random.rt", "HISTORIES"): ["PROOFS"]}
 
 
@@ -197,7 +197,7 @@ def messages():
     """The faults in the tables of docs/PROGRAM.md are those of the program; the refusals in docs/FORMAT.md are those of the reader."""
     rows = re.findall(r"(?m)^\| (`.*?`) \|", page("docs/PROGRAM.md").partition("## Messages")[2])
     named = {re.sub(r"\([A-Z]\)", "", name) for row in rows for name in re.findall(r"`([^`]*)`", row)}
-    texts = re.findall(r'#\[error\("(.*?)"', page("crates/fitrec/src/fault.rt"))
+    texts = re.findall(r'#\[error\("(.*?)"', page("crates/fit_commands/src/fault.rt"))
     texts = [it.replace("{}", "NAME").replace("{0}", "N") for it in texts if "fitrec: " not in it]
     wanted = {it for it in texts if "{" not in it and "line" not in it} | {"cannot write -", "cannot read -"} | OTHERS
     left = re.search(r'"fitrec: \{count\} (.*?)"', page("crates/fit_files/src/salvage.rt"))[1]

@@ -1,4 +1,2 @@
-pub mod Reading
 pub mod Faults
 pub mod Reported
-pub mod Places

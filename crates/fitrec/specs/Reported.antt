@@ -1,105 +1,14 @@
--- What a whole subcommand did: what it printed, and which fault it reports if it failed.
-use Rattle.std.specs.Prelude.{◌≡◌, ◌⊎◌, ◌≤◌, ℕ, Bool, true, List, ◌++◌, length, Option, Result, Ok, Err, codes}
-use Rattle.std.specs.Borrow.{Bor}
-use Rattle.std.specs.Io.KnownBytes.{Appends}
+-- What a subcommand that runs a script did.
+use Rattle.std.specs.Prelude.{◌≡◌, ◌≤◌, ℕ, Bool, List, length, Option, Ok}
 use Rattle.std.specs.Str.Lines.{lines}
-use Rattle.fit_activity.specs.declared.activity.Summary.{Summary}
-use Rattle.fit_disk.specs.State.{Contents, seen_in}
 use Rattle.fit_disk.specs.Story.{Story}
-use Rattle.fit_grammar.specs.Format.File.{FileValue}
-use Rattle.fit_grammar.specs.Format.Message.{messages_of}
 use Rattle.fit_scripts.specs.declared.event.Event.{Event}
-use Rattle.fit_files.specs.declared.salvage.Salvage.{Salvage}
-use Rattle.fit_files.specs.declared.saving.SavedRide.{SavedRide}
-use Rattle.fit_files.specs.Calls.Reading.{ReadsAll}
-use Rattle.fit_files.specs.Calls.Rereading.{AreSumsOf}
-use Rattle.fit_files.specs.Printed.PlainFile.{PlainsTo, messages_text}
-use Rattle.fit_files.specs.Printed.Repaired.{Repairs}
 use Rattle.fit_runs.specs.Printed.ReplyLines.{AreReported}
-use Rattle.fit_files.specs.Printed.Salvaged.{IsSalvage, saved_file, kept_text}
-use Rattle.fit_files.specs.Printed.Saved.{SavesRide}
-use Rattle.fit_files.specs.Printed.Summary.{summary_text}
 use Rattle.fit_runs.specs.Rides.Turns.{Finishes}
 use Rattle.fit_scripts.specs.Scripts.Script.{events_of}
-use Rattle.fit_files.specs.declared.repairing.FileSums.{FileSums}
-use Rattle.fit_files.specs.declared.repairing.RepairFault.{RepairFault}
-use Rattle.fit_files.specs.declared.repairing.RepairFault.TheVariants as repairs
-use Rattle.fitrec.specs.Faults.{IsRecordingReported, IsRepairReported}
-use Rattle.fitrec.specs.Reading.{IsFileFault}
-use Rattle.fitrec.specs.declared.fault.Fault.{Fault}
-use Rattle.fitrec.specs.declared.fault.Fault.TheVariants as faults
-
--- `IsResult` holds of the bytes of a file of this name and the result, and the program's fault is one for a fault of that; or the file
--- was not opened or not read, and nothing is printed.
-abbrev pub Reports : {F : Type 0} → Bor (List ℕ) → Option (List ℕ) → Option (List ℕ) → (F → Fault → Type 0)
-    → (List ℕ → Result (Unit {0}) F → Type 0) → Result (Unit {0}) Fault → Type 0
-Reports {F} name old new IsReported IsResult (Ok done) = (bytes : List ℕ) × (length bytes ≤ 268435456) × IsResult bytes (Ok done)
-Reports {F} name old new IsReported IsResult (Err reported) =
-    (IsFileFault name reported × (new ≡ old))
-    ⊎ ((why : F) × IsReported why reported × (bytes : List ℕ) × (length bytes ≤ 268435456) × IsResult bytes (Err why))
-
--- the output failed; its name is `-`
-abbrev pub IsOutputReported : Fault → Type 0
-IsOutputReported (faults.Write name) = name.now ≡ codes "-"
-IsOutputReported _ = ⊥
-
--- nothing is printed, unless the output failed
-abbrev pub PrintsNothing : Option (List ℕ) → Option (List ℕ) → Fault → Type 0
-PrintsNothing old new fault = IsOutputReported fault ⊎ (new ≡ old)
-
--- the file of the readable part has a plain form
-abbrev pub HasPlainForm : Salvage → Type 0
-HasPlainForm salvage = (plain : FileValue) × PlainsTo (saved_file salvage) (Ok plain)
-
--- the longest row of whole items in some bytes was found, with its plain form if that was requested, and its length was printed
-abbrev pub SavesFile : Bool → Bool → Option (List ℕ) → Option (List ℕ) → Type 0
-SavesFile all plain old new =
-    (bytes : List ℕ) × (length bytes ≤ 268435456) × (salvage : Salvage) × IsSalvage all bytes salvage
-    × (plain ≡ true → HasPlainForm salvage) × Appends old new (kept_text salvage ++ codes "\n")
-
--- it is the plain form of a file of some bytes
-abbrev pub IsFormOfFile : FileValue → Type 0
-IsFormOfFile plain = (bytes : List ℕ) × (length bytes ≤ 268435456) × PlainsTo bytes (Ok plain)
-
--- the plain form of a file was made, and the number of its messages was printed
-abbrev pub PlainsFile : Option (List ℕ) → Option (List ℕ) → Type 0
-PlainsFile old new =
-    (plain : FileValue) × IsFormOfFile plain × Appends old new (messages_text (length (messages_of plain.items)) ++ codes "\n")
-
--- the line of a summary was printed
-abbrev pub PrintsSummary : Option (List ℕ) → Option (List ℕ) → Type 0
-PrintsSummary old new = (summary : Summary) × Appends old new (summary_text summary ++ codes "\n")
-
--- what a repair prints
-abbrev pub ReportsRepair : Option (List ℕ) → Option (List ℕ) → Result (Unit {0}) RepairFault → Type 0
-ReportsRepair old new (Ok done) = PrintsSummary old new
-ReportsRepair old new (Err (repairs.Recorder fault)) = new ≡ old
-ReportsRepair old new (Err repairs.Output) = Unit {0}
-
--- the two files of a recording were read from these inputs, each to its end, and held these contents
-abbrev pub AreRead : Option (List ℕ) → Option (List ℕ) → Contents → Type 0
-AreRead data_file journal_file contents =
-    ((left : Option (List ℕ)) × ReadsAll 268435456 data_file left contents.in_data)
-    × ((left : Option (List ℕ)) × ReadsAll 268435456 journal_file left contents.in_journal)
-
--- The two files of a folder of this name were read, and what they held was repaired, and both files read again, with these checksums. Or
--- what they held was not repaired, for the reported fault; or they were not opened or not read, and nothing is printed.
-abbrev pub VerifiesFolder : Bor (List ℕ) → (Contents → Type 0) → Option (List ℕ) → Option (List ℕ) → Result FileSums Fault → Type 0
-VerifiesFolder name WereRead old new (Ok sums) =
-    (contents : Contents) × WereRead contents × (story : Story) × Repairs contents story old new (Ok sums)
-    × AreSumsOf (seen_in story.now) sums
-VerifiesFolder name WereRead old new (Err reported) =
-    (IsRecordingReported name reported × (new ≡ old))
-    ⊎ ((why : RepairFault) × IsRepairReported why reported × (contents : Contents) × WereRead contents × (story : Story)
-    × Repairs {T = FileSums} contents story old new (Err why))
-
--- it is the saved ride of the two files of a recording
-abbrev pub IsSavedRide : SavedRide → Type 0
-IsSavedRide saved = (contents : Contents) × SavesRide contents (Ok saved)
-
--- such a ride was saved, and the line of its summary printed
-abbrev pub SavesFolder : Option (List ℕ) → Option (List ℕ) → Type 0
-SavesFolder old new = (saved : SavedRide) × IsSavedRide saved × Appends old new (summary_text saved.summary ++ codes "\n")
+use Rattle.fit_commands.specs.Reported.{PrintsNothing}
+use Rattle.fit_commands.specs.declared.fault.Fault.{Fault}
+use Rattle.fit_commands.specs.declared.fault.Fault.TheVariants as faults
 
 -- they are the events of a script
 abbrev pub IsScriptOf : List Event → Type 0

@@ -1,40 +1,24 @@
 // The program as one call: words in, text out, and the exit status.
 //
-// `fit_words` reads the words. Each subcommand has its own file, which opens what it needs and leaves the rest to `fit_files` or
-// `fit_runs`. They share `input`, which opens and reads a file, `folder`, which opens the files of a recording, `beside`, which
-// writes a file whole or not at all, and `status`, which prints a fault.
+// `fit_words` reads the words, and `fit_commands` does what they request with files and folders. A subcommand that runs a script has
+// its own file. They share `status`, which prints a fault.
 
 ghost use Rattle.std.specs.Prelude.{◌≤◌};
 
-mod beside;
-mod check;
-mod content;
-mod folder;
-mod input;
-mod json;
-mod plain;
 mod record;
-mod repair;
 mod replay;
-mod salvage;
-mod save;
-mod show;
 mod simulate;
 mod version;
 
-use crate::fault::Fault;
-use check::check_file;
 use clap::error::ErrorKind;
+use fit_commands::{
+    Fault, check_file, make_plain, repair_folder, salvage_file, save_folder, show_as_json,
+    show_file, verify_folder,
+};
 use fit_scripts::read_choices;
 use fit_words::{Request, no_choices, no_seconds, read_words};
-use json::show_as_json;
-use plain::make_plain;
 use record::record_folder;
-use repair::{repair_folder, verify_folder};
 use replay::replay_script;
-use salvage::salvage_file;
-use save::save_folder;
-use show::show_file;
 use simulate::simulate_script;
 use std::convert::AsStr;
 use std::io::Write;

@@ -1,8 +1,7 @@
 //! The program `fitrec`: it records rides, repairs them, and reads FIT files and shows their content.
 //!
-//! `command` is the program as one call: words in, text out, and the exit status. Each subcommand has a file in `command/`, which opens
-//! a file or a folder. `fit_files` processes its bytes, and `fit_runs` runs scripts over a recording. `fault` has the line that
-//! reports an error.
+//! `command` is the program as one call: words in, text out, and the exit status. `fit_commands` does what they
+//! request with files and folders. The subcommands that run scripts have their files in `command/`.
 //!
 //!     fitrec show row3.fit
 //!
@@ -12,13 +11,11 @@
 //!     0 file_id type=4 time_created=1000000000
 //!     messages 1
 //!
-//! (The stored run of this crate: `args`, `data` and `stdout`.) Contracts use the definitions of `specs/`: `Reading` has the faults of
-//! a file that is not read, `Faults` has those of each library call and subcommand, `Reported` has what a subcommand prints, and `Places`
-//! has the names of a recording's files.
+//! (The stored run of this crate: `args`, `data` and `stdout`.) Contracts use the definitions of `specs/` here and in
+//! `fit_commands`: `Faults` has the faults of each subcommand, and `Reported` has what it prints.
 #![tactic(auto)]
 
 mod command;
-mod fault;
 
 use std::io::{ErrorKind, Write};
 use std::process::ExitCode;

@@ -3,13 +3,12 @@
 ghost use Rattle.std.specs.Prelude.{◌≡◌, ℕ, Err, IfOk, IfErr, OnOk};
 ghost use Rattle.fit_disk.specs.declared.files.OpenFault.{OpenFault as WhyNotOpen};
 ghost use Rattle.fit_runs.specs.Rides.Turns.{Records};
-ghost use Rattle.fitrec.specs.declared.fault.Fault.TheVariants.{Refused};
-ghost use Rattle.fitrec.specs.Faults.{fault_of_open, IsRecordReported};
+ghost use Rattle.fit_commands.specs.declared.fault.Fault.TheVariants.{Refused};
+ghost use Rattle.fit_commands.specs.Faults.{fault_of_open};
+ghost use Rattle.fitrec.specs.Faults.{IsRecordReported};
 ghost use Rattle.fitrec.specs.Reported.{RecordsLines};
 
-use crate::command::folder::open_folder;
-use crate::command::input::fault_of_report;
-use crate::fault::Fault;
+use fit_commands::{Fault, fault_of_report, open_folder};
 use fit_disk::{Trusting, Witness};
 use fit_files::ReportFault;
 use fit_runs::record;

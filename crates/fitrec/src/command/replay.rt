@@ -6,13 +6,12 @@ ghost use Rattle.fit_runs.specs.Printed.ReplyLines.{AreReported};
 ghost use Rattle.fit_files.specs.Printed.Shown.{IsOutputFault};
 ghost use Rattle.fit_runs.specs.Rides.Played.{LeavesAfter, BreaksOff};
 ghost use Rattle.fit_scripts.specs.Scripts.Replayed.{IsReplayed};
-ghost use Rattle.fitrec.specs.declared.fault.Fault.TheVariants.{Refused};
-ghost use Rattle.fitrec.specs.Faults.{fault_of_open, fault_of_replay, IsScriptReported, IsReplayReported};
+ghost use Rattle.fit_commands.specs.declared.fault.Fault.TheVariants.{Refused};
+ghost use Rattle.fit_commands.specs.Faults.{fault_of_open};
+ghost use Rattle.fitrec.specs.Faults.{fault_of_replay, IsScriptReported, IsReplayReported};
 ghost use Rattle.fitrec.specs.Reported.{IsScriptOf, Replays, PrintsNoLine};
 
-use crate::command::folder::open_folder;
-use crate::command::input::{fault_of_report, read_file};
-use crate::fault::Fault;
+use fit_commands::{Fault, fault_of_report, open_folder, read_file};
 use fit_disk::{Trusting, Witness};
 use fit_files::ReportFault;
 use fit_runs::play;

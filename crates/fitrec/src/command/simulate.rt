@@ -2,10 +2,9 @@
 
 ghost use Rattle.fit_runs.specs.Printed.Simulation.{Simulates};
 ghost use Rattle.fitrec.specs.Faults.{IsSimulateFault};
-ghost use Rattle.fitrec.specs.Reported.{Reports};
+ghost use Rattle.fit_commands.specs.Reported.{Reports};
 
-use crate::command::input::read_file;
-use crate::fault::Fault;
+use fit_commands::{Fault, read_file};
 use fit_runs::{SimulateFault, simulate};
 use std::io::Write;
 use std::rt::Files;

@@ -3,9 +3,9 @@
 ghost use Rattle.std.specs.Prelude.{IfErr};
 ghost use Rattle.fit_grammar.specs.Calls.Output.{WritesText};
 ghost use Rattle.fitrec.specs.declared.command.version.TheConstants.{VERSION};
-ghost use Rattle.fitrec.specs.Reported.{IsOutputReported};
+ghost use Rattle.fit_commands.specs.Reported.{IsOutputReported};
 
-use crate::fault::Fault;
+use fit_commands::Fault;
 use fit_grammar::put;
 use std::io::Write;
 

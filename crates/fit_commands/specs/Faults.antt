@@ -1,0 +1,130 @@
+-- The program's faults for the faults of the libraries below it, and which faults each subcommand may report.
+use Rattle.std.specs.Prelude.{◌≡◌, ◌⊎◌, ℕ, Bool, true, List, Result, Ok, Err, codes}
+use Rattle.std.specs.Borrow.{Bor}
+use Rattle.fit_disk.specs.declared.files.OpenFault.{OpenFault}
+use Rattle.fit_disk.specs.declared.files.OpenFault.TheVariants.{Open, Memory}
+use Rattle.fit_files.specs.declared.fault.ReportFault.{ReportFault}
+use Rattle.fit_files.specs.declared.fault.ReportFault.TheVariants as reports
+use Rattle.fit_recorder.specs.Calls.Recovery.{IsRecoveryFault}
+use Rattle.fit_recorder.specs.declared.fault.RecFault.TheVariants.{NothingRecorded, Damaged}
+use Rattle.fit_files.specs.declared.repairing.RepairFault.{RepairFault}
+use Rattle.fit_files.specs.declared.repairing.RepairFault.TheVariants as repairs
+use Rattle.fit_commands.specs.Reading.{fault_of_read}
+use Rattle.fit_commands.specs.declared.fault.Fault.{Fault}
+use Rattle.fit_commands.specs.declared.fault.Fault.TheVariants as faults
+
+-- for a folder of this name that is not opened
+abbrev pub fault_of_open : Bor (List ℕ) → OpenFault → Fault
+fault_of_open name Open = faults.Open name
+fault_of_open name Memory = faults.NoMemory
+
+-- for an input of this name that was not read, checked, printed or made plain; the name of the output is `-`
+abbrev pub IsReportFault : Bor (List ℕ) → ReportFault → Fault → Type 0
+IsReportFault name (reports.File fault) reported = reported ≡ faults.File fault
+IsReportFault name (reports.Activity fault) reported = reported ≡ faults.Activity fault
+IsReportFault name reports.Output (faults.Write out) = out.now ≡ codes "-"
+IsReportFault name reports.Output _ = ⊥
+IsReportFault name (reports.Input why) reported = reported ≡ fault_of_read name why
+IsReportFault name (reports.Plain fault) reported = reported ≡ faults.Plain fault
+
+-- for a recording that was not repaired, or whose summary was not printed
+abbrev pub IsRepairReported : RepairFault → Fault → Type 0
+IsRepairReported (repairs.Recorder fault) reported = reported ≡ faults.Recorder fault
+IsRepairReported repairs.Output (faults.Write name) = name.now ≡ codes "-"
+IsRepairReported repairs.Output _ = ⊥
+
+-- the program's result for the result of a repair
+abbrev pub AnswersRepair : {T : Type 0} → Result T RepairFault → Result T Fault → Type 0
+AnswersRepair (Ok done) (Ok reported) = reported ≡ done
+AnswersRepair (Err why) (Err reported) = IsRepairReported why reported
+AnswersRepair _ _ = ⊥
+
+-- ---- the faults that a part of a subcommand, or a whole one, may report
+
+-- of opening the files of a folder of this name
+abbrev pub IsOpenReported : Bor (List ℕ) → Fault → Type 0
+IsOpenReported folder (faults.Open name) = name ≡ folder
+IsOpenReported folder faults.NoMemory = Unit {0}
+IsOpenReported folder (faults.Recorder NothingRecorded) = Unit {0}
+IsOpenReported folder _ = ⊥
+
+-- of repairing a folder of this name
+abbrev pub IsFolderFault : Bor (List ℕ) → Fault → Type 0
+IsFolderFault folder (faults.Open name) = name ≡ folder
+IsFolderFault folder faults.NoMemory = Unit {0}
+IsFolderFault folder (faults.Recorder fault) = IsRecoveryFault fault
+IsFolderFault folder (faults.Write name) = name.now ≡ codes "-"
+IsFolderFault folder _ = ⊥
+
+-- of reading the two files of a recording
+abbrev pub IsReadReported : Fault → Type 0
+IsReadReported (faults.Read name) = (name.now ≡ codes "activity.fit") ⊎ (name.now ≡ codes "activity.frj")
+IsReadReported faults.TooLarge = Unit {0}
+IsReadReported faults.NoMemory = Unit {0}
+IsReadReported _ = ⊥
+
+-- of reading the files of a folder of this name
+abbrev pub IsRecordingReported : Bor (List ℕ) → Fault → Type 0
+IsRecordingReported folder (faults.Open name) = name ≡ folder
+IsRecordingReported folder (faults.Recorder NothingRecorded) = Unit {0}
+IsRecordingReported folder reported = IsReadReported reported
+
+-- the same; if nothing is recorded, the fault may say what the folder lacks
+abbrev pub IsLackReported : Bor (List ℕ) → Fault → Type 0
+IsLackReported folder (faults.NothingSaved lack) = Unit {0}
+IsLackReported folder reported = IsRecordingReported folder reported
+
+-- of recovering the ride of a folder of this name in memory
+abbrev pub IsSavedReported : Bor (List ℕ) → Fault → Type 0
+IsSavedReported folder (faults.Recorder Damaged) = Unit {0}
+IsSavedReported folder faults.Changed = Unit {0}
+IsSavedReported folder reported = IsLackReported folder reported
+
+-- of saving the ride of a folder in a file of these names
+abbrev pub IsSaveReported : Bor (List ℕ) → Bor (List ℕ) → Fault → Type 0
+IsSaveReported folder out (faults.Write name) = (name ≡ out) ⊎ (name.now ≡ codes "-")
+IsSaveReported folder out reported = IsSavedReported folder reported
+
+-- of writing a file of this name
+abbrev pub IsNotWritten : Bor (List ℕ) → Fault → Type 0
+IsNotWritten out (faults.Write name) = name ≡ out
+IsNotWritten out faults.NoMemory = Unit {0}
+IsNotWritten out _ = ⊥
+
+-- of writing the readable part of a file, or its plain form: there is no plain form, or it was not written
+abbrev pub IsNotMade : Bool → Bor (List ℕ) → Fault → Type 0
+IsNotMade plain out (faults.File fault) = plain ≡ true
+IsNotMade plain out (faults.Plain fault) = plain ≡ true
+IsNotMade plain out reported = IsNotWritten out reported
+
+-- of salvaging a file into another: one was not opened, read or written, the first is not a file, or the output failed
+abbrev pub IsSalvageReported : Bool → Bor (List ℕ) → Bor (List ℕ) → Fault → Type 0
+IsSalvageReported plain file out (faults.Open name) = name ≡ file
+IsSalvageReported plain file out (faults.Read name) = name ≡ file
+IsSalvageReported plain file out (faults.Write name) = (name ≡ out) ⊎ (name.now ≡ codes "-")
+IsSalvageReported plain file out faults.TooLarge = Unit {0}
+IsSalvageReported plain file out faults.NoMemory = Unit {0}
+IsSalvageReported plain file out (faults.File fault) = Unit {0}
+IsSalvageReported plain file out (faults.Plain fault) = plain ≡ true
+IsSalvageReported plain file out _ = ⊥
+
+-- of making the plain form of a file: it was not opened or read, it is not a file, or its plain form was not made
+abbrev pub IsFormReported : Bor (List ℕ) → Fault → Type 0
+IsFormReported file (faults.Open name) = name ≡ file
+IsFormReported file (faults.Read name) = name ≡ file
+IsFormReported file faults.TooLarge = Unit {0}
+IsFormReported file faults.NoMemory = Unit {0}
+IsFormReported file (faults.File fault) = Unit {0}
+IsFormReported file (faults.Plain fault) = Unit {0}
+IsFormReported file _ = ⊥
+
+-- of writing the plain form of a file into another
+abbrev pub IsPlainReported : Bor (List ℕ) → Bor (List ℕ) → Fault → Type 0
+IsPlainReported file out (faults.Open name) = name ≡ file
+IsPlainReported file out (faults.Read name) = name ≡ file
+IsPlainReported file out (faults.Write name) = (name ≡ out) ⊎ (name.now ≡ codes "-")
+IsPlainReported file out faults.TooLarge = Unit {0}
+IsPlainReported file out faults.NoMemory = Unit {0}
+IsPlainReported file out (faults.File fault) = Unit {0}
+IsPlainReported file out (faults.Plain fault) = Unit {0}
+IsPlainReported file out _ = ⊥

@@ -1,0 +1,4 @@
+pub mod Reading
+pub mod Faults
+pub mod Reported
+pub mod Places

@@ -1,0 +1,35 @@
+-- The program's faults for an input that was not read.
+use Rattle.std.specs.Prelude.{◌≡◌, ℕ, List, Option}
+use Rattle.std.specs.Borrow.{Bor}
+use Rattle.fit_files.specs.declared.reading.ReadFault.{ReadFault}
+use Rattle.fit_files.specs.declared.reading.ReadFault.TheVariants.{Failed, TooLarge, NoMemory}
+use Rattle.fit_files.specs.Calls.Reading.{Refuses}
+use Rattle.fit_commands.specs.declared.fault.Fault.{Fault}
+use Rattle.fit_commands.specs.declared.fault.Fault.TheVariants as faults
+
+-- the program's fault for an input of this name
+abbrev pub fault_of_read : Bor (List ℕ) → ReadFault → Fault
+fault_of_read name Failed = faults.Read name
+fault_of_read name TooLarge = faults.TooLarge
+fault_of_read name NoMemory = faults.NoMemory
+
+-- the input was refused, and this is the program's fault for it
+abbrev pub IsReadFault : ℕ → Option (List ℕ) → Option (List ℕ) → Bor (List ℕ) → Fault → Type 0
+IsReadFault most old new name fault = (why : ReadFault) × Refuses most old new why × (fault ≡ fault_of_read name why)
+
+-- the faults of a file of this name that was not opened or not read
+abbrev pub IsFileFault : Bor (List ℕ) → Fault → Type 0
+IsFileFault name (faults.Open other) = other ≡ name
+IsFileFault name (faults.Read other) = other ≡ name
+IsFileFault name (faults.Write other) = ⊥
+IsFileFault name faults.TooLarge = Unit {0}
+IsFileFault name faults.NoMemory = Unit {0}
+IsFileFault name (faults.File fault) = ⊥
+IsFileFault name (faults.Plain fault) = ⊥
+IsFileFault name (faults.Activity fault) = ⊥
+IsFileFault name (faults.Script fault) = ⊥
+IsFileFault name (faults.OnlySimulate line) = ⊥
+IsFileFault name (faults.Recorder fault) = ⊥
+IsFileFault name (faults.NothingSaved lack) = ⊥
+IsFileFault name faults.Changed = ⊥
+IsFileFault name (faults.Refused count) = ⊥

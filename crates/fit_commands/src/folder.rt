@@ -1,0 +1,92 @@
+// Opens and reads the files in the folder of a recording.
+
+ghost use Rattle.std.specs.Prelude.{◌≡◌, IfErr, IfOk, IfSome};
+ghost use Rattle.fit_disk.specs.Files.{witness_of};
+ghost use Rattle.fit_disk.specs.declared.files.OpenFault.{OpenFault as WhyNotOpen};
+ghost use Rattle.fit_commands.specs.Faults.{fault_of_open, IsReadReported, IsLackReported};
+
+use crate::fault::Fault;
+use crate::input::read_input;
+use fit_disk::{DATA_NAME, Files, JOURNAL_NAME, OpenFault, Witness, is_one_missing, open_to_read};
+use fit_files::Lack;
+use fit_recorder::RecFault;
+use std::fs::File;
+
+/// Opens the files of this folder under a witness, and creates those that are missing.
+pub fn open_folder<'a, W: Witness>(
+    rt: &HostRuntime,
+    name: &'a str,
+    witness: W,
+) -> Result<Files<W>, Fault<'a>>
+    ensures witness { IfOk result (λ files. witness_of files ≡ witness) }
+    ensures fault { IfErr result (λ fault. (why : WhyNotOpen) × (fault ≡ fault_of_open name.entry why)) }
+{
+    match Files::open(rt, name, witness) {
+        Ok(files) => Ok(files),
+        Err(fault) => Err(fault_of(name, fault)),
+    }
+}
+
+/// Opens the files of this folder under a witness. Returns `None` if one of them is missing.
+pub fn open_recorded<'a, W: Witness>(
+    rt: &HostRuntime,
+    name: &'a str,
+    witness: W,
+) -> Result<Option<Files<W>>, Fault<'a>>
+    ensures witness { IfOk result (λ files. IfSome files (λ files. witness_of files ≡ witness)) }
+    ensures fault { IfErr result (λ fault. (why : WhyNotOpen) × (fault ≡ fault_of_open name.entry why)) }
+{
+    match is_one_missing(rt, name) {
+        Ok(true) => Ok(None),
+        Ok(false) => Ok(Some(open_folder(rt, name, witness)?)),
+        Err(fault) => Err(fault_of(name, fault)),
+    }
+}
+
+/// Reads the data file and the journal of this folder. Nothing is written. If one of them is missing, the fault says which, and if both
+/// are, it is `NothingRecorded`.
+pub fn read_recorded<'a>(rt: &HostRuntime, name: &'a str) -> Result<(Vec<u8>, Vec<u8>), Fault<'a>>
+    ensures { IfErr result (IsLackReported name.entry) }
+{
+    match open_files(rt, name)? {
+        (Some(data_file), Some(journal_file)) => read_files(rt, data_file, journal_file),
+        (Some(_), None) => Err(Fault::NothingSaved(Lack::NoJournal)),
+        (None, Some(_)) => Err(Fault::NothingSaved(Lack::NoData)),
+        (None, None) => Err(Fault::Recorder(RecFault::NothingRecorded)),
+    }
+}
+
+fn read_files(
+    rt: &HostRuntime,
+    mut data_file: File,
+    mut journal_file: File,
+) -> Result<(Vec<u8>, Vec<u8>), Fault<'static>>
+    ensures { IfErr result IsReadReported }
+{
+    let data_bytes = read_input(rt.alloc(), DATA_NAME, &mut data_file)?;
+    let journal_bytes = read_input(rt.alloc(), JOURNAL_NAME, &mut journal_file)?;
+    Ok((data_bytes, journal_bytes))
+}
+
+/// Opens the files of this folder for reading only, those of them that are there.
+pub fn open_files<'a>(
+    rt: &HostRuntime,
+    name: &'a str,
+) -> Result<(Option<File>, Option<File>), Fault<'a>>
+    ensures { IfErr result (λ fault. (why : WhyNotOpen) × (fault ≡ fault_of_open name.entry why)) }
+{
+    match open_to_read(rt, name) {
+        Ok(files) => Ok(files),
+        Err(fault) => Err(fault_of(name, fault)),
+    }
+}
+
+// The program's fault for a folder of this name that was not opened.
+fn fault_of<'a>(name: &'a str, fault: OpenFault) -> Fault<'a>
+    ensures { result ≡ fault_of_open name.entry fault }
+{
+    match fault {
+        OpenFault::Open => Fault::Open(name),
+        OpenFault::Memory => Fault::NoMemory,
+    }
+}

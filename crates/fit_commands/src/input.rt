@@ -1,0 +1,88 @@
+// Opens and reads the file of a subcommand.
+
+ghost use Rattle.std.specs.Prelude.{◌≡◌, ◌<◌, ◌≤◌, ◌↔◌, vec_len, IsTrue, IfOk, IfErr};
+ghost use Rattle.fit_files.specs.Calls.Reading.{ReadsAll};
+ghost use Rattle.fit_commands.specs.Faults.{IsReportFault};
+ghost use Rattle.fit_commands.specs.Reading.{fault_of_read, IsReadFault, IsFileFault};
+
+use crate::fault::Fault;
+use fit_files::{ReadFault, ReportFault, read_all};
+use std::alloc::Global;
+use std::fs::{self, OpenFile};
+use std::io::Read;
+use std::rt::Files;
+
+/// The greatest size of a file that is read: 256 MiB, in bytes.
+pub const MOST_BYTES: usize = 268_435_456;
+
+/// Opens the file of this name, unless it is known to be too large.
+pub fn open_file<'a, R: Files>(rt: &R, name: &'a str) -> Result<R::File, Fault<'a>>
+    ensures { IfErr result (IsFileFault name.entry) }
+{
+    let Ok(file) = fs::open(rt, name) else {
+        return Err(Fault::Open(name));
+    };
+    let size = file.metadata().map_or(0, |metadata| metadata.len());
+    if is_too_large(size) {
+        return Err(Fault::TooLarge);
+    }
+    Ok(file)
+}
+
+/// Reads all bytes of the file of this name.
+pub fn read_file<'a, R: Files + AllocGlobal>(rt: &R, name: &'a str) -> Result<Vec<u8>, Fault<'a>>
+    ensures fault { IfErr result (IsFileFault name.entry) }
+    ensures most { IfOk result (λ bytes. vec_len bytes ≤ 268435456) }
+{
+    match open_file(rt, name) {
+        Ok(mut file) => read_input(rt.alloc(), name, &mut file),
+        Err(fault) => Err(fault),
+    }
+}
+
+fn is_too_large(size: u64) -> bool
+    ensures { IsTrue result ↔ 268435456 < size }
+{
+    size > MOST_BYTES as u64
+}
+
+/// Reads all bytes of the input of this name.
+pub fn read_input<'a, T: Read>(
+    alloc: Global,
+    name: &'a str,
+    from: &mut T,
+) -> Result<Vec<u8>, Fault<'a>>
+    ensures all { IfOk result
+        (λ bytes. ReadsAll 268435456 (T.remaining from.old) (T.remaining from.new) bytes.items) }
+    ensures refused { IfErr result
+        (IsReadFault 268435456 (T.remaining from.old) (T.remaining from.new) name.entry) }
+{
+    match read_all(alloc, from, MOST_BYTES) {
+        Ok(bytes) => Ok(bytes),
+        Err(fault) => Err(fault_of(name, fault)),
+    }
+}
+
+/// The program's fault for an input of this name that was not read, checked, printed or made plain.
+pub fn fault_of_report<'a>(name: &'a str, fault: ReportFault) -> Fault<'a>
+    ensures { IsReportFault name.entry fault result }
+{
+    match fault {
+        ReportFault::File(fault) => Fault::File(fault),
+        ReportFault::Activity(fault) => Fault::Activity(fault),
+        ReportFault::Output => Fault::Write("-"),
+        ReportFault::Input(fault) => fault_of(name, fault),
+        ReportFault::Plain(fault) => Fault::Plain(fault),
+    }
+}
+
+// The program's fault for an input of this name that was not read.
+fn fault_of<'a>(name: &'a str, fault: ReadFault) -> Fault<'a>
+    ensures { result ≡ fault_of_read name.entry fault }
+{
+    match fault {
+        ReadFault::Failed => Fault::Read(name),
+        ReadFault::TooLarge => Fault::TooLarge,
+        ReadFault::NoMemory => Fault::NoMemory,
+    }
+}

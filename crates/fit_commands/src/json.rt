@@ -1,0 +1,28 @@
+// The subcommand `show` with `--json`: prints a file as JSON.
+
+ghost use Rattle.fit_files.specs.Printed.Shown.{ShowsJson};
+ghost use Rattle.fit_commands.specs.Faults.{IsReportFault};
+ghost use Rattle.fit_commands.specs.Reported.{Reports};
+
+use crate::fault::Fault;
+use crate::input::{MOST_BYTES, fault_of_report, open_file};
+use fit_files::show_json_input;
+use std::io::Write;
+use std::rt::Files;
+
+/// Prints the file of this name as JSON, an object on each line. With `utc`, times are dates.
+pub fn show_as_json<'a, R: Files + AllocGlobal, O: Write>(
+    rt: &R,
+    name: &'a str,
+    utc: bool,
+    out: &mut O,
+) -> Result<(), Fault<'a>>
+    ensures { Reports name.entry (O.contents out.old) (O.contents out.new) (IsReportFault name.entry)
+        (ShowsJson utc (O.contents out.old) (O.contents out.new)) result }
+{
+    let mut file = open_file(rt, name)?;
+    match show_json_input(rt.alloc(), &mut file, MOST_BYTES, utc, out) {
+        Ok(()) => Ok(()),
+        Err(fault) => Err(fault_of_report(name, fault)),
+    }
+}

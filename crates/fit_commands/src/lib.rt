@@ -1,0 +1,33 @@
+//! What the subcommands of the program do with files and folders.
+//!
+//! Each has a file, which opens what it needs and leaves the bytes to `fit_files`. They share `input`, which opens and reads a file,
+//! `folder`, which opens the files of a recording, and `beside`, which writes a file whole or not at all. `fault` has the line that
+//! reports an error.
+//!
+//! Contracts use the definitions of `specs/`: `Reading` has the faults of a file that is not read, `Faults` has those of each library
+//! call and subcommand, `Reported` has what a subcommand prints, and `Places` has the names of a recording's files.
+#![tactic(auto)]
+
+mod beside;
+mod check;
+mod content;
+mod fault;
+mod folder;
+mod input;
+mod json;
+mod plain;
+mod repair;
+mod salvage;
+mod save;
+mod show;
+
+pub use check::check_file;
+pub use fault::Fault;
+pub use folder::open_folder;
+pub use input::{fault_of_report, read_file};
+pub use json::show_as_json;
+pub use plain::make_plain;
+pub use repair::{repair_files, repair_folder, repair_holding, verify_folder, verify_read};
+pub use salvage::salvage_file;
+pub use save::save_folder;
+pub use show::show_file;

@@ -1,0 +1,60 @@
+// The subcommand `salvage`: writes the readable part of a file that has no journal to a file of its own.
+
+ghost use Rattle.std.specs.Prelude.{◌≡◌, IfErr, OnOk, true};
+ghost use Rattle.fit_commands.specs.Faults.{IsNotMade, IsSalvageReported};
+ghost use Rattle.fit_commands.specs.Reported.{HasPlainForm, SavesFile, PrintsNothing};
+
+use crate::beside::write_whole;
+use crate::fault::Fault;
+use crate::input::{fault_of_report, read_file};
+use fit_files::{Salvage, salvage_bytes};
+use std::io::Write;
+
+/// Writes the readable part of the file `name`, or with `plain` the plain form of that, to the file `to`, which may exist. Prints how
+/// many bytes were kept. If more bytes follow those looked at and the two of a checksum, a line on `err` gives their number. Both may
+/// be one file.
+pub fn salvage_file<'a, O: Write, E: Write>(
+    rt: &HostRuntime,
+    name: &'a str,
+    to: &'a str,
+    all: bool,
+    plain: bool,
+    out: &mut O,
+    err: &mut E,
+) -> Result<(), Fault<'a>>
+    ensures reported { IfErr result (IsSalvageReported plain name.entry to.entry) }
+    ensures saved { OnOk result (SavesFile all plain (O.contents out.old) (O.contents out.new)) }
+    ensures quiet { IfErr result (PrintsNothing (O.contents out.old) (O.contents out.new)) }
+{
+    let bytes = read_file(rt, name)?;
+    let salvage = match salvage_bytes(bytes.as_slice(), all) {
+        Ok(salvage) => salvage,
+        Err(fault) => return Err(Fault::File(fault)),
+    };
+    write_salvage(rt, name, to, plain, &salvage)?;
+    let _ = salvage.print_left(err);
+    match salvage.print(out) {
+        Ok(()) => Ok(()),
+        Err(fault) => Err(fault_of_report(name, fault)),
+    }
+}
+
+// Writes the readable part of the file `name`, or its plain form, to the file `to`.
+fn write_salvage<'a>(
+    rt: &HostRuntime,
+    name: &'a str,
+    to: &'a str,
+    plain: bool,
+    salvage: &Salvage<'_>,
+) -> Result<(), Fault<'a>>
+    ensures reported { IfErr result (IsNotMade plain to.entry) }
+    ensures form { OnOk result (plain ≡ true → HasPlainForm salvage.now) }
+{
+    if !plain {
+        return write_whole(rt, to, salvage);
+    }
+    match salvage.plain(rt.alloc()) {
+        Ok(file) => write_whole(rt, to, &file),
+        Err(fault) => Err(fault_of_report(name, fault)),
+    }
+}

@@ -1,0 +1,28 @@
+// The subcommand `show`: prints the text of a file.
+
+ghost use Rattle.fit_files.specs.Printed.Shown.{ShowsBytes};
+ghost use Rattle.fit_commands.specs.Faults.{IsReportFault};
+ghost use Rattle.fit_commands.specs.Reported.{Reports};
+
+use crate::fault::Fault;
+use crate::input::{MOST_BYTES, fault_of_report, open_file};
+use fit_files::show_input;
+use std::io::Write;
+use std::rt::Files;
+
+/// Prints the text of the file of this name. With `utc`, times are dates.
+pub fn show_file<'a, R: Files + AllocGlobal, O: Write>(
+    rt: &R,
+    name: &'a str,
+    utc: bool,
+    out: &mut O,
+) -> Result<(), Fault<'a>>
+    ensures { Reports name.entry (O.contents out.old) (O.contents out.new) (IsReportFault name.entry)
+        (ShowsBytes utc (O.contents out.old) (O.contents out.new)) result }
+{
+    let mut file = open_file(rt, name)?;
+    match show_input(rt.alloc(), &mut file, MOST_BYTES, utc, out) {
+        Ok(()) => Ok(()),
+        Err(fault) => Err(fault_of_report(name, fault)),
+    }
+}
