@@ -12,12 +12,12 @@ mod request;
 mod shown;
 mod subcommands;
 
-use clap::Error;
 use clap::error::ErrorKind;
+use clap::{ArgMatches, Command, Error};
 pub use request::Request;
 use request::request_in;
 pub use shown::ShownWord;
-use std::alloc::Global;
+use std::alloc::{AllocError, Global};
 use std::convert::AsStr;
 use subcommands::fitrec_command;
 
@@ -33,7 +33,14 @@ pub fn read_words<'a, S: AsStr>(alloc: Global, words: &'a [S]) -> Result<Request
 fn request_of_words<'a, S: AsStr>(alloc: Global, words: &'a [S]) -> Result<Request<'a>, Error> {
     let mut fitrec = fitrec_command(alloc)?;
     let matches = fitrec.try_get_matches_from_mut(words)?;
-    match request_in(&matches) {
+    request_or_refusal(&mut fitrec, &matches)
+}
+
+fn request_or_refusal<'a>(
+    fitrec: &mut Command<'a>,
+    matches: &ArgMatches<'a>,
+) -> Result<Request<'a>, Error> {
+    match request_in(matches) {
         Some(request) => Ok(request),
         None => Err(fitrec.error(ErrorKind::MissingSubcommand, "no command")?),
     }
@@ -41,15 +48,20 @@ fn request_of_words<'a, S: AsStr>(alloc: Global, words: &'a [S]) -> Result<Reque
 
 // The refusal of these words as they are shown, which takes the place of this one. What is wrong with a word stays wrong with it.
 fn shown_refusal<S: AsStr>(alloc: Global, words: &[S], refusal: Error) -> Result<Error, Error> {
+    let shown = shown_words(alloc, words)?;
+    match request_of_words(alloc, shown.as_slice()) {
+        Ok(_) => Ok(refusal),
+        Err(of_shown) => Ok(of_shown),
+    }
+}
+
+fn shown_words<S: AsStr>(alloc: Global, words: &[S]) -> Result<Vec<String>, AllocError> {
     let mut shown: Vec<String> = Vec::new(alloc);
     for word in words {
         let text = word.as_str();
         shown.push(format!(in alloc; "{}", ShownWord(text))?)?;
     }
-    match request_of_words(alloc, shown.as_slice()) {
-        Ok(_) => Ok(refusal),
-        Err(of_shown) => Ok(of_shown),
-    }
+    Ok(shown)
 }
 
 /// The error for a word of `--choices` that is not an even number of hexadecimal digits.
@@ -58,8 +70,7 @@ pub fn no_choices(alloc: Global, word: &str) -> Result<Error, Error> {
         "invalid value '{}' for '--choices <HEX>': it is no even number of hexadecimal digits",
         ShownWord(word)
     )?;
-    let mut fitrec = fitrec_command(alloc)?;
-    Ok(fitrec.error(ErrorKind::ValueValidation, why.as_str())?)
+    value_error(alloc, why.as_str())
 }
 
 /// The error for a word of `--commit` that is not a number of seconds.
@@ -68,6 +79,11 @@ pub fn no_seconds(alloc: Global, word: &str) -> Result<Error, Error> {
         "invalid value '{}' for '--commit <SECONDS>': it is no number from 0 to 4294967295",
         ShownWord(word)
     )?;
+    value_error(alloc, why.as_str())
+}
+
+// The error for a word that is no value of its option.
+fn value_error(alloc: Global, why: &str) -> Result<Error, Error> {
     let mut fitrec = fitrec_command(alloc)?;
-    Ok(fitrec.error(ErrorKind::ValueValidation, why.as_str())?)
+    Ok(fitrec.error(ErrorKind::ValueValidation, why)?)
 }

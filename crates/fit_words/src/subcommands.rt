@@ -20,37 +20,36 @@ pub(crate) fn fitrec_command<'a>(alloc: Global) -> Result<Command<'a>, Error> {
     let fitrec = with_reading(alloc, fitrec)?;
     let fitrec = with_recording(alloc, fitrec)?;
     let fitrec = with_making(alloc, fitrec)?;
-    Ok(fitrec.subcommand(version_command(alloc)?)?)
+    with(fitrec, version_command(alloc))
 }
 
 // Adds the subcommands that read a file.
 fn with_reading<'a>(alloc: Global, fitrec: Command<'a>) -> Result<Command<'a>, Error> {
-    Ok(
-        fitrec
-            .subcommand(show_command(alloc)?)?
-            .subcommand(check_command(alloc)?)?,
-    )
+    let fitrec = with(fitrec, show_command(alloc))?;
+    with(fitrec, check_command(alloc))
 }
 
 // Adds the subcommands of a recording.
 fn with_recording<'a>(alloc: Global, fitrec: Command<'a>) -> Result<Command<'a>, Error> {
-    Ok(
-        fitrec
-            .subcommand(replay_command(alloc)?)?
-            .subcommand(record_command(alloc)?)?
-            .subcommand(save_command(alloc)?)?
-            .subcommand(repair_command(alloc)?)?,
-    )
+    let fitrec = with(fitrec, replay_command(alloc))?;
+    let fitrec = with(fitrec, record_command(alloc))?;
+    let fitrec = with(fitrec, save_command(alloc))?;
+    with(fitrec, repair_command(alloc))
 }
 
 // Adds the subcommands that make one file from another, and the one that makes no file.
 fn with_making<'a>(alloc: Global, fitrec: Command<'a>) -> Result<Command<'a>, Error> {
-    Ok(
-        fitrec
-            .subcommand(salvage_command(alloc)?)?
-            .subcommand(plain_command(alloc)?)?
-            .subcommand(simulate_command(alloc)?)?,
-    )
+    let fitrec = with(fitrec, salvage_command(alloc))?;
+    let fitrec = with(fitrec, plain_command(alloc))?;
+    with(fitrec, simulate_command(alloc))
+}
+
+// Adds a subcommand.
+fn with<'a>(
+    fitrec: Command<'a>,
+    subcommand: Result<Command<'a>, Error>,
+) -> Result<Command<'a>, Error> {
+    Ok(fitrec.subcommand(subcommand?)?)
 }
 
 fn show_command<'a>(alloc: Global) -> Result<Command<'a>, Error> {
