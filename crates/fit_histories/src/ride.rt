@@ -22,6 +22,7 @@ impl<D: Disk> Ride<D> {
     ghost use Rattle.std.specs.Prelude.{List};
     ghost use Rattle.fit_activity.specs.declared.recording.entry.Entry.TheVariants.{Stop};
     ghost use Rattle.fit_activity.specs.Rides.Recording.{Recorded, Started, Added, is_stop};
+    ghost use Rattle.fit_activity.specs.Rides.Stretch.{end_time};
     ghost use Rattle.fit_disk.specs.State.{LeavesOnly, seen_in};
     ghost use Rattle.fit_disk.specs.Story.{seen_of};
     ghost use Rattle.fit_disk.specs.declared.disk.Which.TheVariants.{Data};
@@ -180,6 +181,16 @@ impl<D: Disk> Ride<D> {
         let mut disk = self.into_disk();
         let reply = erase(&mut disk).into();
         (Ride::Idle(disk), reply)
+    }
+
+    /// The time of the last entry of the recorder that runs, or of its start; if none runs, 0.
+    pub fn last_time(&self) -> u32
+        ensures { (list : List Recorded) → Handed self.now list → result ≡ end_time list }
+    {
+        match self {
+            Ride::Idle(_) => 0,
+            Ride::Riding(recorder) => recorder.end_time(),
+        }
     }
 
     /// Ends the recorder that runs, if one does, and returns the disk. Entries that were not committed may be lost.

@@ -14,7 +14,7 @@ use Rattle.fit_runs.specs.declared.recording.session.Session.{Session}
 use Rattle.fit_files.specs.Printed.Shown.{IsOutputFault}
 use Rattle.fit_runs.specs.Rides.Listening.{CanHear, HasHeard, BreaksOffAt}
 use Rattle.fit_runs.specs.Rides.Played.{LeavesAfter}
-use Rattle.fit_runs.specs.Rides.Turns.{Turn, turns_text, events_in, replies_in, refused_in, rides_after, times_after, IsAnswer, AnswersLine, AnswersLines, AnswersAll, AnswersUpTo, AnswersSome, Commits, TakesLine, CutShort, Prints, Does, BrokenOff, Finishes, SoFar}
+use Rattle.fit_runs.specs.Rides.Turns.{Turn, turns_text, events_in, replies_in, refused_in, rides_after, times_after, IsAnswer, AnswersLine, AnswersLines, AnswersAll, AnswersUpTo, AnswersSome, Commits, TakesLine, CutShort, Prints, Does, BrokenOff, Finishes, SoFar, LeavesByTurns}
 use Rattle.fit_runs.specs.Rides.Heard.{IsHeld, line_of, lines_in, last_line, heard_in}
 use Rattle.fit_runs.proofs.Reported.Recorded.{answers_more, cut_after, newline_heard, other_heard, prints_then}
 
@@ -226,7 +226,7 @@ module _ {D : Type 0} (honest : Bool) (story : D → Story) (every : Option ℕ)
 
   pub broken_off : (old new : Story) (bytes : List ℕ) (before after : Option (List ℕ)) (listener : Listener D) →
       (known : BreaksOffAt honest story every old bytes before listener after) →
-      LeavesAfter honest old new (events_in known.turns) (replies_in known.turns) → BrokenOff honest old new every bytes before after
+      LeavesByTurns honest old new known.turns → BrokenOff honest old new every bytes before after
   broken_off old new bytes before after listener known leaves = (
     known.heard,
     known.rest,
@@ -267,7 +267,7 @@ module _ {D : Type 0} (honest : Bool) (story : D → Story) (every : Option ℕ)
       (own : List Turn) (fault : ReportFault) → (known : HasHeard honest story every old bytes before listener middle) → known.line ≢ [] →
       TakesLine {X = Unit {0}} (Err fault) every (times_after [] known.turns) (listener.session.line + 1) known.line own →
       SoFar honest story every old (known.turns ++ own) next →
-      LeavesAfter honest old new (events_in (known.turns ++ own)) (replies_in (known.turns ++ own)) → IsOutputFault fault → CutShort middle after own →
+      LeavesByTurns honest old new (known.turns ++ own) → IsOutputFault fault → CutShort middle after own →
       Finishes honest old new every bytes before after (Err fault)
   failed_last old new bytes before middle after listener next own fault known some answers so_far leaves output cut =
       broken_finishes honest old new every bytes before after fault output (

@@ -7,6 +7,8 @@ use Rattle.fit_scripts.specs.Scripts.Script.{meaning_of}
 use Rattle.std.proofs.KnownBytes.{Appends-trans, Appends-nil}
 use Rattle.std.proofs.lemmas.Grind.{flat_map-append}
 use Rattle.std.specs.Io.KnownBytes.{Appends}
+use Rattle.fit_activity.specs.Rides.Recording.{Recorded}
+use Rattle.fit_activity.specs.Rides.Stretch.{end_time}
 use Rattle.fit_disk.specs.Story.{Story}
 use Rattle.fit_grammar.specs.Calls.Output.{WritesText}
 use Rattle.fit_scripts.specs.declared.event.Event.{Event}
@@ -14,40 +16,42 @@ use Rattle.fit_files.specs.declared.fault.ReportFault.{ReportFault}
 use Rattle.fit_runs.specs.declared.recording.line_fault.LineFault.{LineFault}
 use Rattle.fit_runs.specs.declared.recording.session.Session.{Session}
 use Rattle.fit_histories.specs.declared.reply.Reply.{Reply}
-use Rattle.fit_histories.specs.Histories.Table.{History, Idle, Step, ended}
+use Rattle.fit_histories.specs.Histories.Table.{History, Idle, Step, ended, Riding}
 use Rattle.fit_runs.specs.Rides.Dues.{Shows, times_on}
 use Rattle.fit_runs.specs.Rides.Played.{GoesTo, LeavesAfter}
 use Rattle.fit_histories.specs.Rides.Replies.{MayReply, MayReplyAll, is_ok, rides_on}
-use Rattle.fit_histories.specs.Rides.Ride.{is_riding}
+use Rattle.fit_histories.specs.Rides.Ride.{is_riding, Handed}
 use Rattle.fit_histories.specs.Rides.Standing.{StandsIn, GoesBy, Rests, content_of, outcome}
-use Rattle.fit_runs.specs.Rides.Turns.{commit_at, Turn, Asked, Faulty, turn_text, turns_text, events_in, replies_in, count_of, refused_in, rides_after, times_after, AnswersLine, AnswersLines, Commits, CommitsUnlessCut, CutShort, Prints, SoFar}
+use Rattle.fit_runs.specs.Rides.Turns.{commit_at, Turn, Asked, Faulty, turn_text, turns_text, events_in, replies_in, count_of, refused_in, rides_after, times_after, AnswersLine, AnswersLines, Commits, CommitsUnlessCut, CutShort, Prints, SoFar, EndsAt, GoesByTurns, LeavesByTurns}
 use Rattle.fit_runs.specs.Rides.Heard.{Heard, after_byte, after_bytes, heard_in, line_of}
+use Rattle.fit_histories.specs.declared.ride.Ride.{Ride}
+use Rattle.fit_histories.specs.declared.ride.Ride.TheVariants as rides
 
 -- ---- one turn more
 
-may_more : (riding : Bool) (turns : List Turn) (event : Event) (reply : Reply) → MayReplyAll riding (events_in turns) (replies_in turns) →
+may_more : (riding : Bool) (turns : List Turn) (event : Event) (reply : Reply) (last : ℕ) → MayReplyAll riding (events_in turns) (replies_in turns) →
     MayReply (rides_after riding turns) event.command reply →
-    MayReplyAll riding (events_in (turns ++ Asked event reply ∷ [])) (replies_in (turns ++ Asked event reply ∷ []))
-may_more riding [] event reply all may = (may, tt)
-may_more riding (Asked first stated ∷ turns) event reply all may =
-    (all.0, may_more (rides_on riding first.command stated) turns event reply all.1 may)
-may_more riding (Faulty number fault ∷ turns) event reply all may = may_more riding turns event reply all may
+    MayReplyAll riding (events_in (turns ++ Asked event reply last ∷ [])) (replies_in (turns ++ Asked event reply last ∷ []))
+may_more riding [] event reply last all may = (may, tt)
+may_more riding (Asked first stated other ∷ turns) event reply last all may =
+    (all.0, may_more (rides_on riding first.command stated) turns event reply last all.1 may)
+may_more riding (Faulty number fault ∷ turns) event reply last all may = may_more riding turns event reply last all may
 
-goes_more : (before middle after : History) (turns : List Turn) (event : Event) (reply : Reply) (file : List ℕ) →
-    GoesTo before (events_in turns) (replies_in turns) middle → Step middle event.command (outcome reply file) after →
-    GoesTo before (events_in (turns ++ Asked event reply ∷ [])) (replies_in (turns ++ Asked event reply ∷ [])) after
-goes_more before middle after [] event reply file goes step =
-    (file, after, subst (λ h. Step h event.command (outcome reply file) after) goes step, refl)
-goes_more before middle after (Asked first stated ∷ turns) event reply file goes step =
-    (goes.0, goes.1, goes.2, goes_more goes.1 middle after turns event reply file goes.3 step)
-goes_more before middle after (Faulty number fault ∷ turns) event reply file goes step =
-    goes_more before middle after turns event reply file goes step
+goes_more : (before middle after : History) (turns : List Turn) (event : Event) (reply : Reply) (last : ℕ) (file : List ℕ) →
+    GoesByTurns before turns middle → Step middle event.command (outcome reply file) after → EndsAt after last →
+    GoesByTurns before (turns ++ Asked event reply last ∷ []) after
+goes_more before middle after [] event reply last file goes step ends =
+    (file, after, subst (λ h. Step h event.command (outcome reply file) after) goes step, ends, refl)
+goes_more before middle after (Asked first stated other ∷ turns) event reply last file goes step ends =
+    (goes.0, goes.1, goes.2, goes.3, goes_more goes.1 middle after turns event reply last file goes.4 step ends)
+goes_more before middle after (Faulty number fault ∷ turns) event reply last file goes step ends =
+    goes_more before middle after turns event reply last file goes step ends
 
-rides_more : (riding : Bool) (turns : List Turn) (event : Event) (reply : Reply) →
-    rides_after riding (turns ++ Asked event reply ∷ []) ≡ rides_on (rides_after riding turns) event.command reply
-rides_more riding [] event reply = refl
-rides_more riding (Asked first stated ∷ turns) event reply = rides_more (rides_on riding first.command stated) turns event reply
-rides_more riding (Faulty number fault ∷ turns) event reply = rides_more riding turns event reply
+rides_more : (riding : Bool) (turns : List Turn) (event : Event) (reply : Reply) (last : ℕ) →
+    rides_after riding (turns ++ Asked event reply last ∷ []) ≡ rides_on (rides_after riding turns) event.command reply
+rides_more riding [] event reply last = refl
+rides_more riding (Asked first stated other ∷ turns) event reply last = rides_more (rides_on riding first.command stated) turns event reply last
+rides_more riding (Faulty number fault ∷ turns) event reply last = rides_more riding turns event reply last
 
 pub refused_more : (turns more : List Turn) → refused_in (turns ++ more) ≡ refused_in turns + refused_in more
 refused_more [] more = omega arith
@@ -55,42 +59,59 @@ refused_more (turn ∷ turns) more = omega (arith, refused_more turns more)
 
 events_same : (turns : List Turn) (number : ℕ) (fault : LineFault) → events_in (turns ++ Faulty number fault ∷ []) ≡ events_in turns
 events_same [] number fault = refl
-events_same (Asked event reply ∷ turns) number fault = ap (λ events. event ∷ events) (events_same turns number fault)
+events_same (Asked event reply last ∷ turns) number fault = ap (λ events. event ∷ events) (events_same turns number fault)
 events_same (Faulty n f ∷ turns) number fault = events_same turns number fault
 
 replies_same : (turns : List Turn) (number : ℕ) (fault : LineFault) → replies_in (turns ++ Faulty number fault ∷ []) ≡ replies_in turns
 replies_same [] number fault = refl
-replies_same (Asked event reply ∷ turns) number fault = ap (λ replies. reply ∷ replies) (replies_same turns number fault)
+replies_same (Asked event reply last ∷ turns) number fault = ap (λ replies. reply ∷ replies) (replies_same turns number fault)
 replies_same (Faulty n f ∷ turns) number fault = replies_same turns number fault
 
 rides_same : (riding : Bool) (turns : List Turn) (number : ℕ) (fault : LineFault) →
     rides_after riding (turns ++ Faulty number fault ∷ []) ≡ rides_after riding turns
 rides_same riding [] number fault = refl
-rides_same riding (Asked event reply ∷ turns) number fault = rides_same (rides_on riding event.command reply) turns number fault
+rides_same riding (Asked event reply last ∷ turns) number fault = rides_same (rides_on riding event.command reply) turns number fault
 rides_same riding (Faulty n f ∷ turns) number fault = rides_same riding turns number fault
 
 pub times_more : (times : List ℕ) (turns more : List Turn) → times_after times (turns ++ more) ≡ times_after (times_after times turns) more
 times_more times [] more = refl
-times_more times (Asked event reply ∷ turns) more = times_more (times_on times event.command (is_ok reply)) turns more
+times_more times (Asked event reply last ∷ turns) more = times_more (times_on times event.command (is_ok reply) last) turns more
 times_more times (Faulty number fault ∷ turns) more = times_more times turns more
+
+goes_same : (before after : History) (turns : List Turn) (number : ℕ) (fault : LineFault) → GoesByTurns before turns after →
+    GoesByTurns before (turns ++ Faulty number fault ∷ []) after
+goes_same before after [] number fault goes = goes
+goes_same before after (Asked event reply last ∷ turns) number fault goes =
+    (goes.0, goes.1, goes.2, goes.3, goes_same goes.1 after turns number fault goes.4)
+goes_same before after (Faulty n f ∷ turns) number fault goes = goes_same before after turns number fault goes
+
+-- the last time of a recorder is that of the list in each state in which it stands
+pub ends_at : {D : Type 0} (honest : Bool) (story : D → Story) (ride : Ride D) (after : History) (last : ℕ) →
+    ((list : List Recorded) → Handed ride list → last ≡ end_time list) → StandsIn honest story ride after → EndsAt after last
+ends_at honest story (rides.Riding recorder) (Riding list promise reopened false) last is stands = is list (stands.stands.totals, stands.going)
+ends_at honest story (rides.Riding recorder) (Riding list promise reopened true) last is stands = tt
+ends_at honest story (rides.Riding recorder) (Idle claims begun) last is stands = tt
+ends_at honest story (rides.Idle disk) (Riding list promise reopened failed) last is stands = absurd stands
+ends_at honest story (rides.Idle disk) (Idle claims begun) last is stands = tt
 
 module _ {D : Type 0} (honest : Bool) (story : D → Story) (every : Option ℕ) where
   -- an event was run
-  pub so_far_asked : (old : Story) (turns : List Turn) (session next : Session D) (event : Event) (reply : Reply) →
+  pub so_far_asked : (old : Story) (turns : List Turn) (session next : Session D) (event : Event) (reply : Reply) (last : ℕ) →
       SoFar honest story every old turns session → MayReply (is_riding session.ride) event.command reply →
-      is_riding next.ride ≡ rides_on (is_riding session.ride) event.command reply → next.refused ≡ session.refused + count_of (Asked event reply) →
-      Shows every (times_on (times_after [] turns) event.command (is_ok reply)) next.clock →
+      is_riding next.ride ≡ rides_on (is_riding session.ride) event.command reply → next.refused ≡ session.refused + count_of (Asked event reply last) →
+      Shows every (times_on (times_after [] turns) event.command (is_ok reply) last) next.clock →
       (IsTrue honest → (before : History) → StandsIn honest story session.ride before → GoesBy honest story before event.command reply next.ride) →
-      SoFar honest story every old (turns ++ Asked event reply ∷ []) next
-  so_far_asked old turns session next event reply known may rides counts shows step = record {
-    may = may_more false turns event reply known.may (subst (λ riding. MayReply riding event.command reply) known.riding may);
-    riding = rides ∙ ap (λ riding. rides_on riding event.command reply) known.riding ∙ sym (rides_more false turns event reply);
-    counted = omega (arith, counts, known.counted, refused_more turns (Asked event reply ∷ []));
-    clock = subst (λ times. Shows every times next.clock) (sym (times_more [] turns (Asked event reply ∷ []))) shows;
+      ((after : History) → StandsIn honest story next.ride after → EndsAt after last) →
+      SoFar honest story every old (turns ++ Asked event reply last ∷ []) next
+  so_far_asked old turns session next event reply last known may rides counts shows step ends = record {
+    may = may_more false turns event reply last known.may (subst (λ riding. MayReply riding event.command reply) known.riding may);
+    riding = rides ∙ ap (λ riding. rides_on riding event.command reply) known.riding ∙ sym (rides_more false turns event reply last);
+    counted = omega (arith, counts, known.counted, refused_more turns (Asked event reply last ∷ []));
+    clock = subst (λ times. Shows every times next.clock) (sym (times_more [] turns (Asked event reply last ∷ []))) shows;
     stood = λ sound claims begun rests.
         let stood = known.stood sound claims begun rests in
         let by = step sound stood.0 stood.2 in
-        (by.after, goes_more (Idle claims begun) stood.0 by.after turns event reply (content_of story next.ride) stood.1 by.step, by.stands);
+        (by.after, goes_more (Idle claims begun) stood.0 by.after turns event reply last (content_of story next.ride) stood.1 by.step (ends by.after by.stands), by.stands);
   }
 
   -- a line could not be done
@@ -105,7 +126,7 @@ module _ {D : Type 0} (honest : Bool) (story : D → Story) (every : Option ℕ)
     stood = λ sound claims begun rests.
         let stood = known.stood sound claims begun rests in (
           stood.0,
-          rw (events_same turns number fault, replies_same turns number fault) stood.1,
+          goes_same (Idle claims begun) stood.0 turns number fault stood.1,
           subst (λ ride. StandsIn honest story ride stood.0) (sym same) stood.2,
         );
   }
@@ -127,7 +148,7 @@ module _ {D : Type 0} (honest : Bool) (story : D → Story) (every : Option ℕ)
   -- what is left if the ride is ended
   pub left_after : (old new : Story) (turns : List Turn) (session : Session D) → SoFar honest story every old turns session →
       (IsTrue honest → (before : History) → StandsIn honest story session.ride before → Rests (ended before) new) →
-      LeavesAfter honest old new (events_in turns) (replies_in turns)
+      LeavesByTurns honest old new turns
   left_after old new turns session known ends sound claims begun rests =
       let stood = known.stood sound claims begun rests in
       record { after = stood.0; goes = stood.1; rests = ends sound stood.0 stood.2 }
@@ -136,19 +157,20 @@ pub no_commit : (due : Bool) (number : ℕ) → due ≡ false → Commits due nu
 no_commit true number none = cc
 no_commit false number none = refl
 
-pub one_commit : (due : Bool) (number : ℕ) (reply : Reply) → due ≡ true → Commits due number (Asked (commit_at number) reply ∷ [])
-one_commit true number reply one = (reply, refl)
-one_commit false number reply one = cc
+pub one_commit : (due : Bool) (number : ℕ) (reply : Reply) (last : ℕ) → due ≡ true →
+    Commits due number (Asked (commit_at number) reply last ∷ [])
+one_commit true number reply last one = (reply, last, refl)
+one_commit false number reply last one = cc
 
 pub none_unless : {X : Type 0} (result : Result X ReportFault) (due : Bool) (number : ℕ) → due ≡ false →
     CommitsUnlessCut result due number []
 none_unless (Ok x) due number none = no_commit due number none
 none_unless (Err fault) due number none = inr refl
 
-pub one_unless : {X : Type 0} (result : Result X ReportFault) (due : Bool) (number : ℕ) (reply : Reply) → due ≡ true →
-    CommitsUnlessCut result due number (Asked (commit_at number) reply ∷ [])
-one_unless (Ok x) due number reply one = one_commit due number reply one
-one_unless (Err fault) due number reply one = inl (one_commit due number reply one)
+pub one_unless : {X : Type 0} (result : Result X ReportFault) (due : Bool) (number : ℕ) (reply : Reply) (last : ℕ) → due ≡ true →
+    CommitsUnlessCut result due number (Asked (commit_at number) reply last ∷ [])
+one_unless (Ok x) due number reply last one = one_commit due number reply last one
+one_unless (Err fault) due number reply last one = inl (one_commit due number reply last one)
 
 -- ---- what is printed
 

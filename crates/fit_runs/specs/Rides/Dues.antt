@@ -6,13 +6,14 @@ use Rattle.fit_scripts.specs.declared.command.Command.TheVariants as commands
 use Rattle.fit_runs.specs.declared.recording.clock.Clock.{Clock}
 
 -- The times since the last commit: from the time of the ride when it was asked for to the last entry that was taken, the newest first. A
--- start is a commit. A commit counts whatever is answered. After a reopening the first entry is the first time.
-abbrev pub times_on : List ℕ → Command → Bool → List ℕ
-times_on times (commands.Start start) done = if done then start.time ∷ [] else []
-times_on times (commands.Entry entry) done =
+-- start is a commit, and so is a reopening, at the last time of the ride that it found. A commit counts whatever is answered.
+abbrev pub times_on : List ℕ → Command → Bool → ℕ → List ℕ
+times_on times (commands.Start start) done last = if done then start.time ∷ [] else []
+times_on times (commands.Entry entry) done last =
     if done then (if is_stop (Added entry) then [] else entry_time entry ∷ times) else times
-times_on times commands.Commit done = take 1 times
-times_on times _ done = []
+times_on times commands.Commit done last = take 1 times
+times_on times commands.Reopen done last = if done then last ∷ [] else []
+times_on times _ done last = []
 
 -- the last of these times, before which is this one
 abbrev pub oldest : ℕ → List ℕ → ℕ

@@ -2,6 +2,7 @@
 use Rattle.std.specs.Prelude.{◌≡◌, ◌≢◌, ◌⊎◌, ◌<◌, ℕ, ◌+◌, Bool, true, false, IsTrue, List, [], ◌∷◌, ◌++◌, length, Option, Some, None, Result, Ok, Err, OnOk, codes, if◌then◌else◌}
 use Rattle.std.specs.Io.KnownBytes.{Appends, Consumes, IsAtEnd}
 use Rattle.std.specs.List.{flat_map}
+use Rattle.fit_activity.specs.Rides.Stretch.{end_time}
 use Rattle.fit_disk.specs.Story.{Story}
 use Rattle.fit_scripts.specs.declared.command.Command.{Command}
 use Rattle.fit_scripts.specs.declared.command.Command.TheVariants.{Commit}
@@ -14,28 +15,29 @@ use Rattle.fit_scripts.specs.declared.script.fault.ScriptFaultKind.TheVariants.{
 use Rattle.fit_runs.specs.declared.recording.session.Session.{Session}
 use Rattle.fit_histories.specs.declared.reply.Reply.{Reply}
 use Rattle.fit_histories.specs.Histories.Claims.{Claim}
-use Rattle.fit_histories.specs.Histories.Table.{History, Idle}
+use Rattle.fit_histories.specs.Histories.Table.{History, Idle, Riding, Step, ended}
 use Rattle.fit_runs.specs.Printed.FaultyLines.{faulty_text}
 use Rattle.fit_runs.specs.Printed.ReplyLines.{line_text}
 use Rattle.fit_runs.specs.Rides.Dues.{Shows, times_on, is_due}
 use Rattle.fit_runs.specs.Rides.Played.{GoesTo, LeavesAfter}
 use Rattle.fit_histories.specs.Rides.Replies.{MayReplyAll, is_ok, rides_on}
 use Rattle.fit_histories.specs.Rides.Ride.{is_riding}
-use Rattle.fit_histories.specs.Rides.Standing.{StandsIn, Rests}
+use Rattle.fit_histories.specs.Rides.Standing.{StandsIn, Rests, outcome}
 use Rattle.fit_scripts.specs.Scripts.Faults.{IsWrong}
 use Rattle.fit_runs.specs.Rides.Heard.{heard_in, lines_in}
 use Rattle.fit_scripts.specs.Scripts.Commands.{is_simulated}
 use Rattle.fit_scripts.specs.Scripts.Script.{meaning_of}
+use Rattle.fit_scripts.specs.Scripts.Replayed.{is_simulated}
 
--- an event was run, with this reply; or the line with this number cannot be done
+-- an event was run, with this reply, and this is the last time of the ride then; or the line with this number cannot be done
 pub data Turn : Type 0 where
-  Asked : Event → Reply → Turn
+  Asked : Event → Reply → ℕ → Turn
   Faulty : ℕ → LineFault → Turn
 
 -- ---- what turns are
 
 abbrev pub turn_text : Turn → List ℕ
-turn_text (Asked event reply) = line_text event reply ++ codes "\n"
+turn_text (Asked event reply last) = line_text event reply ++ codes "\n"
 turn_text (Faulty number fault) = faulty_text number fault ++ codes "\n"
 
 abbrev pub turns_text : List Turn → List ℕ
@@ -43,17 +45,17 @@ turns_text turns = flat_map turn_text turns
 
 abbrev pub events_in : List Turn → List Event
 events_in [] = []
-events_in (Asked event reply ∷ turns) = event ∷ events_in turns
+events_in (Asked event reply last ∷ turns) = event ∷ events_in turns
 events_in (Faulty number fault ∷ turns) = events_in turns
 
 abbrev pub replies_in : List Turn → List Reply
 replies_in [] = []
-replies_in (Asked event reply ∷ turns) = reply ∷ replies_in turns
+replies_in (Asked event reply last ∷ turns) = reply ∷ replies_in turns
 replies_in (Faulty number fault ∷ turns) = replies_in turns
 
 -- an answer that is not ok counts
 abbrev pub count_of : Turn → ℕ
-count_of (Asked event reply) = if is_ok reply then 0 else 1
+count_of (Asked event reply last) = if is_ok reply then 0 else 1
 count_of (Faulty number fault) = 1
 
 abbrev pub refused_in : List Turn → ℕ
@@ -63,13 +65,13 @@ refused_in (turn ∷ turns) = count_of turn + refused_in turns
 -- whether a recorder runs after these turns
 abbrev pub rides_after : Bool → List Turn → Bool
 rides_after riding [] = riding
-rides_after riding (Asked event reply ∷ turns) = rides_after (rides_on riding event.command reply) turns
+rides_after riding (Asked event reply last ∷ turns) = rides_after (rides_on riding event.command reply) turns
 rides_after riding (Faulty number fault ∷ turns) = rides_after riding turns
 
 -- the times since the last commit, after these turns
 abbrev pub times_after : List ℕ → List Turn → List ℕ
 times_after times [] = times
-times_after times (Asked event reply ∷ turns) = times_after (times_on times event.command (is_ok reply)) turns
+times_after times (Asked event reply last ∷ turns) = times_after (times_on times event.command (is_ok reply) last) turns
 times_after times (Faulty number fault ∷ turns) = times_after times turns
 
 -- ---- the turns of lines
@@ -82,7 +84,7 @@ IsLineFault line TooLong = 4096 < length line
 
 -- the command of the line with this number was run; or it cannot be done, and is answered with its fault
 abbrev pub IsAnswer : ℕ → List ℕ → Turn → Type 0
-IsAnswer number line (Asked event reply) =
+IsAnswer number line (Asked event reply last) =
     (event.line ≡ number) × (meaning_of line ≡ Some (Some event.command)) × (is_simulated event.command ≡ false)
 IsAnswer number line (Faulty at fault) = (at ≡ number) × IsLineFault line fault
 
@@ -92,12 +94,12 @@ commit_at number = record { line = number; command = Commit }
 
 -- such a commit, or no turn
 abbrev pub Commits : Bool → ℕ → List Turn → Type 0
-Commits true number turns = (reply : Reply) × (turns ≡ Asked (commit_at number) reply ∷ [])
+Commits true number turns = (reply : Reply) × (last : ℕ) × (turns ≡ Asked (commit_at number) reply last ∷ [])
 Commits false number turns = turns ≡ []
 
 -- a commit is due after this turn
 abbrev pub is_due_after : Option ℕ → List ℕ → Turn → Bool
-is_due_after every times (Asked event reply) = is_due every times event.command (is_ok reply)
+is_due_after every times (Asked event reply last) = is_due every times event.command (is_ok reply)
 is_due_after every times (Faulty number fault) = false
 
 -- the line with this number states no command, and has no turn; or it is answered, and a commit comes after it exactly if one is due
@@ -156,10 +158,34 @@ Prints old new (Err fault) turns = CutShort old new turns
 
 -- ---- a whole recording
 
+-- in this state the ride of a recorder, in which no call failed, ends at this time
+abbrev pub EndsAt : History → ℕ → Type 0
+EndsAt (Riding list promise reopened false) last = last ≡ end_time list
+EndsAt _ last = Unit {0}
+
+-- From `before`, the replies of these turns may come, one step after another, and `after` is the state then. Each turn has the last time
+-- of the ride.
+abbrev pub GoesByTurns : History → List Turn → History → Type 0
+GoesByTurns before [] after = after ≡ before
+GoesByTurns before (Asked event reply last ∷ turns) after =
+    (file : List ℕ) × (next : History) × Step before event.command (outcome reply file) next × EndsAt next last × GoesByTurns next turns after
+GoesByTurns before (Faulty number fault ∷ turns) after = GoesByTurns before turns after
+
+-- the turns came, and after the end of the recorder that runs the disk is as the history allows
+pub record LeftByTurns (before : History) (story : Story) (turns : List Turn) : Type 0 where
+  pub after : History
+  pub goes : GoesByTurns before turns after
+  pub rests : Rests (ended after) story
+
+-- over an honest disk, from any state without a recorder that allows the disk as it was
+abbrev pub LeavesByTurns : Bool → Story → Story → List Turn → Type 0
+LeavesByTurns honest old new turns =
+    IsTrue honest → (claims : List Claim) (begun : Bool) → Rests (Idle claims begun) old → LeftByTurns (Idle claims begun) new turns
+
 -- The replies of these turns may come. Over an honest disk they are steps of a history, and the disk is as it allows.
 pub record Does (honest : Bool) (old new : Story) (turns : List Turn) : Type 0 where
   pub may : MayReplyAll false (events_in turns) (replies_in turns)
-  pub leaves : LeavesAfter honest old new (events_in turns) (replies_in turns)
+  pub leaves : LeavesByTurns honest old new turns
 
 -- the output failed: of these bytes the first were done, and the text of the turns was cut short
 abbrev pub BrokenOff : Bool → Story → Story → Option ℕ → List ℕ → Option (List ℕ) → Option (List ℕ) → Type 0
@@ -204,4 +230,4 @@ module _ {D : Type 0} where
     pub counted : session.refused ≡ refused_in turns
     pub clock : Shows every (times_after [] turns) session.clock
     pub stood : IsTrue honest → (claims : List Claim) (begun : Bool) → Rests (Idle claims begun) old →
-        (after : History) × GoesTo (Idle claims begun) (events_in turns) (replies_in turns) after × StandsIn honest story session.ride after
+        (after : History) × GoesByTurns (Idle claims begun) turns after × StandsIn honest story session.ride after

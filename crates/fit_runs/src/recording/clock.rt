@@ -40,10 +40,24 @@ impl Clock {
         self.is_due
     }
 
-    /// Notes a command, and whether it was done. A refused commit counts, so that the next one is asked for as much later.
-    pub fn note(&self, command: &Command, is_done: bool) -> Clock
+    // A clock after a commit at this time.
+    fn at(every: Option<u32>, time: u32) -> Self
+        ensures shows { Shows every (time ∷ []) result }
+        ensures none { result.is_due ≡ false }
+    {
+        Clock {
+            every,
+            committed: Some(time),
+            latest: Some(time),
+            is_due: false,
+        }
+    }
+
+    /// Notes a command, whether it was done, and the last time of the ride after it. A refused commit counts, so that the next one is
+    /// asked for as much later.
+    pub fn note(&self, command: &Command, is_done: bool, last: u32) -> Clock
         ensures shows { (every : Option ℕ) (times : List ℕ) → Shows every times self.now
-            → Shows every (times_on times command.now is_done) result }
+            → Shows every (times_on times command.now is_done last) result }
         ensures due { (every : Option ℕ) (times : List ℕ) → Shows every times self.now
             → result.is_due ≡ is_due every times command.now is_done }
     {
@@ -53,12 +67,8 @@ impl Clock {
                 is_due: false,
                 ..*self
             },
-            Command::Start(start) if is_done => Clock {
-                committed: Some(start.time),
-                latest: Some(start.time),
-                is_due: false,
-                every: self.every,
-            },
+            Command::Start(start) if is_done => Clock::at(self.every, start.time),
+            Command::Reopen if is_done => Clock::at(self.every, last),
             Command::Entry(entry) if is_done => self.with_entry(entry),
             Command::Entry(_) => Clock {
                 is_due: false,
@@ -71,7 +81,7 @@ impl Clock {
     // After an entry that was taken.
     fn with_entry(&self, entry: &Entry) -> Clock
         ensures shows { (every : Option ℕ) (times : List ℕ) → Shows every times self.now
-            → Shows every (times_on times (AnEntry entry.now) true) result }
+            → (last : ℕ) → Shows every (times_on times (AnEntry entry.now) true last) result }
         ensures due { (every : Option ℕ) (times : List ℕ) → Shows every times self.now
             → result.is_due ≡ is_due every times (AnEntry entry.now) true }
     {
@@ -81,7 +91,7 @@ impl Clock {
         }
     }
 
-    // After an entry with this time. The first one after a reopening counts as the last commit.
+    // After an entry with this time. Without a commit before it, it counts as one.
     fn with_time(&self, time: u32) -> Clock
         ensures shows { (every : Option ℕ) (times : List ℕ) → Shows every times self.now
             → Shows every (time ∷ times) result }

@@ -7,9 +7,9 @@ ghost use Rattle.fit_histories.specs.declared.reply.Reply.{Reply as AReply};
 ghost use Rattle.fit_files.specs.Printed.Shown.{IsOutputFault};
 ghost use Rattle.fit_histories.specs.Rides.Ride.{CanGoOn, is_riding};
 ghost use Rattle.fit_runs.specs.Rides.Played.{LeavesAfter};
-ghost use Rattle.fit_runs.specs.Rides.Turns.{Turn, Asked, Faulty, Does, count_of, refused_in, TakesLine, Commits, CommitsUnlessCut, IsLineFault, Prints, SoFar, commit_at, is_due_after, rides_after, times_after, events_in, replies_in};
+ghost use Rattle.fit_runs.specs.Rides.Turns.{Turn, Asked, Faulty, Does, count_of, refused_in, TakesLine, Commits, CommitsUnlessCut, IsLineFault, Prints, SoFar, commit_at, is_due_after, rides_after, times_after, events_in, replies_in, LeavesByTurns};
 ghost use Rattle.fit_scripts.specs.Scripts.Commands.{is_simulated};
-ghost use Rattle.fit_scripts.specs.Scripts.Replayed.{IsReplayed};
+ghost use Rattle.fit_scripts.specs.Scripts.Replayed.{IsReplayed, is_simulated};
 ghost use Rattle.fit_scripts.specs.Scripts.Script.{meaning_of};
 
 use crate::recording::clock::Clock;
@@ -169,11 +169,11 @@ impl<D: Disk> Session<D> {
         ensures few { result.0.refused ≤ self.refused + 2 }
         ensures ran { (every : Option ℕ) (old : Story) (turns : List Turn)
             → SoFar D.honest D.story every old turns self
-            → (reply : AReply) × (more : List Turn)
-            × CommitsUnlessCut result.1 (is_due_after every (times_after [] turns) (Asked event.now reply))
+            → (reply : AReply) × (last : ℕ) × (more : List Turn)
+            × CommitsUnlessCut result.1 (is_due_after every (times_after [] turns) (Asked event.now reply last))
             event.now.line more
-            × SoFar D.honest D.story every old (turns ++ Asked event.now reply ∷ more) result.0
-            × Prints pen.old.held pen.new.held result.1 (Asked event.now reply ∷ more) }
+            × SoFar D.honest D.story every old (turns ++ Asked event.now reply last ∷ more) result.0
+            × Prints pen.old.held pen.new.held result.1 (Asked event.now reply last ∷ more) }
     {
         let (session, printed) = self.ask(event, pen);
         match printed {
@@ -204,10 +204,10 @@ impl<D: Disk> Session<D> {
         ensures few { result.0.refused ≤ self.refused + 1 }
         ensures asked { (every : Option ℕ) (old : Story) (turns : List Turn)
             → SoFar D.honest D.story every old turns self
-            → (reply : AReply)
-            × SoFar D.honest D.story every old (turns ++ Asked event.now reply ∷ []) result.0
-            × (result.0.clock.is_due ≡ is_due_after every (times_after [] turns) (Asked event.now reply))
-            × Prints pen.old.held pen.new.held result.1 (Asked event.now reply ∷ []) }
+            → (reply : AReply) × (last : ℕ)
+            × SoFar D.honest D.story every old (turns ++ Asked event.now reply last ∷ []) result.0
+            × (result.0.clock.is_due ≡ is_due_after every (times_after [] turns) (Asked event.now reply last))
+            × Prints pen.old.held pen.new.held result.1 (Asked event.now reply last ∷ []) }
     {
         let Session {
             ride,
@@ -216,7 +216,7 @@ impl<D: Disk> Session<D> {
             clock,
         } = self;
         let (ride, reply) = ride.ask(&event.command, true);
-        let clock = clock.note(&event.command, reply.is_ok());
+        let clock = clock.note(&event.command, reply.is_ok(), ride.last_time());
         let refused = refused + refusals(reply);
         let printed = print(&ReplyLine { event, reply }, pen);
         (
@@ -262,7 +262,7 @@ impl<D: Disk> Session<D> {
     pub fn into_disk(self) -> D
         ensures { (every : Option ℕ) (old : Story) (turns : List Turn)
             → SoFar D.honest D.story every old turns self
-            → LeavesAfter D.honest old (D.story result) (events_in turns) (replies_in turns) }
+            → LeavesByTurns D.honest old (D.story result) turns }
     {
         self.ride.into_disk()
     }
@@ -287,7 +287,7 @@ fn commit_at(line: usize) -> Event
 
 // How many refusals a reply is.
 fn refusals(reply: Reply) -> usize
-    ensures count { (event : AnEvent) → result ≡ count_of (Asked event reply) }
+    ensures count { (event : AnEvent) (last : ℕ) → result ≡ count_of (Asked event reply last) }
     ensures few { result ≤ 1 }
 {
     if reply.is_ok() { 0 } else { 1 }

@@ -11,4 +11,4 @@ no_stop entry other = refl
 pub returns-in_default : goal.returns-in_default
 returns-in_default c =
     let timed = rw c.time.ensures at c.with_time.ensures in
-    rw (no_stop c.args.entry.now c.in_default.not-Stop) (record { shows = timed.shows; due = timed.due })
+    rw (no_stop c.args.entry.now c.in_default.not-Stop) (record { shows = λ every times known last. timed.shows every times known; due = timed.due })

@@ -16,23 +16,23 @@ returns-then-not-is_riding-clause-ended g c = λ every old turns known.
 pub returns-in-Ok-clause-ended : goal.returns-in-Ok-clause-ended
 returns-in-Ok-clause-ended g c = λ every old turns known.
     let asked = rw c.commit_at-commit.ensures at c.ask-session.ensures.asked every old turns known in
-    let end = Asked (commit_at (c.args.self.line + 1)) asked.0 ∷ [] in
+    let end = Asked (commit_at (c.args.self.line + 1)) asked.0 asked.1 ∷ [] in
     let one : rides_after false turns ≡ true = sym known.riding ∙ sym c.is_riding.ensures ∙ c.if-not-is_riding.false in (
       end,
-      record { may = asked.1.may; leaves = c.into_disk-in-Ok.ensures every old (turns ++ end) asked.1 },
-      one_commit _ (c.args.self.line + 1) asked.0 one,
-      asked.1.counted,
-      rw c.in-Ok.is at asked.3,
+      record { may = asked.2.may; leaves = c.into_disk-in-Ok.ensures every old (turns ++ end) asked.2 },
+      one_commit _ (c.args.self.line + 1) asked.0 asked.1 one,
+      asked.2.counted,
+      rw c.in-Ok.is at asked.4,
     )
 
 pub returns-in-Err-clause-ended : goal.returns-in-Err-clause-ended
 returns-in-Err-clause-ended g c = λ every old turns known.
     let asked = rw c.commit_at-commit.ensures at c.ask-session.ensures.asked every old turns known in
-    let end = Asked (commit_at (c.args.self.line + 1)) asked.0 ∷ [] in
+    let end = Asked (commit_at (c.args.self.line + 1)) asked.0 asked.1 ∷ [] in
     let one : rides_after false turns ≡ true = sym known.riding ∙ sym c.is_riding.ensures ∙ c.if-not-is_riding.false in (
       end,
-      record { may = asked.1.may; leaves = c.into_disk-in-Err.ensures every old (turns ++ end) asked.1 },
-      one_commit _ (c.args.self.line + 1) asked.0 one,
+      record { may = asked.2.may; leaves = c.into_disk-in-Err.ensures every old (turns ++ end) asked.2 },
+      one_commit _ (c.args.self.line + 1) asked.0 asked.1 one,
       tt,
-      rw c.in-Err.is at asked.3,
+      rw c.in-Err.is at asked.4,
     )

@@ -6,23 +6,24 @@ use Rattle.fit_runs.proofs.recording.session.Session.run.Goals as goal
 pub returns-in-Ok-clause-ran : goal.returns-in-Ok-clause-ran
 returns-in-Ok-clause-ran g c = λ every old turns known.
     let first = c.ask-session.ensures.asked every old turns known in
-    let one = Asked c.args.event.now first.0 in
-    let second = rw c.commit_at-commit.ensures at c.ask.ensures.asked every old (turns ++ one ∷ []) first.1 in
-    let more = Asked (commit_at c.args.event.now.line) second.0 ∷ [] in (
+    let one = Asked c.args.event.now first.0 first.1 in
+    let second = rw c.commit_at-commit.ensures at c.ask.ensures.asked every old (turns ++ one ∷ []) first.2 in
+    let more = Asked (commit_at c.args.event.now.line) second.0 second.1 ∷ [] in (
       first.0,
+      first.1,
       more,
-      one_unless _ _ c.args.event.now.line second.0 (sym first.2 ∙ sym c.is_due.ensures ∙ c.if-is_due.true),
-      so_far_same g.D.Disk.honest g.D.Disk.story every old ((turns ++ one ∷ []) ++ more) (turns ++ one ∷ more) c.ask.result.0 c.ask.result.0 second.1
+      one_unless _ _ c.args.event.now.line second.0 second.1 (sym first.3 ∙ sym c.is_due.ensures ∙ c.if-is_due.true),
+      so_far_same g.D.Disk.honest g.D.Disk.story every old ((turns ++ one ∷ []) ++ more) (turns ++ one ∷ more) c.ask.result.0 c.ask.result.0 second.2
           (append_assoc turns (one ∷ []) more) refl refl refl,
-      prints_then _ _ _ (one ∷ []) more _ (rw c.in-Ok.is at first.3) second.3,
+      prints_then _ _ _ (one ∷ []) more _ (rw c.in-Ok.is at first.4) second.4,
     )
 
 pub returns-in-Ok-2-clause-ran : goal.returns-in-Ok-2-clause-ran
 returns-in-Ok-2-clause-ran g c = λ every old turns known.
     let first = c.ask-session.ensures.asked every old turns known in
-    (first.0, [], no_commit _ c.args.event.now.line (sym first.2 ∙ sym c.is_due.ensures ∙ c.if-is_due.false), first.1, rw c.in-Ok-2.is at first.3)
+    (first.0, first.1, [], no_commit _ c.args.event.now.line (sym first.3 ∙ sym c.is_due.ensures ∙ c.if-is_due.false), first.2, rw c.in-Ok-2.is at first.4)
 
 pub returns-in-Err-clause-ran : goal.returns-in-Err-clause-ran
 returns-in-Err-clause-ran g c = λ every old turns known.
     let first = c.ask-session.ensures.asked every old turns known in
-    (first.0, [], inr refl, first.1, rw c.in-Err.is at first.3)
+    (first.0, first.1, [], inr refl, first.2, rw c.in-Err.is at first.4)

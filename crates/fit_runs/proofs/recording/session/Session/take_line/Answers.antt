@@ -25,10 +25,10 @@ returns-in-Ok-Some-clause-outcome g c = λ bytes every old turns same long known
     let replayed = rw c.in-Ok-Some.field-0-is at c.in-Ok-Some.ensures.replayed in
     let here = so_far_same g.D.Disk.honest g.D.Disk.story every old turns turns c.args.self c.at-session.result known refl ride clock refused in
     let ran = c.run.ensures.ran every old turns here in (
-      Asked (record { line = c.args.self.line + 1; command = command }) ran.0 ∷ ran.1,
-      inr (Asked (record { line = c.args.self.line + 1; command = command }) ran.0, ran.1, (refl, means, replayed), ran.2, refl),
-      ran.3,
+      Asked (record { line = c.args.self.line + 1; command = command }) ran.0 ran.1 ∷ ran.2,
+      inr (Asked (record { line = c.args.self.line + 1; command = command }) ran.0 ran.1, ran.2, (refl, means, replayed), ran.3, refl),
       ran.4,
+      ran.5,
     )
 
 pub returns-in-Err-clause-outcome : goal.returns-in-Err-clause-outcome
