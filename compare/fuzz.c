@@ -1,7 +1,7 @@
-/* Gives hostile files to the program: mutations of the named files, and headers and definitions that promise much. Each goes
+/* Gives changed files to the program: mutations of the named files, and headers and definitions that promise much. Each goes
    through show, check and salvage, in little memory and time. A salvaged file has to be shown, and to be its own salvage.
 
-     hostile PROGRAM LIBRARY FOLDER SEED SECONDS COUNT FILE ..
+     fuzz PROGRAM LIBRARY FOLDER SEED SECONDS COUNT FILE ..
 
    It ends after so many seconds or files, and prints how the runs ended: a line with a count for each command and end. A file that
    leads to a signal, to too much time or memory, or to a wrong salvage is kept in the folder, and the status is 1. */
