@@ -234,7 +234,9 @@ static int run(int which) {
         snprintf(how, sizeof how, "STATUS %d", WEXITSTATUS(status));
     }
     counted(run->command, how);
-    int is_good = WIFEXITED(status) && (!WEXITSTATUS(status) ? !line[0] : WEXITSTATUS(status) == 1)
+    /* A salvage that reads no more than the header says reports how much comes after that. */
+    int is_quiet = !line[0] || (run == &runs[SALVAGE] && strstr(line, " bytes after the end that the header gives were not read;"));
+    int is_good = WIFEXITED(status) && (!WEXITSTATUS(status) ? is_quiet : WEXITSTATUS(status) == 1)
         && strcmp(how, "cannot") && strcmp(how, "NoMemory") && strcmp(how, "Memory") && end.time < SECONDS && end.memory < KILOBYTES;
     return is_good ? WEXITSTATUS(status) : -1;
 }
