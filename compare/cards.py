@@ -7,14 +7,11 @@ import re
 import subprocess
 import tempfile
 
-from replacing import bytes_of
-from rides import differs
-from told import holds, room, run
+from tools.checks import differs, unless
+from tools.program import NAMES, ROOT, bytes_of, holds, room, run
 
-HERE = pathlib.Path(__file__).resolve().parent
-ROOT = HERE.parent
+NEEDS = ("fitrec", "cc")
 LIBRARIES = [ROOT / "release" / it for it in ("libfit_device.a", "libfit_c.a")]
-NAMES = ("activity.fit", "activity.frj")
 # What a card does, and how many states, pairs or rides of that are made.
 KINDS = {"flips": 6, "mixes": 1000, "forgets": 6000, "rots": 6000}
 # How many of them may have the right checksum by chance: three times as many as are to be expected, and one.
@@ -43,13 +40,13 @@ def of_states(seed):
     with tempfile.TemporaryDirectory() as folder:
         program = folder + "/cards"
         cc = ["cc", "-std=gnu11", "-O2", "-Wall", "-Wextra", "-Werror", "-I", ROOT / "include"]
-        subprocess.run([*cc, HERE / "cards.c", *LIBRARIES, "-o", program], check=True)
+        subprocess.run([*cc, ROOT / "compare/cards.c", *LIBRARIES, "-o", program], check=True)
         for kind, many in KINDS.items():
             found = counts_of(program, kind, str(seed), str(many))
             is_right = len(found) == 5 and found[0] >= many and found[-1] <= 1 + BY_CHANCE * found[0] and found[2] + found[3] > 0
-            yield "a card that " + kind, None if is_right else found
+            yield "a card that " + kind, unless(is_right, found, "no wrong ones but by chance")
             found = counts_of(program, kind, str(seed), str(many), "unchecked")
-            yield "a card that %s, without checksums" % kind, None if len(found) == 5 and found[-1] > 0 else found
+            yield "a card that %s, without checksums" % kind, unless(len(found) == 5 and found[-1] > 0, found, "some wrong ones")
 
 
 def of_changed_bits(fitrec):
@@ -76,7 +73,7 @@ def of_changed_bits(fitrec):
                 changed[at][bit // 8] ^= 1 << bit % 8
                 said, made = saved(changed)
                 is_right = (said, made) in honest if said[0] == 0 else made is None
-                yield "a changed bit of " + NAMES[at], None if is_right else (bit, said)
+                yield "a changed bit of " + NAMES[at], unless(is_right, (bit, said), "one of its commits, or nothing")
 
 
 def with_the_commit_before(fitrec):
@@ -107,8 +104,7 @@ def with_the_commit_before(fitrec):
             yield "a changed byte, by --earlier", differs(saved(last, "--earlier"), want)
 
 
-def check(fitrec, seed):
-    """Yields a name, and a difference or None, for each check."""
-    for part in (of_states(seed), of_changed_bits(fitrec), with_the_commit_before(fitrec)):
-        for name, difference in part:
-            yield "cards: " + name, difference
+def check(given):
+    yield from given.checks(of_states, given.seed)
+    for group in (of_changed_bits, with_the_commit_before):
+        yield from given.checks(group, given.fitrec)

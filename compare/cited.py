@@ -1,7 +1,11 @@
 """Checks that each file and each name that README and docs/ cite in backquotes exists."""
 
-import pathlib
 import re
+
+from tools.checks import differs
+from tools.program import ROOT
+
+NEEDS = ()
 
 PATH = re.compile(r"[\w.*-]+(?:/[\w.*-]+)+/?|[\w-]+\.(?:rt|antt|py|sh|md|edit|txt|c|h|fit|frj)")
 NAME = re.compile(r"\w+(?:(?:::|\.)\w+)*")
@@ -27,12 +31,12 @@ def is_there(root, files, cited):
     return any(wanted.fullmatch(it) for it in files)
 
 
-def check(root):
+def of_pages(root):
     texts = texts_of(root)
     files = [str(it.relative_to(root)) for it in texts]
     sources = [text for file, text in texts.items() if file.suffix != ".md"]
     words = set(re.findall(r"\w+", "\n".join(sources))) | {it for file in files for it in re.split(r"[/.]", file)}
-    for page in [root / "README.md", *sorted((root / "docs").glob("*.md"))]:
+    for page in [*sorted(root.glob("*.md")), *sorted((root / "docs").glob("*.md"))]:
         # Blocks are examples, which documented.py runs.
         prose = re.sub(r"(?m)^    [^\n]*$|^```.*?^```$", "", page.read_text(), flags=re.S | re.M)
         lost = []
@@ -42,9 +46,8 @@ def check(root):
                     lost.append(cited)
             elif NAME.fullmatch(cited) and cited not in OTHERS and not set(re.split(r"::|\.", cited)) <= words:
                 lost.append(cited)
-        yield "what %s cites is there" % page.name, (lost,) if lost else None
+        yield "what %s cites is there" % page.name, differs(lost, [])
 
 
-if __name__ == "__main__":
-    for name, lost in check(pathlib.Path(__file__).resolve().parent.parent):
-        print(name, *(lost or ["ok"]))
+def check(given):
+    yield from given.checks(of_pages, ROOT)

@@ -2,7 +2,6 @@
 and recovers, reopens and erases them over whole files or by windows; lets the power go inside each call of each plan; and shows what is lost where a host breaks
 a rule of the header. The C program is compiled with all warnings as errors, without and with sanitizers."""
 
-import contextlib
 import errno
 import fcntl
 import pathlib
@@ -12,19 +11,16 @@ import shutil
 import subprocess
 import tempfile
 
-import folders
-import layout
-import library
-import released
-import told
-from library import COMPILERS
-from replacing import bytes_of
-from rides import committed, differs
-from saves import NAMES
-from told import holds, room
+from tools import release
+from tools.checks import Difference, Skipped, differs, unless
+from tools.libraries import WARNINGS, build, declared, names_of, programs
+from tools.needs import missing
+from tools.program import NAMES, ROOT, bytes_of, holds, room, run
+from tools.rides import committed, row_of
+from tools.traced import tracing
 
-HERE = pathlib.Path(__file__).resolve().parent
-ROOT = HERE.parent
+NEEDS = ("fitrec", "rt", "cc", "wasm2c", "arm-none-eabi-gcc", "rdimon.specs", "qemu-system-arm", "riscv64-unknown-elf-gcc",
+         "picolibc.specs", "qemu-system-riscv32")
 # The values that a sample may have: the greatest number of a field is the invalid one.
 VALUES = {"lat": (-2**31, 2**31 - 2), "long": (-2**31, 2**31 - 2), "alt": (0, 65534), "hr": (0, 254), "cad": (0, 254), "speed": (0, 65534),
           "power": (0, 65534), "temp": (-128, 126), "espeed": (0, 2**32 - 2), "ealt": (0, 2**32 - 2)}
@@ -56,9 +52,9 @@ SAMPLES = "".join("sample %d lat=%d long=%d alt=%d hr=%d cad=80 dist=%d speed=31
                   for k in range(5100))
 LONG = ["start 1000000000 7 cycling\n%s%s" % (SAMPLES, end)
         for end in ("recover\n" * 4, ("reopen\nsample 1000006000 hr=99\ncommit\n" * 4) + "stop 1000006001\nrecover\n", "reopen\nerase\nrecover\n" * 2)]
-# What a recorder of 32 bits is built and run with, and the Debian package of each.
-ARM_TOOLS = {"wasm2c": "wabt", "arm-none-eabi-gcc": "gcc-arm-none-eabi (with libnewlib-arm-none-eabi)", "qemu-system-arm": "qemu-system-arm"}
-RISCV_TOOLS = {"riscv64-unknown-elf-gcc": "gcc-riscv64-unknown-elf (with picolibc-riscv64-unknown-elf)", "qemu-system-riscv32": "qemu-system-misc"}
+# What a recorder of 32 bits is built and run with.
+ARM_TOOLS = "wasm2c", "arm-none-eabi-gcc", "rdimon.specs", "qemu-system-arm"
+RISCV_TOOLS = "riscv64-unknown-elf-gcc", "picolibc.specs", "qemu-system-riscv32"
 WORDS = "cut script.txt . -1 1 0".split()
 QUIET = ["-display", "none", "-monitor", "none", "-serial", "none", "-semihosting-config"]
 ARM = ["qemu-system-arm", "-M", "mps2-an386", *QUIET, "enable=on,target=native", "-kernel"]
@@ -93,24 +89,6 @@ OF_OBJECT, OF_C = (12288, 0), (8192, 10240)
 # What a host does that breaks a rule, by its number.
 BROKEN = {1: "a call is left out", 2: "the calls are made in another order", 3: "the answer comes before the calls",
           4: "the recording goes on after a failed call", 5: "a sync keeps nothing"}
-
-
-def run(*words, **how):
-    """What a run prints, given words and numbers."""
-    return told.run(*[str(it) for it in words], **how)
-
-
-@contextlib.contextmanager
-def programs(archive):
-    """The C program, compiled in each way."""
-    with tempfile.TemporaryDirectory() as folder:
-        made = {}
-        for name, words in COMPILERS.items():
-            made[name] = "%s/%d" % (folder, len(made))
-            cc = ["cc", "-std=gnu11", "-Wall", "-Wextra", "-Werror", "-I", ROOT / "include", *words]
-            subprocess.run([*cc, HERE / "device.c", ROOT / "examples/device/files.c",
-                            ROOT / "examples/device/flash.c", archive, "-o", made[name]], check=True)
-        yield made
 
 
 def random_script(pick):
@@ -159,7 +137,7 @@ def of_rows_of_slots(fitrec, program, seed):
                 mine, its = (pathlib.Path(new()) for _ in range(2))
                 for folder in (mine, its):
                     (folder / "activity.fit").write_bytes(data)
-                    (folder / "activity.frj").write_bytes(folders.row_of(*[len(data) - 14] * (size // 8 - 2 + size % 8 // 4))[:size])
+                    (folder / "activity.frj").write_bytes(row_of(*[len(data) - 14] * (size // 8 - 2 + size % 8 // 4))[:size])
                 found, want = run(program, "play", script, mine, seed + at), run(fitrec, "replay", script, its)
                 answers = re.sub(r"ok records.*", "ok", want[1])
                 yield "a row of slots of %d bytes" % size, differs((found[0], found[1], holds(mine)), (0, answers, holds(its)))
@@ -178,12 +156,10 @@ def lost(fitrec, program, script, folder, call, seed, rule, later=None):
     done = run(fitrec, "repair", folder)
     found = re.match(r"ok records=(\d+) ", done[1])
     if answers[0]:
-        return "a step failed", answers
+        return Difference("status 0", answers, "a step")
     if found is None:
-        return ("not repaired", done, answers[1]) if started or done[2] != "fitrec: NothingRecorded\n" else None
-    if not kept <= int(found[1]) <= handed + 1:
-        return "other records", found[1], kept, handed
-    return None
+        return Difference("a repair", (done, answers[1])) if started or done[2] != "fitrec: NothingRecorded\n" else None
+    return unless(kept <= int(found[1]) <= handed + 1, done, "%d to %d records" % (kept, handed + 1))
 
 
 def of_cuts(fitrec, program, calls, seed):
@@ -201,7 +177,7 @@ def of_cuts(fitrec, program, calls, seed):
                     yield "a second power cut, in a %s" % word.split()[0], lost(fitrec, program, script, new(), call, seed + times, 0, later)
         for rule, name in BROKEN.items():
             seen = sum(lost(fitrec, program, script, new(), call, seed, rule) is not None for call in range(calls + 1))
-            yield "a rule is needed: " + name, None if seen else ("nothing was lost", rule)
+            yield "a rule is needed: " + name, unless(seen, "nothing was lost", "a loss")
 
 
 def of_erasings(fitrec, program, seed):
@@ -220,13 +196,13 @@ def of_erasings(fitrec, program, seed):
                 done = run(fitrec, "repair", folder)
                 is_gone = done[2] == "fitrec: NothingRecorded\n"
                 is_right = answers[0] == 0 and (is_gone if "1 erase: ok\n" in answers[1] else is_gone or done == want)
-                yield "a power cut in an erasing", None if is_right else (call, answers, done)
+                yield "a power cut in an erasing", unless(is_right, (call, answers, done), "nothing recorded, or the ride as it was")
 
 
 def machine_program(compiler, program, made, *words):
     """compare/device.c for an emulated processor."""
     common = ["-Os", "-w", "-ffunction-sections", "-fdata-sections", "-Wl,--gc-sections", "-DMOST=65536", "-DFITREC_STACK=%d" % STACK]
-    sources = [HERE / "device.c", ROOT / "examples/device/flash.c", ROOT / "device/emulated.c"]
+    sources = [ROOT / "compare/device.c", ROOT / "examples/device/flash.c", ROOT / "device/emulated.c"]
     subprocess.run([compiler, *common, "-I", made, "-I", ROOT / "include", *words, *sources, "-o", program], check=True)
     return program
 
@@ -259,13 +235,11 @@ def riscv_programs(folder, made):
 
 
 def machine_programs(folder):
-    """For each form of the crate that can be run here, its name, its emulator and the program."""
+    """For each form of the crate its name, its emulator and the program; or why it cannot be run here."""
     made, is_made = folder + "/made", False
-    for tools, specs, programs_of in ((ARM_TOOLS, "rdimon.specs", arm_programs), (RISCV_TOOLS, "picolibc.specs", riscv_programs)):
-        # A compiler answers the bare name of a file that it does not have.
-        missing = [it for it in tools if not shutil.which(it) or it.endswith("gcc") and "/" not in run(it, "-print-file-name=" + specs)[1]]
-        if missing:
-            print("skipped: a recorder of 32 bits, since there is no %s here; it is in Debian's package %s" % (missing[0], tools[missing[0]]))
+    for tools, programs_of in ((ARM_TOOLS, arm_programs), (RISCV_TOOLS, riscv_programs)):
+        if missing(*tools):
+            yield "", missing(*tools), None
             continue
         if not is_made:
             subprocess.run([ROOT / "device/build", made], check=True, capture_output=True)
@@ -277,6 +251,9 @@ def of_32_bits(fitrec, count, seed):
     """The same answers and bytes on an emulated processor of 32 bits, within the stacks that docs/EMBEDDING.md gives."""
     with tempfile.TemporaryDirectory() as folder, room() as (script, new):
         for form, emulator, program in machine_programs(folder):
+            if isinstance(emulator, Skipped):
+                yield "a recorder of 32 bits", emulator
+                continue
             if form == "in C":
                 yield "the crate in C, without a C library", differs(links_alone(folder, folder + "/made"), (0, "", ""))
             most = [0, 0]
@@ -291,9 +268,10 @@ def of_32_bits(fitrec, count, seed):
                 yield "a ride by 32 bits, " + form, differs((said, holds(mine)), (answers, holds(its)))
                 most = [max(pair) for pair in zip(most, map(int, re.findall(r"\d+", used)))]
             allowed = OF_C if form.startswith("in C") else OF_OBJECT
-            yield "the stacks of 32 bits, " + form, None if 0 < most[0] <= allowed[0] and most[1] <= allowed[1] else most
-        for it in released.OBJECTS:
-            yield released.same(it, "%s/made/%s" % (folder, it))
+            yield "the stacks of 32 bits, " + form, unless(
+                0 < most[0] <= allowed[0] and most[1] <= allowed[1], most, "%d and %d bytes at most" % allowed)
+        for it in release.OBJECTS:
+            yield release.same(it, "%s/made/%s" % (folder, it))
 
 
 def of_flash(fitrec, program, calls, seed):
@@ -311,16 +289,20 @@ def of_flash(fitrec, program, calls, seed):
             is_right = kept <= int(found[1]) <= handed + 1 if found else not started and done[2] == "fitrec: NothingRecorded\n"
             # A repair finds nothing left to do.
             is_right &= recovered is None or (recovered[1], before) == ("ok" if found else "NothingRecorded", bytes_of(file))
-            yield "a ride in raw flash", None if answers[0] == 0 and is_right else (call, answers, done)
+            yield "a ride in raw flash", unless(
+                answers[0] == 0 and is_right, (call, answers, done), "%d to %d records" % (kept, handed + 1))
 
 
-def of_host(fitrec, archive):
+def host_program(archive, folder):
+    """The host of examples/device."""
+    sources = [ROOT / "examples/device/ride.c", ROOT / "examples/device/files.c", archive]
+    subprocess.run(["cc", "-std=gnu11", *WARNINGS, *sources, "-o", folder + "/ride"], check=True)
+    return folder + "/ride"
+
+
+def of_host(fitrec, program, lines):
     """The host of examples/device, which is ended after each of its lines and goes on."""
     with tempfile.TemporaryDirectory() as folder:
-        program = folder + "/ride"
-        sources = [ROOT / "examples/device/ride.c", ROOT / "examples/device/files.c", archive]
-        subprocess.run(["cc", "-std=gnu11", "-Wall", "-Wextra", "-Werror", "-I", ROOT / "include", *sources, "-o", program], check=True)
-        lines = ["%d %d %d\n" % (1000000000 + k, 90 + k, 300 * k) for k in range(30)]
         for most in range(0, 30, 7):
             ride = tempfile.mkdtemp(dir=folder)
             with subprocess.Popen([program, ride], stdin=subprocess.PIPE, stdout=subprocess.PIPE, text=True) as host:
@@ -336,13 +318,11 @@ def of_host(fitrec, archive):
             done = run(program, ride, input="".join(lines[most:]))
             found = re.match(r"ok records=(\d+) ", run(fitrec, "check", ride + "/activity.fit")[1])
             kept = 30 - most + most // 10 * 10
-            yield "the host of examples/device", None if done[0] == 0 and found and kept <= int(found[1]) <= 30 else (most, done, found)
+            yield "the host of examples/device", unless(
+                done[0] == 0 and found and kept <= int(found[1]) <= 30, (most, done, found), "%d to 30 records" % kept)
             gone = run(program, "--erase", ride)
             yield "the host of examples/device erases", differs((gone, run(fitrec, "repair", ride)[2], bytes_of(pathlib.Path(ride, "activity.fit"))),
                                                                 ((0, "", ""), "fitrec: NothingRecorded\n", b""))
-        yield from of_cut_off_starts(fitrec, program, lines)
-        yield from of_interrupted_calls(program, lines)
-        yield from of_locked_files(program, lines)
 
 
 def of_cut_off_starts(fitrec, program, lines):
@@ -361,16 +341,17 @@ def of_cut_off_starts(fitrec, program, lines):
             if size <= 86:
                 found = re.match(r"ok records=(\d+) ", run(fitrec, "check", ride / "activity.fit")[1])
                 is_right = done[0] == 0 and found and int(found[1]) == len(lines)
-                yield "the host of examples/device begins after a start that was cut off", None if is_right else (size, done, found)
+                yield "the host of examples/device begins after a start that was cut off", unless(
+                    is_right, (size, done, found), "%d records" % len(lines))
             else:
                 yield "the host of examples/device leaves other files", differs(
                     (done, {name: bytes_of(ride / name) for name in files}), ((1, "", "ride: no ride can begin here (7)\n"), files))
 
 
-def of_interrupted_calls(program, lines):
+def of_interrupted_calls(fitrec, program, lines):
     """A call that a signal interrupts is made again, in a ride that is begun, left, reopened and stopped."""
-    with told.library() as made, room() as (_, new):
-        host, halves = told.Told(program, made), (lines[:15], lines[15:])
+    with tracing(program) as host, room() as (_, new):
+        halves = lines[:15], lines[15:]
 
         def ride(**wrong):
             folder = new()
@@ -382,13 +363,13 @@ def of_interrupted_calls(program, lines):
         want = ride()
         for kind in ("open", "lock", "sync", "write", "cut", "read"):
             calls = max(sum(line.startswith(kind) for line in log) for log in want[2])
-            yield "the calls of the host of examples/device: " + kind, None if calls else want[2]
+            yield "the calls of the host of examples/device: " + kind, unless(calls, want[2], "some")
             for number in range(1, calls + 1):
                 found = ride(call=kind, number=number, errno=errno.EINTR)
                 yield "the host of examples/device, interrupted", differs(found[:2], want[:2])
 
 
-def of_locked_files(program, lines):
+def of_locked_files(fitrec, program, lines):
     """A host leaves files that another program has locked, and keeps its own locked."""
     refused = 1, "", "ride: give a folder that can be written (0)\n"
     with room() as (_, new):
@@ -405,31 +386,37 @@ def of_locked_files(program, lines):
             yield "a second host of examples/device", differs(run(program, folder, input=""), refused)
 
 
-def names_of(archive):
-    """The library calls only three functions of C, and exports exactly what the header declares for a device."""
-    listed = subprocess.run(["nm", archive], capture_output=True, text=True, check=True).stdout
-    yield "what a recorder in a device calls", differs(set(re.findall(r" U (\w+)", listed)), {"memcpy", "memmove", "memset"})
-    yield "what it exports", differs(sorted(re.findall(r" T (\w+)", listed)), sorted(library.declared()[1]))
+def proved_and_built(archive):
+    yield "proved and built", differs(build(archive, "fit_device"), None)
+    if pathlib.Path(archive).exists():
+        yield release.same("libfit_device.a", archive)
 
 
-def check(fitrec, count, seed):
-    with tempfile.NamedTemporaryFile(suffix=".a") as archive:
-        why = library.build(archive.name, "fit_device")
-        if why is not None:
-            yield "the library for devices", ("was not proved and built", why)
+def of_random_handles(program, seed):
+    yield "handles of random bytes", differs(run(program, "random", seed), (0, "ok\n", ""))
+
+
+def check(given):
+    fitrec, count, seed = given.fitrec, given.files // 6, given.seed
+    sources = [ROOT / it for it in ("compare/device.c", "examples/device/files.c", "examples/device/flash.c")]
+    with tempfile.TemporaryDirectory() as folder:
+        archive = folder + "/libfit_device.a"
+        yield from given.checks(proved_and_built, archive)
+        if not pathlib.Path(archive).exists():
             return
-        yield released.same("libfit_device.a", archive.name)
-        yield from names_of(archive.name)
-        yield from layout.check()
-        with programs(archive.name) as made:
-            yield from of_rides(fitrec, made["as it is"], count, seed)
-            yield from of_rides(fitrec, made["under sanitizers"], count // 20 + 1, seed)
-            yield from of_rows_of_slots(fitrec, made["as it is"], seed)
-            yield from of_cuts(fitrec, made["as it is"], 60, seed)
-            yield from of_erasings(fitrec, made["as it is"], seed)
-            yield from of_flash(fitrec, made["as it is"], 150, seed)
-            yield from of_flash(fitrec, made["under sanitizers"], 20, seed)
-            yield from of_host(fitrec, archive.name)
-            yield from of_32_bits(fitrec, min(count, 12), seed)
-            for name in made:
-                yield "handles of random bytes", differs(run(made[name], "random", seed), (0, "ok\n", ""))
+        yield from given.checks(names_of, archive, declared()[1])
+        with programs(*sources, archive) as made:
+            program, sanitized = made["as it is"], made["under sanitizers"]
+            yield from given.checks(of_rides, fitrec, program, count, seed)
+            yield from given.checks(of_rides, fitrec, sanitized, count // 20 + 1, seed, under="under sanitizers")
+            yield from given.checks(of_rows_of_slots, fitrec, program, seed)
+            yield from given.checks(of_cuts, fitrec, program, 60, seed)
+            yield from given.checks(of_erasings, fitrec, program, seed)
+            yield from given.checks(of_flash, fitrec, program, 150, seed)
+            yield from given.checks(of_flash, fitrec, sanitized, 20, seed, under="under sanitizers")
+            host, lines = host_program(archive, folder), ["%d %d %d\n" % (1000000000 + k, 90 + k, 300 * k) for k in range(30)]
+            for group in (of_host, of_cut_off_starts, of_interrupted_calls, of_locked_files):
+                yield from given.checks(group, fitrec, host, lines)
+            yield from given.checks(of_32_bits, fitrec, min(count, 12), seed)
+            for how in made:
+                yield from given.checks(of_random_handles, made[how], seed, under=how)

@@ -5,14 +5,12 @@ of the sources."""
 import itertools
 import pathlib
 import re
-import subprocess
 import tempfile
 
-from replacing import bytes_of
-from rides import differs
-from told import holds, run
+from tools.checks import differs, unless
+from tools.program import ROOT, bytes_of, holds, run
 
-ROOT = pathlib.Path(__file__).resolve().parent.parent
+NEEDS = ("fitrec",)
 
 # A ride that is cut off after its commit.
 RIDE = "start 1000000000 7 running\nsample 1000000001 hr=100\nlap 1000000002\ncommit\nsample 1000000003 hr=101\n"
@@ -75,7 +73,7 @@ class Scratch:
         return run("sh", "-ec", "\n".join(lines), cwd=self.folder)
 
     def program(self, words):
-        return run(self.fitrec, *words, cwd=self.folder, stdin=subprocess.DEVNULL)
+        return run(self.fitrec, *words, cwd=self.folder)
 
     def replayed(self, script, *options):
         """What a replay of this script prints, and the files that it leaves."""
@@ -217,16 +215,19 @@ def sizes():
         for it in names:
             yield "%s in docs/%s.md" % (name, it), differs("{:,}".format(value) in page("docs/%s.md" % it), True)
     for file, lines in re.findall(r"`(examples/device/\w+\.c)`\s[^`]*?of (\d+)\b", page("docs/EMBEDDING.md")):
-        yield "the lines of " + file, None if abs(page(file).count("\n") - int(lines)) <= 5 else page(file).count("\n")
+        yield "the lines of " + file, unless(
+            abs(page(file).count("\n") - int(lines)) <= 5, page(file).count("\n"), "%s and 5 more or less" % lines)
 
 
-def check(fitrec):
-    """Yields a name, and a difference or None, for each check."""
+def of_pages(fitrec):
+    """The commands that README and docs/ show and cite."""
     for path in [ROOT / "README.md", *sorted((ROOT / "docs").glob("*.md"))]:
         yield from shown_commands(fitrec, path.name, path.read_text())
         yield from cited_commands(fitrec, path.name, path.read_text())
-    yield from script(fitrec)
-    yield from spelled(fitrec)
-    yield from torn_pair(fitrec)
-    yield from messages()
-    yield from sizes()
+
+
+def check(given):
+    for group in (of_pages, script, spelled, torn_pair):
+        yield from given.checks(group, given.fitrec)
+    for group in (messages, sizes):
+        yield from given.checks(group)

@@ -15,12 +15,11 @@ import subprocess
 import sys
 import tempfile
 
-import library
-from rides import committed
-from told import run
+from tools.libraries import build
+from tools.program import FITREC, ROOT, run
+from tools.rides import committed
 
-HERE = pathlib.Path(__file__).resolve().parent
-FITREC = HERE.parent / "crates/fitrec/out/fitrec"
+HERE = ROOT / "compare/embedded"
 FATFS = ['-DFFCONF_H="ffconf.h"', "-DMICROPY_FATFS_EXFAT=1", "-DMICROPY_FATFS_ENABLE_LFN=2"]
 CACHED, DEAF = ["-DCACHED=1"], ["-DIS_DEAF=1"]
 # The words for the compiler.
@@ -37,11 +36,11 @@ def compiled(form, source, archive, folder):
     name, own, files, more = ("oofatfs", "fatfs", ["ff", "ffunicode"], FATFS) if "FatFs" in form else ("littlefs", "littlefs", ["lfs2", "lfs2_util"], [])
     (folder / "py").mkdir(exist_ok=True)
     (folder / "py/mpconfig.h").touch()
-    cc = ["cc", "-std=gnu11", "-O2", "-I", HERE.parent / "include", "-I", HERE / "embedded", "-I", folder, "-I", source / name, *more, *words, "-c"]
+    cc = ["cc", "-std=gnu11", "-O2", "-I", ROOT / "include", "-I", HERE, "-I", folder, "-I", source / name, *more, *words, "-c"]
     for file in files:
         subprocess.run([*cc, "-w", source / name / (file + ".c"), "-o", folder / (file + ".o")], check=True)
     for file in ("host", own):
-        subprocess.run([*cc, "-Wall", "-Wextra", "-Werror", HERE / "embedded" / (file + ".c"), "-o", folder / (file + ".o")], check=True)
+        subprocess.run([*cc, "-Wall", "-Wextra", "-Werror", HERE / (file + ".c"), "-o", folder / (file + ".o")], check=True)
     subprocess.run(["cc", *(folder / (it + ".o") for it in (*files, "host", own)), archive, "-o", folder / "host"], check=True)
     return folder / "host"
 
@@ -69,7 +68,7 @@ def main():
     with tempfile.TemporaryDirectory() as folder:
         folder = pathlib.Path(folder)
         archive = given.archive or folder / "libfit_device.a"
-        if not given.archive and library.build(archive, "fit_device"):
+        if not given.archive and build(archive, "fit_device"):
             sys.exit("embedded: the library for devices was not built")
         for form in [*FORMS, *CONTROLS]:
             host = compiled(form, given.source, archive, folder)

@@ -8,22 +8,12 @@ import pathlib
 import re
 import shutil
 
-from rides import committed, differs
-from told import ERRORS, Told, holds, library, room, run
+from tools.checks import differs, unless
+from tools.program import holds, room, run
+from tools.rides import CUT_OFF, ONE, SAMPLES, START, STOP, STOPPED, TWO, answers, committed
+from tools.traced import ERRORS, tracing
 
-START = "start 1000000000 7 running"
-SAMPLES = ["sample 1000000001 hr=100", "sample 1000000002 hr=101"]
-STOP = "stop 1000000003"
-CUT_OFF = [START, SAMPLES[0], "commit", SAMPLES[1]]
-STOPPED = CUT_OFF + [STOP]
-LINE = "ok records=%d laps=1 sessions=1 start=1000000000 elapsed_ms=%d timer_ms=%d distance_cm=-\n"
-ONE, TWO, ALONE = LINE % (1, 1000, 1000), LINE % (2, 3000, 3000), LINE % (0, 0, 0)
-
-
-def answers(*words):
-    """What a replay prints for a script, from the answer of each line."""
-    return "".join("%d %s\n" % (number, word) for number, word in enumerate(words, 1))
-
+NEEDS = ("fitrec", "cc")
 
 # The calls, in the words of docs/RECORDING.md: those that open a folder, then those of each operation.
 
@@ -65,50 +55,50 @@ def calls_of(log):
     return calls
 
 
-def the_calls(told):
+def the_calls(traced):
     """Each operation makes its calls, on the right file and in order."""
     with room(*STOPPED) as (script, new):
-        said, log = told.run("replay", script, new())
+        said, log = traced.run("replay", script, new())
         yield "a ride to its stop", differs((said[0], calls_of(log)), (0, OPENING + STARTING + RIDING + STOPPING))
     with room(*CUT_OFF) as (script, new):
         folder = new()
-        run(told.fitrec, "replay", script, folder)
+        run(traced.fitrec, "replay", script, folder)
         other = shutil.copytree(folder, new(), dirs_exist_ok=True)
-        said, log = told.run("repair", folder)
+        said, log = traced.run("repair", folder)
         yield "a repair", differs((said, calls_of(log)), ((0, ONE, ""), OPENING + RECOVERING))
         script.write_text("erase\n")
-        said, log = told.run("replay", script, folder)
+        said, log = traced.run("replay", script, folder)
         yield "an erasing", differs((said, calls_of(log)), ((0, answers("erase: ok"), ""), OPENING + ERASING))
         script.write_text("\n".join(["reopen", SAMPLES[1], "commit", STOP]))
-        said, log = told.run("replay", script, other)
+        said, log = traced.run("replay", script, other)
         said_well = 0, answers("reopen: ok", "sample: ok", "commit: ok", "stop: ok"), ""
         yield "a ride that goes on", differs((said, calls_of(log)), (said_well, OPENING + RESUMING + GOING_ON))
 
 
-def reads_of_a_body(told):
+def reads_of_a_body(traced):
     """A body is read in windows of 512 bytes: one read for at least 416 bytes of it, or for its end."""
     lines = [START] + ["sample %d hr=%d" % (1000000000 + 40 * number, 60 + number % 99) for number in range(3000)]
     with room(*lines, "commit", SAMPLES[1].replace("1000000002", "1001000000")) as (script, new):
         folder = new()
-        run(told.fitrec, "replay", script, folder)
+        run(traced.fitrec, "replay", script, folder)
         script.write_text("reopen\n")
         for words in (["repair", folder], ["replay", script, folder]):
-            said, log = told.run(*words)
+            said, log = traced.run(*words)
             reads = [tuple(map(int, line.split()[2:])) for line in log if line.startswith("read data")]
             # Each sample is 40 s after the one before, so all have six bytes, under one definition of two fields.
             body = 72 + 12 + 6 * 3000
             # A window that reaches the end of the file takes one more read.
             well = said[0] == 0 and len(reads) <= -(-body // 416) + 1 and all(count <= 512 for _, count in reads)
-            yield "reads of a body", None if well else (said, len(reads), reads[:9])
+            yield "reads of a body", unless(well, (said, len(reads), reads[:9]), "one read for at least 416 bytes")
 
 
-def before_an_opening(told):
+def before_an_opening(traced):
     """What is not a regular file is recognized before it is opened, and is not opened."""
     with room(*STOPPED) as (script, new):
         for name, calls in (("activity.fit", []), ("activity.frj", OPENING[:2])):
             folder = new()
             os.mkfifo(pathlib.Path(folder) / name)
-            said, log = told.run("replay", script, folder)
+            said, log = traced.run("replay", script, folder)
             want = (1, "", "fitrec: cannot open %s\n" % folder), calls
             yield "a pipe is not opened", differs((said, calls_of(log)), want)
 
@@ -140,13 +130,13 @@ def answers_after(number):
     return said
 
 
-def failed_syncs(told):
+def failed_syncs(traced):
     """A sync that fails is reported, and everything after it fails. A folder that is opened anew can be used again."""
     with room(*(line for _, line, _, _ in SYNCS)) as (script, new):
         for number in range(1, ALL_SYNCS + 1):
             for error in ERRORS:
                 folder = new()
-                said, log = told.run("replay", script, folder, call="sync", number=number, errno=error)
+                said, log = traced.run("replay", script, folder, call="sync", number=number, errno=error)
                 line = "NoMemory" if error == errno.ENOMEM else "cannot open " + folder
                 want = (1, "", "fitrec: %s\n" % line)
                 if number > 3:
@@ -156,27 +146,27 @@ def failed_syncs(told):
                 yield "a sync that failed", differs(said, want)
                 yield "no call after a sync that failed", differs([line.endswith(" failed") for line in log[-1:]], [True])
                 _, kept, handed = committed(said[1].splitlines())
-                again = run(told.fitrec, "repair", folder)
+                again = run(traced.fitrec, "repair", folder)
                 records = re.match(r"ok records=(\d+) ", again[1])
                 is_none = again == (1, "", "fitrec: NothingRecorded\n") and (number <= STARTED or number > ERASED)
                 well = is_none or records and kept <= int(records[1]) <= handed
-                yield "a folder opened anew after a sync that failed", None if well else (number, again)
-        said, log = told.run("replay", script, new())
+                yield "a folder opened anew after a sync that failed", unless(well, (number, again), "%d to %d records" % (kept, handed))
+        said, log = traced.run("replay", script, new())
         wanted = answers_after(ALL_SYNCS + 1)
         refused = sum(not re.search(": ok( |$)", line) for line in wanted)
         yield "no sync failed", differs((said, sum(line.startswith("sync") for line in log)),
                                         ((1, answers(*wanted), "fitrec: %d refused\n" % refused), ALL_SYNCS))
 
 
-def failing_calls_of_a_ride(told):
+def failing_calls_of_a_ride(traced):
     """If a call of a ride or of an erasing fails, its line answers Device, no other call is made, and what was committed is kept."""
     with room(*STOPPED) as (script, new):
-        _, whole = told.run("replay", script, new())
+        _, whole = traced.run("replay", script, new())
         erasing = script.parent / "erasing"
         erasing.write_text("erase\n")
         ridden = new()
-        run(told.fitrec, "replay", script, ridden)
-        _, erased = told.run("replay", erasing, shutil.copytree(ridden, new(), dirs_exist_ok=True))
+        run(traced.fitrec, "replay", script, ridden)
+        _, erased = traced.run("replay", erasing, shutil.copytree(ridden, new(), dirs_exist_ok=True))
         for words, log, before in ((script, whole, new()), (erasing, erased, ridden)):
             begun = log.index("sync folder") + 3
             for at, line in enumerate(log[begun:], begun):
@@ -184,19 +174,19 @@ def failing_calls_of_a_ride(told):
                 number = sum(other.startswith(kind) for other in log[:at + 1])
                 for error in (errno.EIO, errno.ENOSPC):
                     folder = shutil.copytree(before, new(), dirs_exist_ok=True)
-                    (status, out, fault), calls = told.run("replay", words, folder, call=kind, number=number, errno=error)
+                    (status, out, fault), calls = traced.run("replay", words, folder, call=kind, number=number, errno=error)
                     given = [answer.partition(": ")[2] for answer in out.splitlines()]
                     rest = given[given.index("Device") + 1:] if "Device" in given else ["none was Device"]
                     refused = len(rest) + 1
                     well = set(given[:-refused]) <= {"ok"} and set(rest) <= {"Failed" if given[0] == "ok" else "NoRecorder"}
-                    yield "a %s of a ride that failed" % kind, None if well else (line, out)
+                    yield "a %s of a ride that failed" % kind, unless(well, (line, out), "ok before it, Device, and refusals after it")
                     yield "no call after it", differs((status, fault, calls[-1]), (1, "fitrec: %d refused\n" % refused, line + " failed"))
                     _, kept, handed = committed(out.splitlines())
-                    said = run(told.fitrec, "repair", folder)
+                    said = run(traced.fitrec, "repair", folder)
                     records = re.match(r"ok records=(\d+) ", said[1])
                     is_none = said == (1, "", "fitrec: NothingRecorded\n") and given[0] == "Device"
                     is_kept = records and (words == erasing or kept <= int(records[1]) <= handed)
-                    yield "a repair after it", None if is_none or is_kept else (line, said)
+                    yield "a repair after it", unless(is_none or is_kept, (line, said), "%d to %d records" % (kept, handed))
 
 
 class Operation:
@@ -206,20 +196,20 @@ class Operation:
         self.words, self.done, self.failed = words, done, failed
 
 
-def calls_that_go_wrong(told):
+def calls_that_go_wrong(traced):
     """Calls that are interrupted or fall short are continued. One that fails is reported, no other is made after it, and a repair succeeds."""
     with room(*CUT_OFF) as (script, new):
         cut_off, repaired = new(), new()
-        run(told.fitrec, "replay", script, cut_off)
+        run(traced.fitrec, "replay", script, cut_off)
         shutil.copytree(cut_off, repaired, dirs_exist_ok=True)
-        want_repaired = run(told.fitrec, "repair", repaired), holds(repaired)
+        want_repaired = run(traced.fitrec, "repair", repaired), holds(repaired)
         yield "a repair", differs(want_repaired[0], (0, ONE, ""))
         script.write_text("reopen\n")
         for operation in (Operation(["repair"], (0, ONE, ""), (1, "", "fitrec: Device\n")),
                           Operation(["replay", script], (0, "1 reopen: ok\n", ""), (1, "1 reopen: Device\n", "fitrec: 1 refused\n"))):
             def anew(**wrong):
                 folder = shutil.copytree(cut_off, new(), dirs_exist_ok=True)
-                said, log = told.run(*operation.words, folder, **wrong)
+                said, log = traced.run(*operation.words, folder, **wrong)
                 return folder, said, log
 
             folder, _, whole = anew()
@@ -235,7 +225,7 @@ def calls_that_go_wrong(told):
                     no_file = "fitrec: NoMemory\n" if error == errno.ENOMEM else "fitrec: cannot open %s\n" % folder
                     wanted = ((1, "", no_file) if is_opening else operation.failed), line + " failed"
                     yield "%s: a %s that failed" % (operation.words[0], kind), differs((said, log[-1]), wanted)
-                    said = run(told.fitrec, "repair", folder)
+                    said = run(traced.fitrec, "repair", folder)
                     yield "a repair after a %s that failed" % kind, differs((said, holds(folder)), want_repaired)
             for kind in ("read", "write"):
                 for most in (1, 3):
@@ -246,15 +236,15 @@ def calls_that_go_wrong(told):
 class Verified:
     """A folder with a ride that was cut off, and what `repair --verify` does with a copy of it if a call goes wrong."""
 
-    def __init__(self, told, script, new):
-        self.told, self.new, self.cut_off = told, new, new()
-        run(told.fitrec, "replay", script, self.cut_off)
+    def __init__(self, traced, script, new):
+        self.traced, self.new, self.cut_off = traced, new, new()
+        run(traced.fitrec, "replay", script, self.cut_off)
         repaired = shutil.copytree(self.cut_off, new(), dirs_exist_ok=True)
-        self.well = run(told.fitrec, "repair", repaired), holds(repaired)
+        self.well = run(traced.fitrec, "repair", repaired), holds(repaired)
 
     def run(self, **wrong):
         folder = shutil.copytree(self.cut_off, self.new(), dirs_exist_ok=True)
-        said, log = self.told.run("repair", "--verify", folder, **wrong)
+        said, log = self.traced.run("repair", "--verify", folder, **wrong)
         return folder, said, log
 
     def calls(self):
@@ -274,10 +264,10 @@ LIES = [("sync data", False), ("sync journal", False), ("size data", True), ("re
         ("read data 0 4096", True), ("read data 351 3745", False), ("read journal 0 4096", True), ("read journal 24 4072", False)]
 
 
-def calls_that_lie(told):
+def calls_that_lie(traced):
     """With --verify both files are read before and after the repair. A call that lies is found, or does no harm."""
     with room(*CUT_OFF) as (script, new):
-        verified = Verified(told, script, new)
+        verified = Verified(traced, script, new)
         folder, said, log = verified.run()
         yield "a verified repair", differs((said, holds(folder)), verified.well)
         yield "its calls", differs([line for line, _, _ in verified.calls()], [line for line, _ in LIES])
@@ -286,13 +276,13 @@ def calls_that_lie(told):
             yield "a %s that lies" % kind, differs((line, said), (line, DEVICE if is_found else verified.well[0]))
             if not is_found:
                 yield "a %s whose lie does no harm" % kind, differs((line, holds(folder)), (line, verified.well[1]))
-            said = run(told.fitrec, "repair", "--verify", folder)
+            said = run(traced.fitrec, "repair", "--verify", folder)
             yield "a verified repair after a %s that lied" % kind, differs((line, said, holds(folder)), (line, *verified.well))
         # The first reading takes the whole file. The first byte of the data file is written anew; that of the journal is read again.
         for number, want in ((1, verified.well[0]), (3, DEVICE)):
             folder, said, _ = verified.run(call="read", number=number, lies=1)
             yield "a first reading that lies", differs(said, want)
-            said = run(told.fitrec, "repair", "--verify", folder)
+            said = run(traced.fitrec, "repair", "--verify", folder)
             yield "a verified repair after a first reading that lied", differs((said, holds(folder)), verified.well)
 
 
@@ -309,12 +299,12 @@ def second_reading(folder):
 LONG = [START] + ["sample %d hr=%d" % (1000000000 + 40 * number, 60 + number % 99) for number in range(500)]
 
 
-def verified_rides(told):
+def verified_rides(traced):
     """With --verify both files are read whole after the last sync, over 4,096 bytes too, and also after a start alone. A call that lies
     is found or does no harm; one that fails is Device."""
     for ride in ([START], LONG + ["commit", "sample 1000030000 hr=60"]):
         with room(*ride) as (script, new):
-            verified = Verified(told, script, new)
+            verified = Verified(traced, script, new)
             folder, said, log = verified.run()
             yield "a verified repair of any length", differs((said, holds(folder)), verified.well)
             syncs = [at for at, line in enumerate(log) if line.startswith("sync ")]
@@ -322,22 +312,22 @@ def verified_rides(told):
             for line, kind, number in verified.calls():
                 folder, said, _ = verified.run(call=kind, number=number, lies=1)
                 well = said == DEVICE or (said, holds(folder)) == verified.well
-                yield "any %s that lies" % kind, None if well else (len(ride), line, said)
+                yield "any %s that lies" % kind, unless(well, (len(ride), line, said), "Device, or a repair as by honest calls")
                 folder, said, log = verified.run(call=kind, number=number, errno=errno.EIO)
                 yield "any %s that fails" % kind, differs((said, log[-1]), (DEVICE, line + " failed"))
-                said = run(told.fitrec, "repair", "--verify", folder)
+                said = run(traced.fitrec, "repair", "--verify", folder)
                 yield "a verified repair after any %s" % kind, differs((line, said, holds(folder)), (line, *verified.well))
 
 
-def failing_calls_of_a_verified_repair(told):
+def failing_calls_of_a_verified_repair(traced):
     """A call that fails is Device, no other is made after it, and a repair succeeds. One that is interrupted or falls short is continued."""
     with room(*CUT_OFF) as (script, new):
-        verified = Verified(told, script, new)
+        verified = Verified(traced, script, new)
         for line, kind, number in verified.calls():
             for error in ERRORS:
                 folder, said, log = verified.run(call=kind, number=number, errno=error)
                 yield "a verified repair: a %s that failed" % kind, differs((said, log[-1]), (DEVICE, line + " failed"))
-                said = run(told.fitrec, "repair", folder)
+                said = run(traced.fitrec, "repair", folder)
                 yield "a repair after a %s that failed" % kind, differs((said, holds(folder)), verified.well)
             if kind in ("read", "write"):
                 folder, said, _ = verified.run(call=kind, number=number, errno=errno.EINTR)
@@ -348,10 +338,10 @@ def failing_calls_of_a_verified_repair(told):
                 yield "a verified repair: each %s of at most a few bytes" % kind, differs((said, holds(folder)), verified.well)
 
 
-def first_readings_that_fail(told):
+def first_readings_that_fail(traced):
     """If a file cannot be read at first nothing is written. Each fault is that of a save."""
     with room(*CUT_OFF) as (script, new):
-        verified = Verified(told, script, new)
+        verified = Verified(traced, script, new)
         _, _, whole = verified.run()
         for number, line in enumerate((line for line in whole if line.startswith("read")), 1):
             if line not in ("read data", "read journal"):
@@ -360,38 +350,35 @@ def first_readings_that_fail(told):
             name = {"data": "activity.fit", "journal": "activity.frj"}[line.split()[1]]
             yield "a first reading that fails", differs((said, holds(folder)), ((1, "", "fitrec: cannot read %s\n" % name), holds(verified.cut_off)))
             yield "no write before", differs([line for line in log if line.startswith(("write", "cut", "sync"))], [])
-        yield "first readings", None if number > 2 else number
+        yield "first readings", unless(number > 2, number, "more than 2")
         folder = shutil.copytree(verified.cut_off, new(), dirs_exist_ok=True)
         os.truncate(pathlib.Path(folder) / "activity.frj", 268435457)
-        said, log = told.run("repair", "--verify", folder)
+        said, log = traced.run("repair", "--verify", folder)
         yield "a file over the limit", differs(said, (1, "", "fitrec: TooLarge\n"))
         yield "no write before", differs([line for line in log if line.startswith(("write", "cut", "sync"))], [])
 
 
-def looks_that_fail(told):
+def looks_that_fail(traced):
     """If the program cannot find out whether a file exists, it opens and makes none, and reports nothing as recorded."""
     with room(*CUT_OFF) as (script, new):
         cut_off = new()
-        run(told.fitrec, "replay", script, cut_off)
+        run(traced.fitrec, "replay", script, cut_off)
         for words in (["repair"], ["replay", script]):
             for error in (errno.EACCES, errno.EIO, errno.ENOMEM):
                 for number in itertools.count(1):
                     folder = shutil.copytree(cut_off, new(), dirs_exist_ok=True)
-                    said, log = told.run(*words, folder, call="look", number=number, errno=error)
+                    said, log = traced.run(*words, folder, call="look", number=number, errno=error)
                     if not any(line.endswith(" failed") for line in log):
                         break
                     line = "NoMemory" if error == errno.ENOMEM else "cannot open %s" % folder
                     want = (1, "", "fitrec: %s\n" % line), holds(cut_off)
                     yield words[0] + ": a look that failed", differs((said, holds(folder)), want)
-                yield words[0] + ": looks at both files", None if number > 2 else number
+                yield words[0] + ": looks at both files", unless(number > 2, number, "more than 2")
 
 
-def check(fitrec):
-    """Yields a name, and a difference or None, for each check."""
-    with library() as made:
-        told = Told(fitrec, made)
-        for part in (the_calls, reads_of_a_body, before_an_opening, failed_syncs, failing_calls_of_a_ride,
-                     calls_that_go_wrong, calls_that_lie, verified_rides, failing_calls_of_a_verified_repair,
-                     first_readings_that_fail, looks_that_fail):
-            for name, difference in part(told):
-                yield "faults: " + name, difference
+def check(given):
+    with tracing(given.fitrec) as traced:
+        for group in (the_calls, reads_of_a_body, before_an_opening, failed_syncs, failing_calls_of_a_ride,
+                      calls_that_go_wrong, calls_that_lie, verified_rides, failing_calls_of_a_verified_repair,
+                      first_readings_that_fail, looks_that_fail):
+            yield from given.checks(group, traced)

@@ -15,9 +15,12 @@ import shutil
 import subprocess
 import sys
 
-from guest import CASES, SYSTEM, Outcome, guest, missing
+from tools.checks import unless
+from tools.guest import CASES, Outcome, guest
+from tools.needs import SYSTEM, missing
+from tools.program import FITREC
 
-FITREC = pathlib.Path(__file__).resolve().parent.parent / "crates/fitrec/out/fitrec"
+NEEDS = ("fitrec", "linux.uml", "cc", "libc.a", "mkfs.ext4", "mkfs.xfs", "mkfs.btrfs", "mkfs.vfat")
 # What --set takes.
 SETTINGS = """sector=512    the disk writes so many bytes whole; 4096 otherwise
 folder=fresh  the folder was made just before; otherwise before the disk was mounted
@@ -27,31 +30,36 @@ torn=FROM-TO  a cut keeps all writes, but any sectors of those that begin there
 still=1       nothing else happens on the disk meanwhile"""
 
 
-def look(it, mode, case, states, allowed, **settings):
-    """None if a number of states is wrong that is allowed, or what was found, and the command that repeats it."""
+def judge(it, mode, case, states, allowed, **settings):
+    """None if a number of states is wrong that is allowed, or what was found, and the command that keeps these states."""
     found = Outcome(it.run(mode, case, states=states, **settings))
     words = ["--set %s=%s" % pair for pair in settings.items()]
     repeat = " ".join(["compare/filesystems.py --states %d --seed %d --keep FOLDER" % (states, it.seed), *words, mode, case])
     if found.failed or found.states < states // 2:
-        return "it did not end", found.states, found.failed, repeat
-    return None if len(found.wrong) in allowed else ("%d of %d are wrong" % (len(found.wrong), found.states), found.wrong[:3], found.kinds(), repeat)
+        return unless(False, (found.states, found.failed, repeat), "it ends, with %d states at least" % (states // 2))
+    came = "%d of %d are wrong" % (len(found.wrong), found.states), found.wrong[:3], found.kinds(), repeat
+    return unless(len(found.wrong) in allowed, came, "%d to %d are wrong" % (allowed[0], allowed[-1]))
 
 
-def check(fitrec, seed):
-    """Yields a name and a difference, or None, for each file system, and for each disk or host that keeps no rule."""
-    if missing():
-        print("skipped: what file systems keep, since there is no %s here; it is in Debian's package %s" % missing())
+def of_disks(fitrec, seed):
+    """Each file system, and each disk or host that keeps no rule."""
+    if missing(*NEEDS[1:]):
+        yield "what file systems keep", missing(*NEEDS[1:])
         return
     none, some = range(1), range(1, 1000)
     with guest(fitrec, seed) as it:
         for case in ("ext4", "xfs", "btrfs", "vfat"):
-            yield "the rules on " + case, look(it, "rules", case, 600, none)
-            yield "a ride on " + case, look(it, "ride", case, 150, none)
+            yield "the rules on " + case, judge(it, "rules", case, 600, none)
+            yield "a ride on " + case, judge(it, "ride", case, 150, none)
         # A replacement that is cut off in the middle may lose the old file and the new name. Its bytes are in the file beside it.
-        yield "files that are saved on vfat", look(it, "saves", "vfat", 800, range(9))
-        yield "a disk that ignores flushes loses something", look(it, "rules", "vfat", 60, some, lie=120)
-        yield "a mount without barriers loses something", look(it, "rules", "ext4-no-barrier", 60, some)
-        yield "syncs that do nothing lose something", look(it, "rules", "ext4", 60, some, deaf=1)
+        yield "files that are saved on vfat", judge(it, "saves", "vfat", 800, range(9))
+        yield "a disk that ignores flushes loses something", judge(it, "rules", "vfat", 60, some, lie=120)
+        yield "a mount without barriers loses something", judge(it, "rules", "ext4-no-barrier", 60, some)
+        yield "syncs that do nothing lose something", judge(it, "rules", "ext4", 60, some, deaf=1)
+
+
+def check(given):
+    yield from given.checks(of_disks, given.fitrec, given.seed)
 
 
 def repaired(it, mode, case, line, command, settings):

@@ -8,9 +8,11 @@ import pathlib
 import re
 import shutil
 
-from faults import ALONE, CUT_OFF, LINE, ONE, START, STOPPED, TWO, answers
-from rides import committed, differs, script_of
-from told import NOBODY, as_nobody, holds, may_not_grow, room, run
+from tools.checks import differs, unless
+from tools.program import NOBODY, as_nobody, holds, may_not_grow, room, run
+from tools.rides import ALONE, CUT_OFF, LINE, ONE, START, STOPPED, TWO, answers, committed, row_of, script_of
+
+NEEDS = ("fitrec",)
 
 
 def at_each_size(fitrec):
@@ -27,7 +29,7 @@ def at_each_size(fitrec):
             well = records and kept <= int(records[1]) <= handed
             if not started:
                 well = well or said == (1, "", "fitrec: NothingRecorded\n")
-            yield "files of at most some bytes", None if well else (size, status, err, kept, handed, said)
+            yield "files of at most some bytes", unless(well, (size, status, err, said), "%d to %d records" % (kept, handed))
 
 
 def with_closed_streams(fitrec):
@@ -184,12 +186,6 @@ def of_the_longest_body(fitrec):
                 yield "a body of %d bytes" % size, differs((said, left), want)
 
 
-def row_of(*lengths):
-    """A journal of the older form, in which these lengths were committed."""
-    slots = b"".join(b"\xA5" + length.to_bytes(4, "little") + bytes(3) for length in lengths)
-    return b"FRJ1\0\0\0\0" + slots + bytes(8)
-
-
 def of_a_row_of_slots(fitrec):
     """A ride whose journal is a row is continued in it: commits until one slot is left, which the stop takes. It can be repaired too."""
     with room(START) as (script, new):
@@ -220,10 +216,7 @@ def of_a_row_of_slots(fitrec):
         yield "a full row of slots: repaired", differs(run(fitrec, "repair", folder), (0, ALONE, ""))
 
 
-def check(fitrec):
-    """Yields a name, and a difference or None, for each check."""
-    parts = [at_each_size, with_closed_streams, with_a_lock, with_other_things, with_much_after_a_commit, without_a_name, of_other_users,
-             with_large_files, of_the_longest_body, of_a_row_of_slots]
-    for part in parts:
-        for name, difference in part(fitrec):
-            yield "folders: " + name, difference
+def check(given):
+    for group in (at_each_size, with_closed_streams, with_a_lock, with_other_things, with_much_after_a_commit, without_a_name, of_other_users,
+                  with_large_files, of_the_longest_body, of_a_row_of_slots):
+        yield from given.checks(group, given.fitrec)

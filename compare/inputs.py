@@ -8,13 +8,14 @@ import random
 import tempfile
 import threading
 
-from faults import START
-from files import damaged, made
-from program import MOST, Program, long_beginning
-from reader import wanted
-from rides import differs
-from told import ERRORS, Told, library, room
+from tools.checks import differs
+from tools.fit_files import MOST, damaged, long_beginning, made
+from tools.program import room, run
+from tools.reader import wanted
+from tools.rides import START
+from tools.traced import ERRORS, tracing
 
+NEEDS = ("fitrec", "cc")
 # Each command that reads a file or a script, and what it reports for many zeros.
 READERS = [(words, "HeaderSize at 0") for words in ("show large", "check large", "salvage large out.fit", "plain large out.fit")]
 READERS += [(words, "line 1: UnknownWord") for words in ("replay large .", "simulate large")]
@@ -33,21 +34,25 @@ def feed(path, count):
 
 def limits(fitrec):
     """As many bytes as are allowed, and one more: from a file whose size is known, and from a pipe."""
-    large = fitrec.folder / "large"
+    with tempfile.TemporaryDirectory() as folder:
+        yield from of_large_files(fitrec, pathlib.Path(folder, "large"))
+
+
+def of_large_files(fitrec, large):
     for count, is_too_large in ((MOST, False), (MOST + 1, True)):
         for words, refusal in READERS:
             want = 1, "", "fitrec: %s\n" % ("TooLarge" if is_too_large else refusal)
             with open(large, "wb") as file:
                 file.truncate(count)
-            yield "%d bytes in a file: %s" % (count, words), fitrec.run(*words.split()), want
+            yield "%d bytes in a file: %s" % (count, words), differs(run(fitrec, *words.split(), cwd=large.parent), want)
             large.unlink()
             os.mkfifo(large)
             writer = threading.Thread(target=feed, args=(large, count))
             writer.start()
-            yield "%d bytes in a pipe: %s" % (count, words), fitrec.run(*words.split()), want
+            yield "%d bytes in a pipe: %s" % (count, words), differs(run(fitrec, *words.split(), cwd=large.parent), want)
             writer.join()
             large.unlink()
-    yield "nothing is made", [name for name in os.listdir(fitrec.folder) if name.startswith((".fitrec", "out", "activity"))], []
+    yield "nothing is made", differs([name for name in os.listdir(large.parent) if name.startswith((".fitrec", "out", "activity"))], [])
     with open(large, "wb") as file:
         file.write(long_beginning(MOST))
         file.truncate(MOST - 1)
@@ -55,10 +60,10 @@ def limits(fitrec):
         file.write(b"\x0F")
     want = 1, "", "fitrec: UndefinedLocal(15) at %d\n" % (MOST - 1)
     for words in ("show large", "check large", "plain large out.fit"):
-        yield "the last place of the largest file: " + words, fitrec.run(*words.split()), want
+        yield "the last place of the largest file: " + words, differs(run(fitrec, *words.split(), cwd=large.parent), want)
 
 
-def calls_that_go_wrong(told, small):
+def calls_that_go_wrong(traced, small):
     """A read that falls short or is interrupted is continued. One that fails is reported, and nothing is printed or made."""
     with room(START, "stop 1000000001") as (script, new):
         texts = {"show": small, "check": small, "replay": script.read_bytes(), "simulate": script.read_bytes()}
@@ -68,7 +73,7 @@ def calls_that_go_wrong(told, small):
                 (folder / "in.fit").write_bytes(text)
                 ride = folder / "ride"
                 ride.mkdir()
-                said, log = told.run(command, folder / "in.fit", *[ride] * (command == "replay"), **wrong)
+                said, log = traced.run(command, folder / "in.fit", *[ride] * (command == "replay"), **wrong)
                 return said, log, folder / "in.fit", os.listdir(ride)
 
             want, log, _, made = anew()
@@ -85,7 +90,7 @@ def calls_that_go_wrong(told, small):
                     yield "%s: a %s that failed" % (command, kind), differs((said, left), wanted_so)
 
 
-def files_byte_by_byte(told, seed):
+def files_byte_by_byte(traced, seed):
     """Whatever a file is refused for, it is refused for the same if it is read byte by byte."""
     pick, kinds = random.Random(seed), set()
     with tempfile.TemporaryDirectory() as folder:
@@ -94,19 +99,15 @@ def files_byte_by_byte(told, seed):
             data = made(pick)
             data = damaged(pick, data) if pick.random() < 0.7 else data
             file.write_bytes(data)
-            said, _ = told.run("show", file, call="read", number=0, most=1)
+            said, _ = traced.run("show", file, call="read", number=0, most=1)
             kinds.add(wanted(data)[2].replace("(", " ").split(" ")[1:2][0] if wanted(data)[0] else "shown")
-            yield "byte by byte", None if said == wanted(data) else (data.hex(), said, wanted(data))
+            yield "byte by byte", differs(said, wanted(data), data)
     must_be = {"shown", "Truncated", "HeaderSize", "Protocol", "Magic", "HeaderCrc", "UndefinedLocal", "SplitMessage", "FileCrc", "TrailingBytes"}
     yield "refusals byte by byte", differs(must_be - kinds, set())
 
 
-def check(fitrec, small, seed):
-    """Yields a name, and a difference or None, for each check."""
-    with tempfile.TemporaryDirectory() as folder, library() as made_so:
-        told = Told(fitrec, made_so)
-        for name, said, want in limits(Program(fitrec, folder)):
-            yield "inputs: " + name, differs(said, want)
-        for part in (calls_that_go_wrong(told, small), files_byte_by_byte(told, seed)):
-            for name, difference in part:
-                yield "inputs: " + name, difference
+def check(given):
+    yield from given.checks(limits, given.fitrec)
+    with tracing(given.fitrec) as traced:
+        yield from given.checks(calls_that_go_wrong, traced, given.small)
+        yield from given.checks(files_byte_by_byte, traced, given.seed)

@@ -1,27 +1,26 @@
 """Compares `fitrec show --json` with the second reader: Python's `json` reads each line, over a ride that was recorded, over each change
 of one byte of a small file, and over random files, whole and damaged."""
 
-import concurrent.futures
 import json
-import os
 import pathlib
 import random
-import re
-import subprocess
 import tempfile
 
-import files
-import rides
-from program import framed
-from reader import Refused, show_json
+from tools.checks import differs
+from tools.fit_files import changes, damaged, framed, kind_of, made
+from tools.program import room, run
+from tools.reader import Refused, show_json
+from tools.rides import EXAMPLE
+
+NEEDS = ("fitrec",)
 
 
 def outcome(program, path, utc):
     """The status, the values of the lines, each a list of pairs, and the errors. Each line has to be UTF-8 and one object."""
-    ran = subprocess.run([program, "show", "--json", *["--utc"] * utc, path], capture_output=True)
-    lines = ran.stdout.decode().split("\n")
+    status, out, err = run(program, "show", "--json", *["--utc"] * utc, path)
+    lines = out.split("\n")
     assert lines.pop() == "", "the last line has no end"
-    return ran.returncode, [json.loads(line, object_pairs_hook=list) for line in lines], ran.stderr.decode()
+    return status, [json.loads(line, object_pairs_hook=list) for line in lines], err
 
 
 def wanted(data, utc):
@@ -29,20 +28,6 @@ def wanted(data, utc):
         return 0, show_json(data, utc), ""
     except Refused as refused:
         return 1, [], "fitrec: %s\n" % refused
-
-
-def judge(program, folder, number, data, utc):
-    """A name, and the outputs of both if the program differs."""
-    path = pathlib.Path(folder) / ("%d.fit" % number)
-    path.write_bytes(data)
-    try:
-        said = outcome(program, path, utc)
-    except ValueError as error:
-        said = "no JSON", str(error)
-    path.unlink()
-    want = wanted(data, utc)
-    kind = re.sub("[( ].*", "", want[2].strip().removeprefix("fitrec: ")) or ("shown with dates" if utc else "shown")
-    return "JSON: " + kind, None if said == want else (data.hex(), want, said)
 
 
 def strings():
@@ -53,22 +38,38 @@ def strings():
     return framed(records)
 
 
-def recorded(program):
+def recorded(fitrec):
     """The file of a ride that was stopped, and the same with its times written out."""
     with tempfile.TemporaryDirectory() as folder:
-        rides.run(program, "replay", rides.EXAMPLE, folder)
-        rides.run(program, "save", folder, folder + "/saved.fit")
+        run(fitrec, "replay", EXAMPLE, folder)
+        run(fitrec, "save", folder, folder + "/saved.fit")
         return [(pathlib.Path(folder) / name).read_bytes() for name in ("activity.fit", "saved.fit")]
 
 
-def check(program, small, count, seed):
-    """Yields a name, and a difference or None, for each file."""
-    pick = random.Random(seed)
-    inputs = [(data, utc) for data in [strings(), *recorded(program)] for utc in (False, True)]
-    inputs += [(data, False) for data in files.changes(small)]
-    for _ in range(count):
-        data = files.made(pick)
-        data = data if pick.random() < 0.7 else files.damaged(pick, data)
+def made_files(given):
+    """A ride, strings of each kind, each change of one byte of a small file, and random files, whole and damaged."""
+    pick = random.Random(given.seed)
+    inputs = [(data, utc) for data in [strings(), *recorded(given.fitrec)] for utc in (False, True)]
+    inputs += [(data, False) for data in changes(given.small)]
+    for _ in range(given.files // 2):
+        data = made(pick)
+        data = data if pick.random() < 0.7 else damaged(pick, data)
         inputs += [(data, False), (data, True)]
-    with tempfile.TemporaryDirectory() as folder, concurrent.futures.ThreadPoolExecutor(os.cpu_count()) as pool:
-        yield from pool.map(lambda row: judge(program, folder, row[0], *row[1]), enumerate(inputs))
+    with room() as (place, _):
+        def judge(number, row):
+            data, utc = row
+            path = place.parent / ("%d.fit" % number)
+            path.write_bytes(data)
+            try:
+                said = outcome(given.fitrec, path, utc)
+            except ValueError as error:
+                said = "no JSON", str(error)
+            path.unlink()
+            want = wanted(data, utc)
+            return kind_of(want[2], "shown with dates" if utc else "shown"), differs(said, want, data)
+
+        yield from given.judged(judge, inputs)
+
+
+def check(given):
+    yield from given.checks(made_files, given)

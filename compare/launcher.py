@@ -10,10 +10,10 @@ import shutil
 import subprocess
 import tempfile
 
-from rides import differs
-from told import run
+from tools.checks import differs
+from tools.program import ROOT, run
 
-ROOT = pathlib.Path(__file__).resolve().parent.parent
+NEEDS = ()
 WORDS = ["show", "a file"]
 STATUS = 7
 KIT = "rattle-kit-0", "logic 0123"
@@ -225,8 +225,6 @@ def builds_that_fail():
             yield "a crate that is proved then", differs((said[:2], is_built), (said_by("new"), True))
 
 
-def check():
-    """Yields a name, and a difference or None, for each check."""
-    for part in (runs_the_released, builds, builds_again, builds_that_fail):
-        for name, difference in part():
-            yield "launcher: " + name, difference
+def check(given):
+    for group in (runs_the_released, builds, builds_again, builds_that_fail):
+        yield from given.checks(group)

@@ -5,9 +5,10 @@ import re
 import subprocess
 import tempfile
 
-from rides import differs
+from tools.checks import differs
+from tools.program import ROOT
 
-ROOT = pathlib.Path(__file__).resolve().parent.parent
+NEEDS = ("cc",)
 # Each struct of the header with the one that the library takes for it. Of a recorder and a recovery only the first fields are the host's.
 STRUCTS = {"summary": "RideSummary", "salvage_counts": "SalvageCounts", "call": "Call", "plan": "DevicePlan", "sample": "DeviceSample", "state": "DeviceState", "recorder": "Handle",
            "recovery": "RecoveryHandle"}
@@ -62,9 +63,13 @@ def of_c():
     return [line.split() for line in said.splitlines()]
 
 
-def check():
+def of_the_header():
     structs, constants = rattle()
     for name, field, place in of_c():
         size, _, places = layout(STRUCTS[name], structs, constants)
         want = size if field == "size" else places.get(OTHER_NAMES.get(field, field))
         yield "the layout of the header", differs((name, field, int(place)), (name, field, want))
+
+
+def check(given):
+    yield from given.checks(of_the_header)

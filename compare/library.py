@@ -1,229 +1,53 @@
 """Compares the library for C (fit_c, include/fitrec.h) with the program, byte for byte: over recordings whose power went, over damaged
 ones, and over files that are salvaged, shown and checked. The C program is compiled with all warnings as errors, without and with sanitizers."""
 
-import contextlib
 import pathlib
-import random
 import re
 import shutil
-import subprocess
 import tempfile
 
-import released
-import told
-from files import damaged as damaged_file, made
-from kit import load_rt
-from replacing import bytes_of
-from rides import differs, script_of
-from saves import NAMES, damaged
-from told import holds, room
+from tools import release
+from tools.checks import differs
+from tools.libraries import build, declared, names_of, programs
+from tools.library_calls import ANSWERS, of_files, of_recordings, of_shown_and_checked
+from tools.program import ROOT, run
 
-HERE = pathlib.Path(__file__).resolve().parent
-# The most bytes that a repair and a salvage may add.
-CLOSING, FRAME = 254, 16
-# The answer that each line of the program on standard error stands for: of a recording, and of a file.
-ANSWERS = {"NothingRecorded": 7, "Damaged": 8, "Truncated": 1, "HeaderSize": 2, "Magic": 3, "Protocol": 4, "HeaderCrc": 5, "UndefinedLocal": 6,
-           "SplitMessage": 7, "FileCrc": 8, "TrailingBytes": 9, "NoFileId": 11, "NotActivity": 12, "NoLap": 13, "NoSession": 14, "NoActivity": 15,
-           "TooLong": 21}
-COMPILERS = {"as it is": ["-O2"], "under sanitizers": ["-g", "-fsanitize=address,undefined", "-fno-sanitize-recover=all"]}
+NEEDS = ("fitrec", "rt", "cc")
 
 
-def run(*words):
-    """What a run prints, given words and numbers."""
-    return told.run(*[str(it) for it in words])
-
-
-def build(to, name="fit_c"):
-    """Proves a static library over the libraries of the tree, and makes it."""
-    rt = load_rt()
-    crate = next(it for it in rt.rtlib.crates_below(str(HERE.parent)) if it.name == name)
-    words = [rt.rtlib.RATTLE, "build", *crate.words(["--jobs", "1"], keeps=True), "--toolchain", rt.KIT + "/toolchain", "-o", to]
-    built = subprocess.run(words, cwd=crate.folder, stdout=subprocess.PIPE, stderr=subprocess.STDOUT, text=True)
-    return None if built.returncode == 0 else built.stdout[-2000:]
-
-
-@contextlib.contextmanager
-def programs(archive):
-    """The C program, compiled in each way."""
-    with tempfile.TemporaryDirectory() as folder:
-        made = {}
-        for name, words in COMPILERS.items():
-            made[name] = "%s/%d" % (folder, len(made))
-            cc = ["cc", "-std=c99", "-pedantic", "-Wall", "-Wextra", "-Werror", "-I", HERE.parent / "include", *words]
-            subprocess.run([*cc, HERE / "library.c", archive, "-o", made[name]], check=True)
-        yield made
-
-
-def declared():
-    """The calls that the header declares, those of fit_c and those of a recorder in a device."""
-    text = (HERE.parent / "include/fitrec.h").read_text()
-    return [re.findall(r"^uint\w+_t (\w+)\(", part, re.M) for part in text.split("/* A recorder in a device.")]
-
-
-def names_of(archive):
-    """The library calls only three functions of C, and exports exactly what the header declares."""
-    listed = subprocess.run(["nm", archive], capture_output=True, text=True, check=True).stdout
-    yield "what it calls", differs(set(re.findall(r" U (\w+)", listed)), {"memcpy", "memmove", "memset"})
-    yield "what it exports", differs(sorted(re.findall(r" T (\w+)", listed)), sorted(declared()[0]))
+def proved_and_built(archive):
+    yield "proved and built", differs(build(archive), None)
+    if pathlib.Path(archive).exists():
+        yield release.same("libfit_c.a", archive)
 
 
 def links_as_shown(archive):
     """The example of docs/EMBEDDING.md links by the line that is there, and runs."""
-    text = (HERE.parent / "docs/EMBEDDING.md").read_text()
+    text = (ROOT / "docs/EMBEDDING.md").read_text()
     example = re.search(r'(?m)^    #include "fitrec.h"\n(?:    .*\n|\n)+?    }\n', text)[0]
     with tempfile.TemporaryDirectory() as folder:
         here = pathlib.Path(folder)
-        (here / "include").symlink_to(HERE.parent / "include")
+        (here / "include").symlink_to(ROOT / "include")
         (here / "release").mkdir()
         shutil.copy(archive, here / "release/libfit_c.a")
         (here / "finish.c").write_text(re.sub("(?m)^    ", "", example))
         (here / "main.c").write_text('#include "fitrec.h"\nint finish(uint64_t *, uint64_t *);\n'
                                      "int main(void) { uint64_t none[2] = {0, 0}; return finish(&none[0], &none[1]); }\n")
         line = re.search(r"`(cc -Iinclude [^`]*)`", text)[1]
-        said = told.run("sh", "-c", line + " && ./a.out", cwd=folder)
+        said = run("sh", "-c", line + " && ./a.out", cwd=folder)
         yield "the example of docs/EMBEDDING.md", differs(said, (ANSWERS["NothingRecorded"], "", ""))
 
 
-def answer_of(said):
-    """The answer that corresponds to what the program prints."""
-    if "have changed" in said[2]:
-        return 16
-    return 0 if said[0] == 0 else ANSWERS[re.match(r"fitrec: (\w+)", said[2])[1]]
-
-
-def repaired(fitrec, program, folder, spare=CLOSING):
-    """What differs between a repair by the library and one by the program."""
-    with tempfile.TemporaryDirectory() as scratch:
-        copy, out = scratch + "/copy", pathlib.Path(scratch, "out.fit")
-        shutil.copytree(folder, copy)
-        mine = run(program, "repair", spare, *[pathlib.Path(folder, name) for name in NAMES], out)
-        said = run(fitrec, "repair", copy)
-        want = 0, "%d\n%s" % (answer_of(said), said[1]), ""
-        return differs((mine, bytes_of(out)), (want, bytes_of(pathlib.Path(copy, "activity.fit"))))
-
-
-def saved(fitrec, program, folder):
-    """What differs between a save by the library and one by the program."""
-    with tempfile.TemporaryDirectory() as scratch:
-        out, its = pathlib.Path(scratch, "out.fit"), pathlib.Path(scratch, "its.fit")
-        mine = run(program, "save", *[pathlib.Path(folder, name) for name in NAMES], out)
-        said = run(fitrec, "save", folder, its)
-        return differs((mine, bytes_of(out)), ((0, "%d\n%s" % (answer_of(said), said[1]), ""), bytes_of(its)))
-
-
-def of_recordings(fitrec, program, count, seed):
-    """A ride after each of its lines, stopped, repaired and resumed; and pairs of files that are damaged at random."""
-    pick = random.Random(seed)
-    with room() as (script, new):
-        lines = script_of(20, 4).splitlines()
-        for most in range(len(lines) + 1):
-            folder = new()
-            script.write_text("\n".join(lines[:most]))
-            run(fitrec, "replay", script, folder)
-            yield "a ride", repaired(fitrec, program, folder)
-            yield "a ride that is saved", saved(fitrec, program, folder)
-        whole = holds(folder)
-        for _ in range(count):
-            for name, content in zip(NAMES, damaged(pick, whole)):
-                pathlib.Path(folder, name).write_bytes(content)
-            yield "a damaged pair", repaired(fitrec, program, folder)
-            yield "a damaged pair that is saved", saved(fitrec, program, folder)
-        for name, content in zip(NAMES, whole):
-            pathlib.Path(folder, name).write_bytes(content)
-        said = run(program, "repair", CLOSING - 1, *[pathlib.Path(folder, name) for name in NAMES], pathlib.Path(folder, "out.fit"))
-        yield "a buffer with too little room", differs((said, bytes_of(pathlib.Path(folder, "out.fit"))), ((0, "10\n", ""), whole[0]))
-        script.write_text(script_of(20, 4))
-        run(fitrec, "replay", "--checked", script, folder := new())
-        changed = bytearray(holds(folder)[0])
-        changed[100] ^= 1
-        pathlib.Path(folder, NAMES[0]).write_bytes(changed)
-        yield "a changed body that is saved", saved(fitrec, program, folder)
-        said = run(program, "repair", CLOSING, *[pathlib.Path(folder, name) for name in NAMES], pathlib.Path(folder, "out.fit"))
-        yield "a changed body", differs((said, bytes_of(pathlib.Path(folder, "out.fit"))), ((0, "16\n", ""), bytes(changed)))
-        said = run(program, "lengths", *[pathlib.Path(folder, name) for name in NAMES])
-        yield "lengths that do not fit", differs(said, (0, "9 9 9 7 9 9\n", ""))
-
-
-def of_files(fitrec, program, count, seed):
-    """Files without a journal, whole and damaged."""
-    pick = random.Random(seed)
-    with tempfile.TemporaryDirectory() as folder:
-        source, mine, its = (pathlib.Path(folder, name) for name in ("in.fit", "mine.fit", "its.fit"))
-        for at in range(count):
-            source.write_bytes(damaged_file(pick, made(pick)) if at % 4 else made(pick))
-            for every in (False, True):
-                said = run(program, "salvage", FRAME, source, mine, int(every))
-                wanted = run(fitrec, "salvage", *["--all"] * every, source, its)
-                kept = re.match(r"\d+\n(kept \d+ of \d+), (\d+) not looked at\n$", said[1]) or ["", said[1], "0"]
-                left = re.match(r"fitrec: (\d+) bytes after", wanted[2]) if wanted[0] == 0 else None
-                found = said[1].split("\n")[0], kept[1] + "\n" if wanted[0] == 0 else "", int(kept[2]), bytes_of(mine)
-                want = str(answer_of(wanted)), wanted[1], int(left[1]) if left else 0, bytes_of(its)
-                yield "a salvage", differs(found, want)
-                mine.unlink(missing_ok=True)
-                its.unlink(missing_ok=True)
-        source.write_bytes(made(pick))
-        # The new header may have two bytes more.
-        said = run(program, "salvage", 2, source, mine, 0)
-        yield "a salvage of a whole file needs two bytes more", differs(said[1].split("\n")[0], "0")
-
-
-def looked_at(fitrec, program, source, mine):
-    """What differs between looking at a file by the library and by the program: its text, with dates and without, and its check."""
-    for words, part in (((), "show"), (("--utc",), "show"), ((), "check")):
-        wanted = run(fitrec, part, *words, source)
-        said = run(program, "check", source) if part == "check" else run(program, "show", source, len(words), mine)
-        place = re.match(r"fitrec: \w+(?:\(\d+\))? at (\d+)$", wanted[2].strip())
-        lines = "%d\n%s" % (answer_of(wanted), "at %s\n" % place[1] if place else wanted[1] if part == "check" else "")
-        yield part, differs((said, bytes_of(mine)), ((0, lines, ""), wanted[1].encode() if part == "show" and not wanted[0] else None))
-        mine.unlink(missing_ok=True)
-
-
-def plainly(fitrec, program, source, mine, its):
-    """What differs between the plain form by the library, which gives a place only for a fault of the file, and by the program."""
-    said, wanted = run(program, "plain", source, mine), run(fitrec, "plain", source, its)
-    answer = answer_of(wanted)
-    place = re.match(r"fitrec: \w+(?:\(\d+\))? at (\d+)$", wanted[2].strip())
-    lines = "%d\n%s" % (answer, "at %s\n" % place[1] if 1 <= answer <= 9 else "")
-    difference = differs((said, bytes_of(mine)), ((0, lines, ""), bytes_of(its)))
-    mine.unlink(missing_ok=True)
-    its.unlink(missing_ok=True)
-    return difference
-
-
-def of_looks(fitrec, program, count, seed):
-    """Files that are shown and checked: whole, damaged, cut short and continued."""
-    pick = random.Random(seed)
-    with room() as (script, new):
-        folder = pathlib.Path(new())
-        source, mine = folder / "in.fit", folder / "mine.txt"
-        files = [made(pick) for _ in range(count)]
-        files += [damaged_file(pick, made(pick)) for _ in range(3 * count)]
-        script.write_text(script_of(20, 4))
-        run(fitrec, "replay", script, new_ride := new())
-        ride = holds(new_ride)[0]
-        files += [ride[:length] for length in range(0, len(ride), max(1, len(ride) // 60))] + [ride, ride + b"\0", b""]
-        for content in files:
-            source.write_bytes(content)
-            for part, difference in looked_at(fitrec, program, source, mine):
-                yield "a file that is looked at by " + part, difference
-            yield "a plain form", plainly(fitrec, program, source, mine, folder / "its.fit")
-        yield "its version", differs(run(program, "version"), (0, "1\n", ""))
-
-
-def check(fitrec, count, seed):
-    """Yields a name, and a difference or None, for each check."""
+def check(given):
     with tempfile.TemporaryDirectory() as folder:
         archive = folder + "/libfit_c.a"
-        why = build(archive)
-        yield "library: proved and built", why and ("fit_c was not built", why)
-        if why:
+        yield from given.checks(proved_and_built, archive)
+        if not pathlib.Path(archive).exists():
             return
-        yield released.same("libfit_c.a", archive)
-        for name, difference in (*names_of(archive), *links_as_shown(archive)):
-            yield "library: " + name, difference
-        with programs(archive) as made_so:
-            for how, program in made_so.items():
-                parts = of_recordings(fitrec, program, count, seed), of_files(fitrec, program, count // 4, seed), of_looks(fitrec, program, count // 4, seed)
-                for part in parts:
-                    for name, difference in part:
-                        yield "library %s: %s" % (how, name), difference
+        yield from given.checks(names_of, archive, declared()[0])
+        yield from given.checks(links_as_shown, archive)
+        with programs(ROOT / "compare/library.c", archive, words=("-std=c99", "-pedantic")) as made:
+            for how, program in made.items():
+                yield from given.checks(of_recordings, given.fitrec, program, given.files // 12, given.seed, under=how)
+                for group in (of_files, of_shown_and_checked):
+                    yield from given.checks(group, given.fitrec, program, given.files // 48, given.seed, under=how)

@@ -10,27 +10,26 @@ import sys
 import tempfile
 import time
 
-import rides
-from rides import differs
-from told import holds
+from tools import rides
+from tools.checks import differs, unless
+from tools.program import ROOT, holds, run
 
-EXAMPLES = pathlib.Path(__file__).resolve().parent.parent / "examples"
+NEEDS = ("fitrec",)
+EXAMPLES = ROOT / "examples"
 # Without these words it commits by itself.
 AT_THE_END = "--commit", "0"
 
 
 def record(fitrec, folder, text, *words):
     """The status, the answers and the errors of a recording that is given these bytes."""
-    text = text.encode() if isinstance(text, str) else text
-    done = subprocess.run([fitrec, "record", *words, folder], input=text, capture_output=True, timeout=60)
-    return done.returncode, done.stdout.decode(), done.stderr.decode()
+    return run(fitrec, "record", *words, folder, input=text)
 
 
 def replayed(fitrec, folder, text, *options):
     with tempfile.NamedTemporaryFile("w") as script:
         script.write(text)
         script.flush()
-        return rides.run(fitrec, "replay", *options, script.name, folder)
+        return run(fitrec, "replay", *options, script.name, folder)
 
 
 def scripts():
@@ -71,12 +70,12 @@ def as_replays(fitrec):
         with tempfile.TemporaryDirectory() as one, tempfile.TemporaryDirectory() as other:
             said = replayed(fitrec, one, text, "--checked")
             rides_on = still_rides(said[1].splitlines())
-            yield "lines: as replayed", differs(record(fitrec, other, text, *AT_THE_END), as_recorded(said, text.count("\n"), rides_on))
+            yield "as replayed", differs(record(fitrec, other, text, *AT_THE_END), as_recorded(said, text.count("\n"), rides_on))
             if not rides_on:
-                yield "lines: the same files", differs(holds(one), holds(other))
+                yield "the same files", differs(holds(one), holds(other))
             else:
-                said = rides.run(fitrec, "repair", other)
-                yield "lines: all is committed at the end", None if said[0] == 0 else said
+                said = run(fitrec, "repair", other)
+                yield "all is committed at the end", differs(said[0], 0, said)
 
 
 def as_they_come(fitrec):
@@ -89,13 +88,13 @@ def as_they_come(fitrec):
                     running.stdin.write(bytes([byte]))
                     running.stdin.flush()
                 said = running.stdout.readline().decode()
-                yield "lines: answered before the next comes", differs(said, "%d %s: ok\n" % (number, line.split()[0]))
-            locked = rides.run(fitrec, "repair", folder)
-            yield "lines: the folder is locked", differs(locked, (1, "", "fitrec: cannot open %s\n" % folder))
+                yield "answered before the next comes", differs(said, "%d %s: ok\n" % (number, line.split()[0]))
+            locked = run(fitrec, "repair", folder)
+            yield "the folder is locked", differs(locked, (1, "", "fitrec: cannot open %s\n" % folder))
             running.stdin.close()
-            yield "lines: the end", differs((running.stdout.read(), running.wait()), (b"%d commit: ok\n" % (len(lines) + 1), 0))
+            yield "the end", differs((running.stdout.read(), running.wait()), (b"%d commit: ok\n" % (len(lines) + 1), 0))
         goes_on = record(fitrec, folder, "reopen\nsample 1000000099 hr=90\nstop 1000000100\n", *AT_THE_END)
-        yield "lines: the ride is reopened", differs(goes_on, (0, "1 reopen: ok\n2 sample: ok\n3 stop: ok\n", ""))
+        yield "the ride is reopened", differs(goes_on, (0, "1 reopen: ok\n2 sample: ok\n3 stop: ok\n", ""))
 
 
 # Bytes, and the answers to them. The status is 1 if one of them is not ok.
@@ -121,7 +120,7 @@ def of_odd_bytes(fitrec):
         with tempfile.TemporaryDirectory() as folder:
             refused = sum(not line.endswith(" ok") for line in answers)
             want = (bool(refused), "".join(line + "\n" for line in answers), "fitrec: %d refused\n" % refused * bool(refused))
-            yield "lines: odd bytes", differs(record(fitrec, folder, text), want)
+            yield "odd bytes", differs(record(fitrec, folder, text), want)
 
 
 def by_itself(fitrec):
@@ -151,7 +150,7 @@ def by_itself(fitrec):
         with tempfile.TemporaryDirectory() as folder:
             words = [] if given is None else ["--commit", str(given)]
             said = record(fitrec, folder, "\n".join(lines) + "\n", *words)
-            yield "lines: commits by itself", differs(said[1].splitlines(), want)
+            yield "commits by itself", differs(said[1].splitlines(), want)
     # a second recording reopens the ride of the first, which ended at its start or 4 seconds later
     for begun, last in (("", 0), ("sample 1000000004\n", 4)):
         for after, commits in ((9, ""), (10, "2 commit: ok\n")):
@@ -159,11 +158,11 @@ def by_itself(fitrec):
                 record(fitrec, folder, "start 1000000000 7 running\n" + begun)
                 said = record(fitrec, folder, "reopen\nsample %d\n" % (1000000000 + last + after))
                 want = "1 reopen: ok\n2 sample: ok\n%s3 commit: ok\n" % commits
-                yield "lines: commits by itself after a reopening", differs(said, (0, want, ""))
+                yield "commits by itself after a reopening", differs(said, (0, want, ""))
     with tempfile.TemporaryDirectory() as folder:
         for word in ("x", "", "-1", "4294967296"):
             status, out, err = record(fitrec, folder, "start 1000000000 7 running\n", "--commit=" + word)
-            yield "lines: no number of seconds", differs((status, out, "--commit" in err, os.listdir(folder)), (2, "", True, []))
+            yield "no number of seconds", differs((status, out, "--commit" in err, os.listdir(folder)), (2, "", True, []))
 
 
 def killed(fitrec):
@@ -177,9 +176,10 @@ def killed(fitrec):
                 answers = [running.stdout.readline().rstrip("\n") for _ in range(count)]
                 running.kill()
             started, kept, handed = rides.committed(answers)
-            status, line, err = rides.run(fitrec, "repair", folder)
+            status, line, err = run(fitrec, "repair", folder)
             found = re.match(r"ok records=(\d+) ", line)
-            yield "lines: killed", None if started and found and kept <= int(found[1]) <= handed else (answers, line, err)
+            yield "killed", unless(
+                started and found and kept <= int(found[1]) <= handed, (line, err, answers), "%d to %d records" % (kept, handed))
 
 
 def unread(fitrec):
@@ -193,18 +193,18 @@ def unread(fitrec):
             running.stdin.write(b"sample 1000000002\nsample 1000000003\n")
             running.stdin.close()
             said = running.stderr.read()
-        yield "lines: unread", differs((answers[-1], running.returncode, said), (b"3 commit: ok\n", 1, b"fitrec: cannot write -\n"))
-        found = re.match(r"ok records=(\d+) ", rides.run(fitrec, "repair", folder)[1])
-        yield "lines: unread and kept", None if found and 1 <= int(found[1]) <= 2 else found
+        yield "unread", differs((answers[-1], running.returncode, said), (b"3 commit: ok\n", 1, b"fitrec: cannot write -\n"))
+        found = re.match(r"ok records=(\d+) ", run(fitrec, "repair", folder)[1])
+        yield "unread and kept", unless(found and 1 <= int(found[1]) <= 2, found, "1 or 2 records")
     with tempfile.TemporaryDirectory() as folder, open(os.devnull, "rb") as null:
         where = os.open(folder, os.O_RDONLY)
-        said = rides.run(fitrec, "record", folder, stdin=where)
+        said = run(fitrec, "record", folder, stdin=where)
         os.close(where)
-        yield "lines: input that cannot be read", differs(said, (1, "", "fitrec: cannot read -\n"))
-        said = rides.run(fitrec, "record", folder + "/none", stdin=null)
-        yield "lines: no folder", differs(said, (1, "", "fitrec: cannot open %s/none\n" % folder))
-        said = rides.run(fitrec, "record", "", input="start 1 7 running\n", cwd=folder)
-        yield "lines: a folder without a name", differs(said, (1, "", "fitrec: cannot open \n"))
+        yield "input that cannot be read", differs(said, (1, "", "fitrec: cannot read -\n"))
+        said = run(fitrec, "record", folder + "/none", stdin=null)
+        yield "no folder", differs(said, (1, "", "fitrec: cannot open %s/none\n" % folder))
+        said = run(fitrec, "record", "", input="start 1 7 running\n", cwd=folder)
+        yield "a folder without a name", differs(said, (1, "", "fitrec: cannot open \n"))
 
 
 def peak(fitrec, text):
@@ -228,16 +228,16 @@ def of_long_rides(fitrec):
     long = "start 1000000000 7 cycling\n" + "".join("sample %d hr=120\n" % (1000000000 + second) for second in range(0, 4000001, 100))
     for text in (rides.script_of(8 * 3600, 600), long):
         most = peak(fitrec, text)
-        yield "lines: memory", None if most[0] == 0 and most[1] <= least[1] + 256 else (least, most)
+        yield "memory", unless(most[0] == 0 and most[1] <= least[1] + 256, most, "status 0, and %d KiB and 256 more" % least[1])
 
 
 def of_the_example(fitrec):
     """The client of examples/, which makes its folder and is killed: its ride is saved. Without words it says how it is used."""
     client = [sys.executable, EXAMPLES / "heart_rate.py"]
     for words in ([], ["a", "b", "c", "d"]):
-        said = rides.run(*client, *words)
+        said = run(*client, *words)
         is_told = said[:2] == (1, "") and "heart_rate.py FOLDER [SECONDS [PACE]]" in said[2] and "Traceback" not in said[2]
-        yield "lines: the client of a strap, with no words or too many", None if is_told else said
+        yield "the client of a strap, with no words or too many", unless(is_told, said, "status 1, and how it is used")
     with tempfile.TemporaryDirectory() as above:
         folder = above + "/new"
         words = [*client, folder, "1000", "0.001"]
@@ -246,15 +246,16 @@ def of_the_example(fitrec):
             running.kill()
         # its recorder ends when its input does
         for _ in range(100):
-            said = rides.run(fitrec, "save", folder, folder + "/saved.fit")
+            said = run(fitrec, "save", folder, folder + "/saved.fit")
             if said[0] == 0:
                 break
             time.sleep(0.1)
         found = re.match(r"ok records=(\d+) ", said[1])
         kept = rides.committed(answers)[1]
-        yield "lines: the client of a strap", None if answers[0] == "1 start: ok" and found and kept <= int(found[1]) else (answers[:3], said)
+        yield "the client of a strap", unless(
+            answers[0] == "1 start: ok" and found and kept <= int(found[1]), (answers[:3], said), "%d records or more" % kept)
 
 
-def check(fitrec):
-    for part in (as_replays, as_they_come, of_odd_bytes, by_itself, killed, unread, of_long_rides, of_the_example):
-        yield from part(fitrec)
+def check(given):
+    for group in (as_replays, as_they_come, of_odd_bytes, by_itself, killed, unread, of_long_rides, of_the_example):
+        yield from given.checks(group, given.fitrec)

@@ -4,13 +4,14 @@ shell completes by them. `fitrec version` names what README and CHANGELOG name."
 import os
 import pathlib
 import re
-import shutil
 import subprocess
 import tempfile
 
-from rides import differs, run
+from tools.checks import differs, unless
+from tools.needs import is_there, missing
+from tools.program import ROOT, run
 
-ROOT = pathlib.Path(__file__).resolve().parent.parent
+NEEDS = ("fitrec", "man", "fish", "zsh")
 MADE = ["docs/fitrec.1", "completions/fitrec.bash", "completions/_fitrec", "completions/fitrec.fish"]
 
 
@@ -24,7 +25,8 @@ def of_the_help():
 def of_the_page():
     status, text, warnings = run("man", "--warnings", "-l", ROOT / "docs/fitrec.1", env={"PATH": "/usr/bin:/bin", "LC_ALL": "C", "MANWIDTH": "100"})
     yield "man page: no warning", differs((status, warnings), (0, ""))
-    yield "man page: commands", None if all("fitrec " + word in text for word in ("show", "record", "save", "version")) else text
+    yield "man page: commands", unless(
+        all("fitrec " + word in text for word in ("show", "record", "save", "version")), text, "each command")
 
 
 # The words of a command line, the last of which is completed, and what comes of it.
@@ -65,24 +67,24 @@ def typed(name, line):
 
 
 def of_other_shells():
-    if shutil.which("fish"):
-        for words, answers in ASKED[:2] + ASKED[4:]:
-            line = "complete -C 'fitrec %s'" % " ".join(words)
-            said = run("fish", "--no-config", "-c", "source %s; %s" % (ROOT / "completions/fitrec.fish", line))
-            yield "completed by fish", differs(([it.split("\t")[0] for it in said[1].splitlines()], said[2]), (answers, ""))
-    if shutil.which("zsh"):
-        yield "read by zsh", differs(run("zsh", "-n", ROOT / "completions/_fitrec"), (0, "", ""))
+    for words, answers in [] if missing("fish") else ASKED[:2] + ASKED[4:]:
+        line = "complete -C 'fitrec %s'" % " ".join(words)
+        said = run("fish", "--no-config", "-c", "source %s; %s" % (ROOT / "completions/fitrec.fish", line))
+        yield "completed by fish", differs(([it.split("\t")[0] for it in said[1].splitlines()], said[2]), (answers, ""))
+    if missing("fish"):
+        yield "completed by fish", missing("fish")
+    yield "read by zsh", missing("zsh") or differs(run("zsh", "-n", ROOT / "completions/_fitrec"), (0, "", ""))
 
 
 def of_the_version(fitrec):
     version = re.search(r"^## (\S+)", (ROOT / "CHANGELOG.md").read_text(), re.M)[1]
     kit, logic = re.search(r"\((rattle-kit-\w+), logic (\w+)\)", (ROOT / "README.md").read_text()).groups()
     yield "version", differs(run(fitrec, "version"), (0, "fitrec %s\n%s\nlogic %s\n" % (version, kit, logic), ""))
-    if shutil.which("rt"):
+    if is_there("rt"):
         yield "version of the kit", differs(run("rt", "version")[1], "%s logic %s\n" % (kit, logic))
 
 
-def check(fitrec):
-    for part in (of_the_help, of_the_page, of_bash, of_other_shells):
-        yield from part()
-    yield from of_the_version(fitrec)
+def check(given):
+    for group in (of_the_help, of_the_page, of_bash, of_other_shells):
+        yield from given.checks(group)
+    yield from given.checks(of_the_version, given.fitrec)

@@ -5,13 +5,14 @@ import gzip
 import os
 import pathlib
 import re
-import shutil
-import subprocess
 import tempfile
 
-from released import RELEASE, ROOT, stated
-from rides import differs
-from told import run
+from tools.checks import Skipped, differs
+from tools.needs import missing
+from tools.program import ROOT, run
+from tools.release import RELEASE, stated
+
+NEEDS = ("man", "desktop-file-validate", "pkg-config", "dpkg", "lintian")
 
 PLACES = {"bin/fitrec": "release/fitrec", "share/man/man1/fitrec.1": "docs/fitrec.1", "include/fitrec.h": "include/fitrec.h",
           "share/bash-completion/completions/fitrec": "completions/fitrec.bash", "share/zsh/site-functions/_fitrec": "completions/_fitrec",
@@ -48,13 +49,13 @@ def of_the_install():
             entry, found = (there.get(it, b"").decode() for it in ("share/applications/fitrec.desktop", "lib/pkgconfig/fitrec.pc"))
             named = prefix + "/share/fitrec/fitrec.html" in entry, "prefix=%s\n" % prefix in found
             yield "installed: named places", differs(named, (True, True))
-            if shutil.which("desktop-file-validate"):
-                yield "installed: entry", differs(run("desktop-file-validate", top / "share/applications/fitrec.desktop"), (0, "", ""))
+            yield "installed: entry", missing("desktop-file-validate") or differs(
+                run("desktop-file-validate", top / "share/applications/fitrec.desktop"), (0, "", ""))
             said = run(top / "bin/fitrec", "version")
             yield "installed: runs", differs(said, run(RELEASE / "fitrec", "version"))
             yield "installed: man page", differs(run("man", "-M", top / "share/man", "-w", "fitrec")[:2], (0, "%s/share/man/man1/fitrec.1\n" % top))
-            if not settings and shutil.which("pkg-config"):
-                yield "installed: found by pkg-config", linked(top)
+            if not settings:
+                yield "installed: found by pkg-config", missing("pkg-config") or linked(top)
             said = run(ROOT / "install", "--remove", prefix, env=os.environ | settings)
             yield "taken away", differs((said, files_of(top)), ((0, "", ""), {}))
         yield "wrong words", differs(run(ROOT / "install", "--other")[0], 2)
@@ -74,6 +75,9 @@ def linked(top):
 
 def of_the_package():
     """The package has what `install` installs, and dpkg installs and removes it."""
+    if missing("dpkg"):
+        yield "installed by dpkg", missing("dpkg")
+        return
     package = RELEASE / ("fitrec_%s_amd64.deb" % stated(RELEASE)["version"])
     with tempfile.TemporaryDirectory() as folder:
         run(ROOT / "install", "/usr", env=os.environ | {"DESTDIR": folder + "/ours", "LIBDIR": MULTIARCH})
@@ -89,15 +93,13 @@ def of_the_package():
         yield "installed by dpkg: its files", differs(sorted(there), sorted([*ours, *MORE]))
         yield "installed by dpkg: its bytes", differs([it for it in ours if opened.get(it) != ours[it]], [])
         yield "removed by dpkg", differs((run(*words, "--purge", "fitrec")[0], (root / "usr").exists()), (0, False))
-    if shutil.which("lintian"):
-        said = run("lintian", "--allow-root", package)[1]
-        yield "looked at by lintian", differs(set(re.findall(r"(?m)^[EWI]: fitrec: (\S+)", said)), FOUND)
+    yield "checked by lintian", missing("lintian") or differs(
+        set(re.findall(r"(?m)^[EWI]: fitrec: (\S+)", run("lintian", "--allow-root", package)[1])), FOUND)
 
 
-def check():
-    """Yields a name, and a difference or None, for each check."""
+def check(given):
     if not RELEASE.exists():
+        yield "installed", Skipped("release/")
         return
-    for part in (of_the_install, *([of_the_package] if shutil.which("dpkg") else [])):
-        for name, difference in part():
-            yield "packaged: " + name, difference
+    for group in (of_the_install, of_the_package):
+        yield from given.checks(group)

@@ -14,16 +14,14 @@ import subprocess
 import sys
 import tempfile
 
-import released
-from library import of_files, of_looks, of_recordings
-from replacing import bytes_of
-from rides import differs, run
-from saves import NAMES
+from tools import release
+from tools.checks import differs, unless
+from tools.library_calls import of_files, of_recordings, of_shown_and_checked
+from tools.needs import missing
+from tools.program import FITREC, NAMES, ROOT, bytes_of, run
 
-HERE = pathlib.Path(__file__).resolve().parent
-WEB = HERE.parent / "web"
-# What brings each word, in Debian.
-PACKAGES = {"node": "nodejs", "wasm-opt": "binaryen", "chromium": "chromium"}
+NEEDS = ("fitrec", "rt", "node", "wasm-opt", "chromium")
+WEB, MODULE = ROOT / "web", ROOT / "compare/module.mjs"
 
 # A ride with positions and everything that is drawn.
 RIDE = ["start 1000000000 7 cycling"] + [
@@ -32,23 +30,6 @@ RIDE = ["start 1000000000 7 cycling"] + [
         150 + at % 120) for at in range(300)] + ["commit"]
 
 NOTHING = "Nothing could be saved"
-
-
-def is_there(what, *words):
-    """Whether these words are there; it says which packages bring those that are not."""
-    missing = [word for word in words if not shutil.which(word)]
-    for word in missing:
-        print("skipped: %s, for want of %s, which is in Debian's package %s" % (what, word, PACKAGES[word]))
-    return not missing
-
-
-def of_module(fitrec, count, seed):
-    """The module under Node does what the program does, and what the C library does with its buffers."""
-    os.environ["FITREC_MODULE"] = str(WEB / "out/fit_c.wasm")
-    for part in (of_recordings(fitrec, HERE / "module.mjs", count, seed), of_files(fitrec, HERE / "module.mjs", count // 2, seed),
-                 of_looks(fitrec, HERE / "module.mjs", count // 4, seed)):
-        for name, difference in part:
-            yield "module: " + name, difference
 
 
 def inputs(fitrec, folder):
@@ -98,12 +79,13 @@ def visits(cases, shots):
 def of_page(fitrec, folder, shots=None):
     """The page in a browser."""
     planned = list(visits(list(inputs(fitrec, folder)), shots))
-    words = [HERE / "browser.mjs", WEB / "out/fitrec.html", folder]
-    said = subprocess.run(words, input=json.dumps([it for _, _, it in planned]), capture_output=True, text=True, timeout=600)
-    yield "page: opened", said.stderr[-2000:] or differs(said.returncode, 0)
-    for ((name, drop), (heading, reason, content), _), answer in zip(planned, json.loads(said.stdout or "[]")):
-        how = "page: %s, %s" % (name, "dropped" if drop else "chosen")
-        yield how, differs((answer["heading"].startswith(heading), reason in answer["reason"]), (True, True)) and (answer["heading"], answer["reason"])
+    words = [ROOT / "compare/browser.mjs", WEB / "out/fitrec.html", folder]
+    status, out, err = run(*words, input=json.dumps([it for _, _, it in planned]), timeout=600)
+    yield "opened", differs((status, err), (0, ""))
+    for ((name, drop), (heading, reason, content), _), answer in zip(planned, json.loads(out or "[]")):
+        how = "%s, %s" % (name, "dropped" if drop else "chosen")
+        is_right = answer["heading"].startswith(heading) and reason in answer["reason"]
+        yield how, unless(is_right, (answer["heading"], answer["reason"]), (heading, reason))
         yield how + ": the file", differs(bytes_of(pathlib.Path(answer.get("file", "/-"))), content)
         yield how + ": no request", differs([it for it in answer["requests"] if it != "blob:"], ["file://%s" % (WEB / "out/fitrec.html")])
         yield how + ": nothing is logged", differs(answer["logged"], [])
@@ -115,23 +97,38 @@ def of_page(fitrec, folder, shots=None):
             yield how + ": numbers", differs({it: answer["numbers"].get(it) for it in numbers}, numbers)
 
 
-def check(fitrec, count, seed):
-    """Yields a name, and a difference or None, for each check."""
-    if not is_there("the page and its module", "node", "wasm-opt"):
+def proved_and_built():
+    ran = subprocess.run([WEB / "build"], stdout=subprocess.PIPE, stderr=subprocess.STDOUT, text=True)
+    yield "proved and built", unless(ran.returncode == 0, ran.stdout[-2000:], "status 0")
+    if ran.returncode == 0:
+        yield release.same("fitrec.html", WEB / "out/fitrec.html")
+
+
+def in_a_browser(fitrec):
+    if missing("chromium"):
+        yield "the page in a browser", missing("chromium")
         return
-    built = subprocess.run([WEB / "build"], stdout=subprocess.PIPE, stderr=subprocess.STDOUT, text=True)
-    yield "module: proved and built", None if built.returncode == 0 else ("web/build failed", built.stdout[-2000:])
-    if built.returncode:
+    with tempfile.TemporaryDirectory() as folder:
+        yield from of_page(fitrec, pathlib.Path(folder))
+
+
+def check(given):
+    if missing("node", "wasm-opt"):
+        yield "the page and its module", missing("node", "wasm-opt")
         return
-    yield released.same("fitrec.html", WEB / "out/fitrec.html")
-    yield from of_module(fitrec, count, seed)
-    if is_there("the page in a browser", "chromium"):
-        with tempfile.TemporaryDirectory() as folder:
-            yield from of_page(fitrec, pathlib.Path(folder))
+    yield from given.checks(proved_and_built)
+    if not (WEB / "out/fit_c.wasm").exists():
+        return
+    # The module under Node does what the program does, and what the library for C does with its buffers.
+    os.environ["FITREC_MODULE"] = str(WEB / "out/fit_c.wasm")
+    count = given.files // 250
+    for group, many in ((of_recordings, count), (of_files, count // 2), (of_shown_and_checked, count // 4)):
+        yield from given.checks(group, given.fitrec, MODULE, many, given.seed, under="module")
+    yield from given.checks(in_a_browser, given.fitrec)
 
 
 if __name__ == "__main__":
     to = pathlib.Path(sys.argv[1]).resolve()
     to.mkdir()
     with tempfile.TemporaryDirectory() as scratch:
-        print(sum(difference is not None for _, difference in of_page(HERE.parent / "crates/fitrec/out/fitrec", pathlib.Path(scratch), to)), "differences")
+        print(sum(outcome is not None for _, outcome in of_page(FITREC, pathlib.Path(scratch), to)), "differences")

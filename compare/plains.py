@@ -1,19 +1,18 @@
 """Compares `fitrec plain` with the second reader, over random files, whole and damaged, over a ride, and at its limits."""
 
-import concurrent.futures
-import os
 import pathlib
 import random
 import re
-import resource
 import tempfile
 
-from files import damaged, made
-from program import framed, long_content, many_messages
-from reader import Refused, plained
-from replacing import OLD, Place, bytes_of
-from rides import differs, run, script_of
-from told import room
+from tools.checks import differs, unless
+from tools.fit_files import damaged, kind_of, long_content, made, many_messages, too_long_at_792, widest
+from tools.places import OLD, Place
+from tools.program import bytes_of, may_take, room, run
+from tools.reader import Refused, plained
+from tools.rides import script_of
+
+NEEDS = ("fitrec",)
 
 
 def said_of(data):
@@ -32,8 +31,8 @@ def messages_of(fitrec, file):
 
 
 def judge(fitrec, folder, number, data):
-    """How a run ends, and the outputs of both if it differs from the second reader. The new file is shown as the file that it was made of,
-    and is its own plain form."""
+    """How a run ends, and how it differs from the second reader. The new file is shown as the file that it was made of, and is its own
+    plain form."""
     source, out, again = (pathlib.Path(folder) / ("%d.%s" % (number, name)) for name in ("in", "out", "again"))
     source.write_bytes(data)
     said, file = said_of(data)
@@ -43,37 +42,24 @@ def judge(fitrec, folder, number, data):
         want += [messages_of(fitrec, source), said, file]
     for path in (source, out, again):
         path.unlink(missing_ok=True)
-    kind = "made" if file is not None else re.sub("[( ].*", "", said[2].removeprefix("fitrec: ").strip())
-    return kind, None if is_ == want else (data.hex(), is_, want)
+    return "made" if file is not None else kind_of(said[2], ""), differs(is_, want, data)
 
 
-def made_files(fitrec, count, seed):
+def made_files(given):
     """Random files, whole and damaged."""
-    pick = random.Random(seed)
+    pick, count = random.Random(given.seed), given.files // 4
     inputs = [made(pick) for _ in range(count)]
     inputs += [damaged(pick, made(pick)) for _ in range(count // 3)]
-    with tempfile.TemporaryDirectory() as folder, concurrent.futures.ThreadPoolExecutor(os.cpu_count()) as pool:
-        yield from pool.map(lambda row: judge(fitrec, folder, *row), enumerate(inputs))
+    with room() as (place, _):
+        yield from given.judged(lambda number, data: judge(given.fitrec, place.parent, number, data), inputs)
 
 
-def rides(fitrec):
+def a_ride(fitrec):
     """A ride of the recorder."""
     with room(*script_of(40, 7).splitlines()) as (script, new):
         folder = new()
         run(fitrec, "replay", script, folder)
         yield judge(fitrec, folder, 0, pathlib.Path(folder, "activity.fit").read_bytes())
-
-
-def widest(fields):
-    """A message of this many fields with a compressed timestamp, after one without, each with 255 developer fields."""
-    definition = bytes([0x60, 0, 0, 20, 0, fields]) + fields * bytes([3, 1, 2]) + bytes([255]) + 255 * bytes([7, 1, 0])
-    return framed(definition + b"\0" + bytes(fields + 255) + b"\x85" + bytes(fields + 255))
-
-
-def too_long_at_792():
-    """At 14 a definition of 7 bytes that announces developer fields and has none, so it is written in 6 bytes; at 21 one of 255 fields,
-    in 771 bytes; at 792 its message, with a compressed timestamp."""
-    return framed(bytes([0x60, 0, 0, 20, 0, 0, 0]) + bytes([0x41, 0, 0, 20, 0, 255]) + 255 * bytes([3, 1, 2]) + b"\xA5" + bytes(255))
 
 
 def limits(fitrec):
@@ -107,7 +93,7 @@ def little_memory(fitrec):
         with tempfile.TemporaryDirectory() as folder:
             place = Place(folder, data)
             status, text, fault = run(fitrec, "plain", place.source, place.out,
-                                      preexec_fn=lambda: resource.setrlimit(resource.RLIMIT_AS, (limit, limit)))
+                                      preexec_fn=may_take(limit))
             if status == 0:
                 return differs((text, bytes_of(place.out) == data, told), ("messages 300000\n", True, {"at once", "at an item"}))
             line = re.fullmatch(r"fitrec: (?:NoMemory|Memory at (\d+))\n", fault)
@@ -115,22 +101,10 @@ def little_memory(fitrec):
             if status == 1:
                 told.add("at an item" if line and line[1] not in (None, "0") else "at once")
                 if not line or text or place.left() != (OLD, ["in.fit", "out.fit"]):
-                    return (limit, status, text, fault, place.left()), "one line on the want of memory"
+                    return unless(False, (limit, status, text, fault, place.left()), "one line on the want of memory")
 
 
-def compressed_ride(samples):
-    """A ride whose records have a position and, except for the first, compressed timestamps, five seconds apart."""
-    file_id = bytes([0x40, 0, 0, 0, 0, 2, 0, 1, 0, 4, 4, 0x86, 0, 4]) + (1000000000).to_bytes(4, "little")
-    position = bytes([0, 4, 0x85, 1, 4, 0x85])
-    records = file_id + bytes([0x41, 0, 0, 20, 0, 3, 253, 4, 0x86]) + position + bytes([0x42, 0, 0, 20, 0, 2]) + position
-    for sample in range(samples):
-        time, content = 1000000000 + 5 * sample, (500000000 + 1000 * sample).to_bytes(4, "little") * 2
-        records += b"\1" + time.to_bytes(4, "little") + content if sample == 0 else bytes([0xC0 | time % 32]) + content
-    return framed(records)
-
-
-def check(fitrec, count, seed):
-    """Yields a name, and a difference or None, for each check."""
-    for part in (made_files(fitrec, count, seed), rides(fitrec), limits(fitrec)):
-        for name, difference in part:
-            yield "made plain: " + name, difference
+def check(given):
+    yield from given.checks(made_files, given)
+    for group in (a_ride, limits):
+        yield from given.checks(group, given.fitrec)

@@ -4,42 +4,14 @@ output that fails and with little memory."""
 import os
 import pathlib
 import re
-import resource
-import subprocess
 import tempfile
 
-from reader import checksum, wanted
+from tools.checks import differs
+from tools.fit_files import framed, long_content, many_messages
+from tools.program import may_take, run
+from tools.reader import wanted
 
-MOST = 268435456
-
-
-def framed(records):
-    """A file with these records and right checksums."""
-    start = bytes([14, 0x10, 100, 0]) + len(records).to_bytes(4, "little") + b".FIT"
-    start += checksum(start).to_bytes(2, "little")
-    return start + records + checksum(start + records).to_bytes(2, "little")
-
-
-def long_content(size):
-    """A record with this much content, in fields of type byte. If these are too few, developer fields come after them."""
-    sizes = [255] * (size // 255) + [size % 255] * (size % 255 > 0)
-    fields, more = (b"".join(bytes([99, own, 13]) for own in part) for part in (sizes[:255], sizes[255:]))
-    definition = bytes([0x60 if more else 0x40, 0, 0, 20, 0, len(fields) // 3]) + fields
-    definition += bytes([len(more) // 3]) + more if more else b""
-    return framed(definition + b"\0" + bytes(at % 250 + 1 for at in range(size)))
-
-
-def many_messages(count):
-    """A file of so many messages without fields."""
-    return framed(bytes([0x40, 0, 0, 0xE8, 3, 0]) + bytes(count))
-
-
-def long_beginning(size):
-    """A prefix of a file of so many bytes. Zeros after it are whole messages up to its last byte, the last as long as possible."""
-    empty, fields = bytes([0x40, 0, 0, 20, 0, 0]), 255 * bytes([99, 255, 13])
-    long = bytes([0x60, 0, 0, 20, 0, 255]) + fields + bytes([255]) + fields
-    start = bytes([14, 0x10, 100, 0]) + (size - 14).to_bytes(4, "little") + b".FIT\0\0"
-    return start + empty + bytes((size - 15 - len(empty + long)) % (2 * 255 * 255 + 1)) + long
+NEEDS = ("fitrec",)
 
 
 class Program:
@@ -49,10 +21,7 @@ class Program:
         self.program, self.folder = program, pathlib.Path(folder)
 
     def run(self, *words, **how):
-        """The status, the output and the errors of a run."""
-        how = {"stdout": subprocess.PIPE, "stderr": subprocess.PIPE} | how
-        ran = subprocess.run([self.program, *words], stdin=subprocess.DEVNULL, cwd=self.folder, timeout=100, **how)
-        return ran.returncode, (ran.stdout or b"").decode(), (ran.stderr or b"").decode()
+        return run(self.program, *words, cwd=self.folder, **how)
 
     def write(self, name, data):
         (self.folder / name).write_bytes(data)
@@ -62,15 +31,15 @@ class Program:
 def answers(fitrec, small):
     """Each kind of answer: shown, refused, not opened, not read."""
     name = fitrec.write("small.fit", small)
-    yield "a file is shown", fitrec.run("show", name), wanted(small)
-    yield "a file is refused", fitrec.run("show", fitrec.write("cut.fit", small[:-1])), wanted(small[:-1])
-    yield "no such file", fitrec.run("show", "none.fit"), (1, "", "fitrec: cannot open none.fit\n")
-    yield "no name", fitrec.run("show", ""), (1, "", "fitrec: cannot open \n")
-    yield "a folder", fitrec.run("show", "."), (1, "", "fitrec: cannot read .\n")
-    yield "a file that is named -", fitrec.run("show", "-"), (1, "", "fitrec: cannot open -\n")
-    yield "words that are no text", fitrec.run("show", b"\xff"), (1, "", "fitrec: the command line is not UTF-8\n")
-    yield "a file that is no activity", fitrec.run("check", name), (1, "", "fitrec: NoLap\n")
-    yield "a refused file is no activity either", fitrec.run("check", "cut.fit"), wanted(small[:-1])
+    yield "a file is shown", differs(fitrec.run("show", name), wanted(small))
+    yield "a file is refused", differs(fitrec.run("show", fitrec.write("cut.fit", small[:-1])), wanted(small[:-1]))
+    yield "no such file", differs(fitrec.run("show", "none.fit"), (1, "", "fitrec: cannot open none.fit\n"))
+    yield "no name", differs(fitrec.run("show", ""), (1, "", "fitrec: cannot open \n"))
+    yield "a folder", differs(fitrec.run("show", "."), (1, "", "fitrec: cannot read .\n"))
+    yield "a file that is named -", differs(fitrec.run("show", "-"), (1, "", "fitrec: cannot open -\n"))
+    yield "words that are no text", differs(fitrec.run("show", b"\xff"), (1, "", "fitrec: the command line is not UTF-8\n"))
+    yield "a file that is no activity", differs(fitrec.run("check", name), (1, "", "fitrec: NoLap\n"))
+    yield "a refused file is no activity either", differs(fitrec.run("check", "cut.fit"), wanted(small[:-1]))
 
 
 # Names, and how a message shows them: a letter, a blank and a backslash as they are; bytes that move the cursor or begin a line, controls
@@ -90,35 +59,35 @@ def names(fitrec, small):
         for words in (["show"], ["show", "--json"], ["check"], ["plain", name, "out"], ["salvage", name, "out"], ["replay", name, "ride"], ["simulate"],
                       ["replay", "script"], ["record"], ["repair"], ["repair", "--verify"], ["save", name, "out"]):
             said = fitrec.run(*words, *[name] * (name not in words))
-            yield "a name that is not opened: " + words[0], said, (1, "", "fitrec: cannot open %s\n" % shown)
+            yield "a name that is not opened: " + words[0], differs(said, (1, "", "fitrec: cannot open %s\n" % shown))
         for words in (["plain", "small.fit"], ["salvage", "small.fit"], ["save", "ride"]):
             said = fitrec.run(*words, "none/" + name)
-            yield "a name that is not written: " + words[0], said, (1, "", "fitrec: cannot write none/%s\n" % shown)
+            yield "a name that is not written: " + words[0], differs(said, (1, "", "fitrec: cannot write none/%s\n" % shown))
         (fitrec.folder / name).mkdir()
         for words in (["show"], ["check"], ["plain", name, "out"], ["salvage", name, "out"], ["replay", name, "ride"], ["simulate"]):
             said = fitrec.run(*words, *[name] * (name not in words))
-            yield "a name that is not read: " + words[0], said, (1, "", "fitrec: cannot read %s\n" % shown)
+            yield "a name that is not read: " + words[0], differs(said, (1, "", "fitrec: cannot read %s\n" % shown))
         (fitrec.folder / name).rmdir()
         for words in (["check", "small.fit", name], [name], ["show", "--" + name], ["simulate", "--choices", name, "script"],
                       ["record", "--commit", name, "ride"]):
             status, out, fault = fitrec.run(*words)
-            yield "a word that is wrong", (status, out, shown in fault, name in fault), (2, "", True, name == shown)
+            yield "a word that is wrong", differs((status, out, shown in fault, name in fault), (2, "", True, name == shown))
 
 
 def beginnings(fitrec, small):
     """Each prefix of a file is refused at its end as cut short."""
     for size in range(len(small)):
         said = fitrec.run("show", fitrec.write("cut.fit", small[:size]))
-        yield "a beginning of a file", said, (1, "", "fitrec: Truncated at %d\n" % size)
+        yield "a beginning of a file", differs(said, (1, "", "fitrec: Truncated at %d\n" % size))
 
 
 def sizes(fitrec):
     """Long content and many messages."""
     for size in (1, 255, 256, 5000, 65025, 65026, 130050):
         data = long_content(size)
-        yield "content of %d bytes" % size, fitrec.run("show", fitrec.write("long.fit", data)), wanted(data)
+        yield "content of %d bytes" % size, differs(fitrec.run("show", fitrec.write("long.fit", data)), wanted(data))
     data = many_messages(1000001)
-    yield "a million messages", fitrec.run("show", fitrec.write("many.fit", data)), wanted(data)
+    yield "a million messages", differs(fitrec.run("show", fitrec.write("many.fit", data)), wanted(data))
 
 
 def developer_fields(fitrec):
@@ -129,7 +98,8 @@ def developer_fields(fitrec):
         # an announcement of none is not written
         head = "header 14 protocol 1.0 profile 100 data %d\n" % (len(data) - 16 - (more == 0))
         text = head + "0 record" + fields * " field_99=5" + more * " developer_2_7=0x2A" + "\nmessages 1\n"
-        yield "%d fields and %d developer fields" % (fields, more), fitrec.run("show", fitrec.write("many.fit", data)), (0, text, "")
+        said = fitrec.run("show", fitrec.write("many.fit", data))
+        yield "%d fields and %d developer fields" % (fields, more), differs(said, (0, text, ""))
     definition = bytes.fromhex("60 00 00 14 00 01 03 01 02 02 00 02 00 01 01 00")
     for size in range(1, len(definition) + 1):
         # how many of its bytes show that it does not fit into data of this size
@@ -138,7 +108,7 @@ def developer_fields(fitrec):
             data = bytes([12, 0x10, 100, 0]) + size.to_bytes(4, "little") + b".FIT" + definition[:there]
             line = "SplitMessage at 12" if there >= shows else "Truncated at %d" % (12 + there)
             said = fitrec.run("show", fitrec.write("cut.fit", data))
-            yield "a beginning of a definition", said, (1, "", "fitrec: %s\n" % line)
+            yield "a beginning of a definition", differs(said, (1, "", "fitrec: %s\n" % line))
 
 
 def choices(fitrec):
@@ -147,7 +117,7 @@ def choices(fitrec):
     for before, line in ((512, "ok records=0 laps=1 sessions=1 start=1000000000 elapsed_ms=0 timer_ms=0 distance_cm=-"), (511, "NothingRecorded"),
                          (513, "NothingRecorded")):
         status, out, fault = fitrec.run("simulate", "--choices", "00" * (before + 8) + "A5", script)
-        yield "%d choice bytes" % (before + 9), (status, out.splitlines()[-1:], fault), (0, ["68 recover: " + line], "")
+        yield "%d choice bytes" % (before + 9), differs((status, out.splitlines()[-1:], fault), (0, ["68 recover: " + line], ""))
 
 
 def outputs(fitrec, small):
@@ -156,11 +126,11 @@ def outputs(fitrec, small):
     long = fitrec.write("many.fit", many_messages(20000))
     for file in (name, long):
         with open("/dev/full", "wb") as full:
-            yield "output that is full, of " + file, fitrec.run("show", file, stdout=full), (1, "", line)
-            yield "errors that are full, of " + file, fitrec.run("show", file + "x", stderr=full), (1, "", "")
+            yield "output that is full, of " + file, differs(fitrec.run("show", file, stdout=full), (1, "", line))
+            yield "errors that are full, of " + file, differs(fitrec.run("show", file + "x", stderr=full), (1, "", ""))
         read, write = (open(end, mode) for end, mode in zip(os.pipe(), ("rb", "wb")))
         read.close()
-        yield "output that nobody reads, of " + file, fitrec.run("show", file, stdout=write), (1, "", line)
+        yield "output that nobody reads, of " + file, differs(fitrec.run("show", file, stdout=write), (1, "", line))
         write.close()
 
 
@@ -171,7 +141,7 @@ def memory(fitrec):
     place, limit, told = 0, 1 << 20, set()
     while True:
         limit += 1 << 15
-        said = fitrec.run("show", name, preexec_fn=lambda: resource.setrlimit(resource.RLIMIT_AS, (limit, limit)))
+        said = fitrec.run("show", name, preexec_fn=may_take(limit))
         if said[0] != 1:
             # without memory for the program itself, it does not start
             if said[0] == 0:
@@ -182,17 +152,15 @@ def memory(fitrec):
         place = int(line[2] or 0) if line else place
         told.add("at an item" if place else "at once")
         if not good:
-            yield "memory of %d bytes" % limit, said, "one line on the want of memory"
-    yield "memory enough", said, want
-    yield "want of memory", told, {"at once", "at an item"}
+            yield "memory of %d bytes" % limit, differs(said, "one line on the want of memory")
+    yield "memory enough", differs(said, want)
+    yield "want of memory", differs(told, {"at once", "at an item"})
 
 
-def check(program, small):
-    """Yields a name, and a difference or None, for each run."""
+def check(given):
     with tempfile.TemporaryDirectory() as folder:
-        fitrec = Program(program, folder)
-        runs = (answers(fitrec, small), names(fitrec, small), beginnings(fitrec, small), sizes(fitrec), developer_fields(fitrec), choices(fitrec),
-                outputs(fitrec, small), memory(fitrec))
-        for rows in runs:
-            for name, said, want in rows:
-                yield name, None if said == want else (want, said)
+        fitrec = Program(given.fitrec, folder)
+        for group in (answers, names, beginnings, outputs):
+            yield from given.checks(group, fitrec, given.small)
+        for group in (sizes, developer_fields, choices, memory):
+            yield from given.checks(group, fitrec)

@@ -10,14 +10,15 @@ import calendar
 import csv
 import pathlib
 import shutil
-import subprocess
 import sys
 import tempfile
 import time
 
-from rides import differs, run
+from tools.checks import differs
+from tools.needs import missing
+from tools.program import FITREC, run
 
-FITREC = pathlib.Path(__file__).resolve().parent.parent / "crates/fitrec/out/fitrec"
+NEEDS = ("fitrec", "gpsbabel")
 
 # 1989-12-31T00:00:00Z, from which times are counted.
 EPOCH = 631065600
@@ -71,7 +72,7 @@ def read_by_gpsbabel(file):
     """The points that gpsbabel reads of a file, each as a sample."""
     words = ["gpsbabel", "-t", "-i", "garmin_fit", "-f", file, "-o", "unicsv,utc=0", "-F", "-"]
     points = []
-    for row in csv.DictReader(subprocess.run(words, capture_output=True, text=True).stdout.splitlines()):
+    for row in csv.DictReader(run(*words)[1].splitlines()):
         moment = time.strptime(row["Date"] + " " + row["Time"].split(".")[0], "%Y/%m/%d %H:%M:%S")
         points.append((calendar.timegm(moment) - EPOCH, float(row["Latitude"]), float(row["Longitude"]), int(row["Heartrate"])))
     return points
@@ -82,10 +83,9 @@ def without_times(points):
     return [(round(lat, 5), round(long, 5), rate) for _, lat, long, rate in points]
 
 
-def check(fitrec):
-    """Yields a name and a difference, or None, for each look."""
-    if not shutil.which("gpsbabel"):
-        print("skipped: what gpsbabel reads, which is not there; it is in Debian's package gpsbabel")
+def by_gpsbabel(fitrec):
+    if missing("gpsbabel"):
+        yield "read by gpsbabel", missing("gpsbabel")
         return
     with tempfile.TemporaryDirectory() as folder:
         samples = make(fitrec, folder)
@@ -95,6 +95,10 @@ def check(fitrec):
             yield "read by gpsbabel: " + name, differs(without_times(points), without_times(wanted))
             right = [point[0] for point in points] == [it[0] for it in wanted]
             yield "times read by gpsbabel: " + name, differs(right, is_plain)
+
+
+def check(given):
+    yield from given.checks(by_gpsbabel, given.fitrec)
 
 
 if __name__ == "__main__":

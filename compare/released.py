@@ -5,66 +5,26 @@ What is made here is compared where it is made: the page in page.py, the librari
 there too."""
 
 import base64
-import functools
 import hashlib
 import os
 import pathlib
 import re
 import shutil
-import subprocess
 import tempfile
 
-from replacing import bytes_of
-from rides import differs, script_of
-from told import run
+from tools.checks import differs, unless
+from tools.needs import missing
+from tools.program import ROOT, bytes_of, run
+from tools.release import OBJECTS, RELEASE, is_of_these_sources, said_by, same, stated
+from tools.rides import script_of
 
-HERE = pathlib.Path(__file__).resolve().parent
-ROOT = HERE.parent
-RELEASE = ROOT / "release"
+NEEDS = ("fitrec", "node", "dpkg")
 MOST = 3_000_000
 # What is taken as it stands in the tree.
 COPIED = ["include/fitrec.h", "docs/fitrec.1", "completions/fitrec.bash", "completions/_fitrec", "completions/fitrec.fish"]
-OBJECTS = ["fitrec-cortex-m0plus.o", "fitrec-cortex-m4.o", "fitrec-rv32imac.o"]
 MADE = ["fitrec", "fitrec.html", "libfit_c.a", "libfit_device.a", *OBJECTS]
 # What the launcher needs of a system.
 TOOLS = ["sh", "dirname", "readlink", "find", "sort", "xargs", "sha256sum", "grep"]
-
-
-def stated(release):
-    """The lines of BUILT-FROM, by their first words."""
-    return dict(it.split(" ", 1) for it in (bytes_of(release / "BUILT-FROM") or b"").decode().splitlines() if " " in it)
-
-
-def said_by(*words):
-    return subprocess.run(words, stdout=subprocess.PIPE, text=True, check=True, cwd=ROOT).stdout.strip()
-
-
-@functools.cache
-def sources():
-    return said_by("./sources").splitlines()
-
-
-def is_of_these_sources(release):
-    of = stated(release)
-    return ["%s %s" % (word, of.get(word)) for word in ("crates", "others")] == sources()
-
-
-@functools.cache
-def why_not(name):
-    """Why a file that is made here may have other bytes than the released one, or None."""
-    of = stated(RELEASE)
-    for word, here in (("kit", ("rt", "version")), *([("wasm-opt", ("wasm-opt", "--version"))] if name == "fitrec.html" else [])):
-        found = said_by(*here).removeprefix(word + " ") if shutil.which(here[0]) else "none"
-        if found != of.get(word):
-            return "the release is by %s %s, and here is %s" % (word, of.get(word), found)
-    return None
-
-
-def same(name, made):
-    """The name of a check, and how a file that was made here differs from the released one. A release of other sources fails elsewhere."""
-    is_compared = (RELEASE / name).exists() and is_of_these_sources(RELEASE) and why_not(name) is None
-    sums = [hashlib.sha256(bytes_of(pathlib.Path(it))).hexdigest() for it in (made, RELEASE / name)] if is_compared else [0, 0]
-    return "released: the bytes that are made here", differs(*sums) and (name, *sums)
 
 
 def faults_of(release):
@@ -135,7 +95,7 @@ def plants():
 def of_folder(fitrec):
     """The folder as it is, and what is planted in a copy."""
     found = list(faults_of(RELEASE))
-    yield "released: of these sources, with its checksums", found or None
+    yield "of these sources, with its checksums", differs(found, [])
     yield same("fitrec", fitrec)
     if found:
         return
@@ -143,7 +103,7 @@ def of_folder(fitrec):
         for at, (name, plant) in enumerate(plants()):
             copy = shutil.copytree(RELEASE, pathlib.Path(folder, str(at)))
             plant(copy)
-            yield "released: a planted fault is seen", None if list(faults_of(copy)) else name
+            yield "a planted fault is seen", unless(list(faults_of(copy)), "nothing", name)
 
 
 def clone(to):
@@ -171,20 +131,19 @@ def of_a_clone(fitrec):
         run(fitrec, "replay", folder / "script", folder / "FOLDER")
         wanted = run(fitrec, "save", folder / "FOLDER", folder / "wanted.fit")
         said = run(folder / "clone/fitrec", "save", folder / "FOLDER", folder / "ride.fit", env={"PATH": str(folder / "bin")})
-        yield "released: a clone without the kit", differs((said, bytes_of(folder / "ride.fit")), (wanted, bytes_of(folder / "wanted.fit")))
-        if shutil.which("node"):
+        yield "a clone without the kit", differs((said, bytes_of(folder / "ride.fit")), (wanted, bytes_of(folder / "wanted.fit")))
+        if missing("node"):
+            yield "the page of a clone", missing("node")
+        else:
             module = re.search(r"atob\('([\w+/=]+)'\)", (folder / "clone/release/fitrec.html").read_text())[1]
             (folder / "module.wasm").write_bytes(base64.b64decode(module))
             words = ["save", folder / "FOLDER/activity.fit", folder / "FOLDER/activity.frj", folder / "page.fit"]
-            said = run(HERE / "module.mjs", *words, env=os.environ | {"FITREC_MODULE": str(folder / "module.wasm")})
+            said = run(ROOT / "compare/module.mjs", *words, env=os.environ | {"FITREC_MODULE": str(folder / "module.wasm")})
             wanted = 0, "0\n" + wanted[1], ""
-            yield "released: the page of a clone", differs((said, bytes_of(folder / "page.fit")), (wanted, bytes_of(folder / "wanted.fit")))
+            yield "the page of a clone", differs((said, bytes_of(folder / "page.fit")), (wanted, bytes_of(folder / "wanted.fit")))
 
 
-def check(fitrec):
-    """Yields a name, and a difference or None, for each check."""
-    yield from of_folder(fitrec)
+def check(given):
+    yield from given.checks(of_folder, given.fitrec)
     if (RELEASE / "fitrec").exists():
-        yield from of_a_clone(fitrec)
-    for why in {why_not(it) for it in ("fitrec", "fitrec.html")} - {None}:
-        print("released: checksums and sources are compared, but not what is made here: " + why)
+        yield from given.checks(of_a_clone, given.fitrec)

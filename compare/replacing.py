@@ -1,64 +1,25 @@
 """Checks what `fitrec salvage`, `plain` and `save` do with the file OUT, as docs/PROGRAM.md describes it: OUT is written whole or not at
 all, whichever system call fails, whatever has its name, and whoever has it open."""
 
-import contextlib
 import errno
 import fcntl
 import itertools
 import os
 import pathlib
-import shutil
 import subprocess
 import tempfile
 import termios
 import time
 
-from program import MOST, many_messages
-from reader import plained
-from rides import differs, script_of, small_disk
-from told import ERRORS, NOBODY, Told, as_nobody, library, may_not_grow, room, run
+from tools.checks import Skipped, differs, unless
+from tools.fit_files import MOST, many_messages
+from tools.places import OLD, Place, lay, laid, place_of
+from tools.program import NOBODY, as_nobody, bytes_of, for_everyone, may_not_grow, room, run, small_disk
+from tools.reader import plained
+from tools.rides import recording, script_of
+from tools.traced import ERRORS, tracing
 
-OLD = b"what was there"
-
-
-def bytes_of(path):
-    return path.read_bytes() if path.is_file() else None
-
-
-def lay(path, data):
-    """Makes a file of these bytes, or a folder with the files of these names."""
-    if isinstance(data, bytes):
-        path.write_bytes(data)
-    else:
-        path.mkdir()
-        for name, content in data.items():
-            lay(path / name, content)
-
-
-def laid(path):
-    """The bytes of a file, or of the files of a folder by their names."""
-    return path.read_bytes() if path.is_file() else {it.name: it.read_bytes() for it in path.iterdir()}
-
-
-class Place:
-    """A folder with IN, which is a file or a folder, and a file in the place of OUT."""
-
-    def __init__(self, folder, data, old=OLD):
-        self.folder = pathlib.Path(folder)
-        self.source, self.out = self.folder / "in.fit", self.folder / "out.fit"
-        lay(self.source, data)
-        if old is not None:
-            self.out.write_bytes(old)
-
-    def left(self):
-        """The bytes of OUT, and all names in its folder."""
-        return bytes_of(self.out), sorted(os.listdir(self.folder))
-
-
-@contextlib.contextmanager
-def place_of(data, old=OLD):
-    with tempfile.TemporaryDirectory() as folder:
-        yield Place(folder, data, old)
+NEEDS = ("fitrec", "cc")
 
 
 def not_written(out):
@@ -70,16 +31,16 @@ class Command:
 
     reading = ["open in", "read in"]
 
-    def __init__(self, told, words, line, small):
-        self.told, self.words, self.given, self.made = told, words, small, small
+    def __init__(self, traced, words, line, small):
+        self.traced, self.words, self.given, self.made = traced, words, small, small
         self.done = 0, line, ""
 
     def run(self, source, out, **how):
-        return run(self.told.fitrec, *self.words, source, out, **how)
+        return run(self.traced.fitrec, *self.words, source, out, **how)
 
     def tell(self, source, out, **how):
         """What it prints, and its calls."""
-        return self.told.run(*self.words, source, out, **how)
+        return self.traced.run(*self.words, source, out, **how)
 
     def large(self):
         """An IN that gives a large OUT."""
@@ -107,30 +68,22 @@ class Command:
                 large: "TooLarge"}
 
 
-def recording(fitrec, *lines):
-    """The files of a recording of these lines."""
-    with room(*lines) as (script, new):
-        folder = pathlib.Path(new())
-        run(fitrec, "replay", script, folder)
-        return laid(folder)
-
-
 class Save(Command):
     """The command that makes OUT from a folder. The folder here has a ride that was cut off."""
 
     reading = ["open data", "lock data", "open journal", "lock journal", "read data", "read journal"]
 
-    def __init__(self, told):
-        given = recording(told.fitrec, "start 1000000000 7 running", "sample 1000000001 hr=100", "commit", "sample 1000000002 hr=101")
+    def __init__(self, traced):
+        given = recording(traced.fitrec, "start 1000000000 7 running", "sample 1000000001 hr=100", "commit", "sample 1000000002 hr=101")
         line = "ok records=1 laps=1 sessions=1 start=1000000000 elapsed_ms=1000 timer_ms=1000 distance_cm=-\n"
-        super().__init__(told, ["save"], line, given)
+        super().__init__(traced, ["save"], line, given)
         with tempfile.TemporaryDirectory() as folder:
             lay(pathlib.Path(folder, "ride"), given)
-            run(told.fitrec, "repair", folder + "/ride")
+            run(traced.fitrec, "repair", folder + "/ride")
             _, self.made = plained(pathlib.Path(folder, "ride/activity.fit").read_bytes())
 
     def large(self):
-        return recording(self.told.fitrec, *script_of(20000, 20000).splitlines())
+        return recording(self.traced.fitrec, *script_of(20000, 20000).splitlines())
 
     def said_of(self, call, about, source, error):
         if call == "read":
@@ -186,7 +139,7 @@ def its_calls(command):
                 yield "its calls", differs((said, calls_of(log)), (command.done, calls))
                 yield "what it leaves", differs(place.left(), (command.made, ["in.fit", "out.fit"]))
                 is_held = "close out" not in log or log.index("close out") > log.index("move beside")
-                yield "the lock is held until after the move", None if is_held else log
+                yield "the lock is held until after the move", unless(is_held, log, "the lock is closed after the move")
 
 
 def ends(command, place, old, line, error, is_moved):
@@ -221,7 +174,7 @@ def failing_calls(command):
                     may_be = ends(command, place, old, line, error, "move beside" in log[:at])
                     is_ = said, place.left()
                     well = is_ in may_be and laid(place.source) == command.given
-                    yield "a %s that failed" % kind, None if well else (line, errno.errorcode[error], is_, may_be)
+                    yield "a %s that failed" % kind, unless(well, (line, errno.errorcode[error], is_), may_be)
 
 
 def looks_that_fail(command):
@@ -236,7 +189,7 @@ def looks_that_fail(command):
                 is_in = failed[0] in ("in", "data", "journal")
                 line = "cannot %s" % ("open %s" % place.source if is_in else "write %s" % place.out)
                 well = said in [(1, "", "fitrec: %s\n" % it) for it in (line, "NoMemory")] and place.left() == (OLD, ["in.fit", "out.fit"])
-                yield "a look that failed", None if well else (said, place.left(), log)
+                yield "a look that failed", unless(well, (said, place.left(), log), line)
 
 
 def short_calls(command):
@@ -262,7 +215,7 @@ def without_room(command):
             yield "a file of at most some bytes", differs((said, place.left()), want)
     with tempfile.TemporaryDirectory() as folder, tempfile.TemporaryDirectory() as elsewhere, small_disk(folder) as mounted:
         if not mounted:
-            print("skipped: a full disk, since none can be mounted here")
+            yield "a full disk", Skipped("no disk can be mounted")
             return
         lay(pathlib.Path(elsewhere, "in.fit"), command.large())
         place = Place(folder, command.given)
@@ -273,10 +226,10 @@ def without_room(command):
 def without_output(command):
     """The file is made, and its line is not printed. Nothing that is meant for a closed stream ends up in it."""
     line = "fitrec: cannot write -\n"
-    for closed, told in ((">/dev/full", line), (">&-", line), ("<&- >&-", line), ("<&- >&- 2>&-", "")):
+    for closed, fault in ((">/dev/full", line), (">&-", line), ("<&- >&-", line), ("<&- >&- 2>&-", "")):
         with place_of(command.given) as place:
-            said = run("sh", "-c", 'exec "$@" ' + closed, "sh", command.told.fitrec, *command.words, place.source, place.out)
-            yield "closed output", differs((said, place.left()), ((1, "", told), (command.made, ["in.fit", "out.fit"])))
+            said = run("sh", "-c", 'exec "$@" ' + closed, "sh", command.traced.fitrec, *command.words, place.source, place.out)
+            yield "closed output", differs((said, place.left()), ((1, "", fault), (command.made, ["in.fit", "out.fit"])))
 
 
 # What has the name of OUT.
@@ -365,7 +318,7 @@ def recordings(command):
             for is_there in (True, False):
                 for name in ("%s/" + own, own, "./" + own):
                     place, folder = Place(new(), command.given), pathlib.Path(new())
-                    run(command.told.fitrec, "replay", script, folder)
+                    run(command.traced.fitrec, "replay", script, folder)
                     if not is_there:
                         (folder / own).unlink()
                     before = {path.name: path.read_bytes() for path in folder.iterdir()}
@@ -385,13 +338,13 @@ def a_ride_under_way(command):
     with room(*script_of(3000, 100).splitlines()) as (script, new):
         place, folder = Place(new(), command.given), pathlib.Path(new())
         out = folder / "activity.fit"
-        with subprocess.Popen([command.told.fitrec, "replay", script, folder], stdout=subprocess.PIPE, text=True, pipesize=4096) as replay:
+        with subprocess.Popen([command.traced.fitrec, "replay", script, folder], stdout=subprocess.PIPE, text=True, pipesize=4096) as replay:
             answers = replay.stdout.readline()
             for source in [place.source, *command.sources_under_way(folder)]:
                 yield "over a ride under way", differs(command.run(source, out), not_written(out))
             answers += replay.stdout.read()
         yield "a ride under way goes on", differs((replay.returncode, answers.count(": ok\n")), (0, 3031))
-        said = run(command.told.fitrec, "repair", folder)
+        said = run(command.traced.fitrec, "repair", folder)
         yield "a ride under way is repaired", differs((said[0], said[1].split()[:2]), (0, ["ok", "records=3000"]))
 
 
@@ -406,7 +359,7 @@ def while_it_waits(command):
         os.mkfifo(pipe)
         # A pipe that is opened for reading too does not wait for the program.
         with open(pipe, "r+b", buffering=0) as feed:
-            running = subprocess.Popen([command.told.fitrec, *command.words, pipe, place.out], stdout=subprocess.PIPE, stderr=subprocess.PIPE, text=True)
+            running = subprocess.Popen([command.traced.fitrec, *command.words, pipe, place.out], stdout=subprocess.PIPE, stderr=subprocess.PIPE, text=True)
             feed.write(command.made[:20])
             while fcntl.ioctl(feed, termios.FIONREAD, b"\0" * 4) != b"\0" * 4 and time.monotonic() < until:
                 time.sleep(0.001)
@@ -433,21 +386,14 @@ def order_of_faults(command):
                 yield "the order of faults", differs((said, place.left()), ((1, "", "fitrec: %s\n" % line), before))
 
 
-PARTS = [its_calls, failing_calls, looks_that_fail, short_calls, without_room, without_output, other_things, taken_names, modes,
-         folders_of_others, with_a_lock, recordings, a_ride_under_way, while_it_waits, order_of_faults]
+GROUPS = [its_calls, failing_calls, looks_that_fail, short_calls, without_room, without_output, other_things, taken_names, modes,
+          folders_of_others, with_a_lock, recordings, a_ride_under_way, while_it_waits, order_of_faults]
 
 
-def check(fitrec, small):
-    """Yields a name, and a difference or None, for each check."""
-    with library() as made, tempfile.TemporaryDirectory() as folder:
-        # Another user may have no access to the folder of the program.
-        os.chmod(folder, 0o755)
-        own = shutil.copy(fitrec, folder)
-        os.chmod(own, 0o755)
-        told = Told(own, made)
-        commands = [Command(told, ["salvage"], "kept 18 of 18\n", small), Command(told, ["salvage", "--plain"], "kept 18 of 18\n", small),
-                    Command(told, ["plain"], "messages 1\n", small), Save(told)]
-        for command in commands:
-            for part in PARTS:
-                for what, difference in part(command):
-                    yield "%s: %s" % (" ".join(command.words), what), difference
+def check(given):
+    small = given.small
+    with for_everyone(given.fitrec) as fitrec, tracing(fitrec) as traced:
+        for command in (Command(traced, ["salvage"], "kept 18 of 18\n", small), Command(traced, ["salvage", "--plain"], "kept 18 of 18\n", small),
+                        Command(traced, ["plain"], "messages 1\n", small), Save(traced)):
+            for group in GROUPS:
+                yield from given.checks(group, command, under=" ".join(command.words))

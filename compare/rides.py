@@ -2,27 +2,22 @@
 Also replays with a full disk, with files that cannot grow, with output that is full or closed, and with little
 memory."""
 
-import contextlib
 import csv
 import pathlib
 import random
 import re
-import resource
-import shutil
-import signal
 import subprocess
 import tempfile
 
-import reader
+from tools import reader
+from tools.checks import Skipped, differs, unless
+from tools.needs import missing
+from tools.program import may_not_grow, may_take, run, small_disk
+from tools.rides import EXAMPLE, committed, script_of
 
-EXAMPLE = pathlib.Path(__file__).resolve().parent.parent / "examples/run.txt"
+NEEDS = ("fitrec", "gpsbabel")
 SUMMARY = "ok records=7 laps=2 sessions=1 start=1000000000 elapsed_ms=600000 timer_ms=565000 distance_cm=160035\n"
 COMMITTED = "ok records=5 laps=2 sessions=1 start=1000000000 elapsed_ms=380000 timer_ms=345000 distance_cm=101322\n"
-
-
-def run(*words, **how):
-    done = subprocess.run(words, capture_output=True, text=True, **how)
-    return done.returncode, done.stdout, done.stderr
 
 
 def run_unread(*words):
@@ -33,10 +28,6 @@ def run_unread(*words):
     return running.returncode, said
 
 
-def differs(is_, wanted):
-    return None if is_ == wanted else (is_, wanted)
-
-
 def rows_of(file):
     """The records that gpsbabel reads from a file, each by the names of its columns."""
     with tempfile.NamedTemporaryFile("r") as table:
@@ -44,52 +35,11 @@ def rows_of(file):
         return list(csv.DictReader(table))
 
 
-def records_of(file):
-    """How many records gpsbabel reads from a file."""
-    return len(rows_of(file))
-
-
-def script_of(samples, every, before=0):
-    """A ride of so many samples, one a second, with a commit after every so many; or one that is resumed after so many seconds."""
-    lines = ["reopen" if before else "start 1000000000 7 cycling"]
-    for second in range(before, before + samples):
-        lines.append(f"sample {1000000000 + second} hr={100 + second % 80} dist={second * 700}")
-        if second % every == every - 1:
-            lines.append("commit")
-    return "\n".join(lines) + "\n"
-
-
-def committed(answers):
-    """Whether the last start or reopening was answered ok, how many samples were, and how many of them before the last such commit."""
-    kept = handed = 0
-    started = False
-    for answer in answers:
-        word = answer.split()[1]
-        if word in ("start:", "reopen:"):
-            started = answer.endswith(" ok")
-        if word == "sample:" and answer.endswith(" ok"):
-            handed += 1
-        if word == "commit:" and answer.endswith(" ok"):
-            kept = handed
-    return started, kept, handed
-
-
-@contextlib.contextmanager
-def small_disk(folder):
-    """A disk of 64 KiB in this folder. False if none can be mounted."""
-    mounted = run("mount", "-t", "tmpfs", "-o", "size=64k", "fitrec", folder)[0] == 0
-    try:
-        yield mounted
-    finally:
-        if mounted:
-            run("umount", folder)
-
-
 def on_a_full_disk(fitrec):
     """A disk that gets full: the recorder fails once. With room again, what was answered as committed is kept."""
     with tempfile.TemporaryDirectory() as folder, tempfile.NamedTemporaryFile("w") as script, small_disk(folder) as mounted:
         if not mounted:
-            print("skipped: a full disk, since none can be mounted here")
+            yield "full disk", Skipped("no disk can be mounted")
             return
         script.write(script_of(20000, 100))
         script.flush()
@@ -102,18 +52,11 @@ def on_a_full_disk(fitrec):
         run("mount", "-o", "remount,size=1m", folder)
         status, line, err = run(fitrec, "repair", folder)
         records = re.match(r"ok records=(\d+) ", line)
-        yield "full disk: repaired", None if records and kept <= int(records[1]) <= handed else (line, err, kept, handed)
+        yield "full disk: repaired", unless(records and kept <= int(records[1]) <= handed, (line, err), "%d to %d records" % (kept, handed))
 
 
 def with_files_that_may_not_grow(fitrec):
     """Files that may have so many bytes and no more: the device has failed, and what was committed is kept."""
-    def little(size):
-        def limit():
-            # Without this the system ends a program whose file may not grow.
-            signal.signal(signal.SIGXFSZ, signal.SIG_IGN)
-            resource.setrlimit(resource.RLIMIT_FSIZE, (size, size))
-        return limit
-
     with tempfile.TemporaryDirectory() as folder:
         script, ride, other = (pathlib.Path(folder) / name for name in ("script", "ride", "other"))
         ride.mkdir()
@@ -121,11 +64,11 @@ def with_files_that_may_not_grow(fitrec):
         script.write_text("start 1000000000 7 running\nsample 1000000001\ncommit\nsample 1000000002\n")
         run(fitrec, "replay", script, ride)
         size = (ride / "activity.fit").stat().st_size
-        said = run(fitrec, "repair", ride, preexec_fn=little(size))
+        said = run(fitrec, "repair", ride, preexec_fn=may_not_grow(size))
         yield "files that may not grow: not repaired", differs(said, (1, "", "fitrec: Device\n"))
         line = "ok records=1 laps=1 sessions=1 start=1000000000 elapsed_ms=1000 timer_ms=1000 distance_cm=-\n"
         yield "files that may not grow: repaired", differs(run(fitrec, "repair", ride), (0, line, ""))
-        said = run(fitrec, "replay", script, other, preexec_fn=little(86))
+        said = run(fitrec, "replay", script, other, preexec_fn=may_not_grow(86))
         answers = "1 start: ok\n2 sample: ok\n3 commit: Device\n4 sample: Failed\n"
         yield "files that may not grow: replayed", differs(said, (1, answers, "fitrec: 2 refused\n"))
 
@@ -159,7 +102,7 @@ def with_closed_output(fitrec):
         kept = committed(map(str.rstrip, answers))[1]
         records = re.match(r"ok records=(\d+) ", run(fitrec, "repair", folder)[1])
         yield "closed output of a simulation: told", differs(run_unread(fitrec, "simulate", script.name), (1, "fitrec: cannot write -\n"))
-        yield "closed output: kept", None if records and kept <= int(records[1]) < 20000 else (records, kept)
+        yield "closed output: kept", unless(records and kept <= int(records[1]) < 20000, records, "%d to 19999 records" % kept)
 
 
 def with_little_memory(fitrec):
@@ -171,7 +114,7 @@ def with_little_memory(fitrec):
         file = pathlib.Path(folder) / "activity.fit"
         for limit in range(1 << 20, 1 << 26, 1 << 15):
             status, out, err = run(fitrec, "replay", script.name, folder,
-                                   preexec_fn=lambda: resource.setrlimit(resource.RLIMIT_AS, (limit, limit)))
+                                   preexec_fn=may_take(limit))
             if status == 0:
                 break
             # Without memory for the program itself, it does not start.
@@ -181,9 +124,9 @@ def with_little_memory(fitrec):
                 recorded = out != "" or file.exists() and file.stat().st_size > 0
                 told.add(line and (line[1] or "start").split()[0])
                 if recorded or not line:
-                    yield f"memory of {limit} bytes: nothing is recorded", (out, err)
-        yield "little memory: at the line that wants it", None if last > 1 else last
-        yield "little memory: told", None if {"NoMemory", "line"} <= told and None not in told else told
+                    yield f"memory of {limit} bytes: nothing is recorded", unless(False, (out, err), "one line on the want of memory")
+        yield "little memory: at the line that wants it", unless(last > 1, last, "a line after the first")
+        yield "little memory: told", differs(told, {"NoMemory", "line"})
         yield "little memory: enough", differs((status, out.count(" ok\n"), err), (0, 5002, ""))
 
 
@@ -195,7 +138,7 @@ def with_little_memory_simulated(fitrec):
         script.flush()
         for limit in range(1 << 20, 1 << 26, 1 << 15):
             status, out, err = run(fitrec, "simulate", script.name,
-                                   preexec_fn=lambda: resource.setrlimit(resource.RLIMIT_AS, (limit, limit)))
+                                   preexec_fn=may_take(limit))
             if status == 0:
                 break
             # Without memory for the program itself, it does not start.
@@ -203,8 +146,8 @@ def with_little_memory_simulated(fitrec):
                 line = re.fullmatch(r"fitrec: (NoMemory|line \d+: Memory)\n", err)
                 told.add(line and (line[1] or "start").split()[0])
                 if out or not line:
-                    yield f"memory of {limit} bytes: nothing is simulated", (out, err)
-        yield "little memory, simulated: told", None if {"NoMemory", "line"} <= told and None not in told else told
+                    yield f"memory of {limit} bytes: nothing is simulated", unless(False, (out, err), "one line on the want of memory")
+        yield "little memory, simulated: told", differs(told, {"NoMemory", "line"})
         records = out.splitlines()[-1:] == ["5008 recover: ok records=5000 laps=1 sessions=1 start=1000000000 elapsed_ms=4999000 timer_ms=4999000 distance_cm=3499300"]
         yield "little memory, simulated: enough", differs((status, out.count(": ok\n"), records, err), (0, 5007, True, ""))
 
@@ -233,7 +176,7 @@ def of_room_and_commits(fitrec):
         script.write("\n".join(lines))
         script.flush()
         want = (1, "".join("%d %s\n" % row for row in enumerate(answers, 1)), "fitrec: 2 refused\n")
-        yield "no room: answers", None if (said := run(fitrec, "replay", script.name, folder)) == want else (said[0], said[2])
+        yield "no room: answers", differs(run(fitrec, "replay", script.name, folder), want)
         file = pathlib.Path(folder) / "activity.fit"
         # After the header come the records, the stop under the definition of the start, the closing messages and the checksum.
         yield "no room: size", differs(file.stat().st_size, 14 + length + 7 + 230 + 2)
@@ -246,7 +189,7 @@ def of_room_and_commits(fitrec):
         script.flush()
         answers = ["start: ok", *commits, "stop: ok"]
         want = (0, "".join("%d %s\n" % row for row in enumerate(answers, 1)), "")
-        yield "many commits: answers", None if (said := run(fitrec, "replay", script.name, folder)) == want else (said[0], said[2])
+        yield "many commits: answers", differs(run(fitrec, "replay", script.name, folder), want)
         said = run(fitrec, "repair", folder)
         yield "many commits: repaired", differs(said[1].split()[:2], ["ok", "records=0"])
 
@@ -336,8 +279,8 @@ def of_rides_that_go_on(fitrec):
 def of_longer_fields(fitrec):
     """A sample with only the longer fields for speed and altitude, as gpsbabel reads it: 6 m/s, and 32 m, which are 2,660 fifths
     above -500 m. It keeps a speed in two bytes."""
-    if not shutil.which("gpsbabel"):
-        print("skipped: the longer fields read by gpsbabel, which is not there")
+    if missing("gpsbabel"):
+        yield "longer fields: read by gpsbabel", missing("gpsbabel")
         return
     with tempfile.TemporaryDirectory() as folder, tempfile.NamedTemporaryFile("w") as script:
         script.write("start 1000000000 7 running\nsample 1000000001 lat=566012345 long=102345678 espeed=6000 ealt=2660\nstop 1000000002\n")
@@ -365,27 +308,11 @@ def of_compressed_times(fitrec):
         yield "compressed times: shown", differs(shown, (0, reader.show(file.read_bytes()), ""))
         times = [int(time) for time in re.findall(r"record timestamp=(\d+)", shown[1])]
         yield "compressed times: the times", differs(times, list(range(1000000000, 1000000100)))
-        if shutil.which("gpsbabel"):
-            read = [(int(row["Heartrate"]), int(row["Cadence"]), float(row["Power"])) for row in rows_of(file)]
-            yield "compressed times: values read by gpsbabel", differs(read, samples)
+        yield "compressed times: values read by gpsbabel", missing("gpsbabel") or differs(
+            [(int(row["Heartrate"]), int(row["Cadence"]), float(row["Power"])) for row in rows_of(file)], samples)
 
 
-def check(fitrec):
-    yield from rides(fitrec)
-    yield from of_rides_that_go_on(fitrec)
-    yield from of_greatest_speeds(fitrec)
-    yield from of_longer_fields(fitrec)
-    yield from of_compressed_times(fitrec)
-    yield from of_room_and_commits(fitrec)
-    yield from on_a_full_disk(fitrec)
-    yield from with_files_that_may_not_grow(fitrec)
-    yield from with_full_output(fitrec)
-    yield from with_closed_output(fitrec)
-    yield from with_little_memory(fitrec)
-    yield from with_little_memory_simulated(fitrec)
-
-
-def rides(fitrec):
+def of_the_example(fitrec):
     script = EXAMPLE.read_text()
     commands = [(number, line.split()[0]) for number, line in enumerate(script.splitlines(), 1) if line[0] != "#"]
     with tempfile.TemporaryDirectory() as folder:
@@ -397,8 +324,7 @@ def rides(fitrec):
         yield "ride: shown", differs(run(fitrec, "show", file), (0, reader.show(stopped), ""))
         yield "ride: repaired", differs(run(fitrec, "repair", folder), (0, SUMMARY, ""))
         yield "ride: the same bytes", differs(file.read_bytes(), stopped)
-        if shutil.which("gpsbabel"):
-            yield "ride: read by gpsbabel", differs(records_of(file), 7)
+        yield "ride: read by gpsbabel", missing("gpsbabel") or differs(len(rows_of(file)), 7)
     with tempfile.TemporaryDirectory() as folder, tempfile.NamedTemporaryFile("w", suffix=".txt") as cut_off:
         # After the second commit two samples are handed in, and the stop never comes.
         cut_off.write("\n".join(script.splitlines()[:-1]))
@@ -407,3 +333,9 @@ def rides(fitrec):
         yield "ride: cut off and repaired", differs(run(fitrec, "repair", folder), (0, COMMITTED, ""))
         file = pathlib.Path(folder) / "activity.fit"
         yield "ride: cut off and shown", differs(run(fitrec, "show", file), (0, reader.show(file.read_bytes()), ""))
+
+
+def check(given):
+    for group in (of_the_example, of_rides_that_go_on, of_greatest_speeds, of_longer_fields, of_compressed_times, of_room_and_commits, on_a_full_disk,
+                  with_files_that_may_not_grow, with_full_output, with_closed_output, with_little_memory, with_little_memory_simulated):
+        yield from given.checks(group, given.fitrec)

@@ -1,106 +1,34 @@
-"""Runs the rows of compare/rows over the built program: what a folder holds, a command, and what it has to do.
-
-A row begins with `= NAME` and has a new folder, in which the program runs. Each line of it is a word and its arguments. The lines
-below it that are indented by four blanks belong to it. Lines that begin with `#` are comments. What the folder holds:
-
-    bytes FILE      a file of these bytes, in hexadecimal
-    records FILE    a file of these records, in hexadecimal, after a header of 14 bytes and with right checksums
-    lines FILE      a file of these lines
-    text FILE TEXT  a file of this text, in which each of \\n, \\r, \\t and \\xFF is one byte
-    folder NAME     a folder
-    remove FILE     a file that was there is removed
-
-What is run:
-
-    run WORDS       the program with these words, which are quoted as in a shell; it prints exactly these lines, or, if
-                    the first is `...`, the others at the end
-    status N        its exit status, 0 if none is given
-    error LINE      what it prints on standard error, nothing if no line is given
-    named TEXT      what it prints on standard error contains this
-
-What the folder holds now:
-
-    left FILE       a file of exactly these bytes, in hexadecimal
-    size N FILE     a file of so many bytes
-    there NAME      something has this name
-    absent NAME     nothing has this name"""
+"""Runs the rows of compare/rows over the built program: what a folder holds, a command, and what it has to do (tools/row_files.py)."""
 
 import pathlib
 import shlex
-import subprocess
 import tempfile
 
-from program import framed
+from tools import program
+from tools.checks import Difference, differs
+from tools.fit_files import framed
+from tools.row_files import ROWS, rows_of
 
-ROWS = pathlib.Path(__file__).resolve().parent / "rows"
-
-
-class Step:
-    """A line of a row and the lines that belong to it; for a run, also what it has to print."""
-
-    def __init__(self, number, word, about):
-        self.number, self.word, self.about, self.lines = number, word, about, []
-        self.status, self.error, self.named = 0, "", []
-
-    def wants(self, word, about):
-        match word:
-            case "status":
-                self.status = int(about)
-            case "error":
-                self.error += about + "\n"
-            case "named":
-                self.named.append(about)
-
-    def text(self):
-        return "".join(line + "\n" for line in self.lines)
-
-    def bytes(self):
-        return bytes.fromhex(self.text())
+NEEDS = ("fitrec",)
 
 
-def rows_of(text):
-    """The names and the steps of the rows of a file."""
-    rows, empty = [], 0
-    for number, line in enumerate(text.splitlines(), 1):
-        word, _, about = line.partition(" ")
-        if line.startswith("    "):
-            # Empty lines between two lines of a step belong to it too.
-            rows[-1][1][-1].lines += [""] * empty + [line[4:]]
-        elif word == "=":
-            rows.append((about, []))
-        elif word in ("status", "error", "named"):
-            if rows[-1][1][-1].word != "run":
-                raise ValueError("line %d: no run before it: %s" % (number, line))
-            rows[-1][1][-1].wants(word, about)
-        elif line and word != "#":
-            rows[-1][1].append(Step(number, word, about))
-        empty = 0 if line else empty + 1
-    return rows
+def run(fitrec, folder, step):
+    """None if the program does what a step expects."""
+    status, out, err = program.run(fitrec, *shlex.split(step.about), cwd=folder)
+    text, printed, reported = step.text(), out, step.named or step.error
+    if step.lines[:1] == ["..."] and ("\n" + out).endswith(text[3:]):
+        printed = text
+    if not step.named or not all(part in err for part in step.named):
+        reported = err
+    return differs((status, printed, reported), (step.status, text, step.named or step.error))
 
 
-def run(program, folder, step):
-    """What differs between what the program does and what a step expects."""
-    words = shlex.split(step.about)
-    ran = subprocess.run([program, *words], stdin=subprocess.DEVNULL, capture_output=True, cwd=folder, timeout=100)
-    out, err, text = ran.stdout.decode(), ran.stderr.decode(), step.text()
-    printed = out == text
-    if step.lines[:1] == ["..."]:
-        printed = ("\n" + out).endswith(text[3:])
-    told = all(part in err for part in step.named) if step.named else err == step.error
-    if printed and told and ran.returncode == step.status:
-        return None
-    return (step.status, text, step.named or step.error), (ran.returncode, out, err)
+def size_of(path):
+    return path.stat().st_size if path.is_file() else 0
 
 
-def bytes_of(path):
-    return path.read_bytes() if path.is_file() else b""
-
-
-def lies(folder, step):
-    """Puts into the folder what a step describes, or returns what differs there."""
-    def differs(is_, wanted):
-        return None if is_ == wanted else (wanted, is_)
-
+def put_or_compare(folder, step):
+    """Puts into the folder what a step describes, or answers what differs there."""
     match step.word:
         case "bytes":
             (folder / step.about).write_bytes(step.bytes())
@@ -116,30 +44,32 @@ def lies(folder, step):
         case "remove":
             (folder / step.about).unlink()
         case "left":
-            return differs(bytes_of(folder / step.about).hex(" "), step.bytes().hex(" "))
+            return differs((program.bytes_of(folder / step.about) or b"").hex(" "), step.bytes().hex(" "))
         case "size":
             size, _, name = step.about.partition(" ")
-            return differs(len(bytes_of(folder / name)), int(size))
+            return differs(size_of(folder / name), int(size))
         case "there" | "absent":
             return differs((folder / step.about).exists(), step.word == "there")
         case _:
             raise ValueError("line %d: no step of a row: %s" % (step.number, step.word))
 
 
-def differences(program, steps):
-    """The differences in a row, with the numbers of its lines. None if there are none."""
-    found = []
+def difference(fitrec, steps):
+    """The first difference in a row, with the number of its line. None if there is none."""
     with tempfile.TemporaryDirectory() as folder:
         folder = pathlib.Path(folder)
         for step in steps:
-            difference = run(program, folder, step) if step.word == "run" else lies(folder, step)
-            if difference:
-                found += ["line %d" % step.number, *difference]
-    return found or None
+            found = run(fitrec, folder, step) if step.word == "run" else put_or_compare(folder, step)
+            if found:
+                return Difference(found.wanted, found.came, "line %d: %s %s" % (step.number, step.word, step.about))
+    return None
 
 
-def check(program):
-    """Yields a name, and a difference or None, for each row."""
+def in_file(fitrec, path):
+    for name, steps in rows_of(path.read_text()):
+        yield "%s: %s" % (path.name, name), difference(fitrec, steps)
+
+
+def check(given):
     for path in sorted(ROWS.iterdir()):
-        for name, steps in rows_of(path.read_text()):
-            yield "rows/%s: %s" % (path.name, name), differences(program, steps)
+        yield from given.checks(in_file, given.fitrec, path)

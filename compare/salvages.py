@@ -1,20 +1,16 @@
 """Compares `fitrec salvage` with the second reader, over random files, whole and damaged, and at its limits. With --plain its file is
 the plain form of the file without it."""
 
-import concurrent.futures
-import os
-import pathlib
 import random
-import re
 import tempfile
 
-from files import damaged, made
-from plains import too_long_at_792
-from program import MOST, framed, many_messages
-from reader import Refused, plained, salvaged, wanted
-from replacing import OLD, Place, bytes_of
-from rides import differs, run
+from tools.checks import differs
+from tools.fit_files import MOST, damaged, framed, kind_of, made, many_messages, too_long_at_792
+from tools.places import OLD, Place
+from tools.program import bytes_of, room, run
+from tools.reader import Refused, plained, salvaged, wanted
 
+NEEDS = ("fitrec",)
 NOT_READ = "fitrec: %d bytes after the end that the header gives were not read; salvage --all reads them\n"
 
 
@@ -36,8 +32,8 @@ def plain_of(said, file):
 
 
 def judge(fitrec, folder, number, data, everything):
-    """How a salvage ends, and the outputs of both if it differs from the second reader. The new file is valid, and its own salvage."""
-    source, out, plain, again = (pathlib.Path(folder) / ("%d.%s" % (number, name)) for name in ("in", "out", "plain", "again"))
+    """How a salvage ends, and how it differs from the second reader. The new file is valid, and its own salvage."""
+    source, out, plain, again = (folder / ("%d.%s" % (number, name)) for name in ("in", "out", "plain", "again"))
     source.write_bytes(data)
     (status, line, fault), file = said_of(data, everything)
     words = ["salvage", *["--all"] * everything, source]
@@ -51,21 +47,21 @@ def judge(fitrec, folder, number, data, everything):
         want += [(0, *wanted(file)[1:]), (0, "kept %d of %d\n" % (size, size or 2), ""), file]
     for path in (source, out, plain, again):
         path.unlink(missing_ok=True)
-    kind = ("kept, not all read" if fault else "kept") if status == 0 else re.sub("[( ].*", "", fault.removeprefix("fitrec: ").strip())
-    return kind, None if is_ == want else (data.hex(), is_, want)
+    kind = ("kept, not all read" if fault else "kept") if status == 0 else kind_of(fault, "")
+    return kind, differs(is_, want, data)
 
 
-def made_files(fitrec, count, seed):
+def made_files(given):
     """Random files, whole and damaged once or twice."""
-    pick = random.Random(seed)
+    pick = random.Random(given.seed)
     inputs = []
-    for _ in range(count):
+    for _ in range(given.files // 6):
         data = made(pick)
         for _ in range(pick.choice([0, 1, 1, 2])):
             data = damaged(pick, data) or data
         inputs += [(data, False), (data, True)]
-    with tempfile.TemporaryDirectory() as folder, concurrent.futures.ThreadPoolExecutor(os.cpu_count()) as pool:
-        yield from pool.map(lambda row: judge(fitrec, folder, row[0], *row[1]), enumerate(inputs))
+    with room() as (place, _):
+        yield from given.judged(lambda number, row: judge(given.fitrec, place.parent, number, *row), inputs)
 
 
 def limits(fitrec):
@@ -91,8 +87,6 @@ def limits(fitrec):
         yield "the largest file", differs((said, place.out.stat().st_size), want)
 
 
-def check(fitrec, count, seed):
-    """Yields a name, and a difference or None, for each check."""
-    for part in (made_files(fitrec, count, seed), limits(fitrec)):
-        for name, difference in part:
-            yield "salvaged: " + name, difference
+def check(given):
+    yield from given.checks(made_files, given)
+    yield from given.checks(limits, given.fitrec)

@@ -12,11 +12,12 @@ import signal
 import subprocess
 import tempfile
 
-from replacing import bytes_of, recording
-from rides import differs, script_of
-from told import NOBODY, Told, library, room, run
+from tools.checks import Skipped, differs
+from tools.program import NAMES, NOBODY, bytes_of, for_everyone, room, run
+from tools.rides import damaged_pair, recording, script_of
+from tools.traced import tracing
 
-NAMES = ("activity.fit", "activity.frj")
+NEEDS = ("fitrec", "cc")
 
 # Entries of each kind, pauses of more than 31 s, and a ride that is resumed, stopped, repaired, erased and begun anew.
 RIDE = """start 1000000000 7 running
@@ -102,22 +103,22 @@ def judge_as_nobody(fitrec, folder):
     return difference
 
 
-def killed_rides(told, script, new):
+def killed_rides(traced, script, new):
     """The folders of a ride that is killed before each call that changes its files, and in the middle of each write."""
     script.write_text(RIDE)
     for how in ({"call": "cut"}, {"call": "write"}, {"call": "write", "most": 1}, {"call": "write", "most": 3}):
         for number in itertools.count(1):
             folder = new()
-            _, log = told.run("replay", script, folder, number=number, kills=1, **how)
+            _, log = traced.run("replay", script, folder, number=number, kills=1, **how)
             if sum(line.startswith(how["call"]) for line in log) < number:
                 break
             yield folder
 
 
-def of_killed_rides(fitrec, told):
+def of_killed_rides(fitrec, traced):
     with room() as (script, new), concurrent.futures.ThreadPoolExecutor(os.cpu_count()) as pool:
         script.parent.chmod(0o755)
-        folders = list(killed_rides(told, script, new))
+        folders = list(killed_rides(traced, script, new))
         # A commit makes at least three writes.
         yield "rides were killed", differs(len(folders) > 3 * 3 * RIDE.count("commit"), True)
         for name, how in (("a ride that was killed", judge), ("by a user who may not write there", judge_as_nobody)):
@@ -150,35 +151,18 @@ def of_rides(fitrec):
             yield "a ride that goes on, or is stopped", judge(fitrec, folder)
 
 
-def damaged(pick, pair):
-    """A pair of files, with a byte changed, cut off or added in one of them or in both."""
-    pair = [bytearray(it) for it in pair]
-    for _ in range(pick.choice([1, 1, 2, 5])):
-        file = pick.choice(pair)
-        kind = pick.random()
-        if kind < 0.6 and file:
-            file[pick.randrange(len(file))] = pick.choice([0, 0xA5, 0xFF, pick.randrange(256)])
-        elif kind < 0.85:
-            del file[pick.randrange(len(file) + 1):]
-        else:
-            file += pick.randbytes(pick.randrange(1, 40))
-    return pair
-
-
-def of_damaged_pairs(fitrec, count, seed):
+def of_damaged_pairs(fitrec, given):
     """The same decisions as a repair, over pairs of files that are torn and damaged at random."""
-    pick = random.Random(seed)
+    pick = random.Random(given.seed)
     whole = [recording(fitrec, *script_of(30, 5).splitlines())[name] for name in NAMES]
 
-    def judged(pair):
+    def judged(_, pair):
         with tempfile.TemporaryDirectory() as folder:
             for name, content in zip(NAMES, pair):
                 pathlib.Path(folder, name).write_bytes(content)
-            return judge(fitrec, folder)
+            return "a damaged pair", judge(fitrec, folder)
 
-    with concurrent.futures.ThreadPoolExecutor(os.cpu_count()) as pool:
-        for difference in pool.map(judged, [damaged(pick, whole) for _ in range(count)]):
-            yield "a damaged pair", difference
+    yield from given.judged(judged, [damaged_pair(pick, whole) for _ in range(given.files // 6)])
 
 
 @contextlib.contextmanager
@@ -246,7 +230,7 @@ def on_a_read_only_card(fitrec):
         is_mounted = run("mount", "--bind", folder, card)[0] == 0
         try:
             if not is_mounted or run("mount", "-o", "remount,bind,ro", card)[0] != 0:
-                print("skipped: a read-only card, since none can be mounted here")
+                yield "a read-only card", Skipped("no folder can be mounted")
                 return
             yield "a read-only card: repaired", differs(run(fitrec, "repair", card), (1, "", "fitrec: cannot open %s\n" % card))
             yield "a read-only card: saved", judge(fitrec, card)
@@ -270,14 +254,9 @@ def while_recording(fitrec):
         yield "a recorder that was killed", judge(fitrec, folder)
 
 
-def check(fitrec, count, seed):
-    """Yields a name, and a difference or None, for each check."""
-    with library() as made, tempfile.TemporaryDirectory() as folder:
-        # Another user may have no access to the folder of the program.
-        os.chmod(folder, 0o755)
-        own = shutil.copy(fitrec, folder)
-        os.chmod(own, 0o755)
-        for part in (of_killed_rides(own, Told(own, made)), of_rides(own), of_damaged_pairs(own, count, seed), other_things(own),
-                     without_a_name(own), in_capitals(own), on_a_read_only_card(own), while_recording(own)):
-            for name, difference in part:
-                yield "saves: " + name, difference
+def check(given):
+    with for_everyone(given.fitrec) as fitrec, tracing(fitrec) as traced:
+        yield from given.checks(of_killed_rides, fitrec, traced)
+        yield from given.checks(of_damaged_pairs, fitrec, given)
+        for group in (of_rides, other_things, without_a_name, in_capitals, on_a_read_only_card, while_recording):
+            yield from given.checks(group, fitrec)

@@ -11,12 +11,9 @@ import signal
 import subprocess
 import tempfile
 
-HERE = pathlib.Path(__file__).resolve().parent
-# What is needed of the system, and the Debian package of each.
-NEEDED = {"linux.uml": "user-mode-linux", "cc": "gcc (with libc6-dev)", "mkfs.ext4": "e2fsprogs", "mkfs.xfs": "xfsprogs", "mkfs.btrfs": "btrfs-progs",
-          "mkfs.vfat": "dosfstools"}
-# Debian has programs of the system where not every PATH looks.
-SYSTEM = os.environ | {"PATH": os.environ["PATH"] + ":/usr/sbin:/sbin"}
+from tools.needs import SYSTEM
+from tools.program import ROOT
+
 # The drivers that are not part of the kernel itself, and what they need at a mount.
 MODULES = ("/usr/lib/uml/modules", ("nbd", "vfat", "f2fs", "nls_cp437", "nls_iso8859-1", "nls_utf8", "nls_ascii", "crc32_generic"))
 # The seconds that a run may take.
@@ -104,7 +101,7 @@ class Guest:
         self.share, self.seed, self.program = share, seed, pathlib.Path(fitrec).resolve()
         (share / "found").mkdir()
         (share / "modules").write_text("\n".join(modules()) + "\n")
-        words = ["cc", "-std=gnu11", "-O2", "-Wall", "-Wextra", "-Werror", "-static", "-pthread", *sorted((HERE / "filesystems").glob("*.c"))]
+        words = ["cc", "-std=gnu11", "-O2", "-Wall", "-Wextra", "-Werror", "-static", "-pthread", *sorted((ROOT / "compare/filesystems").glob("*.c"))]
         subprocess.run([*words, "-o", share / "guest"], check=True)
 
     def image(self, case):
@@ -160,9 +157,3 @@ def guest(fitrec, seed):
     with tempfile.TemporaryDirectory() as folder:
         yield Guest(fitrec, pathlib.Path(folder), seed)
 
-
-def missing():
-    """The first thing that is needed and not there, and its package."""
-    words = [(word, package) for word, package in NEEDED.items() if not shutil.which(word, path=SYSTEM["PATH"])]
-    has_library = words or os.path.isabs(subprocess.run(["cc", "-print-file-name=libc.a"], capture_output=True, text=True).stdout)
-    return words[0] if words else None if has_library else ("libc.a", "libc6-dev")

@@ -1,7 +1,7 @@
-/* Gives hostile files to the program: mutations of the named files, and headers and definitions that promise much. Each goes
+/* Gives changed files to the program: mutations of the named files, and headers and definitions that promise much. Each goes
    through show, check and salvage, in little memory and time. A salvaged file has to be shown, and to be its own salvage.
 
-     hostile PROGRAM LIBRARY FOLDER SEED SECONDS COUNT FILE ..
+     fuzz PROGRAM LIBRARY FOLDER SEED SECONDS COUNT FILE ..
 
    It ends after so many seconds or files, and prints how the runs ended: a line with a count for each command and end. A file that
    leads to a signal, to too much time or memory, or to a wrong salvage is kept in the folder, and the status is 1. */
@@ -234,7 +234,9 @@ static int run(int which) {
         snprintf(how, sizeof how, "STATUS %d", WEXITSTATUS(status));
     }
     counted(run->command, how);
-    int is_good = WIFEXITED(status) && (!WEXITSTATUS(status) ? !line[0] : WEXITSTATUS(status) == 1)
+    /* A salvage that reads no more than the header says reports how much comes after that. */
+    int is_quiet = !line[0] || (run == &runs[SALVAGE] && strstr(line, " bytes after the end that the header gives were not read;"));
+    int is_good = WIFEXITED(status) && (!WEXITSTATUS(status) ? is_quiet : WEXITSTATUS(status) == 1)
         && strcmp(how, "cannot") && strcmp(how, "NoMemory") && strcmp(how, "Memory") && end.time < SECONDS && end.memory < KILOBYTES;
     return is_good ? WEXITSTATUS(status) : -1;
 }

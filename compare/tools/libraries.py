@@ -1,0 +1,46 @@
+"""The static libraries: built from what is proved, compiled into a C program, and their names."""
+
+import contextlib
+import re
+import subprocess
+import tempfile
+
+from tools.checks import differs
+from tools.kit import load_rt
+from tools.program import ROOT, run
+
+COMPILERS = {"as it is": ["-O2"], "under sanitizers": ["-g", "-fsanitize=address,undefined", "-fno-sanitize-recover=all"]}
+WARNINGS = ["-Wall", "-Wextra", "-Werror", "-I", ROOT / "include"]
+
+
+def build(to, name="fit_c"):
+    """Proves a static library over the libraries of the tree, and makes it. The last lines of the build, if that fails."""
+    rt = load_rt()
+    crate = next(it for it in rt.rtlib.crates_below(str(ROOT)) if it.name == name)
+    words = [rt.rtlib.RATTLE, "build", *crate.words(["--jobs", "1"], keeps=True), "--toolchain", rt.KIT + "/toolchain", "-o", to]
+    built = subprocess.run(words, cwd=crate.folder, stdout=subprocess.PIPE, stderr=subprocess.STDOUT, text=True)
+    return None if built.returncode == 0 else built.stdout[-2000:]
+
+
+@contextlib.contextmanager
+def programs(*sources, words=("-std=gnu11",)):
+    """A C program of these sources and libraries, compiled in each way."""
+    with tempfile.TemporaryDirectory() as folder:
+        made = {}
+        for name, more in COMPILERS.items():
+            made[name] = "%s/%d" % (folder, len(made))
+            subprocess.run(["cc", *words, *WARNINGS, *more, *sources, "-o", made[name]], check=True)
+        yield made
+
+
+def declared():
+    """The calls that the header declares, those of fit_c and those of a recorder in a device."""
+    text = (ROOT / "include/fitrec.h").read_text()
+    return [re.findall(r"^uint\w+_t (\w+)\(", part, re.M) for part in text.split("/* A recorder in a device.")]
+
+
+def names_of(archive, calls):
+    """A library calls only three functions of C, and exports exactly these calls."""
+    listed = run("nm", archive)[1]
+    yield "what it calls", differs(set(re.findall(r" U (\w+)", listed)), {"memcpy", "memmove", "memset"})
+    yield "what it exports", differs(sorted(re.findall(r" T (\w+)", listed)), sorted(calls))
