@@ -11,13 +11,21 @@ import threading
 from faults import START
 from files import damaged, made
 from program import MOST, Program, long_beginning
-from reader import wanted
+from reader import plained, wanted
+from replacing import bytes_of
 from rides import differs
-from told import ERRORS, Told, library, room
+from salvages import said_of
+from saves import LEFT_OUT, NAMES, counted, uncommitted
+from told import ERRORS, Told, holds, library, room
 
 # Each command that reads a file or a script, and what it reports for many zeros.
 READERS = [(words, "HeaderSize at 0") for words in ("show large", "check large", "salvage large out.fit", "plain large out.fit")]
 READERS += [(words, "line 1: UnknownWord") for words in ("replay large .", "simulate large")]
+
+
+# What a save says after the place from which on the body cannot be read.
+BODY_NOT_READ = (", and the journal counts bytes after that; repair the file system, such as by fsck.vfat -a, or let salvage copy what is "
+                 "readable of activity.fit\n")
 
 
 def feed(path, count):
@@ -85,6 +93,51 @@ def calls_that_go_wrong(told, small):
                     yield "%s: a %s that failed" % (command, kind), differs((said, left), wanted_so)
 
 
+def tails_that_cannot_be_read(told):
+    """A file that cannot be read from a place on, as where a FAT lacks its last cluster. `save` takes the ride if all that the journal
+    counts is before that place, and `salvage` the whole messages before it. `repair` succeeds where `save` does. The others refuse it."""
+    later = ["sample %d hr=%d" % (1000000002 + at, at % 99) for at in range(600)]
+    with room(START, "sample 1000000001 hr=100", "commit", *later) as (script, new):
+        ride, whole = pathlib.Path(new()), pathlib.Path(new(), "out.fit")
+        told.run("replay", "--checked", script, ride)
+        (data, journal), (_, line, _) = holds(ride), told.run("save", ride, whole)[0]
+        counts = 14 + counted(journal)
+        for end in (0, 1, 13, 14, 15, 40, counts - 1, counts, counts + 1, counts + 40, 512, len(data) - 1):
+            out, last = pathlib.Path(new(), "out.fit"), "fitrec: %s could not be read from byte %d on\n"
+            said, _ = told.run("save", ride, out, end=end)
+            if end < counts:
+                refused = (1, "", "fitrec: cannot read activity.fit\n" + last[:-1] % ("activity.fit", end) + BODY_NOT_READ), None
+                yield "a body that cannot be read: save", differs((said, bytes_of(out)), refused)
+            else:
+                count = uncommitted(data[:end], journal)
+                want = (0, line, last % ("activity.fit", end) + LEFT_OUT % count * bool(count)), whole.read_bytes()
+                yield "a tail that cannot be read: save", differs((said, bytes_of(out)), want)
+            copy = pathlib.Path(new())
+            for name, content in zip(NAMES, (data, journal)):
+                (copy / name).write_bytes(content)
+            said, _ = told.run("repair", copy, end=end)
+            yield "a tail that cannot be read: repair", differs(said, (0, line, "") if end >= counts else (1, "", "fitrec: Device\n"))
+            file = copy / "in.fit"
+            file.write_bytes(data)
+            for words in ((), ("--all",), ("--plain",)):
+                said, _ = told.run("salvage", *words, file, out, end=end)
+                kept, content = said_of(data[:end], "--all" in words)
+                if end < 14:
+                    yield "a header that cannot be read: salvage", differs(said, (1, "", "fitrec: cannot read %s\n" % file))
+                else:
+                    content = plained(content)[1] if words == ("--plain",) else content
+                    want = (0, kept[1], last % (file, end) + kept[2]), content
+                    yield "a tail that cannot be read: salvage", differs((said, bytes_of(out)), want)
+            for command in ("show", "check", "plain"):
+                said, _ = told.run(command, file, *[out] * (command == "plain"), end=end)
+                yield "a tail that cannot be read: " + command, differs((said[0], said[2]), (1, "fitrec: cannot read %s\n" % file))
+        # Nothing was committed, and nothing can be read.
+        (ride / NAMES[1]).write_bytes(journal[:8] + bytes(16))
+        said, _ = told.run("save", ride, out, end=0)
+        no_commit = "fitrec: NothingRecorded\nfitrec: activity.frj states no commit; salvage copies what is readable of activity.fit\n"
+        yield "a tail that cannot be read: nothing recorded", differs(said, (1, "", no_commit))
+
+
 def files_byte_by_byte(told, seed):
     """Whatever a file is refused for, it is refused for the same if it is read byte by byte."""
     pick, kinds = random.Random(seed), set()
@@ -107,6 +160,6 @@ def check(fitrec, small, seed):
         told = Told(fitrec, made_so)
         for name, said, want in limits(Program(fitrec, folder)):
             yield "inputs: " + name, differs(said, want)
-        for part in (calls_that_go_wrong(told, small), files_byte_by_byte(told, seed)):
+        for part in (calls_that_go_wrong(told, small), tails_that_cannot_be_read(told), files_byte_by_byte(told, seed)):
             for name, difference in part:
                 yield "inputs: " + name, difference

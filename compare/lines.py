@@ -5,12 +5,14 @@ import os
 import pathlib
 import random
 import re
+import signal
 import subprocess
 import sys
 import tempfile
 import time
 
 import rides
+import saves
 from rides import differs
 from told import holds
 
@@ -172,6 +174,25 @@ def killed(fitrec):
             yield "lines: killed", None if started and found and kept <= int(found[1]) <= handed else (answers, line, err)
 
 
+def left_out(fitrec):
+    """What was answered and not committed when a recording is interrupted is left out, and a save says so; --all salvages it."""
+    with tempfile.TemporaryDirectory() as folder:
+        with subprocess.Popen([fitrec, "record", *AT_THE_END, folder], stdin=subprocess.PIPE, stdout=subprocess.PIPE) as running:
+            running.stdin.write(b"start 1000000000 7 running\n")
+            running.stdin.write(b"".join(b"sample %d hr=%d\n" % (1000000001 + at, 90 + at % 60) for at in range(600)))
+            running.stdin.flush()
+            answers = [running.stdout.readline() for _ in range(601)]
+            running.send_signal(signal.SIGINT)
+        yield "lines: interrupted", differs((answers[-1], running.returncode), (b"601 sample: ok\n", -signal.SIGINT))
+        data, journal = holds(folder)
+        count = saves.uncommitted(data, journal)
+        said = rides.run(fitrec, "save", folder, folder + "/saved.fit")
+        is_ = said[0], said[1][:13], said[2], count > 500
+        yield "lines: interrupted, and saved", differs(is_, (0, "ok records=0 ", saves.LEFT_OUT % count, True))
+        said = rides.run(fitrec, "salvage", "--all", folder + "/activity.fit", folder + "/kept.fit")
+        yield "lines: interrupted, and salvaged", differs(said[1].split(" of ")[0], "kept %d" % (saves.counted(journal) + count))
+
+
 def unread(fitrec):
     """If nobody reads the answers, it ends, and what was committed is kept; so it does if its input cannot be read."""
     with tempfile.TemporaryDirectory() as folder:
@@ -246,5 +267,5 @@ def of_the_example(fitrec):
 
 
 def check(fitrec):
-    for part in (as_replays, as_they_come, of_odd_bytes, by_itself, killed, unread, of_long_rides, of_the_example):
+    for part in (as_replays, as_they_come, of_odd_bytes, by_itself, killed, left_out, unread, of_long_rides, of_the_example):
         yield from part(fitrec)

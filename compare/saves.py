@@ -12,6 +12,7 @@ import signal
 import subprocess
 import tempfile
 
+from reader import salvaged, wanted
 from replacing import bytes_of, recording
 from rides import differs, script_of
 from told import NOBODY, Told, library, room, run
@@ -68,6 +69,30 @@ def lack(folder):
     return "fitrec: activity.frj %s; salvage copies what is readable of activity.fit\n" % why
 
 
+LEFT_OUT = "fitrec: %d bytes of whole messages after the last commit are left out; salvage --all keeps them\n"
+
+
+def counted(journal):
+    """How many bytes of records a journal counts (docs/JOURNAL-FORMAT.md), or None."""
+    head, slots = journal[:8], [journal[at:at + 16] for at in range(8, min(len(journal), 8 + 8 * 4096), 8)]
+    numbers = [int.from_bytes(slot[1:5], "little") if slot[0] == 0xA5 else None for slot in slots if len(slot) == 16]
+    if head == b"FRJ1\0\0\0\0":
+        opened = list(itertools.takewhile(lambda number: number is not None, numbers))
+        return opened[-1] if opened else None
+    if head in (b"FRJ2\0\0\0\0", b"FRJC\0\0\0\0") and len(journal) >= 24:
+        return max((int.from_bytes(slot[1:5], "little") for slot in slots[:2] if slot[0] == 0xA5), default=None)
+    return None
+
+
+def uncommitted(data, journal):
+    """How many bytes of whole messages follow those that the journal counts, by the second reader; 0 for a finished file."""
+    count = counted(journal)
+    if count is None or len(data) < 14 + count or wanted(data)[0] == 0:
+        return 0
+    front = salvaged(bytes([14, 16, 100, 0, 0, 0, 0, 0]) + b".FIT\0\0" + data[14:], True)[0]
+    return max(0, front - count)
+
+
 def want(fitrec, folder):
     """What a save has to print, and what OUT has to hold: from a repair of a copy, and the plain form of its result."""
     with tempfile.TemporaryDirectory() as scratch:
@@ -80,6 +105,8 @@ def want(fitrec, folder):
         if said[0] == 0:
             run(fitrec, "plain", copy + "/activity.fit", plain)
         more = lack(folder) if said[2] == "fitrec: NothingRecorded\n" else ""
+        count = uncommitted(*(bytes_of(pathlib.Path(folder, name)) for name in NAMES)) if said[0] == 0 else 0
+        more += LEFT_OUT % count * bool(count)
         return (said[0], said[1], said[2].replace(copy, str(folder)) + more), bytes_of(plain)
 
 

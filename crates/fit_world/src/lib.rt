@@ -1,7 +1,7 @@
 //! What the program does with an open file: it shows, checks, salvages or saves its content, and records what a script states.
 //!
 //! `show_input`, `show_json_input` and `check_input` print the text, the JSON or the summary of a file read from an input; `show_bytes`
-//! and `check_bytes` take its bytes. `plain_input` makes the plain form of a file. `read_all` reads a whole input. `salvage_bytes` finds
+//! and `check_bytes` take its bytes. `plain_input` makes the plain form of a file. `read_all` reads a whole input, and `read_front` what can be read of it. `salvage_bytes` finds
 //! the readable part of a file that has no journal. `save_ride` makes a file from the two files of a recording, `Lack` says what they lack if
 //! nothing is recorded, and `repair` finishes the recording itself. `read_script` reads the events of a script. `play` runs them over any `Disk`, by a `Ride`, which replies to each
 //! `Command`; `record` does the same with lines that come one by one.
@@ -68,7 +68,7 @@ pub use lack::Lack;
 pub use plain::{count_messages, plain_input, print_messages};
 pub use playing::play;
 pub use printing::print_summary;
-pub use reading::{ReadFault, read_all};
+pub use reading::{FrontRead, ReadFault, read_all, read_front};
 pub use recording::{LineFault, record};
 pub use repairing::{FileSums, RepairFault, repair, repair_and_read};
 pub use reply::Reply;
