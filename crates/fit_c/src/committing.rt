@@ -14,10 +14,10 @@ const NOT_LEFT: u8 = 17;
 /// are none, if nothing was committed, and if the data file is a finished one.
 #[unsafe(no_mangle)]
 pub extern "C" fn fitrec_uncommitted(data_bytes: &[u8], journal_bytes: &[u8]) -> u64
-    ensures some { 0 < result
-        → HasUncommitted (record { in_data = data_bytes.now; in_journal = journal_bytes.now }) result }
-    ensures none { result ≡ 0 → (count : ℕ)
-        → HasUncommitted (record { in_data = data_bytes.now; in_journal = journal_bytes.now }) count → ⊥ }
+    ensures some { 0 < result → HasUncommitted
+        (record { in_data = data_bytes.now; in_journal = journal_bytes.now }) result }
+    ensures none { result ≡ 0 → (count : ℕ) → HasUncommitted
+        (record { in_data = data_bytes.now; in_journal = journal_bytes.now }) count → ⊥ }
 {
     match count_uncommitted(data_bytes, journal_bytes) {
         Some(count) => count as u64,
@@ -38,7 +38,8 @@ pub extern "C" fn fitrec_leave_changed(
         → HasChanged (record { in_data = data_bytes.now; in_journal = journal_bytes.old })
         × HasTwoCommits journal_bytes.old × (journal_bytes.new ≡ before_last journal_bytes.old)
         × (left_out.new ≡ last_bytes journal_bytes.old) }
-    ensures same { result ≡ 17 → (journal_bytes.new ≡ journal_bytes.old) × (left_out.new ≡ left_out.old)
+    ensures same { result ≡ 17
+        → (journal_bytes.new ≡ journal_bytes.old) × (left_out.new ≡ left_out.old)
         × (HasChanged (record { in_data = data_bytes.now; in_journal = journal_bytes.old })
         → HasTwoCommits journal_bytes.old → ⊥) }
 {
