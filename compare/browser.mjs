@@ -3,9 +3,9 @@
 //
 //     browser.mjs PAGE FOLDER    reads a list of visits from standard input, and writes a list of answers
 //
-// A visit has `files` (paths), `drop` (or chosen by the file input), `width`, `dark`, `keyboard` (the download is reached and taken by keys)
-// and `screenshot` (a path, or none). An answer has the texts of the page, the downloaded file, each request that was made, each line that
-// the browser logged, and whether the page is wider than the window.
+// A visit has `files` (paths), `drop` (or chosen by the file input), `width`, `dark`, `keyboard` (the download is reached and taken by
+// keys), `unread` (from which byte on activity.fit cannot be read) and `screenshot` (a path, or none). An answer has the texts of the page,
+// the downloaded file, each request that was made, each line that the browser logged, and whether the page is wider than the window.
 
 import { spawn } from 'node:child_process';
 import { mkdtempSync, readFileSync, readdirSync, writeFileSync } from 'node:fs';
@@ -53,7 +53,21 @@ const SHOWN = `(() => {
     unnamed: names.filter(it => !it.trim()).length, wide: document.documentElement.scrollWidth > innerWidth };
 })()`;
 
-async function visit({ files, drop, width = 900, dark = false, keyboard = false, screenshot }) {
+// From this byte on activity.fit cannot be read.
+const unreadFrom = place => `(() => {
+  const { slice, arrayBuffer } = Blob.prototype, ends = new WeakMap(), isData = it => it.name === 'activity.fit';
+  Blob.prototype.slice = function (from, to) {
+    const part = slice.call(this, from, to);
+    if (isData(this)) ends.set(part, from + part.size);
+    return part;
+  };
+  Blob.prototype.arrayBuffer = function () {
+    const end = isData(this) ? this.size : ends.get(this) || 0;
+    return end > ${place} ? Promise.reject(new DOMException('', 'NotReadableError')) : arrayBuffer.call(this);
+  };
+})()`;
+
+async function visit({ files, drop, width = 900, dark = false, keyboard = false, screenshot, unread }) {
   const { targetId } = await send('Target.createTarget', { url: 'about:blank' });
   const { sessionId } = await send('Target.attachToTarget', { targetId, flatten: true });
   const call = (method, params) => send(method, params, sessionId);
@@ -70,6 +84,7 @@ async function visit({ files, drop, width = 900, dark = false, keyboard = false,
   await call('Emulation.setEmulatedMedia', { features: [{ name: 'prefers-color-scheme', value: dark ? 'dark' : 'light' }] });
   await call('Page.navigate', { url: 'file://' + page });
   await until(() => evaluate('document.readyState === "complete" && document.title !== "fitrec"'));
+  if (unread) await evaluate(unreadFrom(unread));
   const begun = Date.now();
   if (drop) {
     const made = files.map(it => `file(${JSON.stringify(readFileSync(it).toString('base64'))}, ${JSON.stringify(basename(it))})`);

@@ -3,6 +3,8 @@
      library repair SPARE DATA JOURNAL OUT   the data file goes to OUT; its buffer has SPARE bytes more than it
      library salvage SPARE IN OUT ALL        the new file goes to OUT; its buffer has SPARE bytes more than IN
      library save DATA JOURNAL OUT           the plain form goes to OUT; its buffer has just as many bytes, and too few at first
+     library uncommitted DATA JOURNAL        the number of bytes
+     library earlier DATA JOURNAL OUT        saves without the last commit, if what it counts has changed
      library plain IN OUT
      library check IN
      library show IN UTC OUT                 the text goes to OUT; its buffer has just as many bytes, and too few at first
@@ -169,6 +171,38 @@ static void save(char **words) {
     look_at_guards(data);
 }
 
+static void uncommitted(char **words) {
+    struct buffer data = file_at(words[0], 0), journal = file_at(words[1], 0);
+    printf("%llu\n", (unsigned long long)fitrec_uncommitted(data.bytes, data.size, journal.bytes, journal.size));
+    look_at_guards(data);
+    look_at_guards(journal);
+}
+
+static void earlier(char **words) {
+    struct buffer data = file_at(words[0], FITREC_CLOSING_ROOM), journal = file_at(words[1], 0), was = file_at(words[1], 0);
+    struct buffer out = room(2 * data.size + 1024);
+    struct fitrec_summary sum;
+    uint64_t left_out;
+    fill(&left_out, sizeof left_out);
+    unsigned answer = fitrec_leave_changed(data.bytes, data.len, journal.bytes, journal.size, &left_out);
+    look_at(&left_out, sizeof left_out, answer != FITREC_LEFT_OUT);
+    if (answer == FITREC_NOT_LEFT && memcmp(was.bytes, journal.bytes, was.size))
+        fail("the journal is not as it was");
+    printf("%u\n", answer);
+    if (answer == FITREC_LEFT_OUT)
+        printf("left out %llu\n", (unsigned long long)left_out);
+    answer = fitrec_save(data.bytes, data.size, &data.len, journal.bytes, journal.size, &journal.len, out.bytes, out.size, &out.len, &sum);
+    printf("%u\n", answer);
+    if (answer == FITREC_SAVED) {
+        print_summary(sum);
+        keep(out, words[2]);
+    }
+    look_at_guards(data);
+    look_at_guards(journal);
+    look_at_guards(was);
+    look_at_guards(out);
+}
+
 static void plain(char **words) {
     struct buffer in = file_at(words[0], 0), out = room(0);
     uint64_t place;
@@ -291,6 +325,10 @@ int main(int count, char **words) {
         salvage(words + 2);
     else if (count == 5 && !strcmp(words[1], "save"))
         save(words + 2);
+    else if (count == 4 && !strcmp(words[1], "uncommitted"))
+        uncommitted(words + 2);
+    else if (count == 5 && !strcmp(words[1], "earlier"))
+        earlier(words + 2);
     else if (count == 4 && !strcmp(words[1], "plain"))
         plain(words + 2);
     else if (count == 3 && !strcmp(words[1], "check"))

@@ -91,6 +91,27 @@ function save(paths) {
   if (it.answer === 0) print(it.summary);
 }
 
+function uncommitted([dataPath, journalPath]) {
+  const data = file(dataPath), journal = file(journalPath), it = place(data, journal), at = it.places;
+  print(String(it.call('fitrec_uncommitted', at[0], data.size, at[1], journal.size)));
+  it.lookAtGuards();
+}
+
+function earlier([dataPath, journalPath, out]) {
+  const data = file(dataPath, CLOSING_ROOM), journal = file(journalPath), [length, size] = [data.content.length, 2 * data.size + 1024];
+  const it = place(data, number(length), journal, number(journal.size), { size }, number(), { size: 28 }, number()), at = it.places;
+  const left = it.call('fitrec_leave_changed', at[0], length, at[2], journal.size, at[7]);
+  print(String(left));
+  if (left === 0) print('left out ' + it.long(7));
+  const answer = it.call('fitrec_save', at[0], data.size, at[1], at[2], journal.size, at[3], at[4], size, at[5], at[6]);
+  print(String(answer));
+  if (answer === 0) {
+    print(it.summary(6));
+    writeFileSync(out, it.result(4, it.long(5)));
+  }
+  it.lookAtGuards();
+}
+
 function plain([path, out]) {
   const source = file(path);
   const made = size => {
@@ -150,5 +171,6 @@ function lengths([dataPath, journalPath]) {
     asked('fitrec_repair', 0, 0, 0), asked('fitrec_save', data.size + 1, journal.size), asked('fitrec_save', whole, most)].join(' '));
 }
 
-const calls = { repair, save, salvage, plain, check, show, lengths, version: () => print(String(Number(place().call('fitrec_version') === 1))) };
+const version = () => print(String(Number(place().call('fitrec_version') === 1)));
+const calls = { repair, save, uncommitted, earlier, salvage, plain, check, show, lengths, version };
 calls[word](words);

@@ -65,7 +65,7 @@ enum {
     FITREC_DAMAGED = 8,          /* the two are not the files of one recording */
     FITREC_BAD_LENGTH = 9,       /* a length is greater than its buffer */
     FITREC_NO_CLOSING_ROOM = 10, /* the data file's buffer is too small */
-    FITREC_CHANGED = 16          /* the bytes that the last commit counts have changed since; fitrec_salvage copies what is readable */
+    FITREC_CHANGED = 16          /* the bytes that the last commit counts have changed since; see fitrec_leave_changed */
 };
 uint8_t fitrec_repair(uint8_t *data, size_t data_size, uint64_t *data_len, uint8_t *journal, size_t journal_size,
                       uint64_t *journal_len, struct fitrec_summary *summary);
@@ -86,6 +86,28 @@ enum {
 };
 uint8_t fitrec_save(uint8_t *data, size_t data_size, uint64_t *data_len, uint8_t *journal, size_t journal_size,
                     uint64_t *journal_len, uint8_t *out, size_t out_size, uint64_t *out_len, struct fitrec_summary *summary);
+
+/* How many bytes of whole messages follow the last commit of a recording, such as samples that came after it. A save leaves them out, and a
+   salvage with all set keeps them. 0 if there are none, if nothing was committed, and if the data file is a finished one: so ask before a
+   repair. After a repair that was cut off they may be its closing messages.
+
+   data, data_size         the data file
+   journal, journal_size   the journal */
+uint64_t fitrec_uncommitted(const uint8_t *data, size_t data_size, const uint8_t *journal, size_t journal_size);
+
+/* After FITREC_CHANGED: takes the last commit from a journal, so that a save takes the commit before it. What is left out may have been
+   confirmed.
+
+   data, data_size         the data file
+   journal, journal_size   the journal; after 0 the gate of its last commit is closed
+   left_out                after 0, how many bytes count no longer
+
+   Answers 0, or FITREC_NOT_LEFT. A save may then still answer FITREC_CHANGED, if the change is in what the earlier commit counts. */
+enum {
+    FITREC_LEFT_OUT = 0,
+    FITREC_NOT_LEFT = 17 /* nothing changed, or the journal has no earlier commit; it is as it was */
+};
+uint8_t fitrec_leave_changed(const uint8_t *data, size_t data_size, uint8_t *journal, size_t journal_size, uint64_t *left_out);
 
 /* How much of a file a salvage kept, in bytes. */
 struct fitrec_salvage_counts {

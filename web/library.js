@@ -52,6 +52,23 @@ async function plain(file) {
   }
 }
 
+// How many bytes of whole messages follow the last commit of a recording.
+async function uncommitted(data, journal) {
+  const it = await memoryFor([data.length, journal.length]), [atData, atJournal] = it.places;
+  it.bytes.set(data, atData);
+  it.bytes.set(journal, atJournal);
+  return Number(it.call('fitrec_uncommitted', atData, data.length, atJournal, journal.length));
+}
+
+// The journal without its last commit, if what that counts has changed, and how many bytes that leaves out; null if it has no earlier one.
+async function withoutLast(data, journal) {
+  const it = await memoryFor([data.length, journal.length, 8]), [atData, atJournal, atCount] = it.places;
+  it.bytes.set(data, atData);
+  it.bytes.set(journal, atJournal);
+  if (it.call('fitrec_leave_changed', atData, data.length, atJournal, journal.length, atCount)) return null;
+  return { journal: it.bytes.slice(atJournal, atJournal + journal.length), count: it.long(atCount) };
+}
+
 // What is readable of a file, as a new file.
 async function salvage(file) {
   const room = file.length + FRAME_ROOM;

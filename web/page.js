@@ -4,30 +4,63 @@ const byId = id => document.getElementById(id);
 
 // ---- what is in the chosen files
 
+const shownNumber = n => n.toLocaleString('en');
+const paragraph = parts => parts.filter(it => it).join(' ');
+
 async function bytesOf(file) {
   return new Uint8Array(await file.arrayBuffer());
 }
 
+// The bytes of a file up to the first that cannot be read, and a sentence on that place, if there is one after the first byte.
+async function frontOf(file) {
+  const parts = [];
+  let at = 0;
+  for (let size = file.size; at < file.size;) {
+    try {
+      parts.push(await bytesOf(file.slice(at, at + size)));
+      at += size;
+    } catch (error) {
+      if (error instanceof RangeError || (size === 1 && at === 0)) throw error;
+      if (size === 1) break;
+      size = Math.ceil(size / 2);
+    }
+  }
+  const unread = at < file.size ? text('unreadFrom', { name: file.name, place: shownNumber(at) }) : '';
+  return { bytes: parts.length === 1 ? parts[0] : await bytesOf(new Blob(parts)), unread };
+}
+
 // The two files of a recording.
-async function ofRecording(data, journal) {
-  const { code, file, summary } = await save(await bytesOf(data), await bytesOf(journal));
+async function ofRecording(dataFile, journalFile) {
+  const { bytes: data, unread } = await frontOf(dataFile), journal = await bytesOf(journalFile);
+  const { code, file, summary } = await save(data, journal);
+  if (code === 16) return ofEarlier(data, journal, unread);
+  if (code && unread) return { heading: 'nothing', reason: unread, next: text('unreadNext') };
   if (code === 7) return { heading: 'nothing', reason: text('nothingRecorded'), next: text('nothingRecordedNext') };
   if (code === 8) return { heading: 'nothing', reason: text('damaged'), next: text('damagedNext') };
-  if (code === 16) return { heading: 'nothing', reason: text('changed'), next: text('damagedNext') };
   if (code) return { heading: 'nothing', reason: text('unexpected', { code }) };
-  return { heading: 'saved', reason: text('savedWhy'), file, summary, name: 'ride.fit' };
+  const count = await uncommitted(data, journal), more = count ? text('uncommitted', { count: shownNumber(count) }) : '';
+  const reason = paragraph([text('savedWhy'), more, unread]), next = count ? text('uncommittedNext') : '';
+  return { heading: 'saved', reason, next, file, summary, name: 'ride.fit' };
+}
+
+// The same where bytes have changed: the ride of the commit before the last, if there is one that has not changed.
+async function ofEarlier(data, journal, unread) {
+  const left = await withoutLast(data, journal), { code, file, summary } = left ? await save(data, left.journal) : { code: 16 };
+  if (code) return { heading: 'nothing', reason: paragraph([text('changed'), unread]), next: text('damagedNext') };
+  const reason = paragraph([text('changed'), text('earlierWhy', { count: shownNumber(left.count) }), unread]);
+  return { heading: 'earlier', reason, next: text('earlierNext'), file, summary, name: 'ride.fit' };
 }
 
 // One file.
 async function ofFile(chosen) {
-  const file = await bytesOf(chosen), { code, place, summary } = await check(file);
-  if (code === 0) return { heading: 'whole', reason: text('wholeWhy'), shown: file, summary };
-  if (code > 10) return { heading: 'noActivity', reason: text('fault' + code), shown: file };
-  const why = text('fault' + code, { place: place.toLocaleString('en') });
+  const { bytes: file, unread } = await frontOf(chosen), { code, place, summary } = await check(file);
+  if (code === 0 && !unread) return { heading: 'whole', reason: text('wholeWhy'), shown: file, summary };
+  if (code > 10 && !unread) return { heading: 'noActivity', reason: text('fault' + code), shown: file };
+  const why = unread || text('fault' + code, { place: shownNumber(place) });
   const made = await salvage(file);
   if (made.code || !made.kept) return { heading: 'nothing', reason: made.code ? text('notFit') + ' ' + why : why, next: text('notFitNext') };
   const written = await plain(made.file), saved = written.code ? made.file : written.file;
-  const [kept, looked, more] = [made.kept, made.looked, made.more].map(n => n.toLocaleString('en'));
+  const [kept, looked, more] = [made.kept, made.looked, made.more].map(shownNumber);
   const reason = text('salvagedWhy', { why, kept, looked }) + (made.more ? ' ' + text('salvagedMore', { more }) : '');
   const found = await check(saved), next = found.code ? text('noSummaryNext') : '';
   return { heading: 'salvaged', reason, next, file: saved, summary: found.code ? null : found.summary, name: chosen.name.replace(/(\.fit)?$/i, '-saved.fit') };

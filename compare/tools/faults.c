@@ -11,6 +11,7 @@
      FAULTS_LIES     if it is 1, the call answers well and lies: a read has one bit changed, a size is one more, a write writes the
                      first half of its bytes, a cut cuts nothing, and a sync takes back what was done since the last one; or
      FAULTS_MOST     the call moves at most so many bytes; if the kind is memory or peak, each read of IN does
+     FAULTS_END      the bytes of the data file and of IN cannot be read from this place on; a read that begins before it falls short
      FAULTS_KILLS    if it is 1, the program is killed before the call, or in a write after FAULTS_MOST bytes */
 
 #define _GNU_SOURCE
@@ -33,6 +34,7 @@ static struct stat folder;
 static const char *kind = "";
 static unsigned long number, after, seen;
 static int error, most = -1, kills, told = -1, lies, is_lie;
+static long long ends = -1;
 
 static const char *said(const char *word, const char *otherwise) {
     const char *found = getenv(word);
@@ -47,6 +49,7 @@ __attribute__((constructor)) static void begin(void) {
     lies = atoi(said("FAULTS_LIES", "0"));
     most = atoi(said("FAULTS_MOST", "-1"));
     kills = atoi(said("FAULTS_KILLS", "0"));
+    ends = atoll(said("FAULTS_END", "-1"));
     int log = syscall(SYS_openat, AT_FDCWD, said("FAULTS_LOG", "/dev/null"), O_WRONLY | O_CREAT | O_APPEND, 0666);
     /* Low descriptors stay as free as the program finds them without this. */
     told = syscall(SYS_fcntl, log, F_DUPFD_CLOEXEC, ABOVE_ALL_OTHERS);
@@ -250,8 +253,21 @@ static ssize_t told_as(void *into, ssize_t bytes) {
     return bytes;
 }
 
+/* How many of so many bytes at a place can be read; -1 if none can. */
+static ssize_t readable(int file, size_t count, off_t at) {
+    const char *is = name_of(file);
+    if (ends < 0 || !is || (strcmp(is, "data") && strcmp(is, "in")))
+        return count;
+    if (at >= ends) {
+        errno = EIO;
+        return -1;
+    }
+    return (long long)count < ends - at ? (ssize_t)count : (ssize_t)(ends - at);
+}
+
 ssize_t pread(int file, void *into, size_t count, off_t at) {
-    ssize_t bytes = moved_at("read", file, count, at);
+    ssize_t bytes = readable(file, count, at);
+    bytes = bytes < 0 ? -1 : moved_at("read", file, bytes, at);
     return bytes < 0 ? -1 : told_as(into, syscall(SYS_pread64, file, into, bytes, at));
 }
 
@@ -268,7 +284,8 @@ ssize_t pwrite(int file, const void *from, size_t count, off_t at) {
 ssize_t read(int file, void *into, size_t count) {
     if (is_kind("memory") || is_kind("peak"))
         return syscall(SYS_read, file, into, most >= 0 && (size_t)most < count ? (size_t)most : count);
-    ssize_t bytes = moved("read", file, count, "");
+    ssize_t bytes = ends < 0 ? (ssize_t)count : readable(file, count, syscall(SYS_lseek, file, 0, SEEK_CUR));
+    bytes = bytes < 0 ? -1 : moved("read", file, bytes, "");
     return bytes < 0 ? -1 : told_as(into, syscall(SYS_read, file, into, bytes));
 }
 

@@ -8,6 +8,7 @@
 ghost use Rattle.std.specs.Prelude.{◌≡◌};
 
 mod checking;
+mod committing;
 mod plain;
 mod repairing;
 mod room;
@@ -17,6 +18,7 @@ mod showing;
 mod tape;
 
 pub use checking::fitrec_check;
+pub use committing::{fitrec_leave_changed, fitrec_uncommitted};
 pub use plain::fitrec_plain;
 pub use repairing::{RideSummary, fitrec_repair};
 pub use salvaging::fitrec_salvage;

@@ -74,10 +74,20 @@ abbrev pub IsLackReported : Bor (List ℕ) → Fault → Type 0
 IsLackReported folder (faults.NothingSaved lack) = Unit {0}
 IsLackReported folder reported = IsRecordingReported folder reported
 
--- of recovering the ride of a folder of this name in memory
+-- of recovering the ride of a recording in memory
+abbrev pub IsRideReported : Fault → Type 0
+IsRideReported (faults.Recorder Damaged) = Unit {0}
+IsRideReported (faults.NothingSaved lack) = Unit {0}
+IsRideReported faults.Changed = Unit {0}
+IsRideReported faults.TooLarge = Unit {0}
+IsRideReported faults.NoMemory = Unit {0}
+IsRideReported _ = ⊥
+
+-- the same of a folder of this name, whose files are read before
 abbrev pub IsSavedReported : Bor (List ℕ) → Fault → Type 0
 IsSavedReported folder (faults.Recorder Damaged) = Unit {0}
 IsSavedReported folder faults.Changed = Unit {0}
+IsSavedReported folder (faults.BodyNotRead at) = Unit {0}
 IsSavedReported folder reported = IsLackReported folder reported
 
 -- of saving the ride of a folder in a file of these names

@@ -1,17 +1,23 @@
 -- The program's faults for an input that was not read.
-use Rattle.std.specs.Prelude.{◌≡◌, ℕ, List, Option}
+use Rattle.std.specs.Prelude.{◌≡◌, ℕ, List, ◌++◌, Option, codes, decimal}
 use Rattle.std.specs.Borrow.{Bor}
 use Rattle.fit_files.specs.declared.reading.ReadFault.{ReadFault}
 use Rattle.fit_files.specs.declared.reading.ReadFault.TheVariants.{Failed, TooLarge, NoMemory}
 use Rattle.fit_files.specs.Calls.Reading.{Refuses}
 use Rattle.fit_commands.specs.declared.fault.Fault.{Fault}
 use Rattle.fit_commands.specs.declared.fault.Fault.TheVariants as faults
+use Rattle.fit_words.specs.Shown.{shown_text}
 
 -- the program's fault for an input of this name
 abbrev pub fault_of_read : Bor (List ℕ) → ReadFault → Fault
 fault_of_read name Failed = faults.Read name
 fault_of_read name TooLarge = faults.TooLarge
 fault_of_read name NoMemory = faults.NoMemory
+
+-- the line on where the reading of an input of this name ended
+abbrev pub end_text : List ℕ → ℕ → List ℕ
+end_text name at =
+    codes "fitrec: " ++ shown_text name ++ codes " could not be read from byte " ++ decimal at ++ codes " on\n"
 
 -- the input was refused, and this is the program's fault for it
 abbrev pub IsReadFault : ℕ → Option (List ℕ) → Option (List ℕ) → Bor (List ℕ) → Fault → Type 0
@@ -32,4 +38,5 @@ IsFileFault name (faults.OnlySimulate line) = ⊥
 IsFileFault name (faults.Recorder fault) = ⊥
 IsFileFault name (faults.NothingSaved lack) = ⊥
 IsFileFault name faults.Changed = ⊥
+IsFileFault name (faults.BodyNotRead at) = ⊥
 IsFileFault name (faults.Refused count) = ⊥

@@ -50,6 +50,10 @@ pub enum Fault<'a> {
     /// The bytes that the last commit of a recording counts have changed. A second line says what can be done.
     #[error("Damaged\nfitrec: bytes of the recording have changed since they were committed; salvage copies what is readable of activity.fit, and save --earlier what the commit before counts")]
     Changed,
+    /// The data file of a recording could not be read from this byte on, and the journal counts bytes after it. A second line says what
+    /// can be done.
+    #[error("cannot read activity.fit\nfitrec: activity.fit could not be read from byte {0} on, and the journal counts bytes after that; repair the file system, such as by fsck.vfat -a, or let salvage copy what is readable of activity.fit")]
+    BodyNotRead(usize),
     /// The number of replies to a script that were not ok.
     #[error("{0} refused")]
     Refused(usize),

@@ -6,9 +6,9 @@ ghost use Rattle.fit_disk.specs.declared.files.OpenFault.{OpenFault as WhyNotOpe
 ghost use Rattle.fit_commands.specs.Faults.{fault_of_open, IsReadReported, IsLackReported};
 
 use crate::fault::Fault;
-use crate::input::read_input;
+use crate::input::{read_input, read_input_front};
 use fit_disk::{DATA_NAME, Files, JOURNAL_NAME, OpenFault, Witness, is_one_missing, open_to_read};
-use fit_files::Lack;
+use fit_files::{FrontRead, Lack};
 use fit_recorder::RecFault;
 use std::fs::File;
 
@@ -43,9 +43,12 @@ pub fn open_recorded<'a, W: Witness>(
     }
 }
 
-/// Reads the data file and the journal of this folder. Nothing is written. If one of them is missing, the fault says which, and if both
-/// are, it is `NothingRecorded`.
-pub fn read_recorded<'a>(rt: &HostRuntime, name: &'a str) -> Result<(Vec<u8>, Vec<u8>), Fault<'a>>
+/// Reads the journal of this folder, and what can be read of its data file. Nothing is written. If one of them is missing, the fault says
+/// which, and if both are, it is `NothingRecorded`.
+pub fn read_recorded<'a>(
+    rt: &HostRuntime,
+    name: &'a str,
+) -> Result<(FrontRead, Vec<u8>), Fault<'a>>
     ensures { IfErr result (IsLackReported name.entry) }
 {
     match open_files(rt, name)? {
@@ -60,12 +63,12 @@ fn read_files(
     rt: &HostRuntime,
     mut data_file: File,
     mut journal_file: File,
-) -> Result<(Vec<u8>, Vec<u8>), Fault<'static>>
+) -> Result<(FrontRead, Vec<u8>), Fault<'static>>
     ensures { IfErr result IsReadReported }
 {
-    let data_bytes = read_input(rt.alloc(), DATA_NAME, &mut data_file)?;
+    let read = read_input_front(rt.alloc(), DATA_NAME, &mut data_file)?;
     let journal_bytes = read_input(rt.alloc(), JOURNAL_NAME, &mut journal_file)?;
-    Ok((data_bytes, journal_bytes))
+    Ok((read, journal_bytes))
 }
 
 /// Opens the files of this folder for reading only, those of them that are there.

@@ -1,15 +1,17 @@
 // Opens and reads the file of a subcommand.
 
-ghost use Rattle.std.specs.Prelude.{◌≡◌, ◌<◌, ◌≤◌, ◌↔◌, vec_len, IsTrue, IfOk, IfErr};
-ghost use Rattle.fit_files.specs.Calls.Reading.{ReadsAll};
+ghost use Rattle.std.specs.Io.KnownBytes.{Appends};
+ghost use Rattle.std.specs.Prelude.{◌≡◌, ◌<◌, ◌≤◌, ◌↔◌, vec_len, None, IsTrue, IfOk, IfErr, IfSome, OnOk};
+ghost use Rattle.fit_files.specs.Calls.Reading.{ReadsAll, ReadsFront};
 ghost use Rattle.fit_commands.specs.Faults.{IsReportFault};
-ghost use Rattle.fit_commands.specs.Reading.{fault_of_read, IsReadFault, IsFileFault};
+ghost use Rattle.fit_commands.specs.Reading.{fault_of_read, end_text, IsReadFault, IsFileFault};
 
 use crate::fault::Fault;
-use fit_files::{ReadFault, ReportFault, read_all};
+use fit_files::{FrontRead, ReadFault, ReportFault, read_all, read_front};
+use fit_words::ShownWord;
 use std::alloc::Global;
 use std::fs::{self, OpenFile};
-use std::io::Read;
+use std::io::{self, Read, Write};
 use std::rt::Files;
 
 /// The greatest size of a file that is read: 256 MiB, in bytes.
@@ -60,6 +62,52 @@ pub fn read_input<'a, T: Read>(
     match read_all(alloc, from, MOST_BYTES) {
         Ok(bytes) => Ok(bytes),
         Err(fault) => Err(fault_of(name, fault)),
+    }
+}
+
+/// Reads what can be read of the input of this name: its bytes up to its end, or to the first read that fails.
+pub fn read_input_front<'a, T: Read>(
+    alloc: Global,
+    name: &'a str,
+    from: &mut T,
+) -> Result<FrontRead, Fault<'a>>
+    ensures front { IfOk result (ReadsFront 268435456 (T.remaining from.old) (T.remaining from.new)) }
+    ensures refused { IfErr result
+        (IsReadFault 268435456 (T.remaining from.old) (T.remaining from.new) name.entry) }
+{
+    match read_front(alloc, from, MOST_BYTES) {
+        Ok(read) => Ok(read),
+        Err(fault) => Err(fault_of(name, fault)),
+    }
+}
+
+/// The same of the file of this name.
+pub fn read_file_front<'a, R: Files + AllocGlobal>(
+    rt: &R,
+    name: &'a str,
+) -> Result<FrontRead, Fault<'a>>
+    ensures fault { IfErr result (IsFileFault name.entry) }
+    ensures most { IfOk result (λ read. vec_len read.bytes ≤ 268435456) }
+{
+    match open_file(rt, name) {
+        Ok(mut file) => read_input_front(rt.alloc(), name, &mut file),
+        Err(fault) => Err(fault),
+    }
+}
+
+/// Prints that the input of this name could not be read from a byte on, if there is such a byte.
+pub fn print_end<E: Write>(name: &str, unread_from: Option<usize>, err: &mut E) -> io::Result<()>
+    ensures none { unread_from ≡ None → E.contents err.new ≡ E.contents err.old }
+    ensures line { IfSome unread_from (λ at. OnOk result
+        (Appends (E.contents err.old) (E.contents err.new) (end_text name.now at))) }
+{
+    match unread_from {
+        Some(at) => writeln!(
+            err,
+            "fitrec: {} could not be read from byte {at} on",
+            ShownWord(name),
+        ),
+        None => Ok(()),
     }
 }
 

@@ -6,13 +6,13 @@ ghost use Rattle.fit_commands.specs.Reported.{HasPlainForm, SavesFile, PrintsNot
 
 use crate::beside::write_whole;
 use crate::fault::Fault;
-use crate::input::{fault_of_report, read_file};
+use crate::input::{fault_of_report, print_end, read_file_front};
 use fit_files::{Salvage, salvage_bytes};
 use std::io::Write;
 
 /// Writes the readable part of the file `name`, or with `plain` the plain form of that, to the file `to`, which may exist. Prints how
-/// many bytes were kept. If more bytes follow those looked at and the two of a checksum, a line on `err` gives their number. Both may
-/// be one file.
+/// many bytes were kept. If more bytes follow those looked at and the two of a checksum, a line on `err` gives their number, and if the
+/// file could not be read to its end, one says where reading ended. Both may be one file.
 pub fn salvage_file<'a, O: Write, E: Write>(
     rt: &HostRuntime,
     name: &'a str,
@@ -26,12 +26,14 @@ pub fn salvage_file<'a, O: Write, E: Write>(
     ensures saved { OnOk result (SavesFile all plain (O.contents out.old) (O.contents out.new)) }
     ensures quiet { IfErr result (PrintsNothing (O.contents out.old) (O.contents out.new)) }
 {
-    let bytes = read_file(rt, name)?;
-    let salvage = match salvage_bytes(bytes.as_slice(), all) {
+    let read = read_file_front(rt, name)?;
+    let salvage = match salvage_bytes(read.bytes.as_slice(), all) {
         Ok(salvage) => salvage,
+        Err(_) if !read.is_whole => return Err(Fault::Read(name)),
         Err(fault) => return Err(Fault::File(fault)),
     };
     write_salvage(rt, name, to, plain, &salvage)?;
+    let _ = print_end(name, read.unread_from(), err);
     let _ = salvage.print_left(err);
     match salvage.print(out) {
         Ok(()) => Ok(()),

@@ -1,20 +1,22 @@
 // The subcommand `save`: writes the ride of a recording to a plain file. Nothing is written to the recording.
 
 ghost use Rattle.std.specs.Prelude.{◌≡◌, IfErr, IfOk, OnOk};
-ghost use Rattle.fit_commands.specs.Faults.{IsSaveReported, IsSavedReported};
+ghost use Rattle.fit_commands.specs.Faults.{IsSaveReported, IsRideReported};
 ghost use Rattle.fit_commands.specs.Reported.{IsSavedRide, SavesFolder, PrintsNothing};
 
 use crate::beside::write_whole;
 use crate::fault::Fault;
 use crate::folder::read_recorded;
-use crate::input::fault_of_report;
-use fit_files::{Lack, SaveFault, SavedRide, print_summary, save_ride};
-use fit_recorder::{RecFault, leave_changed};
+use crate::input::{fault_of_report, print_end};
+use fit_disk::DATA_NAME;
+use fit_files::{FrontRead, Lack, SaveFault, SavedRide, print_summary, save_ride};
+use fit_recorder::{RecFault, count_uncommitted, has_counted_bytes, leave_changed};
 use std::io::Write;
 
 /// Writes the plain form of the file that a repair of the folder `name` would make to the file `to`, which may exist, and prints its
 /// summary. A folder without a name is not opened. With `earlier` the commit before the last is taken if the bytes that the last one
-/// counts have changed; a line on `err` then says how many bytes that leaves out.
+/// counts have changed. Lines on `err` say what that leaves out, which whole messages were not committed, and where the data file could
+/// not be read.
 pub fn save_folder<'a, O: Write, E: Write>(
     rt: &HostRuntime,
     name: &'a str,
@@ -30,38 +32,76 @@ pub fn save_folder<'a, O: Write, E: Write>(
     if name.is_empty() {
         return Err(Fault::Open(name));
     }
-    let (saved, left_out) = saved_of(rt, name, earlier)?;
-    write_whole(rt, to, &saved.file)?;
-    if let Some(count) = left_out {
-        let _ = writeln!(
-            err,
-            "fitrec: {count} bytes of the last commit are left out, since what it counts has changed",
-        );
+    let (read, journal_bytes) = read_recorded(rt, name)?;
+    if !read.is_whole && !has_counted_bytes(read.bytes.as_slice(), journal_bytes.as_slice()) {
+        return Err(Fault::BodyNotRead(read.bytes.len()));
     }
+    let (saved, left) = saved_of(rt, read, journal_bytes, earlier)?;
+    write_whole(rt, to, &saved.file)?;
+    print_left(left, err);
     match print_summary(saved.summary, out) {
         Ok(()) => Ok(()),
         Err(fault) => Err(fault_of_report(name, fault)),
     }
 }
 
-// The ride of this folder, and how many bytes of its last commit are left out.
-fn saved_of<'a>(
+// What of a recording is not in the ride that was saved.
+#[derive(Clone, Copy)]
+struct Left {
+    // Where the data file could not be read.
+    unread_from: Option<usize>,
+    // How many bytes of the last commit, if what it counts has changed.
+    of_commit: Option<u32>,
+    // How many bytes of whole messages after the last commit.
+    uncommitted: Option<usize>,
+}
+
+// Prints a line for each.
+fn print_left<E: Write>(left: Left, err: &mut E) {
+    let _ = print_end(DATA_NAME, left.unread_from, err);
+    if let Some(count) = left.of_commit {
+        let _ = writeln!(
+            err,
+            "fitrec: {count} bytes of the last commit are left out, since what it counts has changed",
+        );
+    }
+    if let Some(count) = left.uncommitted {
+        let _ = writeln!(
+            err,
+            "fitrec: {count} bytes of whole messages after the last commit are left out; salvage --all keeps them",
+        );
+    }
+}
+
+// The ride of what was read of a data file, and of these bytes of a journal; and what is left out.
+fn saved_of(
     rt: &HostRuntime,
-    name: &'a str,
+    read: FrontRead,
+    mut journal_bytes: Vec<u8>,
     earlier: bool,
-) -> Result<(SavedRide, Option<u32>), Fault<'a>>
+) -> Result<(SavedRide, Left), Fault<'static>>
     ensures ride { IfOk result (λ found. IsSavedRide found.0) }
-    ensures reported { IfErr result (IsSavedReported name.entry) }
+    ensures reported { IfErr result IsRideReported }
 {
-    let (data_bytes, mut journal_bytes) = read_recorded(rt, name)?;
-    let lack = Lack::of(data_bytes.as_slice(), journal_bytes.as_slice());
-    let left_out = if earlier {
+    let unread_from = read.unread_from();
+    let data_bytes = read.bytes;
+    let lack = match unread_from {
+        Some(_) => Lack::of_journal(journal_bytes.as_slice()),
+        None => Lack::of(data_bytes.as_slice(), journal_bytes.as_slice()),
+    };
+    let uncommitted = count_uncommitted(data_bytes.as_slice(), journal_bytes.as_slice());
+    let of_commit = if earlier {
         leave_changed(data_bytes.as_slice(), journal_bytes.as_mut_slice())
     } else {
         None
     };
+    let left = Left {
+        unread_from,
+        of_commit,
+        uncommitted,
+    };
     match save_ride(rt.alloc(), data_bytes, journal_bytes) {
-        Ok(saved) => Ok((saved, left_out)),
+        Ok(saved) => Ok((saved, left)),
         Err(SaveFault::Recorder(RecFault::NothingRecorded)) => Err(Fault::NothingSaved(lack)),
         Err(SaveFault::Recorder(fault)) => Err(Fault::Recorder(fault)),
         Err(SaveFault::Changed) => Err(Fault::Changed),

@@ -1,4 +1,4 @@
--- What was taken from a reader, piece by piece: for `read_piece` and `read_all`.
+-- What was taken from a reader, piece by piece: for `read_piece` and `read_front`.
 use Rattle.std.proofs.Common.{ℕ, List, [], ◌++◌, Option, Some, None, Result, Ok, Err, refl, sym, ap, subst, ◌∙◌, append_assoc}
 use Rattle.std.specs.Io.KnownBytes.{Consumes, Keeps, ReadConsumes}
 

@@ -1,7 +1,7 @@
 // What a folder lacks in which nothing is recorded.
 
 ghost use Rattle.std.specs.Prelude.{◌≡◌, Some};
-ghost use Rattle.fit_files.specs.Printed.Lacking.{lack_of, lack_text};
+ghost use Rattle.fit_files.specs.Printed.Lacking.{lack_of, lack_text, journal_lack};
 
 use std::fmt::{self, Display, Formatter, Write};
 
@@ -29,7 +29,16 @@ impl Lack {
     {
         if in_data.is_empty() {
             Lack::EmptyData
-        } else if in_journal.is_empty() {
+        } else {
+            Lack::of_journal(in_journal)
+        }
+    }
+
+    /// Of the bytes of a journal in which nothing is recorded, while the data file has bytes.
+    pub fn of_journal(in_journal: &[u8]) -> Lack
+        ensures { result ≡ journal_lack in_journal.now }
+    {
+        if in_journal.is_empty() {
             Lack::EmptyJournal
         } else if in_journal.len() < 8 || in_journal[0] != b'F' {
             Lack::JournalHead

@@ -1,9 +1,9 @@
 //! What is done with a file: it is shown, checked, made plain, salvaged or saved.
 //!
 //! `show_input`, `show_json_input` and `check_input` print the text, the JSON or the summary of a file read from an input; `show_bytes`
-//! and `check_bytes` take its bytes. `plain_input` makes the plain form of a file. `read_all` reads a whole input. `salvage_bytes` finds
-//! the readable part of a file that has no journal. `save_ride` makes a file from the two files of a recording, `Lack` says what they
-//! lack if nothing is recorded, and `repair` finishes the recording itself.
+//! and `check_bytes` take its bytes. `plain_input` makes the plain form of a file. `read_all` reads a whole input, and `read_front` what
+//! can be read of it. `salvage_bytes` finds the readable part of a file that has no journal. `save_ride` makes a file from the two files
+//! of a recording, `Lack` says what they lack if nothing is recorded, and `repair` finishes the recording itself.
 //!
 //! Contracts use the definitions of `specs/`. `Printed` has what is printed of files. `Calls` has what is taken from an input, and the
 //! numbers of faults.
@@ -30,7 +30,7 @@ pub use json::show_json_input;
 pub use lack::Lack;
 pub use plain::{count_messages, plain_input, print_messages};
 pub use printing::{flush, print, print_summary, put_line};
-pub use reading::{CHUNK, ReadFault, read_all, read_piece};
+pub use reading::{CHUNK, FrontRead, ReadFault, read_all, read_front, read_piece};
 pub use repairing::{FileSums, RepairFault, repair, repair_and_read};
 pub use salvage::Salvage;
 pub use salvaging::salvage_bytes;

@@ -2,9 +2,9 @@
 
 ghost use Rattle.std.specs.Io.{ReadsAtMost};
 ghost use Rattle.std.specs.Io.KnownBytes.{ReadConsumes};
-ghost use Rattle.std.specs.Prelude.{◌≡◌, ◌≢◌, ◌<◌, ◌≤◌, length, vec_len, Err, IfOk, IfErr, IfSome};
+ghost use Rattle.std.specs.Prelude.{◌≡◌, ◌≢◌, ◌<◌, ◌≤◌, length, vec_len, true, None, Some, Err, IfOk, IfErr, IfSome, if◌then◌else◌};
 ghost use Rattle.std.specs.IoError.{error_kind};
-ghost use Rattle.fit_files.specs.Calls.Reading.{ReadsAll, Refuses};
+ghost use Rattle.fit_files.specs.Calls.Reading.{ReadsAll, Refuses, ReadsFront};
 
 use std::alloc::Global;
 use std::io::{self, ErrorKind, Read};
@@ -54,6 +54,27 @@ pub fn read_piece<T: Read>(from: &mut T, piece: &mut [u8]) -> io::Result<usize>
     Err(ErrorKind::Other.into())
 }
 
+/// What was read of an input: its bytes up to its end, or to the first place that could not be read.
+#[derive(Drop)]
+pub struct FrontRead {
+    pub bytes: Vec<u8>,
+    /// Whether these are all bytes of the input.
+    pub is_whole: bool,
+}
+
+impl FrontRead {
+    /// The place of the first byte that could not be read.
+    pub fn unread_from(&self) -> Option<usize>
+        ensures { result ≡ (if self.now.is_whole then None else Some (vec_len self.now.bytes)) }
+    {
+        if self.is_whole {
+            None
+        } else {
+            Some(self.bytes.len())
+        }
+    }
+}
+
 /// Reads all bytes of an input. Reports `TooLarge` if there are more than `most`.
 pub fn read_all<T: Read>(alloc: Global, from: &mut T, most: usize) -> Result<Vec<u8>, ReadFault>
     ensures all { IfOk result (λ bytes. IfSome (T.remaining from.old) (λ known. bytes.items ≡ known)) }
@@ -65,14 +86,47 @@ pub fn read_all<T: Read>(alloc: Global, from: &mut T, most: usize) -> Result<Vec
         (λ bytes. ReadsAll most (T.remaining from.old) (T.remaining from.new) bytes.items) }
     ensures refused { IfErr result (Refuses most (T.remaining from.old) (T.remaining from.new)) }
 {
+    match read_front(alloc, from, most) {
+        Ok(read) => all_of(read),
+        Err(fault) => Err(fault),
+    }
+}
+
+// The bytes of an input, if they were all read.
+fn all_of(read: FrontRead) -> Result<Vec<u8>, ReadFault>
+    ensures all { IfOk result (λ bytes. (bytes ≡ read.bytes) × (read.is_whole ≡ true)) }
+    ensures failed { IfErr result (λ fault. fault ≡ ReadFault.Failed) }
+{
+    let FrontRead { bytes, is_whole } = read;
+    if is_whole {
+        Ok(bytes)
+    } else {
+        Err(ReadFault::Failed)
+    }
+}
+
+/// Reads the bytes of an input up to its end, or to the first read that fails. Reports `TooLarge` if there are more than `most`, and
+/// never `Failed`.
+pub fn read_front<T: Read>(alloc: Global, from: &mut T, most: usize) -> Result<FrontRead, ReadFault>
+    // The bytes taken from the input.
+    ensures front { IfOk result (ReadsFront most (T.remaining from.old) (T.remaining from.new)) }
+    ensures refused { IfErr result (λ fault. (fault ≢ ReadFault.Failed)
+        × Refuses most (T.remaining from.old) (T.remaining from.new) fault) }
+{
     let mut bytes = Vec::new(alloc);
     let mut chunk = [0u8; CHUNK];
     loop {
         let Ok(taken) = read_piece(from, &mut chunk) else {
-            return Err(ReadFault::Failed);
+            return Ok(FrontRead {
+                bytes,
+                is_whole: false,
+            });
         };
         if taken == 0 {
-            return Ok(bytes);
+            return Ok(FrontRead {
+                bytes,
+                is_whole: true,
+            });
         }
         if taken > most - bytes.len() {
             return Err(ReadFault::TooLarge);

@@ -7,3 +7,4 @@ mod ResumedRide
 mod ErasedFiles
 pub mod Windowed
 mod ChangedBytes
+mod CountedBytes

@@ -6,6 +6,7 @@ pub mod Body
 pub mod Committed
 pub mod Finished
 pub mod Settled
+pub mod Uncommitted
 pub mod Changed
 pub mod NothingRecorded
 pub mod NeverFull

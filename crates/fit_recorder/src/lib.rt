@@ -33,8 +33,9 @@ mod recording_files;
 mod recovery;
 mod resuming;
 mod spelling;
+mod uncommitted;
 
-pub use changed::{has_changed, leave_changed};
+pub use changed::{has_changed, has_counted_bytes, leave_changed};
 pub use erasing::erase;
 pub use fault::RecFault;
 pub use frozen::{FrozenDefinition, FrozenRecorder};
@@ -44,3 +45,4 @@ pub use recovery::frozen::FrozenRecovery;
 pub use recovery::windows::Recovery;
 pub use recovery::{recover, settle};
 pub use resuming::{FoundRide, continue_with, resume, take_up};
+pub use uncommitted::count_uncommitted;

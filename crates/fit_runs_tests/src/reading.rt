@@ -2,7 +2,7 @@
 
 use crate::equality::equal;
 use crate::output::{ONE_MESSAGE, ONE_MESSAGE_TEXT};
-use fit_files::{ReadFault, ReportFault, read_all, show_input};
+use fit_files::{ReadFault, ReportFault, read_all, read_front, show_input};
 use fit_grammar::{FaultKind, FileFault};
 use std::alloc::Global;
 use std::io::{self, Read};
@@ -71,6 +71,21 @@ fn reports_a_failed_read_from_too_much(rt: HostRuntime) {
         } else {
             assert!(rt; is_all(&nine, 9), "{calls}");
             assert_eq!(rt; twelve.err(), Some(ReadFault::TooLarge), "{calls}");
+        }
+    }
+}
+
+// What comes before a read that fails is kept. Nine bytes are known to be all once the read after them gives none.
+#[test]
+fn keeps_what_was_read_before_a_failure(rt: HostRuntime) {
+    for calls in 0..6 {
+        let rest = TEXT.get(..9).unwrap_or(TEXT);
+        let read = read_front(rt.alloc(), &mut Pieces { rest, step: 3, calls }, 10);
+        assert!(rt; read.is_ok(), "{calls}");
+        if let Ok(read) = read {
+            let kept = TEXT.get(..3 * calls.min(3));
+            assert!(rt; kept == Some(read.bytes.as_slice()), "{calls}");
+            assert_eq!(rt; read.unread_from(), if calls < 4 { Some(3 * calls) } else { None }, "{calls}");
         }
     }
 }

@@ -1,5 +1,5 @@
 -- What is taken from an input that is read whole, or refused.
-use Rattle.std.specs.Prelude.{◌≢◌, ℕ, ◌<◌, ◌≤◌, List, length, Option, Result, Ok, Err}
+use Rattle.std.specs.Prelude.{◌≡◌, ◌≢◌, ℕ, ◌<◌, ◌≤◌, true, List, length, Option, Result, Ok, Err}
 use Rattle.std.specs.Io.KnownBytes.{Consumes, IsAtEnd}
 use Rattle.fit_grammar.specs.Format.File.{FileValue, FileOf}
 use Rattle.fit_grammar.specs.Format.Refusal.{IsFaultOf}
@@ -8,10 +8,16 @@ use Rattle.fit_files.specs.declared.fault.ReportFault.{ReportFault}
 use Rattle.fit_files.specs.declared.fault.ReportFault.TheVariants.{File, Input}
 use Rattle.fit_files.specs.declared.reading.ReadFault.{ReadFault}
 use Rattle.fit_files.specs.declared.reading.ReadFault.TheVariants.{TooLarge, NoMemory}
+use Rattle.fit_files.specs.declared.reading.FrontRead.{FrontRead}
 
 -- all that was left of an input was taken, at most so many bytes
 abbrev pub ReadsAll : ℕ → Option (List ℕ) → Option (List ℕ) → List ℕ → Type 0
 ReadsAll most old new bytes = Consumes old new bytes × IsAtEnd new × (length bytes ≤ most)
+
+-- the first bytes of an input were taken, at most so many, up to its end if they are said to be all
+abbrev pub ReadsFront : ℕ → Option (List ℕ) → Option (List ℕ) → FrontRead → Type 0
+ReadsFront most old new read =
+    Consumes old new read.bytes.items × (read.is_whole ≡ true → IsAtEnd new) × (length read.bytes.items ≤ most)
 
 -- an input is too large if more than so many bytes were taken from it; it is refused for another reason before that
 abbrev pub IsEnough : ℕ → ReadFault → ℕ → Type 0

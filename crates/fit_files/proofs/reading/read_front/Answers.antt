@@ -1,7 +1,12 @@
 use Rattle.std.proofs.Common.{List, ℕ, arith, sym, subst, length-append, length-take}
 use Rattle.std.specs.Io.KnownBytes.{Consumes}
+<<<<<<<< HEAD:crates/fit_files/proofs/reading/read_all/Answers.antt
 use Rattle.fit_files.proofs.Pieces.{consumes_none, consumes_more}
 use Rattle.fit_files.proofs.reading.read_all.Goals as goal
+========
+use Rattle.fit_files.proofs.Reported.Reading.{consumes_none, consumes_more}
+use Rattle.fit_files.proofs.reading.read_front.Goals as goal
+>>>>>>>> tail:crates/fit_world/proofs/reading/read_front/Answers.antt
 
 pub loop-taken-init : goal.loop-taken-init
 loop-taken-init g c =
@@ -19,9 +24,9 @@ loop-taken-preserved g c =
 pub returns-then-taken-most-clause-refused : goal.returns-then-taken-most-clause-refused
 returns-then-taken-most-clause-refused g c =
     let consumed = consumes_more _ _ _ _ _ c.loop-taken.invariant.0 c.in-Ok.ensures.bytes.0 in
-    (_, consumed, omega (arith, c.if-taken-most.true, c.len.ensures, c.in-Ok.ensures.bound, length-append {A = ℕ}, length-take {A = ℕ}))
+    (λ same. cc, (_, consumed, omega (arith, c.if-taken-most.true, c.len.ensures, c.in-Ok.ensures.bound, length-append {A = ℕ}, length-take {A = ℕ})))
 
 pub returns-in_default-extend_from_slice-clause-refused : goal.returns-in_default-extend_from_slice-clause-refused
 returns-in_default-extend_from_slice-clause-refused g c =
     let consumed = consumes_more _ _ _ _ _ c.loop-taken.invariant.0 c.in-Ok.ensures.bytes.0 in
-    (_, consumed, omega (arith, c.if-taken-most.false, c.len.ensures, c.in-Ok.ensures.bound, length-append {A = ℕ}, length-take {A = ℕ}))
+    (λ same. cc, (_, consumed, omega (arith, c.if-taken-most.false, c.len.ensures, c.in-Ok.ensures.bound, length-append {A = ℕ}, length-take {A = ℕ})))
