@@ -1,12 +1,7 @@
 use Rattle.std.proofs.Common.{List, ℕ, arith, sym, subst, length-append, length-take}
 use Rattle.std.specs.Io.KnownBytes.{Consumes}
-<<<<<<<< HEAD:crates/fit_files/proofs/reading/read_all/Answers.antt
 use Rattle.fit_files.proofs.Pieces.{consumes_none, consumes_more}
-use Rattle.fit_files.proofs.reading.read_all.Goals as goal
-========
-use Rattle.fit_files.proofs.Reported.Reading.{consumes_none, consumes_more}
 use Rattle.fit_files.proofs.reading.read_front.Goals as goal
->>>>>>>> tail:crates/fit_world/proofs/reading/read_front/Answers.antt
 
 pub loop-taken-init : goal.loop-taken-init
 loop-taken-init g c =

@@ -1,10 +1,6 @@
 use Rattle.std.proofs.Common.{◌-◌, ◌≤◌, vec_len}
 use Rattle.std.specs.Io.KnownBytes.{Consumes}
-<<<<<<<< HEAD:crates/fit_files/proofs/reading/read_all/Invariants.antt
-use Rattle.fit_files.proofs.reading.read_all.Given as goal
-========
 use Rattle.fit_files.proofs.reading.read_front.Given as goal
->>>>>>>> tail:crates/fit_world/proofs/reading/read_front/Invariants.antt
 
 abbrev pub invariant-loop-taken : goal.invariant-loop-taken
 invariant-loop-taken g l =
