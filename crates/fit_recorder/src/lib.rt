@@ -36,6 +36,7 @@ mod spelling;
 
 pub use changed::{has_changed, leave_changed};
 pub use erasing::erase;
+pub use erasing::known::erase_known;
 pub use fault::RecFault;
 pub use frozen::{FrozenDefinition, FrozenRecorder};
 pub use limits::CLOSING_ROOM;
