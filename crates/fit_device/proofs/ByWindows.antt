@@ -1,5 +1,5 @@
 -- A step of a recovery by windows: which files it leaves.
-use Rattle.std.proofs.Common.{⊎_elim, ◌≡◌, ◌≤◌, ℕ, List, [], length, inl, inr, refl, sym, ap, ◌∙◌, subst, arith, Result, Ok, Err}
+use Rattle.std.proofs.Common.{⊎_elim, ◌≡◌, ◌≤◌, ◌+◌, ◌-◌, min, ℕ, List, [], ◌∷◌, length, take, inl, inr, refl, sym, ap, ◌∙◌, subst, arith, Result, Ok, Err}
 use Rattle.fit_activity.specs.declared.activity.Summary.{Summary}
 use Rattle.fit_device.specs.Answer.{code_of_fault, wants}
 use Rattle.fit_device.specs.Planned.{Leads}
@@ -19,7 +19,10 @@ use Rattle.fit_disk.specs.declared.disk.Which.TheVariants.{Data, Journal}
 use Rattle.fit_notes.specs.Numbers.{numbers_of}
 use Rattle.fit_plan.specs.declared.plan.Plan.{Plan}
 use Rattle.fit_plan.specs.Plan.{story_in, since_in, counts_in, room_in, whole_room, log_in, most_calls, most_bytes}
-use Rattle.fit_recorder.specs.Calls.Windows.{HasRoom}
+use Rattle.fit_recorder.specs.Calls.Windows.{AreAt, HasMoved, HasRoom, place_of}
+use Rattle.fit_recorder.specs.declared.recovery.windows.Recovery.{Recovery}
+use Rattle.fit_notes.specs.Noted.{which_of}
+use Rattle.std.proofs.lemmas.List.{take-take}
 use Rattle.fit_recorder.specs.Calls.FaultCode.{fault_code}
 use Rattle.fit_recorder.specs.Files.Committed.{HasCounted}
 use Rattle.fit_recorder.specs.Calls.Recovery.{RecoveryAnswers, Rebuilds, unchanged, standing}
@@ -165,3 +168,27 @@ never_wants Device code is asked = omega (arith, is, asked)
 never_wants Failed code is asked = omega (arith, is, asked)
 never_wants NothingRecorded code is asked = omega (arith, is, asked)
 never_wants Damaged code is asked = omega (arith, is, asked)
+
+-- a window of the body that was filled, and the next one
+pub moved : (handle : RecoveryHandle) (old new : Recovery) (given : List ℕ) (at : ℕ) → HasMoved (length given) old new → length given ≡ handle.filled
+    → (handle.at ≡ place_of old) × (handle.count ≡ min 512 (old.reader.len - old.reader.at)) → at ≡ place_of new → handle.count ≤ handle.filled
+    → handle.at + 416 ≤ at
+moved handle old new given at moves long placed is full = omega (arith, moves.more, moves.far, long, placed.0, placed.1, is, full)
+
+-- the window of the journal is its front
+pub journal_front : (old new : RecoveryHandle) (story : Story) → IsRecovery old → old.phase ≡ 1 → new.filled ≡ old.filled → new.window ≡ old.window
+    → story ≡ story_of old → AreAt 0 (take new.filled new.window) (seen_of Journal story)
+journal_front old new story asks finds filled window same =
+    let placed = (old.placed asks.0).finds finds in
+    let front : AreAt 0 (take old.filled old.window) (seen_of Journal (story_of old)) =
+    subst (λ (at : ℕ). AreAt at (take old.filled old.window) (seen_of Journal (story_of old))) placed.1
+    (subst (λ (file : ℕ). AreAt old.at (take old.filled old.window) (seen_of (which_of file) (story_of old))) placed.0 (old.part asks.0 asks.1)) in
+    subst (λ (story : Story). AreAt 0 (take new.filled new.window) (seen_of Journal story)) (sym same)
+    (subst (λ (n : ℕ). AreAt 0 (take n new.window) (seen_of Journal (story_of old))) (sym filled)
+    (subst (λ (bytes : List ℕ). AreAt 0 (take old.filled bytes) (seen_of Journal (story_of old))) (sym window) front))
+
+-- and shows its first byte, unless it is empty
+pub front_shows : (front seen : List ℕ) → AreAt 0 front seen → (length front ≡ 0 → length seen ≡ 0) → take 1 front ≡ take 1 seen
+front_shows [] [] are none = refl
+front_shows [] (y ∷ ys) are none = absurd (omega (arith, none refl))
+front_shows (x ∷ xs) seen are none = ap (take 1) are ∙ take-take 1 (length (x ∷ xs)) seen (omega arith)

@@ -83,12 +83,12 @@ pub extern "C" fn fitrec_erase_on(recovery: &mut RecoveryHandle, plan: &mut Devi
         plan.clear();
         return NO_RECORDER;
     }
-    let lacks_front = recovery.filled == 0 && recovery.journal_size > 0;
-    let mut files = recovery.take_files();
-    if lacks_front {
+    if recovery.lacks_front() {
+        recovery.leave();
         plan.clear();
         return code_of_fault(&RecFault::Device);
     }
+    let mut files = recovery.take_files();
     match erase_known(&mut files, recovery.given()) {
         Ok(()) => {
             plan.fill(&files);

@@ -108,11 +108,7 @@ fn lent(data_bytes: &[u8], _journal_bytes: &[u8]) -> Plan
 }
 
 // As `recover` of fit_recorder does over these files.
-fn recover(
-    files: &mut Plan,
-    data_bytes: &[u8],
-    journal_bytes: &[u8],
-) -> Result<Summary, RecFault>
+fn recover(files: &mut Plan, data_bytes: &[u8], journal_bytes: &[u8]) -> Result<Summary, RecFault>
     requires begun { Begun files.old }
     requires lent { (seen_of Data (story_in files.old) ≡ data_bytes.now)
         × (seen_of Journal (story_in files.old) ≡ journal_bytes.now) }
@@ -133,11 +129,7 @@ fn recover(
 }
 
 // As `take_up` of fit_recorder does over these files.
-fn take_up(
-    files: &mut Plan,
-    data_bytes: &[u8],
-    journal_bytes: &[u8],
-) -> Result<FoundRide, RecFault>
+fn take_up(files: &mut Plan, data_bytes: &[u8], journal_bytes: &[u8]) -> Result<FoundRide, RecFault>
     requires begun { Begun files.old }
     requires lent { (seen_of Data (story_in files.old) ≡ data_bytes.now)
         × (seen_of Journal (story_in files.old) ≡ journal_bytes.now) }

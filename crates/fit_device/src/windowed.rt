@@ -1,6 +1,6 @@
 // A recovery by windows in the memory of C.
 
-ghost use Rattle.std.specs.Prelude.{◌≡◌, ◌↔◌, ◌-◌, ◌≤◌, ◌==◌, if◌then◌else◌, min, length, take, IsTrue};
+ghost use Rattle.std.specs.Prelude.{◌≡◌, ◌↔◌, ◌-◌, ◌<◌, ◌≤◌, true, false, ◌==◌, if◌then◌else◌, min, length, take, IsTrue};
 ghost use Rattle.fit_disk.specs.Calls.{IsSound};
 ghost use Rattle.fit_disk.specs.Story.{seen_of};
 ghost use Rattle.fit_notes.specs.Noted.{which_of};
@@ -143,9 +143,25 @@ impl RecoveryHandle {
     // What C has filled of the window.
     pub(crate) fn given(&self) -> &[u8]
         requires { self.now.filled ≤ 512 }
-        ensures { result.now ≡ take self.now.filled self.now.window }
+        ensures bytes { result.now ≡ take self.now.filled self.now.window }
+        ensures long { length result.now ≡ self.now.filled }
     {
         &self.window[..usize::from(self.filled)]
+    }
+
+    // Whether it has no byte of a file that is not empty, if it asks for the journal.
+    pub(crate) fn lacks_front(&self) -> bool
+        ensures yes { result ≡ true → (self.now.filled ≡ 0) × (0 < self.now.journal_size) }
+        ensures no { result ≡ false → self.now.filled ≡ 0 → self.now.journal_size ≡ 0 }
+    {
+        self.filled == 0 && self.journal_size > 0
+    }
+
+    // Asks for nothing.
+    pub(crate) fn leave(&mut self)
+        ensures { IsRecovery self.new → ⊥ }
+    {
+        self.mark = 0;
     }
 
     // The journal of these files, as far as the window has it.

@@ -54,9 +54,11 @@ no_failure most Failed old new lent few ran same failed =
     first_of : List ℕ → ℕ
     first_of [] = 0
     first_of (n ∷ ns) = n
+
     is_whole : (b : Bool) → number_of b ≡ 1 → b ≡ true
     is_whole true one = refl
     is_whole false one = absurd (omega (arith, one))
+
     is_unchanged : (b : Bool) → (b ≡ true → ⊥) → b ≡ false
     is_unchanged true never = absurd (never refl)
     is_unchanged false never = refl

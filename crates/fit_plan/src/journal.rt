@@ -152,7 +152,8 @@ impl Disk for LentJournal<'_> {
     {
         self.counts.call()?;
         self.has_changed = true;
-        self.notes.note(&[WRITTEN, u64::from(number(which)), at], bytes);
+        self.notes
+            .note(&[WRITTEN, u64::from(number(which)), at], bytes);
         Ok(())
     }
 
@@ -166,7 +167,8 @@ impl Disk for LentJournal<'_> {
     {
         self.counts.call()?;
         self.has_changed = true;
-        self.notes.note(&[SHORTENED, u64::from(number(which)), len], &[]);
+        self.notes
+            .note(&[SHORTENED, u64::from(number(which)), len], &[]);
         Ok(())
     }
 

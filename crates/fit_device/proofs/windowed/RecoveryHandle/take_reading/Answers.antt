@@ -39,8 +39,7 @@ returns-clause-given c =
     let is : c.thaw.result ≡ true = ∥∥₁_elim (old.believed c.requires.asks.0 c.requires.reads) (Bool-set _ _) (λ (on : ReadsOnIn old.reading old.notes.story). c.thaw.ensures.possible on.possible) in
     let at = ap (λ (reading : Reading). reading.at) (c.thaw.ensures.reading is) in
     let placed = (old.placed c.requires.asks.0).reads c.requires.reads in
-    let place : old.at ≡ place_of c.thaw.new.self = omega (arith, placed.1, at) in
-    (
+    let place : old.at ≡ place_of c.thaw.new.self = omega (arith, placed.1, at) in (
       c.requires.asks.1,
       subst (λ (story : Story). AreAt (place_of c.thaw.new.self) (take old.filled old.window) (seen_of Data story)) (sym c.take_files-files.ensures.story)
           (subst (λ (at : ℕ). AreAt at (take old.filled old.window) (seen_of Data old.notes.story)) place
