@@ -302,9 +302,9 @@ struct fitrec_state {
     uint8_t stopped;   /* 1 after the stop */
 };
 
-/* Answers of a step. After every answer but FITREC_OK the plan has no calls that change what the files hold, and the recorder is as it was;
-   but fitrec_start and fitrec_reopen then leave no recorder in the handle, unless the answer is FITREC_NO_SPORT. A plan has room for all
-   calls of a step, so none fails for want of it. docs/EMBEDDING.md says what to do after each. */
+/* Answers of a step. After every answer but FITREC_OK the plan is empty, and the recorder is as it was; but fitrec_start and fitrec_reopen
+   then leave no recorder in the handle, unless the answer is FITREC_NO_SPORT, and fitrec_recover_begin plans two syncs. A plan has room for
+   all calls of a step, so none fails for want of it. docs/EMBEDDING.md says what to do after each. */
 enum {
     FITREC_OK = 0,
     FITREC_NOT_EMPTY = 1,    /* start: the data file has bytes */

@@ -1,5 +1,5 @@
 -- A step of a recovery by windows: which files it leaves.
-use Rattle.std.proofs.Common.{⊎_elim, ◌≡◌, ◌≤◌, ℕ, List, [], length, inl, inr, refl, sym, ap, ◌∙◌, subst, arith, Result, Ok, Err}
+use Rattle.std.proofs.Common.{⊎_elim, ◌≡◌, ◌≤◌, ◌+◌, ◌-◌, min, ℕ, List, [], ◌∷◌, length, take, inl, inr, refl, sym, ap, ◌∙◌, subst, arith, Result, Ok, Err}
 use Rattle.fit_activity.specs.declared.activity.Summary.{Summary}
 use Rattle.fit_device.specs.Answer.{code_of_fault, wants}
 use Rattle.fit_device.specs.Planned.{Leads}
@@ -12,16 +12,19 @@ use Rattle.fit_device.specs.declared.handle.Handle.{Handle}
 use Rattle.fit_device.specs.declared.plan.DevicePlan.{DevicePlan}
 use Rattle.fit_device.specs.declared.windowed.RecoveryHandle.{RecoveryHandle}
 use Rattle.fit_device.proofs.Stepping.{on_ok}
-use Rattle.fit_disk.specs.Counts.{Counts, Log, Room, no_calls}
+use Rattle.fit_disk.specs.Counts.{Counts, Room, no_calls}
 use Rattle.fit_disk.specs.State.{Contents, seen_in}
-use Rattle.fit_disk.specs.Story.{Story}
+use Rattle.fit_disk.specs.Story.{Story, seen_of}
+use Rattle.fit_disk.specs.declared.disk.Which.TheVariants.{Data, Journal}
 use Rattle.fit_notes.specs.Numbers.{numbers_of}
 use Rattle.fit_plan.specs.declared.plan.Plan.{Plan}
 use Rattle.fit_plan.specs.Plan.{story_in, since_in, counts_in, room_in, whole_room, log_in, most_calls, most_bytes}
-use Rattle.fit_plan.specs.Window.{window_log}
-use Rattle.fit_plan.specs.declared.window.WindowPlan.{WindowPlan}
-use Rattle.fit_recorder.specs.Calls.Windows.{HasRoom}
+use Rattle.fit_recorder.specs.Calls.Windows.{AreAt, HasMoved, HasRoom, place_of}
+use Rattle.fit_recorder.specs.declared.recovery.windows.Recovery.{Recovery}
+use Rattle.fit_notes.specs.Noted.{which_of}
+use Rattle.std.proofs.lemmas.List.{take-take}
 use Rattle.fit_recorder.specs.Calls.FaultCode.{fault_code}
+use Rattle.fit_recorder.specs.Files.Committed.{HasCounted}
 use Rattle.fit_recorder.specs.Calls.Recovery.{RecoveryAnswers, Rebuilds, unchanged, standing}
 use Rattle.fit_recorder.specs.Calls.Resume.{IsRefusedFor}
 use Rattle.fit_recorder.specs.Calls.Ride.{TakesUp}
@@ -73,45 +76,52 @@ never_zero fault code is zero = on_ok {P = ⊥} (Err fault) code is zero tt
 pub is_device : (fault : RecFault) (code : ℕ) → code ≡ code_of_fault fault → fault ≡ Device → code ≡ fault_code Device
 is_device fault code is device = is ∙ ap code_of_fault device
 
--- a plan without calls has room for those after the reads of a body
-pub has_room : (calls bytes : ℕ) (disk : WindowPlan) (files : Plan) → window_log disk ≡ log_in files → counts_in files ≡ no_calls
-    → room_in files ≡ whole_room → calls ≤ most_calls → bytes ≤ most_bytes → HasRoom calls bytes (window_log disk)
-has_room calls bytes disk files log none room few short =
-    let made : (window_log disk).counts.calls ≡ 0 = ap (λ (log : Log). log.counts.calls) log ∙ ap (λ (counts : Counts). counts.calls) none in
-    let for_calls : (window_log disk).room.calls ≡ most_calls = ap (λ (log : Log). log.room.calls) log ∙ ap (λ (room : Room). room.calls) room in
-    let for_bytes : (window_log disk).room.bytes ≡ most_bytes = ap (λ (log : Log). log.room.bytes) log ∙ ap (λ (room : Room). room.bytes) room in
+-- a plan without calls has room
+pub has_room : (calls bytes : ℕ) (files : Plan) → counts_in files ≡ no_calls → room_in files ≡ whole_room → calls ≤ most_calls → bytes ≤ most_bytes
+    → HasRoom calls bytes (log_in files)
+has_room calls bytes files none room few short =
+    let made : (counts_in files).calls ≡ 0 = ap (λ (counts : Counts). counts.calls) none in
+    let for_calls : (room_in files).calls ≡ most_calls = ap (λ (room : Room). room.calls) room in
+    let for_bytes : (room_in files).bytes ≡ most_bytes = ap (λ (room : Room). room.bytes) room in
     record {
       counted = omega (arith, made, few);
       for_calls = omega (arith, for_calls, few);
       for_bytes = omega (arith, for_bytes, short);
     }
 
+pub counted_for : (before after earlier later : Story) → before ≡ earlier → after ≡ later → HasCounted (seen_of Journal before) (seen_of Data after)
+    → HasCounted (seen_of Journal earlier) (seen_of Data later)
+counted_for before after earlier later olds news is =
+    subst (λ (story : Story). HasCounted (seen_of Journal earlier) (seen_of Data story)) news (subst (λ (story : Story). HasCounted (seen_of Journal story) (seen_of Data after)) olds is)
+
 -- after the window of the journal
 module _ (old new : RecoveryHandle) (plan : DevicePlan) (code : ℕ) (asks : IsRecovery old) (finds : old.phase ≡ 1) (found : Finds old new plan code) where
+  not_zero : code ≡ 0 → ⊥
+  not_zero zero = ⊎_elim (λ wants. let no : ⊥ = omega (arith, wants, zero) in no) (λ answered. never_zero answered.0 code answered.1 zero) found.answers
+
   pub goes_on : GoesOn old new plan code
   goes_on = record {
     planned = found.planned;
     none = λ no. absurd (no asks);
-    asks = λ _ wants. found.asks wants;
+    asks = λ _ wants. record { body = found.asks wants; moves = λ reads. absurd (reads finds) };
     ended = found.ended;
     same = λ _. found.same;
     answers = λ _. ⊎_elim (λ wants. inl wants) (λ answered. inr (Err answered.0, answered.1, answered.2)) found.answers;
-    no_device = λ reads _. reads finds;
+    device = found.device;
+    checked = λ zero. absurd (not_zero zero);
     any_moment = λ _. unchanged found.same;
   }
-
-  not_zero : code ≡ 0 → ⊥
-  not_zero zero = ⊎_elim (λ wants. let no : ⊥ = omega (arith, wants, zero) in no) (λ answered. never_zero answered.0 code answered.1 zero) found.answers
 
   pub reopens_on : (handle : Handle) → ReopensOn old new handle handle plan code
   reopens_on handle = record {
     planned = (λ zero. absurd (not_zero zero), λ _. found.planned);
     none = λ no. absurd (no asks);
-    asks = λ _ wants. found.asks wants;
+    asks = λ _ wants. record { body = found.asks wants; moves = λ reads. absurd (reads finds) };
     ended = found.ended;
     same = λ _. (refl, found.same);
     answers = λ _. ⊎_elim (λ wants. inl wants) (λ answered. inr (inr (answered.0, answered.1, as_a_resume (seen_in (story_of old).now) (story_of new) answered.0 answered.2))) found.answers;
-    no_device = λ reads _. reads finds;
+    device = found.device;
+    checked = λ zero. absurd (not_zero zero);
     any_moment = λ _. unchanged (sym found.planned.ends ∙ found.same);
   }
 
@@ -127,7 +137,8 @@ reopened old new before after plan ride files asks taken goes story =
       ended = λ _. taken.ended;
       same = λ no. absurd (no refl);
       answers = λ _. inr (inl (refl, goes));
-      no_device = λ _ device. omega (arith, device);
+      device = λ device. absurd (omega (arith, device));
+      checked = λ _. subst (λ (later : Story). HasCounted (seen_of Journal (story_of old)) (seen_of Data later)) (sym story) taken.checked;
       any_moment = λ _. subst (λ (later : Story). Rebuilds (seen_in (story_of old).now) (story_of old) later) taken.planned.ends taken.any_moment;
     }
 
@@ -157,3 +168,27 @@ never_wants Device code is asked = omega (arith, is, asked)
 never_wants Failed code is asked = omega (arith, is, asked)
 never_wants NothingRecorded code is asked = omega (arith, is, asked)
 never_wants Damaged code is asked = omega (arith, is, asked)
+
+-- a window of the body that was filled, and the next one
+pub moved : (handle : RecoveryHandle) (old new : Recovery) (given : List ℕ) (at : ℕ) → HasMoved (length given) old new → length given ≡ handle.filled
+    → (handle.at ≡ place_of old) × (handle.count ≡ min 512 (old.reader.len - old.reader.at)) → at ≡ place_of new → handle.count ≤ handle.filled
+    → handle.at + 416 ≤ at
+moved handle old new given at moves long placed is full = omega (arith, moves.more, moves.far, long, placed.0, placed.1, is, full)
+
+-- the window of the journal is its front
+pub journal_front : (old new : RecoveryHandle) (story : Story) → IsRecovery old → old.phase ≡ 1 → new.filled ≡ old.filled → new.window ≡ old.window
+    → story ≡ story_of old → AreAt 0 (take new.filled new.window) (seen_of Journal story)
+journal_front old new story asks finds filled window same =
+    let placed = (old.placed asks.0).finds finds in
+    let front : AreAt 0 (take old.filled old.window) (seen_of Journal (story_of old)) =
+    subst (λ (at : ℕ). AreAt at (take old.filled old.window) (seen_of Journal (story_of old))) placed.1
+    (subst (λ (file : ℕ). AreAt old.at (take old.filled old.window) (seen_of (which_of file) (story_of old))) placed.0 (old.part asks.0 asks.1)) in
+    subst (λ (story : Story). AreAt 0 (take new.filled new.window) (seen_of Journal story)) (sym same)
+    (subst (λ (n : ℕ). AreAt 0 (take n new.window) (seen_of Journal (story_of old))) (sym filled)
+    (subst (λ (bytes : List ℕ). AreAt 0 (take old.filled bytes) (seen_of Journal (story_of old))) (sym window) front))
+
+-- and shows its first byte, unless it is empty
+pub front_shows : (front seen : List ℕ) → AreAt 0 front seen → (length front ≡ 0 → length seen ≡ 0) → take 1 front ≡ take 1 seen
+front_shows [] [] are none = refl
+front_shows [] (y ∷ ys) are none = absurd (omega (arith, none refl))
+front_shows (x ∷ xs) seen are none = ap (take 1) are ∙ take-take 1 (length (x ∷ xs)) seen (omega arith)

@@ -1,7 +1,8 @@
 -- What is known of the numbers of a recovery by windows that asks for one.
-use Rattle.std.specs.Prelude.{◌≡◌, ℕ, List, [], ◌∷◌}
+use Rattle.std.specs.Prelude.{◌≡◌, ◌+◌, ◌-◌, min, ℕ, List, [], ◌∷◌}
 use Rattle.fit_disk.specs.State.{seen_in}
 use Rattle.fit_disk.specs.Story.{Story}
+use Rattle.fit_recorder.specs.Files.Limits.{header_length}
 use Rattle.fit_recorder.specs.Files.Settled.{IsSettled}
 use Rattle.fit_recorder.specs.Calls.FrozenRecovery.{ReadsOnIn}
 use Rattle.fit_recorder.specs.declared.recovery.frozen.FrozenRecovery.{FrozenRecovery}
@@ -20,3 +21,8 @@ IsAsking mark seal reading asked = (mark ≡ recovery_mark) × (seal ≡ recover
 -- in the first phase both files are at rest; in the second the recovery reads on over them
 abbrev pub ReadsBy : ℕ → FrozenRecovery → Story → Type 0
 ReadsBy phase reading story = (phase ≡ 1 → IsSettled (seen_in story.now) story) × ((phase ≡ 1 → ⊥) → ReadsOnIn reading story)
+
+-- which window is asked for: in the first phase the start of the journal, or all of it; in the second what follows in the body
+pub record IsPlaced (reading : FrozenRecovery) (journal_size at file phase count : ℕ) : Type 0 where
+  pub finds : phase ≡ 1 → (file ≡ 1) × (at ≡ 0) × (count ≡ min 512 journal_size)
+  pub reads : (phase ≡ 1 → ⊥) → (file ≡ 0) × (at ≡ header_length + reading.at) × (count ≡ min 512 (reading.len - reading.at))

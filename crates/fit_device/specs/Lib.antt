@@ -9,5 +9,6 @@ pub mod State
 pub mod Steps
 pub mod Starts
 pub mod Recovering
+pub mod Lending
 pub mod Asking
 pub mod Windowed

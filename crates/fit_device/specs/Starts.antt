@@ -7,7 +7,6 @@ use Rattle.fit_device.specs.declared.handle.Handle.{Handle}
 use Rattle.fit_device.specs.declared.plan.DevicePlan.{DevicePlan}
 use Rattle.fit_device.specs.Handle.{story_of, IsRecorder, NeverFills, Stands}
 use Rattle.fit_device.specs.Planned.{Leads}
-use Rattle.fit_disk.specs.State.{seen_in}
 use Rattle.fit_disk.specs.Story.{seen_of}
 use Rattle.fit_disk.specs.declared.disk.Which.TheVariants.{Data}
 use Rattle.fit_recorder.specs.Calls.Answers.{StartAnswers}
@@ -17,8 +16,8 @@ use Rattle.fit_recorder.specs.declared.fault.RecFault.{RecFault}
 use Rattle.fit_recorder.specs.declared.fault.RecFault.TheVariants.{Device, NotEmpty}
 
 -- After 0 the start is committed, and the journal never fills. Else a rule refuses it, or the data file has bytes; the handle is none of a
--- recorder, and the plan changes nothing that reads of the files give. No call of the plan fails for want of room. Any part of it leaves
--- nothing recorded, or the start alone.
+-- recorder, the plan has no calls, and the files stay. No call of the plan fails for want of room. Any part of it leaves nothing recorded, or
+-- the start alone.
 pub record Starts (start : Start) (old new : Handle) (plan : DevicePlan) (code : ℕ) : Type 0 where
   pub planned : Leads plan (story_of old) (story_of new)
   pub no_device : code ≡ fault_code Device → ⊥
@@ -27,5 +26,5 @@ pub record Starts (start : Start) (old new : Handle) (plan : DevicePlan) (code :
   pub refused : (code ≡ 0 → ⊥) → (fault : RecFault) × (code ≡ code_of_fault fault) × StartAnswers start fault
   pub gone : (code ≡ 0 → ⊥) → IsRecorder new → ⊥
   pub not_empty : code ≡ fault_code NotEmpty → seen_of Data (story_of old) ≡ [] → ⊥
-  pub same : (code ≡ 0 → ⊥) → seen_in (story_of new).now ≡ seen_in (story_of old).now
+  pub same : (code ≡ 0 → ⊥) → (plan.count ≡ 0) × (story_of new ≡ story_of old)
   pub any_moment : InStart start (story_of old) (story_of new)

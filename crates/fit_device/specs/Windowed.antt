@@ -1,17 +1,15 @@
 -- A recovery, a reopening and an erasing by windows in the memory of C.
-use Rattle.std.specs.Prelude.{◌≡◌, ◌⊎◌, ◌+◌, ◌≤◌, min, length, ℕ, ◌==◌, false, if◌then◌else◌, List, [], take, Result, Ok, Err}
+use Rattle.std.specs.Prelude.{◌≡◌, ◌⊎◌, ◌+◌, ◌<◌, ◌≤◌, min, length, ℕ, List, [], Result, Ok, Err}
 use Rattle.fit_activity.specs.declared.activity.Summary.{Summary}
 use Rattle.fit_disk.specs.State.{BothLeft, seen_in}
 use Rattle.fit_disk.specs.Stored.{at_rest}
 use Rattle.fit_disk.specs.Story.{Story, Throughout, seen_of}
-use Rattle.fit_disk.specs.declared.disk.Which.{Which}
 use Rattle.fit_disk.specs.declared.disk.Which.TheVariants.{Data, Journal}
-use Rattle.fit_notes.specs.Noted.{which_of}
-use Rattle.fit_plan.specs.Part.{IsPartOf}
 use Rattle.fit_recorder.specs.Calls.Erasing.{LeftOrErased}
 use Rattle.fit_recorder.specs.Calls.FaultCode.{fault_code}
 use Rattle.fit_recorder.specs.Calls.Recovery.{RecoveryAnswers, Rebuilds}
 use Rattle.fit_recorder.specs.Calls.Resume.{IsRefusedFor}
+use Rattle.fit_recorder.specs.Files.Committed.{HasCounted}
 use Rattle.fit_recorder.specs.Files.Settled.{IsSettled}
 use Rattle.fit_recorder.specs.Calls.Ride.{MayGoOn, TakesUp}
 use Rattle.fit_recorder.specs.declared.fault.RecFault.{RecFault}
@@ -34,10 +32,6 @@ story_of h = h.notes.story
 abbrev pub asked_of : RecoveryHandle → List ℕ
 asked_of h = asked_numbers h.data_size h.journal_size h.at h.file h.phase h.count
 
--- the file that is asked for in a phase
-abbrev pub asked_file : ℕ → Which
-asked_file phase = if phase == 1 then Journal else Data
-
 -- it asks for a window
 abbrev pub IsRecovery : RecoveryHandle → Type 0
 IsRecovery h = IsAsking h.mark h.seal h.reading (asked_of h) × (h.filled ≤ 512)
@@ -46,26 +40,33 @@ IsRecovery h = IsAsking h.mark h.seal h.reading (asked_of h) × (h.filled ≤ 51
 abbrev pub AsksForJournal : RecoveryHandle → Type 0
 AsksForJournal h = IsRecovery h × (h.phase ≡ 1)
 
--- the window is a part of its file
-abbrev pub HasWindow : RecoveryHandle → Story → Type 0
-HasWindow h story = (h.filled ≤ 512) × IsPartOf (seen_of (which_of h.file) story) h.at (take h.filled h.window) false
-
 -- it asks for at most 512 bytes of the data file, which has them
 pub record AsksForBody (h : RecoveryHandle) : Type 0 where
   pub asks : IsRecovery h
+  pub reads : h.phase ≡ 1 → ⊥
   pub of_data : h.file ≡ 0
   pub few : h.count ≤ 512
   pub inside : h.at + h.count ≤ length (seen_of Data (story_of h))
+
+-- The next window. If the one of the body before it was filled, it begins at least 416 bytes later.
+pub record AsksOn (old new : RecoveryHandle) : Type 0 where
+  pub body : AsksForBody new
+  pub moves : (old.phase ≡ 1 → ⊥) → old.count ≤ old.filled → old.at + 416 ≤ new.at
+
+-- the window has less than the journal
+abbrev pub LacksJournal : RecoveryHandle → Type 0
+LacksJournal h = (h.phase ≡ 1) × (h.filled < length (seen_of Journal (story_of h)))
 
 -- A recovery is begun: both files are synced, and then it asks for the start of the journal, or all of it.
 pub record Begins (old new : RecoveryHandle) (plan : DevicePlan) (code : ℕ) : Type 0 where
   pub planned : Leads plan (story_of old) (story_of new)
   pub wanted : code ≡ wants
-  pub asks : IsRecovery new × (new.file ≡ 1) × (new.at ≡ 0) × (new.count ≡ min 512 (length (seen_of Journal (story_of new))))
+  pub asks : AsksForJournal new × (new.file ≡ 1) × (new.at ≡ 0) × (new.count ≡ min 512 (length (seen_of Journal (story_of new))))
   pub settled : IsSettled (seen_in (story_of old).now) (story_of new)
   pub any_moment : Throughout (BothLeft (story_of old).now) (story_of old) (story_of new)
 
--- The window of the journal was filled. It asks for the first of the body, or reports why there is none. Nothing is planned.
+-- The window of the journal was filled. It asks for the first of the body, or reports why there is none. Nothing is planned, and no call
+-- fails if the window has all of the journal.
 pub record Finds (old new : RecoveryHandle) (plan : DevicePlan) (code : ℕ) : Type 0 where
   pub planned : Leads plan (story_of old) (story_of new)
   pub same : story_of new ≡ story_of old
@@ -73,18 +74,20 @@ pub record Finds (old new : RecoveryHandle) (plan : DevicePlan) (code : ℕ) : T
   pub ended : (code ≡ wants → ⊥) → IsRecovery new → ⊥
   pub answers : (code ≡ wants) ⊎ ((fault : RecFault) × (code ≡ code_of_fault fault)
       × RecoveryAnswers (seen_in (story_of old).now) (story_of new) (Err fault))
+  pub device : code ≡ fault_code Device → LacksJournal old
 
--- A window was filled. It asks for the next, or it has ended, and answers as a recovery does. Nothing is planned unless it answers 0. No call
--- of a plan fails for want of room; a journal may be too long for its window.
+-- A window was filled. It asks for the next, or it has ended, and answers as a recovery does. Nothing is planned unless it answers 0, and then
+-- the body that was finished has the checksum that the journal states. 5 comes only where the window has less than the journal.
 pub record GoesOn (old new : RecoveryHandle) (plan : DevicePlan) (code : ℕ) : Type 0 where
   pub planned : Leads plan (story_of old) (story_of new)
   pub none : (IsRecovery old → ⊥) → (code ≡ no_recorder) × (new ≡ old)
-  pub asks : IsRecovery old → code ≡ wants → AsksForBody new
+  pub asks : IsRecovery old → code ≡ wants → AsksOn old new
   pub ended : (code ≡ wants → ⊥) → IsRecovery new → ⊥
   pub same : (code ≡ 0 → ⊥) → story_of new ≡ story_of old
   pub answers : IsRecovery old → (code ≡ wants) ⊎ ((answer : Result Summary RecFault) × (code ≡ code_of answer)
       × RecoveryAnswers (seen_in (story_of old).now) (story_of new) answer)
-  pub no_device : (old.phase ≡ 1 → ⊥) → code ≡ fault_code Device → ⊥
+  pub device : code ≡ fault_code Device → LacksJournal old
+  pub checked : code ≡ 0 → HasCounted (seen_of Journal (story_of old)) (seen_of Data (story_of new))
   pub any_moment : IsRecovery old → Rebuilds (seen_in (story_of old).now) (story_of old) (story_of new)
 
 -- the files after the plan
@@ -93,16 +96,17 @@ left_by plan old = carried_out plan (story_of old)
 
 -- A window was filled. It asks for the next, or it has ended: the recorder in the handle goes on with the list that the files stood for; or
 -- it answers why no ride can continue. Nothing is planned unless it answers 0, and only then another recorder takes the place of what the
--- handle held.
+-- handle held. 5 and the checksum are as above.
 pub record ReopensOn (old new : RecoveryHandle) (before after : Handle) (plan : DevicePlan) (code : ℕ) : Type 0 where
   pub planned : (code ≡ 0 → Leads plan (story_of old) (story_in after)) × ((code ≡ 0 → ⊥) → Leads plan (story_of old) (story_of new))
   pub none : (IsRecovery old → ⊥) → (code ≡ no_recorder) × (new ≡ old)
-  pub asks : IsRecovery old → code ≡ wants → AsksForBody new
+  pub asks : IsRecovery old → code ≡ wants → AsksOn old new
   pub ended : (code ≡ wants → ⊥) → IsRecovery new → ⊥
   pub same : (code ≡ 0 → ⊥) → (after ≡ before) × (story_of new ≡ story_of old)
   pub answers : IsRecovery old → (code ≡ wants) ⊎ (((code ≡ 0) × GoesOnWith (seen_in (story_of old).now) after)
       ⊎ ((fault : RecFault) × (code ≡ code_of_fault fault) × IsRefusedFor (seen_in (story_of old).now) fault))
-  pub no_device : (old.phase ≡ 1 → ⊥) → code ≡ fault_code Device → ⊥
+  pub device : code ≡ fault_code Device → LacksJournal old
+  pub checked : code ≡ 0 → HasCounted (seen_of Journal (story_of old)) (seen_of Data (story_in after))
   pub any_moment : IsRecovery old → Rebuilds (seen_in (story_of old).now) (story_of old) (left_by plan old)
 
 -- A ride was taken up over these files, the calls are in the plan, and no window is asked for.
@@ -111,6 +115,7 @@ pub record IsTakenUp (old new : RecoveryHandle) (plan : DevicePlan) (ride : Foun
   pub planned : Leads plan (story_of old) files.notes.story
   pub ended : IsRecovery new → ⊥
   pub taken : TakesUp (seen_in (story_of old).now) files.notes.story (Ok ride)
+  pub checked : HasCounted (seen_of Journal (story_of old)) (seen_of Data files.notes.story)
   pub any_moment : Rebuilds (seen_in (story_of old).now) (story_of old) files.notes.story
 
 -- The outcome of reading on in it: it is taken up, or a code that leaves any handle.
@@ -119,11 +124,13 @@ ReadsRide old new plan (Ok found) = IsTakenUp old new plan found.0 found.1
 ReadsRide old new plan (Err code) = (handle : Handle) → ReopensOn old new handle handle plan code
 
 -- The window of the journal was filled, and no other is asked for. After 0 the data file is empty. Any part of the plan leaves the files, or a
--- recording that is forgotten. After 5 the plan has no calls. What asks for no journal stays as it is, and nothing is planned.
+-- recording that is forgotten. 5 comes only for a window without a byte of a journal that has some. After it the plan has no calls. What asks
+-- for no journal stays as it is, and nothing is planned.
 pub record ErasesOn (old new : RecoveryHandle) (plan : DevicePlan) (code : ℕ) : Type 0 where
   pub well_formed : IsWellFormed plan (story_of old)
   pub none : (AsksForJournal old → ⊥) → (code ≡ no_recorder) × (new ≡ old)
   pub known : AsksForJournal old → ((code ≡ 0) ⊎ (code ≡ fault_code Device)) × (IsRecovery new → ⊥)
   pub ok : code ≡ 0 → (left_by plan old).now.data_file ≡ at_rest []
-  pub refused : (code ≡ 0 → ⊥) → plan.count ≡ 0
+  pub refused : (code ≡ 0 → ⊥) → (plan.count ≡ 0) × (left_by plan old ≡ story_of old)
+  pub device : code ≡ fault_code Device → (old.filled ≡ 0) × (0 < length (seen_of Journal (story_of old)))
   pub any_moment : AsksForJournal old → Throughout (LeftOrErased (story_of old).now) (story_of old) (left_by plan old)

@@ -8,7 +8,7 @@ use crate::files::Files;
 use crate::handle::Handle;
 use crate::plan::DevicePlan;
 use crate::windowed::{FINDS, RecoveryHandle};
-use fit_recorder::{FoundRide, RecFault, Recovery, erase, settle};
+use fit_recorder::{FoundRide, RecFault, Recovery, erase_known, settle};
 
 /// Begins a recovery, a reopening or an erasing: plans a sync of each file, and asks for the journal.
 #[unsafe(no_mangle)]
@@ -83,12 +83,15 @@ pub extern "C" fn fitrec_erase_on(recovery: &mut RecoveryHandle, plan: &mut Devi
         plan.clear();
         return NO_RECORDER;
     }
-    let journal_size = recovery.journal_size;
-    let files = recovery.take_files();
-    let mut disk = recovery.lend(files, journal_size);
-    match erase(&mut disk) {
+    if recovery.lacks_front() {
+        recovery.leave();
+        plan.clear();
+        return code_of_fault(&RecFault::Device);
+    }
+    let mut files = recovery.take_files();
+    match erase_known(&mut files, recovery.given()) {
         Ok(()) => {
-            plan.fill(&disk.plan);
+            plan.fill(&files);
             0
         }
         Err(fault) => {
@@ -109,9 +112,9 @@ fn find_body(handle: &mut RecoveryHandle, plan: &mut DevicePlan) -> u8
     let mut recovery = Recovery::idle();
     let journal_size = handle.journal_size;
     let files = handle.take_files();
-    let mut disk = handle.lend(files, journal_size);
-    let answer = recovery.begin(&mut disk);
-    let files = Files::after(&disk.plan, plan);
+    let mut journal = handle.lend(&files, journal_size);
+    let answer = recovery.begin(&mut journal);
+    let files = Files::after(&files, plan);
     match answer {
         Ok(()) => {
             handle.ask_for_body(files, journal_size, &recovery);
@@ -133,10 +136,9 @@ fn read_body(handle: &mut RecoveryHandle, plan: &mut DevicePlan) -> u8
 {
     let mut recovery = Recovery::idle();
     let journal_size = handle.journal_size;
-    let files = handle.take_reading(&mut recovery);
-    let mut disk = handle.lend(files, journal_size);
-    let answer = recovery.go_on(&mut disk);
-    let files = Files::after(&disk.plan, plan);
+    let mut files = handle.take_reading(&mut recovery);
+    let answer = recovery.go_on(&mut files, handle.given());
+    let files = Files::after(&files, plan);
     match answer {
         None => {
             handle.ask_for_body(files, journal_size, &recovery);
@@ -161,10 +163,9 @@ fn read_ride(handle: &mut RecoveryHandle, plan: &mut DevicePlan) -> Result<(Foun
 {
     let mut recovery = Recovery::idle();
     let journal_size = handle.journal_size;
-    let files = handle.take_reading(&mut recovery);
-    let mut disk = handle.lend(files, journal_size);
-    let answer = recovery.take_up_on(&mut disk);
-    let files = Files::after(&disk.plan, plan);
+    let mut files = handle.take_reading(&mut recovery);
+    let answer = recovery.take_up_on(&mut files, handle.given());
+    let files = Files::after(&files, plan);
     match answer {
         None => {
             handle.ask_for_body(files, journal_size, &recovery);

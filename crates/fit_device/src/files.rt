@@ -2,9 +2,11 @@
 
 ghost use Rattle.std.specs.Prelude.{◌≡◌, length};
 ghost use Rattle.fit_disk.specs.Calls.{IsSound};
+ghost use Rattle.fit_device.specs.Handle.{story_of};
 ghost use Rattle.fit_device.specs.Planned.{Leads};
 ghost use Rattle.fit_plan.specs.Plan.{story_in, since_in};
 
+use crate::handle::Handle;
 use crate::plan::DevicePlan;
 use fit_notes::Notes;
 use fit_plan::Plan;
@@ -19,6 +21,16 @@ pub struct Files {
 }
 
 impl Files {
+    // Those of a handle, once more.
+    pub(crate) fn of(handle: &Handle) -> Files
+        ensures { result.notes.story ≡ story_of handle.now }
+    {
+        Files {
+            size: handle.data_size,
+            notes: handle.notes.same(),
+        }
+    }
+
     // Puts the calls that are planned into the plan of C, and returns the files.
     // By reference: a plan is large, and each copy takes stack.
     pub(crate) fn after(files: &Plan, plan: &mut DevicePlan) -> Files

@@ -1,14 +1,30 @@
 // What comes after a power cut, over files that C lends: a recovery, a reopening and an erasing.
 
-ghost use Rattle.std.specs.Prelude.{◌≡◌};
+ghost use Rattle.std.specs.Prelude.{◌≡◌, ◌+◌, ◌-◌, ◌≤◌, min, length, Err, IfErr, IfOk, IsErrOf, OnOk};
+ghost use Rattle.fit_device.specs.Lending.{Begun, IsFound};
 ghost use Rattle.fit_device.specs.Recovering.{SoundFiles, AreLent, Recovers, Reopens, Erases};
+ghost use Rattle.fit_disk.specs.Calls.{IsSound};
+ghost use Rattle.fit_disk.specs.State.{seen_in};
+ghost use Rattle.fit_disk.specs.Story.{Story, seen_of};
+ghost use Rattle.fit_disk.specs.declared.disk.Which.TheVariants.{Data, Journal};
+ghost use Rattle.fit_plan.specs.Plan.{story_in, since_in, counts_in, room_in, whole_room, log_in};
+ghost use Rattle.fit_recorder.specs.Calls.Recovery.{InRecovery, RecoveryAnswers};
+ghost use Rattle.fit_recorder.specs.Calls.Ride.{MayGoOn, TakesUp};
+ghost use Rattle.fit_recorder.specs.Calls.Windows.{AreAt, place_of};
+ghost use Rattle.fit_recorder.specs.Files.Committed.{HasCounted};
+ghost use Rattle.fit_recorder.specs.declared.fault.RecFault.TheVariants as faults;
 
 use crate::answer::code_of_fault;
 use crate::files::Files;
 use crate::handle::Handle;
 use crate::plan::DevicePlan;
-use fit_plan::LentPlan;
-use fit_recorder::{erase, recover, take_up};
+use fit_activity::Summary;
+use fit_notes::Notes;
+use fit_plan::{LentJournal, Plan};
+use fit_recorder::{FoundRide, RecFault, Recovery, erase_known, settle};
+
+// How many bytes of a file are read at once.
+const WINDOW: usize = 512;
 
 /// Plans the calls that turn the data file into the finished file of everything that was committed. The two slices are the whole
 /// files. A recovery may be cut off anywhere and begun anew.
@@ -21,10 +37,10 @@ pub extern "C" fn fitrec_recover(
     ghost before: { SoundFiles }
     ensures { AreLent before data_bytes.now journal_bytes.now → Recovers before.story plan.new result }
 {
-    let mut files = LentPlan::over(data_bytes, journal_bytes);
-    match recover(&mut files) {
+    let mut files = lent(data_bytes, journal_bytes);
+    match recover(&mut files, data_bytes, journal_bytes) {
         Ok(_) => {
-            plan.fill(&files.plan);
+            plan.fill(&files);
             0
         }
         Err(fault) => {
@@ -47,10 +63,10 @@ pub extern "C" fn fitrec_reopen(
     ensures { AreLent before data_bytes.now journal_bytes.now
         → Reopens before.story handle.new plan.new result }
 {
-    let mut files = LentPlan::over(data_bytes, journal_bytes);
-    match take_up(&mut files) {
+    let mut files = lent(data_bytes, journal_bytes);
+    match take_up(&mut files, data_bytes, journal_bytes) {
         Ok(ride) => {
-            handle.put_ride(ride, Files::after(&files.plan, plan));
+            handle.put_ride(ride, Files::after(&files, plan));
             0
         }
         Err(fault) => {
@@ -67,10 +83,10 @@ pub extern "C" fn fitrec_erase(data_bytes: &[u8], journal_bytes: &[u8], plan: &m
     ghost before: { SoundFiles }
     ensures { AreLent before data_bytes.now journal_bytes.now → Erases before.story plan.new result }
 {
-    let mut files = LentPlan::over(data_bytes, journal_bytes);
-    match erase(&mut files) {
+    let mut files = lent(data_bytes, journal_bytes);
+    match erase_known(&mut files, journal_bytes) {
         Ok(()) => {
-            plan.fill(&files.plan);
+            plan.fill(&files);
             0
         }
         Err(fault) => {
@@ -78,4 +94,85 @@ pub extern "C" fn fitrec_erase(data_bytes: &[u8], journal_bytes: &[u8], plan: &m
             code_of_fault(&fault)
         }
     }
+}
+
+// No calls yet, over files of which reads give these bytes.
+fn lent(data_bytes: &[u8], _journal_bytes: &[u8]) -> Plan
+    ghost before: { Story }
+    requires sound { IsSound before.now }
+    requires lent { (seen_of Data before ≡ data_bytes.now) × (seen_of Journal before ≡ _journal_bytes.now) }
+    ensures story { story_in result ≡ before }
+    ensures begun { Begun result }
+{
+    Plan::over(data_bytes.len() as u64, Notes::over())
+}
+
+// As `recover` of fit_recorder does over these files.
+fn recover(files: &mut Plan, data_bytes: &[u8], journal_bytes: &[u8]) -> Result<Summary, RecFault>
+    requires begun { Begun files.old }
+    requires lent { (seen_of Data (story_in files.old) ≡ data_bytes.now)
+        × (seen_of Journal (story_in files.old) ≡ journal_bytes.now) }
+    ensures decides { RecoveryAnswers (seen_in (story_in files.old).now) (story_in files.new) result }
+    ensures checked { OnOk result
+        (HasCounted (seen_of Journal (story_in files.old)) (seen_of Data (story_in files.new))) }
+    ensures any_moment { InRecovery (story_in files.old) (story_in files.new) }
+    ensures memory { (log_in files.new).memory ≡ (log_in files.old).memory }
+    ensures no_device { IsErrOf result faults.Device → ⊥ }
+{
+    let mut recovery = Recovery::idle();
+    find(files, journal_bytes, &mut recovery)?;
+    loop {
+        if let Some(answer) = recovery.go_on(files, next_window(&recovery, data_bytes)) {
+            return answer;
+        }
+    }
+}
+
+// As `take_up` of fit_recorder does over these files.
+fn take_up(files: &mut Plan, data_bytes: &[u8], journal_bytes: &[u8]) -> Result<FoundRide, RecFault>
+    requires begun { Begun files.old }
+    requires lent { (seen_of Data (story_in files.old) ≡ data_bytes.now)
+        × (seen_of Journal (story_in files.old) ≡ journal_bytes.now) }
+    ensures taken { TakesUp (seen_in (story_in files.old).now) (story_in files.new) result }
+    ensures goes_on { IfOk result MayGoOn }
+    ensures checked { OnOk result
+        (HasCounted (seen_of Journal (story_in files.old)) (seen_of Data (story_in files.new))) }
+    ensures any_moment { InRecovery (story_in files.old) (story_in files.new) }
+    ensures memory { (log_in files.new).memory ≡ (log_in files.old).memory }
+    ensures no_device { IsErrOf result faults.Device → ⊥ }
+{
+    let mut recovery = Recovery::idle();
+    find(files, journal_bytes, &mut recovery)?;
+    loop {
+        if let Some(answer) = recovery.take_up_on(files, next_window(&recovery, data_bytes)) {
+            return answer;
+        }
+    }
+}
+
+// Syncs both files, and finds in the journal how much is committed.
+fn find(files: &mut Plan, journal_bytes: &[u8], recovery: &mut Recovery) -> Result<(), RecFault>
+    requires begun { Begun files.old }
+    requires lent { seen_of Journal (story_in files.old) ≡ journal_bytes.now }
+    ensures found { OnOk result (IsFound files.old files.new recovery.new) }
+    ensures refused { IfErr result (λ fault.
+        RecoveryAnswers (seen_in (story_in files.old).now) (story_in files.new) (Err fault)) }
+    ensures no_device { IsErrOf result faults.Device → ⊥ }
+    ensures any_moment { InRecovery (story_in files.old) (story_in files.new) }
+    ensures memory { (log_in files.new).memory ≡ (log_in files.old).memory }
+{
+    settle(files)?;
+    let mut journal = LentJournal::over(files.size, files.notes.same(), journal_bytes, true);
+    recovery.begin(&mut journal)
+}
+
+// What a recovery reads next of the data file.
+fn next_window<'a>(recovery: &Recovery, data_bytes: &'a [u8]) -> &'a [u8]
+    requires { place_of recovery.now + (recovery.now.reader.len - recovery.now.reader.at) ≤ length data_bytes.now }
+    ensures at { AreAt (place_of recovery.now) result.now data_bytes.now }
+    ensures long { length result.now ≡ min 512 (recovery.now.reader.len - recovery.now.reader.at) }
+{
+    let from = recovery.place() as usize;
+    let count = WINDOW.min(recovery.left() as usize);
+    &data_bytes[from..from + count]
 }

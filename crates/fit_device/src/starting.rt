@@ -41,6 +41,7 @@ pub extern "C" fn fitrec_start(
         serial,
         sport,
     };
+    let before = Files::of(handle);
     let mut recorder = Recorder::idle(handle.take_files());
     match recorder.begin(&start, true) {
         Ok(()) => {
@@ -48,7 +49,8 @@ pub extern "C" fn fitrec_start(
             0
         }
         Err(fault) => {
-            handle.put_files(Files::after(recorder.disk(), plan));
+            plan.clear(); // A sync may be planned by then.
+            handle.put_files(before);
             code_of_fault(&fault)
         }
     }

@@ -1,25 +1,24 @@
 // A recovery by windows in the memory of C.
 
-ghost use Rattle.std.specs.Prelude.{◌≡◌, ◌↔◌, ◌≤◌, ◌==◌, if◌then◌else◌, ℕ, false, length, take, IsTrue};
+ghost use Rattle.std.specs.Prelude.{◌≡◌, ◌↔◌, ◌-◌, ◌<◌, ◌≤◌, true, false, ◌==◌, if◌then◌else◌, min, length, take, IsTrue};
 ghost use Rattle.fit_disk.specs.Calls.{IsSound};
 ghost use Rattle.fit_disk.specs.Story.{seen_of};
 ghost use Rattle.fit_notes.specs.Noted.{which_of};
 ghost use Rattle.fit_disk.specs.State.{seen_in};
 ghost use Rattle.fit_recorder.specs.Files.Settled.{IsSettled};
 ghost use Rattle.fit_recorder.specs.Calls.FrozenRecovery.{ReadsOnIn};
-ghost use Rattle.fit_device.specs.Asking.{IsAsking, asked_numbers, ReadsBy};
-ghost use Rattle.fit_device.specs.Planned.{carried_out};
-ghost use Rattle.fit_plan.specs.Part.{IsPartOf};
+ghost use Rattle.fit_recorder.specs.Calls.Windows.{AreAt};
+ghost use Rattle.fit_device.specs.Asking.{IsAsking, IsPlaced, asked_numbers, ReadsBy};
 ghost use Rattle.fit_disk.specs.Counts.{no_calls};
-ghost use Rattle.fit_plan.specs.Plan.{story_in, since_in, counts_in, room_in, log_in, whole_room};
-ghost use Rattle.fit_plan.specs.Window.{window_story, window_since, window_log};
+ghost use Rattle.fit_disk.specs.declared.disk.Which.TheVariants.{Data, Journal};
+ghost use Rattle.fit_plan.specs.Lent.{IsLentWhole, story_in as lent_story};
+ghost use Rattle.fit_plan.specs.Plan.{story_in, since_in, counts_in, room_in, whole_room};
 
 use crate::believed::Believed;
 use crate::files::Files;
 use crate::seal::{ASKED, seal_of_recovery};
-use fit_disk::Which;
 use fit_notes::Notes;
-use fit_plan::{Plan, WindowPlan};
+use fit_plan::{LentJournal, Plan};
 use fit_recorder::{FrozenRecovery, Recovery};
 use std::mem;
 
@@ -56,7 +55,9 @@ pub struct RecoveryHandle {
     ghost sized: { data_size ≡ length notes.story.now.data_file.seen },
     ghost journal_sized: { journal_size ≡ length notes.story.now.journal_file.seen },
     ghost part: { IsAsking mark seal reading (asked_numbers data_size journal_size at file phase count) → filled ≤ 512
-        → IsPartOf (seen_of (which_of file) notes.story) at (take filled window) false },
+        → AreAt at (take filled window) (seen_of (which_of file) notes.story) },
+    ghost placed: { IsAsking mark seal reading (asked_numbers data_size journal_size at file phase count)
+        → IsPlaced reading journal_size at file phase count },
     ghost settled: { IsAsking mark seal reading (asked_numbers data_size journal_size at file phase count) → phase ≡ 1
         → IsSettled (seen_in notes.story.now) notes.story },
     ghost believed: { IsAsking mark seal reading (asked_numbers data_size journal_size at file phase count) → (phase ≡ 1 → ⊥)
@@ -64,8 +65,8 @@ pub struct RecoveryHandle {
 }
 
 impl RecoveryHandle {
-    ghost use Rattle.fit_device.specs.Windowed.{story_of, asked_of, asked_file, IsRecovery, AsksForBody, AsksForJournal, HasWindow};
-    ghost use Rattle.fit_recorder.specs.Calls.Windows.{CanReadOn, ReadsOn};
+    ghost use Rattle.fit_device.specs.Windowed.{story_of, asked_of, IsRecovery, AsksForBody, AsksForJournal};
+    ghost use Rattle.fit_recorder.specs.Calls.Windows.{CanReadOn, ReadsOn, place_of};
 
     // Whether it asks for a window.
     pub(crate) fn is_recovery(&self) -> bool
@@ -101,8 +102,7 @@ impl RecoveryHandle {
         ensures story { story_in result ≡ story_of self.old }
         ensures since { since_in result ≡ story_of self.old }
         ensures none { (counts_in result ≡ no_calls) × (room_in result ≡ whole_room) }
-        ensures window { (self.new.at ≡ self.old.at) × (self.new.file ≡ self.old.file)
-            × (self.new.filled ≡ self.old.filled) × (self.new.window ≡ self.old.window) }
+        ensures window { (self.new.filled ≡ self.old.filled) × (self.new.window ≡ self.old.window) }
         ensures reading { self.new.reading ≡ self.old.reading }
         ensures ended { IsRecovery self.new → ⊥ }
     {
@@ -120,11 +120,14 @@ impl RecoveryHandle {
         requires asks { IsRecovery self.old }
         requires reads { self.old.phase ≡ 1 → ⊥ }
         ensures reads { CanReadOn recovery.new × ReadsOn (story_in result) recovery.new }
+        ensures window { (self.new.filled ≡ self.old.filled) × (self.new.window ≡ self.old.window) }
+        ensures given { (self.old.filled ≤ 512) × AreAt (place_of recovery.new)
+            (take self.old.filled self.old.window) (seen_of Data (story_in result)) }
+        ensures placed { (self.old.at ≡ place_of recovery.new)
+            × (self.old.count ≡ min 512 (recovery.new.reader.len - recovery.new.reader.at)) }
         ensures story { story_in result ≡ story_of self.old }
         ensures since { since_in result ≡ story_of self.old }
         ensures none { (counts_in result ≡ no_calls) × (room_in result ≡ whole_room) }
-        ensures window { (self.new.at ≡ self.old.at) × (self.new.file ≡ self.old.file)
-            × (self.new.filled ≡ self.old.filled) × (self.new.window ≡ self.old.window) }
         ensures ended { IsRecovery self.new → ⊥ }
     {
         recovery.thaw(&self.reading); // There is one with these numbers, which carry their check code.
@@ -137,23 +140,40 @@ impl RecoveryHandle {
         files
     }
 
-    // These files, with the window of one of them.
-    pub(crate) fn lend(&self, files: Plan, journal_size: u64) -> WindowPlan<'_>
-        requires window { HasWindow self.now (story_in files) }
-        requires size { journal_size ≡ length (story_in files).now.journal_file.seen }
-        ensures story { window_story result ≡ story_in files }
-        ensures since { window_since result ≡ since_in files }
-        ensures log { window_log result ≡ log_in files }
+    // What C has filled of the window.
+    pub(crate) fn given(&self) -> &[u8]
+        requires { self.now.filled ≤ 512 }
+        ensures bytes { result.now ≡ take self.now.filled self.now.window }
+        ensures long { length result.now ≡ self.now.filled }
     {
-        let window = &self.window[..usize::from(self.filled)];
-        let is_journal = self.file != 0;
-        let which = if is_journal {
-            Which::Journal
-        } else {
-            Which::Data
-        };
-        let reaches_end = is_journal && self.at + window.len() as u64 == journal_size;
-        WindowPlan::over(files, which, self.at, window, reaches_end)
+        &self.window[..usize::from(self.filled)]
+    }
+
+    // Whether it has no byte of a file that is not empty, if it asks for the journal.
+    pub(crate) fn lacks_front(&self) -> bool
+        ensures yes { result ≡ true → (self.now.filled ≡ 0) × (0 < self.now.journal_size) }
+        ensures no { result ≡ false → self.now.filled ≡ 0 → self.now.journal_size ≡ 0 }
+    {
+        self.filled == 0 && self.journal_size > 0
+    }
+
+    // Asks for nothing.
+    pub(crate) fn leave(&mut self)
+        ensures { IsRecovery self.new → ⊥ }
+    {
+        self.mark = 0;
+    }
+
+    // The journal of these files, as far as the window has it.
+    pub(crate) fn lend(&self, files: &Plan, journal_size: u64) -> LentJournal<'_>
+        requires few { self.now.filled ≤ 512 }
+        requires front { AreAt 0 (take self.now.filled self.now.window) (seen_of Journal (story_in files.now)) }
+        requires size { journal_size ≡ length (seen_of Journal (story_in files.now)) }
+        ensures story { lent_story result ≡ story_in files.now }
+        ensures whole { self.now.filled ≡ journal_size → IsLentWhole result }
+    {
+        let is_whole = u64::from(self.filled) == journal_size;
+        LentJournal::over(files.size, files.notes.same(), self.given(), is_whole)
     }
 
     // Puts the two files into the handle, which asks for nothing.
@@ -173,6 +193,7 @@ impl RecoveryHandle {
         requires size { journal_size ≡ length files.notes.story.now.journal_file.seen }
         requires reads { CanReadOn recovery.now × ReadsOn files.notes.story recovery.now }
         ensures asks { AsksForBody self.new }
+        ensures at { self.new.at ≡ place_of recovery.now }
         ensures story { story_of self.new ≡ files.notes.story }
     {
         self.mark = 0;
@@ -185,10 +206,10 @@ impl RecoveryHandle {
     pub(crate) fn ask(&mut self, files: Files, journal_size: u64, phase: u8, at: u64, count: u16)
         requires size { journal_size ≡ length files.notes.story.now.journal_file.seen }
         requires reads { ReadsBy phase self.old.reading files.notes.story }
-        requires within { at ≤ length (seen_of (asked_file phase) files.notes.story) }
+        requires placed { IsPlaced self.old.reading journal_size at (if phase == 1 then 1 else 0) phase count }
         ensures asks { IsRecovery self.new }
         ensures window { (self.new.file ≡ (if phase == 1 then 1 else 0)) × (self.new.at ≡ at)
-            × (self.new.count ≡ count) }
+            × (self.new.count ≡ count) × (self.new.phase ≡ phase) }
         ensures story { story_of self.new ≡ files.notes.story }
     {
         self.mark = 0;

@@ -2,4 +2,4 @@ mod Planning
 mod Inside
 pub mod Room
 pub mod Prefix
-mod Windowed
+pub mod Lending

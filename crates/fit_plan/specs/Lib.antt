@@ -6,4 +6,3 @@ pub mod CutOff
 pub mod Plan
 pub mod Lent
 pub mod Part
-pub mod Window

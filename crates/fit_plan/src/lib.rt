@@ -5,17 +5,15 @@
 //! makes the next step (`Calls`). The plan is an honest disk: its story is that of the files after each planned call was carried
 //! out (`specs/Planned`). `laws` says what a host leaves that was cut off in between.
 //!
-//! It knows the length of the data file, and no content. So every read fails, and so does the length of the journal. A `LentPlan`
-//! also reads two files that lie in memory, until their first write or cut. A `WindowPlan` reads a window of one of them.
+//! It knows the length of the data file, and no content. So every read fails, and so does the length of the journal. A recovery reads
+//! the journal first, over a `LentJournal`, which plans nothing.
 #![tactic(auto)]
 
 mod calls;
+mod journal;
 pub mod laws;
-mod lent;
 mod plan;
-mod window;
 
 pub use calls::{Call, Calls, MOST_BYTES, MOST_CALLS};
-pub use lent::LentPlan;
+pub use journal::LentJournal;
 pub use plan::Plan;
-pub use window::WindowPlan;

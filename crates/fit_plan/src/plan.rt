@@ -22,13 +22,13 @@ const CUT: u8 = 2;
 const SYNC: u8 = 3;
 
 // The kinds of notes.
-const WRITTEN: u64 = 1;
+pub(crate) const WRITTEN: u64 = 1;
 
-const SHORTENED: u64 = 3;
+pub(crate) const SHORTENED: u64 = 3;
 
-const SYNCED: u64 = 4;
+pub(crate) const SYNCED: u64 = 4;
 
-const MARK: u64 = 5;
+pub(crate) const MARK: u64 = 5;
 
 /// Two files that are elsewhere, and the calls that a host is to carry out on them.
 #[derive(Drop)]
@@ -92,7 +92,7 @@ impl Plan {
 }
 
 // The number of a file.
-fn number(which: Which) -> u8
+pub(crate) fn number(which: Which) -> u8
     ensures { result ≡ number_of which }
 {
     match which {

@@ -37,6 +37,7 @@ mod uncommitted;
 
 pub use changed::{has_changed, has_counted_bytes, leave_changed};
 pub use erasing::erase;
+pub use erasing::known::erase_known;
 pub use fault::RecFault;
 pub use frozen::{FrozenDefinition, FrozenRecorder};
 pub use limits::CLOSING_ROOM;

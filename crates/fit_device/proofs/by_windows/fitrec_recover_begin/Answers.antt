@@ -33,7 +33,7 @@ returns-in-Ok c =
     record {
       planned = led c.args.recovery.now c.ask.new.self c.after-files.new.plan c.take_files-files.result c.settle-answer.new.disk old.since c.settle-answer.ensures.ran.ran.memory (asked.story ∙ left.story) left.planned;
       wanted = refl;
-      asks = (asked.asks, asked.window.0, asked.window.1, omega (arith, asked.window.2, c.min-count.ensures, size));
+      asks = ((asked.asks, asked.window.3), asked.window.0, asked.window.1, omega (arith, asked.window.2, c.min-count.ensures, size));
       settled = subst (IsSettled _) (sym (asked.story ∙ left.story)) (subst (λ (story : Story). IsSettled (seen_in story.now) (story_in c.settle-answer.new.disk)) old.story (c.in-Ok.ensures.settled refl));
       any_moment = run _ _ _ _ old.story (sym (asked.story ∙ left.story)) (c.settle-answer.ensures.any_moment refl);
     }

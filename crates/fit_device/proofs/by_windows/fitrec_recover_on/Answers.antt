@@ -16,6 +16,7 @@ returns-then-not-is_recovery c =
       ended = λ _. no;
       same = λ _. refl;
       answers = λ is. absurd (no is);
-      no_device = λ _ device. omega (arith, device);
+      device = λ device. absurd (omega (arith, device));
+      checked = λ zero. absurd (omega (arith, zero));
       any_moment = λ is. absurd (no is);
     }

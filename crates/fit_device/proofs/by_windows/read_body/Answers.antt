@@ -1,10 +1,16 @@
-use Rattle.std.proofs.Common.{◌≡◌, inl, inr, refl, sym, ap, ◌∙◌, subst, arith, Ok, Err}
+use Rattle.std.proofs.Common.{◌≡◌, inl, inr, refl, sym, ap, ◌∙◌, subst, arith, Result, Ok, Err}
+use Rattle.std.specs.Prelude.{OnOk}
+use Rattle.fit_activity.specs.declared.activity.Summary.{Summary}
+use Rattle.fit_disk.specs.Story.{seen_of}
+use Rattle.fit_disk.specs.declared.disk.Which.TheVariants.{Data, Journal}
+use Rattle.fit_recorder.specs.Files.Committed.{HasCounted}
+use Rattle.fit_recorder.specs.declared.fault.RecFault.{RecFault}
 use Rattle.fit_disk.specs.State.{seen_in}
 use Rattle.fit_recorder.specs.Calls.Counts.{closing_bytes, rebuilding_calls}
 use Rattle.fit_recorder.specs.Calls.Recovery.{RecoveryAnswers}
 use Rattle.fit_recorder.specs.declared.fault.RecFault.TheVariants.{Device}
-use Rattle.fit_plan.specs.Window.{window_story}
-use Rattle.fit_device.proofs.ByWindows.{led, answers_for, rebuilds_for, has_room, never_wants, refuses_quietly}
+use Rattle.fit_plan.specs.Plan.{story_in}
+use Rattle.fit_device.proofs.ByWindows.{led, answers_for, rebuilds_for, counted_for, moved, has_room, never_wants, never_zero, refuses_quietly}
 use Rattle.fit_device.proofs.Stepping.{not_device}
 use Rattle.fit_device.proofs.by_windows.read_body.Goals as goal
 
@@ -13,16 +19,18 @@ returns-in-None c =
     let old = c.take_reading-files.ensures in
     let asked = c.ask_for_body.ensures in
     let left = c.after-files.ensures in
-    let same = (asked.story ∙ left.story) ∙ (c.in-None.ensures.reads refl).0 ∙ c.lend-disk.ensures.story ∙ old.story in
+    let more = c.in-None.ensures.more in
+    let same = (asked.story ∙ left.story) ∙ ap story_in more.0 ∙ old.story in
     record {
-      planned = led c.args.handle.now c.ask_for_body.new.self c.after-files.new.plan c.lend-disk.result.plan c.go_on-answer.new.disk.plan (c.lend-disk.ensures.since ∙ old.since) c.go_on-answer.ensures.memory (asked.story ∙ left.story) left.planned;
+      planned = led c.args.handle.now c.ask_for_body.new.self c.after-files.new.plan c.take_reading-files.result c.go_on-answer.new.disk (old.since) c.go_on-answer.ensures.memory (asked.story ∙ left.story) left.planned;
       none = λ no. absurd (no c.requires.asks);
-      asks = λ _ _. asked.asks;
+      asks = λ _ _. record { body = asked.asks; moves = λ reads full. moved c.args.handle.now _ _ c.given.result.now _ more.1 (c.given.ensures.long ∙ old.window.0) old.placed asked.at full };
       ended = λ no. absurd (no refl);
       same = λ _. same;
       answers = λ _. inl refl;
-      no_device = λ _ device. omega (arith, device);
-      any_moment = λ _. rebuilds_for _ _ _ _ (c.lend-disk.ensures.story ∙ old.story) (sym (asked.story ∙ left.story)) (c.go_on-answer.ensures.any_moment refl);
+      device = λ device. absurd (omega (arith, device));
+      checked = λ zero. absurd (omega (arith, zero));
+      any_moment = λ _. rebuilds_for _ _ _ _ (old.story) (sym (asked.story ∙ left.story)) (c.go_on-answer.ensures.any_moment refl);
     }
 
 pub returns-in-Ok : goal.returns-in-Ok
@@ -30,16 +38,17 @@ returns-in-Ok c =
     let old = c.take_reading-files.ensures in
     let put = c.put_files.ensures in
     let left = c.after-files.ensures in
-    let decided = subst (RecoveryAnswers (seen_in (window_story c.lend-disk.result).now) (window_story c.go_on-answer.new.disk)) c.in-Ok.is (c.in-Some.ensures.decides refl) in
+    let decided = subst (RecoveryAnswers (seen_in (story_in c.take_reading-files.result).now) (story_in c.go_on-answer.new.disk)) c.in-Ok.is (c.in-Some.ensures.decides refl) in
     record {
-      planned = led c.args.handle.now c.put_files.new.self c.after-files.new.plan c.lend-disk.result.plan c.go_on-answer.new.disk.plan (c.lend-disk.ensures.since ∙ old.since) c.go_on-answer.ensures.memory (put.story ∙ left.story) left.planned;
+      planned = led c.args.handle.now c.put_files.new.self c.after-files.new.plan c.take_reading-files.result c.go_on-answer.new.disk (old.since) c.go_on-answer.ensures.memory (put.story ∙ left.story) left.planned;
       none = λ no. absurd (no c.requires.asks);
       asks = λ _ wants. absurd (omega (arith, wants));
       ended = λ _. put.ended;
       same = λ no. absurd (no refl);
-      answers = λ _. inr (Ok c.in-Ok.field-0, refl, answers_for (Ok c.in-Ok.field-0) _ _ _ _ (c.lend-disk.ensures.story ∙ old.story) (sym (put.story ∙ left.story)) decided);
-      no_device = λ _ device. omega (arith, device);
-      any_moment = λ _. rebuilds_for _ _ _ _ (c.lend-disk.ensures.story ∙ old.story) (sym (put.story ∙ left.story)) (c.go_on-answer.ensures.any_moment refl);
+      answers = λ _. inr (Ok c.in-Ok.field-0, refl, answers_for (Ok c.in-Ok.field-0) _ _ _ _ (old.story) (sym (put.story ∙ left.story)) decided);
+      device = λ device. absurd (omega (arith, device));
+      checked = λ _. counted_for _ _ _ _ old.story (sym (put.story ∙ left.story)) (subst (λ (answer : Result Summary RecFault). OnOk answer (HasCounted (seen_of Journal (story_in c.take_reading-files.result)) (seen_of Data (story_in c.go_on-answer.new.disk)))) c.in-Ok.is (c.in-Some.ensures.checked refl));
+      any_moment = λ _. rebuilds_for _ _ _ _ (old.story) (sym (put.story ∙ left.story)) (c.go_on-answer.ensures.any_moment refl);
     }
 
 pub returns-in-Err : goal.returns-in-Err
@@ -47,18 +56,19 @@ returns-in-Err c =
     let old = c.take_reading-files.ensures in
     let put = c.put_files.ensures in
     let left = c.after-files.ensures in
-    let room = has_room rebuilding_calls closing_bytes c.lend-disk.result c.take_reading-files.result c.lend-disk.ensures.log old.none.0 old.none.1 (omega arith) (omega arith) in
-    let decided = subst (RecoveryAnswers (seen_in (window_story c.lend-disk.result).now) (window_story c.go_on-answer.new.disk)) c.in-Err.is (c.in-Some.ensures.decides refl) in
-    let here = c.lend-disk.ensures.story ∙ old.story in
+    let room = has_room rebuilding_calls closing_bytes c.take_reading-files.result old.none.0 old.none.1 (omega arith) (omega arith) in
+    let decided = subst (RecoveryAnswers (seen_in (story_in c.take_reading-files.result).now) (story_in c.go_on-answer.new.disk)) c.in-Err.is (c.in-Some.ensures.decides refl) in
+    let here = old.story in
     let never : c.in-Err.fault ≡ Device → ⊥ = λ device. c.in-Some.ensures.no_device room (c.in-Err.is ∙ ap Err device) in
     let quiet = refuses_quietly c.in-Err.fault _ _ _ decided never (c.go_on-answer.ensures.any_moment refl) in
     record {
-      planned = led c.args.handle.now c.put_files.new.self c.after-files.new.plan c.lend-disk.result.plan c.go_on-answer.new.disk.plan (c.lend-disk.ensures.since ∙ old.since) c.go_on-answer.ensures.memory (put.story ∙ left.story) left.planned;
+      planned = led c.args.handle.now c.put_files.new.self c.after-files.new.plan c.take_reading-files.result c.go_on-answer.new.disk (old.since) c.go_on-answer.ensures.memory (put.story ∙ left.story) left.planned;
       none = λ no. absurd (no c.requires.asks);
       ended = λ _. put.ended;
       same = λ _. (put.story ∙ left.story) ∙ quiet ∙ here;
       asks = λ _ wants. absurd (never_wants c.in-Err.fault c.code_of_fault.result c.code_of_fault.ensures wants);
-      answers = λ _. inr (Err c.in-Err.fault, c.code_of_fault.ensures, answers_for (Err c.in-Err.fault) _ _ _ _ (c.lend-disk.ensures.story ∙ old.story) (sym (put.story ∙ left.story)) decided);
-      no_device = λ _. not_device c.in-Err.fault c.code_of_fault.result c.code_of_fault.ensures never;
-      any_moment = λ _. rebuilds_for _ _ _ _ (c.lend-disk.ensures.story ∙ old.story) (sym (put.story ∙ left.story)) (c.go_on-answer.ensures.any_moment refl);
+      answers = λ _. inr (Err c.in-Err.fault, c.code_of_fault.ensures, answers_for (Err c.in-Err.fault) _ _ _ _ (old.story) (sym (put.story ∙ left.story)) decided);
+      device = λ device. absurd (not_device c.in-Err.fault c.code_of_fault.result c.code_of_fault.ensures never device);
+      checked = λ zero. absurd (never_zero c.in-Err.fault c.code_of_fault.result c.code_of_fault.ensures zero);
+      any_moment = λ _. rebuilds_for _ _ _ _ (old.story) (sym (put.story ∙ left.story)) (c.go_on-answer.ensures.any_moment refl);
     }

@@ -1,14 +1,16 @@
 use Rattle.std.proofs.Common.{⊎_elim, ◌≡◌, inl, inr, refl, sym, ap, ◌∙◌, subst, arith, Result, Ok, Err}
-use Rattle.std.specs.Prelude.{Some}
-use Rattle.fit_plan.specs.Window.{window_story}
+use Rattle.std.specs.Prelude.{OnOk, Some}
+use Rattle.fit_disk.specs.declared.disk.Which.TheVariants.{Data, Journal}
+use Rattle.fit_recorder.specs.Files.Committed.{HasCounted}
+use Rattle.fit_plan.specs.Plan.{story_in}
 use Rattle.fit_recorder.specs.Calls.Recovery.{unchanged}
 use Rattle.fit_recorder.specs.Calls.Windows.{TakesUpOn, MayTakeUpOn}
 use Rattle.fit_recorder.specs.declared.fault.RecFault.{RecFault}
 use Rattle.fit_recorder.specs.declared.fault.RecFault.TheVariants.{Device}
 use Rattle.fit_recorder.specs.declared.resuming.FoundRide.{FoundRide}
-use Rattle.fit_device.proofs.ByWindows.{led, rebuilds_for, refused_for, taken_for, has_room, never_wants, never_zero}
+use Rattle.fit_device.proofs.ByWindows.{led, rebuilds_for, refused_for, taken_for, counted_for, moved, has_room, never_wants, never_zero}
 use Rattle.fit_disk.specs.State.{seen_in}
-use Rattle.fit_disk.specs.Story.{Story}
+use Rattle.fit_disk.specs.Story.{Story, seen_of}
 use Rattle.fit_recorder.specs.Calls.Ride.{TakesUp}
 use Rattle.fit_device.proofs.Leading.{leads_since}
 use Rattle.fit_device.specs.Windowed.{story_of}
@@ -20,16 +22,18 @@ returns-in-None c handle =
     let old = c.take_reading-files.ensures in
     let asked = c.ask_for_body.ensures in
     let left = c.after-files.ensures in
-    let same = (asked.story ∙ left.story) ∙ (c.in-None.ensures.decides refl).0 ∙ c.lend-disk.ensures.story ∙ old.story in
-    let planned = led c.args.handle.now c.ask_for_body.new.self c.after-files.new.plan c.lend-disk.result.plan c.take_up_on-answer.new.disk.plan (c.lend-disk.ensures.since ∙ old.since) c.take_up_on-answer.ensures.memory (asked.story ∙ left.story) left.planned in
+    let same = (asked.story ∙ left.story) ∙ (c.in-None.ensures.decides refl).0 ∙ old.story in
+    let more = c.in-None.ensures.more in
+    let planned = led c.args.handle.now c.ask_for_body.new.self c.after-files.new.plan c.take_reading-files.result c.take_up_on-answer.new.disk (old.since) c.take_up_on-answer.ensures.memory (asked.story ∙ left.story) left.planned in
     record {
       planned = (λ zero. absurd (omega (arith, zero)), λ _. planned);
       none = λ no. absurd (no c.requires.asks);
-      asks = λ _ _. asked.asks;
+      asks = λ _ _. record { body = asked.asks; moves = λ reads full. moved c.args.handle.now _ _ c.given.result.now _ more.1 (c.given.ensures.long ∙ old.window.0) old.placed asked.at full };
       ended = λ no. absurd (no refl);
       same = λ _. (refl, same);
       answers = λ _. inl refl;
-      no_device = λ _ device. omega (arith, device);
+      device = λ device. absurd (omega (arith, device));
+      checked = λ zero. absurd (omega (arith, zero));
       any_moment = λ _. unchanged (sym planned.ends ∙ same);
     }
 
@@ -37,13 +41,14 @@ pub returns-in-Ok : goal.returns-in-Ok
 returns-in-Ok c =
     let old = c.take_reading-files.ensures in
     let left = c.after-files.ensures in
-    let here = c.lend-disk.ensures.story ∙ old.story in
-    let did = subst (λ (answer : Result FoundRide RecFault). TakesUpOn (window_story c.lend-disk.result) (window_story c.take_up_on-answer.new.disk) c.take_up_on-answer.new.self (Some answer)) c.in-Ok.is (c.in-Some.ensures.decides refl) in
+    let here = old.story in
+    let did = subst (λ (answer : Result FoundRide RecFault). TakesUpOn (story_in c.take_reading-files.result) (story_in c.take_up_on-answer.new.disk) c.take_up_on-answer.new.self (Some answer)) c.in-Ok.is (c.in-Some.ensures.decides refl) in
     record {
       goes_on = subst (λ (answer : Result FoundRide RecFault). MayTakeUpOn c.take_up_on-answer.new.self (Some answer)) c.in-Ok.is c.in-Some.ensures.anywhere;
-      planned = leads_since c.after-files.new.plan c.lend-disk.result.plan c.take_up_on-answer.new.disk.plan _ _ _ (c.lend-disk.ensures.since ∙ old.since) c.take_up_on-answer.ensures.memory (sym left.story) left.planned;
+      planned = leads_since c.after-files.new.plan c.take_reading-files.result c.take_up_on-answer.new.disk _ _ _ (old.since) c.take_up_on-answer.ensures.memory (sym left.story) left.planned;
       ended = old.ended;
-      taken = subst (λ (story : Story). TakesUp (seen_in (story_of c.args.handle.now).now) story (Ok c.in-Ok.ride)) (sym left.story) (taken_for c.in-Ok.ride _ _ (window_story c.take_up_on-answer.new.disk) here did.0);
+      taken = subst (λ (story : Story). TakesUp (seen_in (story_of c.args.handle.now).now) story (Ok c.in-Ok.ride)) (sym left.story) (taken_for c.in-Ok.ride _ _ (story_in c.take_up_on-answer.new.disk) here did.0);
+      checked = counted_for _ _ _ _ here (sym left.story) (subst (λ (answer : Result FoundRide RecFault). OnOk answer (HasCounted (seen_of Journal (story_in c.take_reading-files.result)) (seen_of Data (story_in c.take_up_on-answer.new.disk)))) c.in-Ok.is (c.in-Some.ensures.checked refl));
       any_moment = rebuilds_for _ _ _ _ here (sym left.story) (c.take_up_on-answer.ensures.any_moment refl);
     }
 
@@ -52,13 +57,13 @@ returns-in-Err c handle =
     let old = c.take_reading-files.ensures in
     let put = c.put_files.ensures in
     let left = c.after-files.ensures in
-    let here = c.lend-disk.ensures.story ∙ old.story in
+    let here = old.story in
     let fault = c.in-Err.fault in
     let code = c.code_of_fault.ensures in
-    let room = has_room 2 0 c.lend-disk.result c.take_reading-files.result c.lend-disk.ensures.log old.none.0 old.none.1 (omega arith) (omega arith) in
+    let room = has_room 2 0 c.take_reading-files.result old.none.0 old.none.1 (omega arith) (omega arith) in
     let never : fault ≡ Device → ⊥ = λ device. c.in-Some.ensures.no_device room (c.in-Err.is ∙ ap Err device) in
-    let did = subst (λ (answer : Result FoundRide RecFault). TakesUpOn (window_story c.lend-disk.result) (window_story c.take_up_on-answer.new.disk) c.take_up_on-answer.new.self (Some answer)) c.in-Err.is (c.in-Some.ensures.decides refl) in
-    let planned = led c.args.handle.now c.put_files.new.self c.after-files.new.plan c.lend-disk.result.plan c.take_up_on-answer.new.disk.plan (c.lend-disk.ensures.since ∙ old.since) c.take_up_on-answer.ensures.memory (put.story ∙ left.story) left.planned in
+    let did = subst (λ (answer : Result FoundRide RecFault). TakesUpOn (story_in c.take_reading-files.result) (story_in c.take_up_on-answer.new.disk) c.take_up_on-answer.new.self (Some answer)) c.in-Err.is (c.in-Some.ensures.decides refl) in
+    let planned = led c.args.handle.now c.put_files.new.self c.after-files.new.plan c.take_reading-files.result c.take_up_on-answer.new.disk (old.since) c.take_up_on-answer.ensures.memory (put.story ∙ left.story) left.planned in
     record {
       planned = (λ zero. absurd (never_zero fault c.code_of_fault.result code zero), λ _. planned);
       none = λ no. absurd (no c.requires.asks);
@@ -66,6 +71,7 @@ returns-in-Err c handle =
       same = λ _. (refl, ⊎_elim (λ device. absurd (never device)) (λ same. (put.story ∙ left.story) ∙ same ∙ here) did.1);
       asks = λ _ wants. absurd (never_wants fault c.code_of_fault.result code wants);
       answers = λ _. inr (inr (fault, code, refused_for fault _ _ here did.0));
-      no_device = λ _. not_device fault c.code_of_fault.result code never;
+      device = λ device. absurd (not_device fault c.code_of_fault.result code never device);
+      checked = λ zero. absurd (never_zero fault c.code_of_fault.result code zero);
       any_moment = λ _. rebuilds_for _ _ _ _ here (sym (put.story ∙ left.story) ∙ planned.ends) (c.take_up_on-answer.ensures.any_moment refl);
     }

@@ -1,5 +1,5 @@
 use Rattle.fit_device.proofs.Lending.{chosen}
 use Rattle.fit_device.proofs.recovering.fitrec_erase.Given as goal
 
-abbrev pub ghost-over : goal.ghost-over
-ghost-over g a = chosen g.before a.data_bytes.now a.journal_bytes.now
+abbrev pub ghost-lent : goal.ghost-lent
+ghost-lent g a = chosen g.before a.data_bytes.now a._journal_bytes.now

@@ -1,45 +1,58 @@
-use Rattle.std.proofs.Common.{refl, sym, ap, ◌∙◌, subst, arith, Ok, Err}
+use Rattle.std.proofs.Common.{◌≡◌, ◌∙◌, refl, sym, ap, subst, arith, Ok, Err}
 use Rattle.fit_disk.specs.State.{seen_in}
-use Rattle.fit_disk.specs.Story.{Story}
-use Rattle.fit_plan.specs.Lent.{lent_story}
+use Rattle.fit_disk.specs.Story.{Story, seen_of}
+use Rattle.fit_disk.specs.declared.disk.Which.TheVariants.{Data, Journal}
+use Rattle.fit_plan.specs.Plan.{story_in}
 use Rattle.fit_recorder.specs.Calls.Recovery.{RecoveryAnswers}
-use Rattle.fit_device.proofs.ByWindows.{answers_for}
+use Rattle.fit_recorder.specs.declared.fault.RecFault.TheVariants.{Device}
+use Rattle.fit_device.proofs.ByWindows.{answers_for, counted_for, never_zero}
+use Rattle.fit_device.proofs.Stepping.{not_device}
 use Rattle.fit_device.specs.Planned.{carried_out}
 use Rattle.fit_device.proofs.Leading.{leads_since}
 use Rattle.fit_device.proofs.Lending.{chosen_sound, chosen_lent, chosen_is, in_recovery, no_recovery, refusal_for}
 use Rattle.fit_device.proofs.recovering.fitrec_recover.Goals as goal
 
-pub over-files-requires : goal.over-files-requires
-over-files-requires g c = (
+pub lent-files-requires : goal.lent-files-requires
+lent-files-requires g c = (
   chosen_sound g.before _ _ (λ i. omega (arith, c.type_inv.data_bytes i)) (λ i. omega (arith, c.type_inv.journal_bytes i)),
   chosen_lent g.before c.args.data_bytes.now c.args.journal_bytes.now,
 )
 
+pub recover-requires-clause-lent : goal.recover-requires-clause-lent
+recover-requires-clause-lent g c =
+    let same = c.lent-files.ensures.story in
+    let lent = chosen_lent g.before c.args.data_bytes.now c.args.journal_bytes.now in
+    (ap (λ (story : Story). seen_of Data story) same ∙ lent.0, ap (λ (story : Story). seen_of Journal story) same ∙ lent.1)
+
 pub returns-in-Ok : goal.returns-in-Ok
 returns-in-Ok g c lent =
-    let is = chosen_is g.before c.args.data_bytes.now c.args.journal_bytes.now lent in
-    let here = c.over-files.ensures.story ∙ is in
-    let decided = subst (RecoveryAnswers (seen_in (lent_story c.over-files.result).now) (lent_story c.recover.new.disk)) c.in-Ok.is (c.recover.ensures.decides refl) in
-    let leads = leads_since c.fill.new.self c.over-files.result.plan c.recover.new.disk.plan g.before.story _ _ (c.over-files.ensures.since ∙ is) c.recover.ensures.ran.memory refl c.fill.ensures in
+    let here = c.lent-files.ensures.story ∙ chosen_is g.before c.args.data_bytes.now c.args.journal_bytes.now lent in
+    let did = c.in-Ok.ensures in
+    let leads = leads_since c.fill.new.self c.lent-files.result c.recover.new.files g.before.story _ _ (c.lent-files.ensures.begun.since ∙ here) did.memory refl c.fill.ensures in
     record {
       well_formed = leads.well_formed;
       answer = Ok c.in-Ok.field-0;
       code_is = refl;
-      decides = answers_for (Ok c.in-Ok.field-0) _ _ _ _ here leads.ends decided;
+      decides = answers_for (Ok c.in-Ok.field-0) _ _ _ _ here leads.ends did.decides;
+      checked = λ _. counted_for _ _ _ _ here leads.ends did.checked;
       refused = λ no. absurd (no refl);
-      any_moment = in_recovery _ _ _ _ here leads.ends (c.recover.ensures.any_moment refl);
+      no_device = λ device. omega (arith, device);
+      any_moment = in_recovery _ _ _ _ here leads.ends did.any_moment;
     }
 
 pub returns-in-Err : goal.returns-in-Err
 returns-in-Err g c lent =
-    let is = chosen_is g.before c.args.data_bytes.now c.args.journal_bytes.now lent in
-    let decided = subst (RecoveryAnswers (seen_in (lent_story c.over-files.result).now) (lent_story c.recover.new.disk)) c.in-Err.is (c.recover.ensures.decides refl) in
+    let here = c.lent-files.ensures.story ∙ chosen_is g.before c.args.data_bytes.now c.args.journal_bytes.now lent in
     let leads = c.clear.ensures.leads g.before.story in
+    let fault = c.in-Err.fault in
+    let is = c.code_of_fault.ensures in
     record {
       well_formed = leads.well_formed;
-      answer = Err c.in-Err.fault;
-      code_is = c.code_of_fault.ensures;
-      decides = refusal_for c.in-Err.fault _ _ (lent_story c.recover.new.disk) (carried_out c.clear.new.self g.before.story) (ap (λ (story : Story). seen_in story.now) (c.over-files.ensures.story ∙ is)) decided;
-      refused = λ _. c.clear.ensures.none;
+      answer = Err fault;
+      code_is = is;
+      decides = refusal_for fault _ _ (story_in c.recover.new.files) (carried_out c.clear.new.self g.before.story) (ap (λ (story : Story). seen_in story.now) here) c.in-Err.ensures.decides;
+      checked = λ zero. absurd (never_zero fault c.code_of_fault.result is zero);
+      refused = λ _. (c.clear.ensures.none, sym leads.ends);
+      no_device = not_device fault c.code_of_fault.result is (λ (device : fault ≡ Device). c.recover.ensures.no_device (c.in-Err.is ∙ ap Err device));
       any_moment = no_recovery _ _ (sym leads.ends);
     }

@@ -1,11 +1,11 @@
-use Rattle.std.proofs.Common.{◌≡◌, ℕ, true, [], ◌∷◌, refl, sym, ap, ◌∙◌, subst, Err, arith}
+use Rattle.std.proofs.Common.{◌≡◌, ℕ, true, [], ◌∷◌, inl, refl, sym, ap, ◌∙◌, subst, Err, arith}
 use Rattle.fit_activity.specs.declared.recording.start.Start.{Start}
 use Rattle.fit_activity.specs.declared.recording.start.Sport.{Sport}
 use Rattle.fit_activity.specs.Rides.Recording.{Started}
-use Rattle.fit_disk.specs.State.{seen_in}
+use Rattle.fit_disk.proofs.Moments.{begins}
+use Rattle.fit_disk.specs.State.{BothLeft}
 use Rattle.fit_disk.specs.Story.{Story, seen_of}
 use Rattle.fit_disk.specs.declared.disk.Which.TheVariants.{Data}
-use Rattle.fit_notes.proofs.Numbers.{same_story}
 use Rattle.fit_journal.specs.Turn.{are_checked}
 use Rattle.fit_recorder.specs.Calls.Counts.{start_bytes, start_calls}
 use Rattle.fit_recorder.specs.Calls.Frozen.{state_in}
@@ -22,6 +22,7 @@ use Rattle.fit_device.specs.Answer.{code_of_fault}
 use Rattle.fit_device.proofs.Leading.{leads_for, leads_since}
 use Rattle.fit_journal.specs.Turn.{slots_left}
 use Rattle.fit_recorder.specs.Private.State.{RecorderState}
+use Rattle.fit_device.specs.Handle.{story_of}
 use Rattle.fit_device.specs.Starts.{Starts}
 use Rattle.fit_device.proofs.Stepping.{not_device, stands, on_ok}
 use Rattle.fit_device.proofs.starting.fitrec_start.Goals as goal
@@ -30,17 +31,9 @@ in_start : (start : Start) (old earlier new later : Story) → old ≡ earlier �
 in_start start old earlier new later olds news is =
     subst (λ (story : Story). InStart start earlier story) news (subst (λ (story : Story). InStart start story new) olds is)
 
--- a refused start gives the files back as they were read
-same_files : (start : Start) (fault : RecFault) (before after : Plan) → StartAnswers start fault → (fault ≡ Device → ⊥)
-    → HandsBack true story_in log_in before (after, fault) → seen_in (story_in after).now ≡ seen_in (story_in before).now
-same_files start NotEmpty before after is never back = (back.not_empty refl refl).1
-same_files start (Refused refusal) before after is never back = ap (λ (plan : Plan). seen_in (story_in plan).now) (back.same refusal refl)
-same_files start Device before after is never back = absurd (never refl)
-same_files start Full before after is never back = absurd is
-same_files start JournalFull before after is never back = absurd is
-same_files start Failed before after is never back = absurd is
-same_files start NothingRecorded before after is never back = absurd is
-same_files start Damaged before after is never back = absurd is
+-- a plan without calls leaves what could be left
+no_start : (start : Start) (old new : Story) → new ≡ old → InStart start old new
+no_start start old new same = record { found = old; before = begins (BothLeft old.now) old (λ contents left. left); after = inl same }
 
 -- only one has the number of a data file that is not empty
 is_not_empty : (fault : RecFault) (code : ℕ) → code ≡ code_of_fault fault → code ≡ fault_code NotEmpty → fault ≡ NotEmpty
@@ -83,26 +76,26 @@ pub returns-in-Err-clause-starts : goal.returns-in-Err-clause-starts
 returns-in-Err-clause-starts c = λ _.
     let old = c.args.handle.now in
     let new = c.put_files.new.self in
-    let plan = c.after.new.plan in
+    let plan = c.clear-in-Err.new.self in
     let start : Start = record { time = c.args.time; serial = c.args.serial; sport = c.in-Some.sport } in
     let did = c.in-Err.ensures in
     let code = c.code_of_fault.result in
     let here = ap story_in c.idle-recorder.ensures.disk ∙ c.take_files.ensures.story in
-    let left = c.put_files.ensures.story ∙ c.after.ensures.story ∙ ap story_in c.disk.ensures in
+    let same = c.put_files.ensures.story ∙ c.of-before.ensures in
     let fault = c.in-Err.fault in
     let is = c.code_of_fault.ensures in
     let never : fault ≡ Device → ⊥ =
     λ device. has_room start_calls start_bytes _ c.idle-recorder.result.files.disk c.begin.new.self.files.disk (ap counts_in c.idle-recorder.ensures.disk ∙ c.take_files.ensures.none.0) (ap room_in c.idle-recorder.ensures.disk ∙ c.take_files.ensures.none.1) (omega arith) (omega arith) did.ran.room (ap Err device) in
     let starts : Starts start old new plan code = record {
-      planned = leads_for plan _ _ _ _ (ap since_in c.disk.ensures ∙ same_story (since_in c.begin.new.self.files.disk) (since_in c.idle-recorder.result.files.disk) did.ran.ran.memory ∙ ap since_in c.idle-recorder.ensures.disk ∙ c.take_files.ensures.since) (sym (c.put_files.ensures.story ∙ c.after.ensures.story)) c.after.ensures.planned;
+      planned = leads_for plan _ _ _ _ refl (sym same) (c.clear-in-Err.ensures.leads (story_of old));
       no_device = not_device fault code is never;
       ok = λ zero. absurd (on_ok {P = ⊥} (Err fault) code is zero tt);
       was_empty = λ zero. absurd (on_ok {P = ⊥} (Err fault) code is zero tt);
       refused = λ _. (fault, is, did.answers);
       gone = λ _. c.put_files.ensures.none;
       not_empty = λ number empty. (did.handed_back.not_empty refl (is_not_empty fault code is number)).0 (ap (seen_of Data) here ∙ empty);
-      same = λ _. ap (λ (story : Story). seen_in story.now) left ∙ same_files start fault _ _ did.answers never did.handed_back ∙ ap (λ (story : Story). seen_in story.now) here;
-      any_moment = in_start start _ _ _ _ here (sym left) (did.any_moment refl);
+      same = λ _. (c.clear-in-Err.ensures.none, same);
+      any_moment = no_start start _ _ same;
     } in
     subst (λ (sport : Sport). Starts (record { time = c.args.time; serial = c.args.serial; sport = sport }) old new plan code) c.in-Some.ensures.some starts
 

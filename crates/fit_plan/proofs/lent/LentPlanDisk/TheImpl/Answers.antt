@@ -1,8 +1,0 @@
-use Rattle.std.proofs.Common.{refl}
-use Rattle.fit_plan.proofs.lent.LentPlanDisk.TheImpl.Goals as goal
-
-pub write-asks : goal.write-asks
-write-asks g c = c.requires refl
-
-pub cut-asks : goal.cut-asks
-cut-asks g c = c.requires refl
