@@ -29,6 +29,15 @@ decimal_six n lo hi =
     let c : n % 1000 ≡ n % 1000000 % 1000 = omega arith in
     rw (decimal_three n (omega arith) hi, decimal_three (n / 1000) (omega arith) (omega arith), append_assoc, a, b, c) refl
 
+abbrev six : ℕ → List ℕ
+six n = three (n / 1000) ++ three (n % 1000)
+
+pub decimal_twelve : (n : ℕ) → 1000000000000 ≤ n → n < 2 ^ 64 →
+    decimal n ≡ (decimal (n / 1000000000000) ++ six (n / 1000000 % 1000000)) ++ six (n % 1000000)
+decimal_twelve n lo hi =
+    let a : n / 1000000 / 1000000 ≡ n / 1000000000000 = omega arith in
+    rw (decimal_six n (omega arith) hi, decimal_six (n / 1000000) (omega arith) (omega arith), a) refl
+
 -- ---- the table
 
 table : DIGITS ≡ flat_map three (range_with_len 0 1000) ++ codes "000"

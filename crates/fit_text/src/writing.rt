@@ -1,17 +1,20 @@
 // Text on its way to a writer.
 
-ghost use Rattle.std.specs.Prelude.{◌≡◌, ◌+◌, ◌≤◌, [], ◌++◌, length, take, decimal, IfOk};
+ghost use Rattle.std.specs.Prelude.{◌≡◌, ◌+◌, ◌≤◌, [], ◌++◌, codes, length, take, decimal, IfOk};
 ghost use Rattle.std.specs.Fmt.{signed_decimal};
 ghost use Rattle.fit_text.specs.declared.writing.TheConstants.{SIZE, ROOM};
-ghost use Rattle.fit_text.specs.Members.{inner};
+ghost use Rattle.fit_text.specs.Json.{quoted};
+ghost use Rattle.fit_text.specs.Members.{separator, inner};
 ghost use Rattle.fit_text.specs.Pen.{Written, Puts, Adds, Took};
 
 mod decimal;
 mod label;
+mod member;
 
 use decimal::place_number;
 use fit_grammar::{WriteFailed, put};
 pub use label::{LABEL, Label};
+use member::place_member;
 use std::fmt;
 use std::io::Write;
 use std::marker::Model;
@@ -116,20 +119,20 @@ impl<'a, W: Write> Pen<'a, W> {
     {
         // A copy of a known length is one or two moves. The bytes after the label are overwritten later.
         let whole = label.bytes;
-        self.bytes[self.len..self.len + LABEL].copy_from_slice(&whole);
-        self.len += label.len;
+        let at = self.len;
+        self.bytes[at..at + LABEL].copy_from_slice(&whole[..LABEL]);
+        self.len = at + label.len;
     }
 
-    /// Adds a label without its first and its last byte. There is room for 31 bytes.
+    /// Adds the name in a label between quotation marks, after a comma if it is not the first, and a colon. There is room for 34 bytes.
     #[inline]
-    pub fn add_inner(&mut self, label: &Label)
-        requires { length self.old.waiting + 31 ≤ SIZE }
-        ensures label { Adds self.old self.new (inner label.now) }
-        ensures short { length (inner label.now) ≤ 30 }
+    pub fn add_member(&mut self, label: &Label, is_first: bool)
+        requires { length self.old.waiting + 34 ≤ SIZE }
+        ensures member { Adds self.old self.new
+            (separator is_first ++ (quoted (inner label.now) ++ codes ":")) }
+        ensures short { length self.new.waiting ≤ length self.old.waiting + 34 }
     {
-        // As in `add_label`.
-        self.bytes[self.len..self.len + (LABEL - 1)].copy_from_slice(&label.bytes[1..]);
-        self.len += label.len.saturating_sub(2);
+        self.len = place_member(&mut self.bytes, self.len, label, is_first);
     }
 
     /// Adds a number in decimal. There is room for 21 bytes.

@@ -1,6 +1,6 @@
 // Making the plain form of a file, item by item.
 
-ghost use Rattle.std.specs.Prelude.{◌≡◌, ◌<◌, ◌≤◌, ◌+◌, ◌^◌, ◌++◌, ℕ, [], Some, is_some, slice_set, true, false, IfSome, IfNone, OnOk, IfErr, length};
+ghost use Rattle.std.specs.Prelude.{◌≡◌, ◌<◌, ◌≤◌, ◌+◌, ◌^◌, ◌⊎◌, ◌∷◌, ◌++◌, ℕ, [], Some, is_some, slice_set, true, false, IfSome, IfNone, OnOk, IfErr, length};
 ghost use Rattle.fit_grammar.specs.Format.File.{IsFrame};
 ghost use Rattle.fit_grammar.specs.Format.Item.{Defines, item_size};
 ghost use Rattle.fit_grammar.specs.Format.Records.{in_force, data_size};
@@ -61,9 +61,26 @@ impl Plain {
             (plain_item self.old.timed (lent_item item.now)) ≡ false) }
     {
         match item {
-            FileItem::Definition(definition) => self.define(&definition.read(), false, 0),
+            FileItem::Definition(definition) => self.take_definition(definition),
             FileItem::Data(message, time) => self.take_data(message, *time),
         }
+    }
+
+    // Takes a definition. Not inlined, so no message pays for its room.
+    #[inline(never)]
+    fn take_definition(&mut self, definition: &DefinitionMessage<'_>) -> Result<(), PlainFaultKind>
+        requires { definition.now.local < 16 }
+        ensures file { OnOk result (self.new.file ≡ with_item self.old.file (Defines definition.now)) }
+        ensures timed { OnOk result
+            (self.new.timed ≡ slice_set self.old.timed definition.now.local false) }
+        ensures fits { OnOk result (is_too_long (data_size self.old.file.items)
+            (Defines definition.now ∷ []) ≡ false) }
+        ensures too_long { IfErr result (λ kind. kind ≡ PlainFaultKind.TooLong
+            → is_too_long (data_size self.old.file.items) (Defines definition.now ∷ []) ≡ true) }
+        ensures memory { IfErr result (λ kind. kind ≡ PlainFaultKind.Memory
+            → is_too_long (data_size self.old.file.items) (Defines definition.now ∷ []) ≡ false) }
+    {
+        self.define(&definition.read(), false, 0)
     }
 
     // Takes a data message, and writes out its time if it has one.
@@ -90,15 +107,44 @@ impl Plain {
         let timed = time.is_some();
         let size = plain_size(message, time);
         if self.timed[message.local as usize] != timed {
-            let Some(definition) = plain_definition_of(&message.definition, timed) else {
-                return Err(PlainFaultKind::TooLong);
-            };
-            self.define(&definition, timed, size)?;
+            self.define_plain(&message.definition, timed, size)?;
         } else if size > self.file.room() {
             return Err(PlainFaultKind::TooLong);
         }
         self.put(message, time)?;
         Ok(())
+    }
+
+    // Adds the definition of a plain form, if an item of `following` bytes still fits after it. Not inlined, as `take_definition`.
+    #[inline(never)]
+    fn define_plain(
+        &mut self,
+        definition: &DefinitionMessage<'_>,
+        timed: bool,
+        following: usize,
+    ) -> Result<(), PlainFaultKind>
+        requires local { definition.now.local < 16 }
+        requires small { following ≤ 130055 }
+        ensures file { OnOk result (self.new.file
+            ≡ with_item self.old.file (Defines (timed_definition timed definition.now))) }
+        ensures timed { OnOk result
+            (self.new.timed ≡ slice_set self.old.timed definition.now.local timed) }
+        ensures few { OnOk result (length (timed_definition timed definition.now).fields.items ≤ 255) }
+        ensures fits { OnOk result (data_size self.old.file.items
+            + item_size (Defines (timed_definition timed definition.now)) + following < 2 ^ 32) }
+        ensures too_long { IfErr result (λ kind. kind ≡ PlainFaultKind.TooLong
+            → (255 < length (timed_definition timed definition.now).fields.items)
+            ⊎ (2 ^ 32 ≤ data_size self.old.file.items
+            + item_size (Defines (timed_definition timed definition.now)) + following)) }
+        ensures memory { IfErr result (λ kind. kind ≡ PlainFaultKind.Memory
+            → (length (timed_definition timed definition.now).fields.items ≤ 255)
+            × (data_size self.old.file.items
+            + item_size (Defines (timed_definition timed definition.now)) + following < 2 ^ 32)) }
+    {
+        match plain_definition_of(definition, timed) {
+            Some(definition) => self.define(&definition, timed, following),
+            None => Err(PlainFaultKind::TooLong),
+        }
     }
 
     // Adds a definition, with field 253 in front or not, if an item of `following` bytes still fits after it.

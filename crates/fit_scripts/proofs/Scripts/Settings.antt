@@ -1,49 +1,172 @@
--- The values of rows with the number of one more setting, row by row: for `script/sample`.
-use Rattle.std.proofs.Common.{◌≡◌, ℕ, zero, suc, ◌<◌, ◌+◌, List, [], ◌∷◌, ◌++◌, length, take, Option, None, refl, sym, ap, ◌∙◌, arith, get_or, set}
-use Rattle.std.proofs.Math.Seq.{take-suc, take-suc-set, take-length}
-use Rattle.std.proofs.lemmas.List.{length-map, get_or-map}
-use Rattle.std.specs.Option.{option_or}
-use Rattle.fit_activity.specs.Rides.Table.{SourceRow, FieldRow, rows_of, row_in}
-use Rattle.fit_scripts.specs.Scripts.Sample.{with_setting, number_by, number_for}
+-- The row of a key, and what a setting with it changes: for `script/sample`.
+use Rattle.std.proofs.Common.{◌≡◌, ℕ, zero, suc, ◌<◌, ◌&&◌, ◌||◌, Bool, true, false, not, List, [], ◌∷◌, length, map, Option, None, Some, refl, sym, ap, ◌∙◌, arith, get_or, set, if◌then◌else◌}
+use Rattle.std.proofs.lemmas.Bool.{ltb-false, not-true, and_parts, and_from, and_left, and_right}
+use Rattle.std.proofs.lemmas.List.{get_or-map}
+use Rattle.std.proofs.lemmas.List.Sums.{prefix_len_passes}
+use Rattle.std.proofs.lemmas.Slice.Eq.{bytes_eq-Decides}
+use Rattle.std.specs.List.{list_any, list_all, position, position_or_len}
+use Rattle.std.specs.Option.{option_or, is_some}
+use Rattle.std.specs.Str.{bytes_eq}
+use Rattle.fit_activity.specs.declared.recording.table.TheConstants.{SAMPLE_FIELDS}
+use Rattle.fit_activity.specs.Rides.Table.{SourceRow, FieldRow, rows_of, row_in, sample_rows}
+use Rattle.fit_scripts.proofs.Scripts.Lines.{any_map}
+use Rattle.fit_scripts.specs.Scripts.Words.{number_as}
+use Rattle.fit_scripts.specs.declared.script.fault.ScriptFaultKind.{ScriptFaultKind}
+use Rattle.fit_scripts.specs.declared.script.fault.ScriptFaultKind.TheVariants.{UnknownKey, RepeatedKey, BadNumber}
+use Rattle.fit_scripts.specs.Scripts.Faults.{has_equals, is_key, setting_fault}
+use Rattle.fit_scripts.specs.Scripts.Sample.{key_in, value_in, is_setting, are_settings, is_new_setting, stands_in, stated, stated_by, has_no_repeat, has_number, with_setting, number_by}
 
-module _ (key word : List ℕ) where
-  abbrev set_by : List FieldRow → List (Option ℕ) → List (Option ℕ)
-  set_by rows values = with_setting rows values key word
+-- ---- keys
 
-  value-at : (rows : List FieldRow) (values : List (Option ℕ)) (i : ℕ) (d : FieldRow) (e v : Option ℕ) → i < length rows → i < length values
-      → get_or (set_by rows values) i e ≡ option_or (number_by (get_or rows i d) key word) (get_or values i v)
-  value-at [] values i d e v below within = absurd (omega (arith, below))
-  value-at (row ∷ rows) [] i d e v below within = absurd (omega (arith, within))
-  value-at (row ∷ rows) (value ∷ values) zero d e v below within = refl
-  value-at (row ∷ rows) (value ∷ values) (suc i) d e v below within = value-at rows values i d e v (omega (arith, below)) (omega (arith, within))
+left_false : (a b : Bool) → (a || b) ≡ false → a ≡ false
+left_false true b e = e
+left_false false b e = refl
 
-  length-set_by : (rows : List FieldRow) (values : List (Option ℕ)) → length values ≡ length rows → length (set_by rows values) ≡ length rows
-  length-set_by [] values same = refl
-  length-set_by (row ∷ rows) [] same = absurd (omega (arith, same))
-  length-set_by (row ∷ rows) (value ∷ values) same = ap suc (length-set_by rows values (omega (arith, same)))
+right_false : (a b : Bool) → (a || b) ≡ false → b ≡ false
+right_false true b e = absurd (cc e)
+right_false false b e = e
 
-  -- one more turn of the loop
-  pub set-more : (more : List (Option ℕ)) (rows : List SourceRow) (values : List (Option ℕ)) (i : ℕ) (d : SourceRow) (v n x : Option ℕ)
-      → n ≡ number_for (get_or rows i d).1 (get_or rows i d).3.now key word → x ≡ option_or n (get_or values i v)
-      → length values ≡ length rows → length more ≡ length rows → i < length rows
-      → take i more ≡ take i (set_by (rows_of rows) values) → take (i + 1) (set more i x) ≡ take (i + 1) (set_by (rows_of rows) values)
-  set-more more rows values i d v n x own is same long below before =
-      let wide = length-map rows row_in in
-      let all = length-set_by (rows_of rows) values (omega (arith, same, wide)) in
-      let next : i + 1 ≡ suc i = omega arith in
-      let row = get_or-map row_in rows i d (row_in d) below in
-      let there = value-at (rows_of rows) values i (row_in d) None v (omega (arith, wide, below)) (omega (arith, same, below)) in
-      let value = there ∙ ap (λ r. option_or (number_by r key word) (get_or values i v)) row ∙ sym (is ∙ ap (λ o. option_or o (get_or values i v)) own) in
-      ap (λ k. take k (set more i x)) next ∙ take-suc-set more i x (omega (arith, long, below)) ∙ ap (λ xs. xs ++ x ∷ []) before
-      ∙ ap (λ y. take i (set_by (rows_of rows) values) ++ y ∷ []) (sym value)
-      ∙ sym (ap (λ k. take k (set_by (rows_of rows) values)) next ∙ take-suc (set_by (rows_of rows) values) i None (omega (arith, all, wide, below)))
+-- rows of other keys keep their values, and have no number
+others_keep : (rows : List FieldRow) (values : List (Option ℕ)) (key word : List ℕ) → length values ≡ length rows →
+    list_any (bytes_eq key) (map (λ row. row.3) rows) ≡ false → with_setting rows values key word ≡ values
+others_keep [] [] key word same none = refl
+others_keep [] (value ∷ values) key word same none = absurd (omega (arith, same))
+others_keep (row ∷ rows) [] key word same none = absurd (omega (arith, same))
+others_keep (row ∷ rows) (value ∷ values) key word same none =
+    rw (left_false _ _ none, others_keep rows values key word (omega (arith, same)) (right_false _ _ none)) refl
 
-  pub set-all : (rows : List SourceRow) (values more : List (Option ℕ)) (n : ℕ)
-      → length values ≡ length rows → length more ≡ length rows → n ≡ length more
-      → take n more ≡ take n (set_by (rows_of rows) values) → more ≡ set_by (rows_of rows) values
-  set-all rows values more n same long whole done =
-      let wide = length-map rows row_in in
-      let all = length-set_by (rows_of rows) values (omega (arith, same, wide)) in
-      let there : n ≡ length (set_by (rows_of rows) values) = omega (arith, all, wide, long, whole) in
-      sym (ap (λ k. take k more) whole ∙ take-length more) ∙ done
-      ∙ ap (λ k. take k (set_by (rows_of rows) values)) there ∙ take-length (set_by (rows_of rows) values)
+others_none : (rows : List FieldRow) (key word : List ℕ) → list_any (bytes_eq key) (map (λ row. row.3) rows) ≡ false →
+    list_any (λ row. is_some (number_by row key word)) rows ≡ false
+others_none [] key word none = refl
+others_none (row ∷ rows) key word none = rw (left_false _ _ none) (others_none rows key word (right_false _ _ none))
+
+-- what the row of a key has to do with a setting
+pub record Holds (rows : List FieldRow) (values : List (Option ℕ)) (key word : List ℕ) (at : ℕ) (number : Option ℕ) : Type 0 where
+  pub set_so : with_setting rows values key word ≡ set values at (option_or number (get_or values at None))
+  pub has : list_any (λ row. is_some (number_by row key word)) rows ≡ is_some number
+  pub known : list_any (λ row. bytes_eq key row.3) rows ≡ true
+
+pub holds : (rows : List SourceRow) (values : List (Option ℕ)) (key word : List ℕ) (at : ℕ) (d : SourceRow) → length values ≡ length rows →
+    has_no_repeat (map (λ row. row.3) (rows_of rows)) ≡ true → at < length rows → bytes_eq key (get_or rows at d).3.now ≡ true →
+    ((k : ℕ) → k < at → bytes_eq key (get_or rows k d).3.now ≡ false) →
+    Holds (rows_of rows) values key word at (number_as (get_or rows at d).1 word)
+holds [] values key word at d same once within is before = absurd (omega (arith, within))
+holds (row ∷ rows) [] key word at d same once within is before = absurd (omega (arith, same))
+holds (row ∷ rows) (value ∷ values) key word zero d same once within is before =
+    let key_is : key ≡ row.3.now = (bytes_eq-Decides key row.3.now).0 is in
+    let none : list_any (bytes_eq key) (map (λ row. row.3) (rows_of rows)) ≡ false = rw key_is (not-true _ (and_parts _ _ once).0) in
+    record {
+      set_so = rw (is, others_keep (rows_of rows) values key word _ none) refl;
+      has = rw (is, others_none (rows_of rows) key word none) _;
+      known = rw is refl;
+    }
+holds (row ∷ rows) (value ∷ values) key word (suc at) d same once within is before =
+    let other : bytes_eq key row.3.now ≡ false = before 0 (omega arith) in
+    let rest = holds rows values key word at d (omega (arith, same)) (and_parts _ _ once).1 (omega (arith, within)) is (λ k below. before (suc k) (omega (arith, below))) in
+    record { set_so = rw (other, rest.set_so) refl; has = rw other rest.has; known = rw other rest.known }
+
+-- ---- a key that no row has
+
+none_found : (b : Bool) (n : ℕ) → (if b then Some n else None) ≡ None → b ≡ false
+none_found true n e = cc
+none_found false n e = refl
+
+none_in : {X : Type 0} (p : X → Bool) (xs : List X) (d : X) → ((k : ℕ) → k < length xs → p (get_or xs k d) ≡ false) → list_any p xs ≡ false
+none_in p [] d all = refl
+none_in p (x ∷ xs) d all = rw (all 0 (omega arith)) (none_in p xs d (λ k below. all (suc k) (omega (arith, below))))
+
+pub absent : {X : Type 0} (p : X → Bool) (xs : List X) (d : X) → position p xs ≡ None → list_any p xs ≡ false
+absent p xs d e =
+    let past = ltb-false _ _ (none_found _ (position_or_len p xs) e) in
+    none_in p xs d (λ k below. not-true _ (prefix_len_passes (λ x. not (p x)) xs k d (omega (arith, past, below))))
+
+-- ---- the settings before
+
+-- a setting whose key no row has is none
+pub no_setting : (key word : List ℕ) → is_key key ≡ false → list_any (λ row. is_some (number_by row key word)) sample_rows ≡ false
+no_setting key word none = others_none sample_rows key word (any_map (bytes_eq key) (λ row. row.3) sample_rows ∙ none)
+
+-- in settings, no word has a key that no row has
+pub unknown : (words : List (List ℕ)) (key : List ℕ) → list_all is_setting words ≡ true → is_key key ≡ false → stands_in key words ≡ false
+unknown [] key all none = refl
+unknown (word ∷ words) key all none =
+    let parts = and_parts _ _ all in
+    rw (unknown words key parts.1 none) (by (bytes_eq (key_in word) key) refl)
+    where
+      by : (b : Bool) → bytes_eq (key_in word) key ≡ b → (bytes_eq (key_in word) key || false) ≡ false
+      by false e = rw e refl
+      by true e =
+          let same : key_in word ≡ key = (bytes_eq-Decides (key_in word) key).0 e in
+          absurd (cc (sym (and_parts _ _ all).0 ∙ no_setting (key_in word) (value_in word) (rw same none)))
+
+some_or : (a b : Option ℕ) → is_some (option_or a b) ≡ (is_some b || is_some a)
+some_or None None = refl
+some_or None (Some n) = refl
+some_or (Some m) None = refl
+some_or (Some m) (Some n) = refl
+
+-- the row of a key: the first that has it
+pub record IsRowOf (key : List ℕ) (at : ℕ) (d : SourceRow) : Type 0 where
+  pub within : at < length SAMPLE_FIELDS
+  pub is : bytes_eq key (get_or SAMPLE_FIELDS at d).3.now ≡ true
+  pub before : (k : ℕ) → k < at → bytes_eq key (get_or SAMPLE_FIELDS k d).3.now ≡ false
+
+pub row_holds : (values : List (Option ℕ)) (key word : List ℕ) (at : ℕ) (d : SourceRow) → length values ≡ 11 → IsRowOf key at d →
+    Holds sample_rows values key word at (number_as (get_or SAMPLE_FIELDS at d).1 word)
+row_holds values key word at d same row = holds SAMPLE_FIELDS values key word at d same refl row.within row.is row.before
+
+-- a setting has a number for the row of a key if and only if that is its key
+own_number : (key : List ℕ) (at : ℕ) (d : SourceRow) (word : List ℕ) → IsRowOf key at d → is_setting word ≡ true →
+    is_some (number_by (row_in (get_or SAMPLE_FIELDS at d)) (key_in word) (value_in word)) ≡ bytes_eq (key_in word) key
+own_number key at d word row setting = by (bytes_eq (key_in word) key) refl
+    where
+      by : (b : Bool) → bytes_eq (key_in word) key ≡ b →
+          is_some (number_by (row_in (get_or SAMPLE_FIELDS at d)) (key_in word) (value_in word)) ≡ bytes_eq (key_in word) key
+      by true e =
+          let same : key_in word ≡ key = (bytes_eq-Decides (key_in word) key).0 e in
+          let found : IsRowOf (key_in word) at d = rw same row in
+          rw (e, found.is) (sym (row_holds (stated_by sample_rows []) (key_in word) (value_in word) at d refl found).has ∙ setting)
+      by false e =
+          let key_is : key ≡ (get_or SAMPLE_FIELDS at d).3.now = (bytes_eq-Decides key _).0 row.is in
+          let other : bytes_eq (key_in word) (get_or SAMPLE_FIELDS at d).3.now ≡ false = ap (bytes_eq (key_in word)) (sym key_is) ∙ e in
+          rw (other, e) refl
+
+stated_there : (key : List ℕ) (at : ℕ) (d : SourceRow) (words : List (List ℕ)) → IsRowOf key at d → list_all is_setting words ≡ true →
+    is_some (stated (number_by (row_in (get_or SAMPLE_FIELDS at d))) words) ≡ stands_in key words
+stated_there key at d [] row all = refl
+stated_there key at d (word ∷ words) row all =
+    some_or _ _ ∙ rw (own_number key at d word row (and_parts _ _ all).0, stated_there key at d words row (and_parts _ _ all).1) refl
+
+-- a row has a value if and only if one of the words has its key
+pub value_stands : (key : List ℕ) (at : ℕ) (d : SourceRow) (words : List (List ℕ)) → IsRowOf key at d → are_settings words ≡ true →
+    is_some (get_or (stated_by sample_rows words) at None) ≡ stands_in key words
+value_stands key at d words row are =
+    ap is_some (get_or-map (λ row. stated (number_by row) words) sample_rows at (row_in d) None row.within
+    ∙ ap (λ row. stated (number_by row) words) (get_or-map row_in SAMPLE_FIELDS at d (row_in d) row.within))
+    ∙ stated_there key at d words row (and_parts _ _ are).0
+
+-- ---- what is said of a setting, by its key
+
+module _ (words : List (List ℕ)) (setting key : List ℕ) (key_is : key ≡ key_in setting) (parts : has_equals setting ≡ true) where
+  pub unknown_key : are_settings words ≡ true → is_key key ≡ false → (is_new_setting words setting ≡ false) × (UnknownKey ≡ setting_fault words setting)
+  unknown_key are none =
+      let own : is_key (key_in setting) ≡ false = ap is_key (sym key_is) ∙ none in
+      (and_left _ _ (no_setting (key_in setting) (value_in setting) own), rw (parts, unknown words (key_in setting) (and_parts _ _ are).0 own, own) refl)
+
+  pub repeated_key : stands_in key words ≡ true → (is_new_setting words setting ≡ false) × (RepeatedKey ≡ setting_fault words setting)
+  repeated_key stands =
+      let own : stands_in (key_in setting) words ≡ true = ap (λ k. stands_in k words) (sym key_is) ∙ stands in
+      (and_right _ _ (ap not own), rw (parts, own) refl)
+
+  module _ (value : List ℕ) (value_is : value ≡ value_in setting) (new : stands_in key words ≡ false) where
+    pub bad_number : is_key key ≡ true → has_number key value ≡ false → (is_new_setting words setting ≡ false) × (BadNumber ≡ setting_fault words setting)
+    bad_number known none =
+        let own : stands_in (key_in setting) words ≡ false = ap (λ k. stands_in k words) (sym key_is) ∙ new in
+        let there : is_key (key_in setting) ≡ true = ap is_key (sym key_is) ∙ known in
+        let bad : is_setting setting ≡ false = ap (λ k. has_number k (value_in setting)) (sym key_is) ∙ ap (has_number key) (sym value_is) ∙ none in
+        (and_left _ _ bad, rw (parts, own, there) refl)
+
+    pub new_setting : has_number key value ≡ true → is_new_setting words setting ≡ true
+    new_setting has =
+        let own : stands_in (key_in setting) words ≡ false = ap (λ k. stands_in k words) (sym key_is) ∙ new in
+        and_from _ _ (ap (λ k. has_number k (value_in setting)) (sym key_is) ∙ ap (has_number key) (sym value_is) ∙ has) (ap not own)

@@ -1,19 +1,18 @@
 // The settings of a sample: the words after its time, such as `hr=100`.
 
-ghost use Rattle.std.specs.Prelude.{◌≡◌, ◌==◌, ◌≤◌, length, true, false, Some, None, [], map, if◌then◌else◌, IfOk, IfErr};
-ghost use Rattle.std.specs.List.{list_any, position, position_or_len};
+ghost use Rattle.std.specs.Prelude.{◌≡◌, ◌==◌, ◌<◌, ◌≤◌, ℕ, List, length, true, false, Some, None, [], map, if◌then◌else◌, IfOk, OnOk, IfErr, IfSome, slice_index_or};
+ghost use Rattle.std.specs.List.{position, position_or_len};
 ghost use Rattle.std.specs.Result.{result_ok};
 ghost use Rattle.std.specs.Str.{bytes_eq};
-ghost use Rattle.std.specs.Option.{is_some, option_or};
-ghost use Rattle.fit_activity.specs.Rides.Table.{sample_rows, rows_of, ValuesFit};
-ghost use Rattle.fit_scripts.specs.Scripts.Faults.{has_equals, value_fault, setting_fault, settings_fault};
-ghost use Rattle.fit_scripts.specs.Scripts.Sample.{key_in, value_in, has_number, is_new_setting, are_settings, sample_at, with_setting, number_for};
+ghost use Rattle.fit_activity.specs.Rides.Table.{SourceRow, sample_rows};
+ghost use Rattle.fit_scripts.specs.Scripts.Faults.{has_equals, setting_fault, settings_fault};
+ghost use Rattle.fit_scripts.specs.Scripts.Sample.{key_in, value_in, is_new_setting, are_settings, sample_at, stated_by, with_setting};
+ghost use Rattle.fit_scripts.specs.Scripts.Words.{number_as};
 ghost use Rattle.fit_scripts.specs.declared.script.fault.ScriptFaultKind.TheVariants as kinds;
 
 use crate::script::fault::ScriptFaultKind;
 use crate::script::number::number_as;
 use fit_activity::{FIELDS, FieldRow, SAMPLE_FIELDS, Sample};
-use fit_base::BaseType;
 
 /// The sample at a time, in seconds since 1989-12-31T00:00:00Z, with these settings.
 pub fn sample_at(time: u32, settings: &[&[u8]]) -> Result<Sample, ScriptFaultKind>
@@ -22,30 +21,39 @@ pub fn sample_at(time: u32, settings: &[&[u8]]) -> Result<Sample, ScriptFaultKin
     ensures fault { IfErr result (λ kind. kind ≡ settings_fault [] (map (λ word. word.now) settings.now)) }
 {
     let mut values = [None; FIELDS];
-    for (index, setting) in settings.iter().enumerate() {
-        values = with_next(values, &settings[..index], setting)?;
+    for setting in settings {
+        add_setting(&mut values, setting)?;
     }
     Ok(Sample::of_raw(time, values))
 }
 
-// These values, with the number of the setting after `earlier`.
-fn with_next(
-    values: [Option<u32>; FIELDS],
-    earlier: &[&[u8]],
+// Adds the number of a setting to those of the settings before it.
+fn add_setting(
+    values: &mut [Option<u32>; FIELDS],
     setting: &[u8],
-) -> Result<[Option<u32>; FIELDS], ScriptFaultKind>
-    requires { ValuesFit sample_rows values }
-    ensures value { result_ok result ≡ (if is_new_setting (map (λ word. word.now) earlier.now) setting.now
-        then Some (with_setting sample_rows values (key_in setting.now) (value_in setting.now)) else None) }
-    ensures fault { IfErr result
-        (λ kind. kind ≡ setting_fault (map (λ word. word.now) earlier.now) setting.now) }
-    ensures fit { IfOk result (λ more. ValuesFit sample_rows more) }
+) -> Result<(), ScriptFaultKind>
+    ensures new { (earlier : List (List ℕ)) → are_settings earlier ≡ true
+        → values.old ≡ stated_by sample_rows earlier
+        → OnOk result (is_new_setting earlier setting.now ≡ true) }
+    ensures fault { (earlier : List (List ℕ)) → are_settings earlier ≡ true
+        → values.old ≡ stated_by sample_rows earlier
+        → IfErr result (λ kind. (is_new_setting earlier setting.now ≡ false)
+        × (kind ≡ setting_fault earlier setting.now)) }
+    ensures value { OnOk result (values.new
+        ≡ with_setting sample_rows values.old (key_in setting.now) (value_in setting.now)) }
 {
     let (key, value) = cut(setting)?;
-    if stands_in(key, earlier) {
+    let Some(at) = row_of(&SAMPLE_FIELDS, key) else {
+        return Err(ScriptFaultKind::UnknownKey);
+    };
+    if values[at].is_some() {
         return Err(ScriptFaultKind::RepeatedKey);
     }
-    with_setting(values, key, value)
+    let Some(number) = number_at(&SAMPLE_FIELDS, at, value) else {
+        return Err(ScriptFaultKind::BadNumber);
+    };
+    values[at] = Some(number);
+    Ok(())
 }
 
 // The key of a setting and its value.
@@ -81,96 +89,18 @@ fn equals_at(setting: &[u8]) -> Option<usize>
     setting.iter().position(|byte| *byte == b'=')
 }
 
-// Whether one of these settings has this key.
-fn stands_in(key: &[u8], settings: &[&[u8]]) -> bool
-    ensures { result ≡ list_any (λ setting. bytes_eq (key_in setting.now) key.now) settings.now }
+// The place of the row with this key.
+fn row_of(rows: &[FieldRow], key: &[u8]) -> Option<usize>
+    ensures place { result ≡ position (λ row. bytes_eq key row.3.now) rows.now }
+    ensures within { IfSome result (λ at. at < length rows.now) }
 {
-    settings
-        .iter()
-        .any(|setting| &setting[..key_len(setting)] == key)
+    rows.iter().position(|row| key == row.3.as_bytes())
 }
 
-// These values, with the number of this key.
-fn with_setting(
-    values: [Option<u32>; FIELDS],
-    key: &[u8],
-    value: &[u8],
-) -> Result<[Option<u32>; FIELDS], ScriptFaultKind>
-    requires { ValuesFit sample_rows values }
-    ensures value { result_ok result
-        ≡ (if has_number key.now value.now
-        then Some (with_setting sample_rows values key.now value.now) else None) }
-    ensures fault { IfErr result (λ kind. kind ≡ value_fault key.now) }
-    ensures fit { IfOk result (λ more. ValuesFit sample_rows more) }
+// The number that a value states for the row at this place.
+fn number_at(rows: &[FieldRow], at: usize, value: &[u8]) -> Option<u32>
+    requires { at < length rows.now }
+    ensures { (none : SourceRow) → result ≡ number_as (slice_index_or rows.now at none).1 value.now }
 {
-    if !has_number(&SAMPLE_FIELDS, key, value) {
-        return Err(fault_of(key));
-    }
-    let mut more = [None; FIELDS];
-    set_all(&SAMPLE_FIELDS, &values, key, value, &mut more);
-    Ok(more)
-}
-
-// Whether one of the rows has this key, and the value is a number in its range.
-fn has_number(rows: &[FieldRow], key: &[u8], value: &[u8]) -> bool
-    ensures { result ≡ list_any (λ row. is_some (number_for row.1 row.3.now key.now value.now)) rows.now }
-{
-    rows.iter()
-        .any(|row| number_for(row.1, row.3, key, value).is_some())
-}
-
-// The fault of a setting with this key, if its value is no number of that key.
-fn fault_of(key: &[u8]) -> ScriptFaultKind
-    ensures { result ≡ value_fault key.now }
-{
-    if is_key(&SAMPLE_FIELDS, key) {
-        ScriptFaultKind::BadNumber
-    } else {
-        ScriptFaultKind::UnknownKey
-    }
-}
-
-// Whether one of the rows has this key.
-fn is_key(rows: &[FieldRow], key: &[u8]) -> bool
-    ensures { result ≡ list_any (λ row. bytes_eq key.now row.3.now) rows.now }
-{
-    rows.iter().any(|row| key == row.3.as_bytes())
-}
-
-// Sets `more` to the values of these rows, with the number of this key.
-fn set_all(
-    rows: &[FieldRow],
-    values: &[Option<u32>],
-    key: &[u8],
-    value: &[u8],
-    more: &mut [Option<u32>],
-)
-    requires rows { length rows.now ≡ length more.old }
-    requires values { length values.now ≡ length more.old }
-    ensures { more.new ≡ with_setting (rows_of rows.now) values.now key.now value.now }
-{
-    for at in 0..more.len() {
-        let (_, base, _, name) = rows[at];
-        more[at] = number_or(number_for(base, name, key, value), values[at]);
-    }
-}
-
-fn number_or(number: Option<u32>, other: Option<u32>) -> Option<u32>
-    ensures { result ≡ option_or number other }
-{
-    match number {
-        Some(number) => Some(number),
-        None => other,
-    }
-}
-
-// The number that the value states, if the key is this name.
-fn number_for(base: BaseType, name: &str, key: &[u8], value: &[u8]) -> Option<u32>
-    ensures { result ≡ number_for base name.now key.now value.now }
-{
-    if key == name.as_bytes() {
-        number_as(base, value)
-    } else {
-        None
-    }
+    number_as(rows[at].1, value)
 }

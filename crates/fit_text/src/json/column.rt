@@ -1,17 +1,15 @@
 // The fields of a message as members of a JSON object, by the columns of its plan.
 
-ghost use Rattle.std.specs.Prelude.{◌≡◌, ◌≤◌, ◌+◌, ◌++◌, codes, length, drop, sum_by, IfOk};
-ghost use Rattle.fit_text.specs.declared.writing.TheConstants.{SIZE};
-ghost use Rattle.fit_text.specs.Pen.{Puts, Adds};
-ghost use Rattle.fit_text.specs.Json.{quoted};
-ghost use Rattle.fit_text.specs.Plan.{IsKind, HaveKinds};
-ghost use Rattle.fit_text.specs.Members.{separator, inner, column_json, columns_json};
+ghost use Rattle.std.specs.Prelude.{◌≡◌, ◌≤◌, ◌++◌, length, drop, sum_by, IfOk};
+ghost use Rattle.fit_text.specs.Pen.{Puts};
+ghost use Rattle.fit_text.specs.Plan.{IsKind, HaveKinds, json_at};
+ghost use Rattle.fit_text.specs.Members.{separator, column_json, columns_json};
 
 use crate::form::whole::{add_signed, add_unsigned};
 use crate::json::field::put_shown;
 use crate::json::notation::AsJson;
 use crate::showing::plan::{Column, Kind};
-use crate::writing::{Label, Pen};
+use crate::writing::Pen;
 use fit_base::{Arch, FieldValue, number_of};
 use fit_grammar::WriteFailed;
 use std::io::Write;
@@ -64,7 +62,7 @@ pub fn put_column<W: Write>(
         (separator is_first ++ column_json dates.now arch column.now bytes.now) }
 {
     pen.room()?;
-    add_name(pen, &column.label, is_first);
+    pen.add_member(&column.label, is_first);
     match column.kind {
         Kind::Unsigned(invalid) => {
             add_unsigned::<AsJson, W>(pen, invalid, number_of(arch, bytes));
@@ -74,35 +72,24 @@ pub fn put_column<W: Write>(
             add_signed::<AsJson, W>(pen, invalid, number_of(arch, bytes));
             Ok(())
         }
-        Kind::Other => {
-            let value = FieldValue::new(column.base, arch, bytes);
-            put_shown(pen, dates, column.number, &value)
-        }
+        Kind::Other => put_other(pen, dates, arch, column, bytes),
     }
 }
 
-// The name in a label, and a colon. There is room for them.
-#[inline(always)]
-fn add_name<W: Write>(pen: &mut Pen<'_, W>, label: &Label, is_first: bool)
-    requires { length pen.old.waiting + 40 ≤ SIZE }
-    ensures name { Adds pen.old pen.new
-        (separator is_first ++ (quoted (inner label.now) ++ codes ":")) }
-    ensures short { length pen.new.waiting ≤ length pen.old.waiting + 34 }
+// A field that is no single whole number, or a date.
+// Not inlined, so no other column pays for its room.
+#[cold]
+#[inline(never)]
+fn put_other<W: Write>(
+    pen: &mut Pen<'_, W>,
+    dates: &[u8],
+    arch: Arch,
+    column: &Column,
+    bytes: &[u8],
+) -> Result<(), WriteFailed>
+    ensures { Puts pen.old pen.new result
+        (json_at dates.now column.now.number column.now.base arch bytes.now) }
 {
-    add_opening(pen, is_first);
-    pen.add_inner(label);
-    pen.add(b"\":");
-}
-
-// What is in front of a name: a comma if it is not the first, and a quotation mark.
-#[inline(always)]
-fn add_opening<W: Write>(pen: &mut Pen<'_, W>, is_first: bool)
-    requires { length pen.old.waiting + 2 ≤ SIZE }
-    ensures { Adds pen.old pen.new (separator is_first ++ codes "\"") }
-{
-    if is_first {
-        pen.add(b"\"");
-    } else {
-        pen.add(b",\"");
-    }
+    let value = FieldValue::new(column.base, arch, bytes);
+    put_shown(pen, dates, column.number, &value)
 }

@@ -82,7 +82,7 @@ fn put_message_name<W: Write>(pen: &mut Pen<'_, W>, global: u16) -> Result<(), W
 }
 
 // The time of a compressed timestamp, if there is one.
-#[inline(never)]
+#[inline]
 fn put_time<W: Write>(
     pen: &mut Pen<'_, W>,
     dates: &[u8],

@@ -2,7 +2,7 @@
 
 ghost use Rattle.std.specs.Prelude.{◌≡◌, ◌≤◌, length, drop, sum_by, IfOk};
 ghost use Rattle.fit_text.specs.Pen.{Puts};
-ghost use Rattle.fit_text.specs.Plan.{IsKind, HaveKinds, column_text, columns_text};
+ghost use Rattle.fit_text.specs.Plan.{IsKind, HaveKinds, column_text, columns_text, shown_at};
 
 use crate::form::whole::{add_signed, add_unsigned};
 use crate::showing::field::put_shown;
@@ -65,9 +65,24 @@ pub fn put_column<W: Write>(
             add_signed::<AsText, W>(pen, invalid, number_of(arch, bytes));
             Ok(())
         }
-        Kind::Other => {
-            let value = FieldValue::new(column.base, arch, bytes);
-            put_shown(pen, dates, column.number, &value)
-        }
+        Kind::Other => put_other(pen, dates, arch, column, bytes),
     }
+}
+
+// A field that is no single whole number, or a date.
+// Not inlined, so no other column pays for its room.
+#[cold]
+#[inline(never)]
+fn put_other<W: Write>(
+    pen: &mut Pen<'_, W>,
+    dates: &[u8],
+    arch: Arch,
+    column: &Column,
+    bytes: &[u8],
+) -> Result<(), WriteFailed>
+    ensures { Puts pen.old pen.new result
+        (shown_at dates.now column.now.number column.now.base arch bytes.now) }
+{
+    let value = FieldValue::new(column.base, arch, bytes);
+    put_shown(pen, dates, column.number, &value)
 }

@@ -41,7 +41,7 @@ pub fn put_message<W: Write>(
 }
 
 // The time of a compressed timestamp, if there is one.
-#[inline(never)]
+#[inline]
 fn put_time<W: Write>(
     pen: &mut Pen<'_, W>,
     dates: &[u8],

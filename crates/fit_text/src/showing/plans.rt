@@ -9,7 +9,7 @@ ghost use Rattle.fit_text.specs.Plan.{ArePlansFor, IsPlanAt};
 
 use crate::showing::plan::{COLUMNS, Column, Plan};
 use arrayvec::ArrayVec;
-use fit_grammar::{Definition, DefinitionMessage, DeveloperFieldDefinition};
+use fit_grammar::{DefinitionMessage, DeveloperFieldDefinition};
 
 /// For each of the sixteen local numbers the plan of its definition, or none. A plan is made when the first
 /// message of its definition is read.
@@ -49,6 +49,7 @@ impl Plans {
     }
 
     /// Makes the plan of a local number that has this definition, if there is none yet.
+    #[inline]
     pub fn settle(&mut self, local: u8, definition: &DefinitionMessage<'_>)
         requires { local < 16 }
         ensures utc { self.new.utc ≡ self.old.utc }
@@ -58,12 +59,14 @@ impl Plans {
             → ArePlansFor definition_for self.old → ArePlansFor definition_for self.new }
     {
         if self.slots[usize::from(local)].is_none() {
-            self.set(local, &definition.read());
+            self.set(local, definition);
         }
     }
 
     // Makes the plan of a local number that has this definition. If the rows have no room for it, all other plans are dropped.
-    fn set(&mut self, local: u8, definition: &Definition)
+    // Not inlined, so no message pays for the room of the definition.
+    #[inline(never)]
+    fn set(&mut self, local: u8, definition: &DefinitionMessage<'_>)
         requires { local < 16 }
         ensures utc { self.new.utc ≡ self.old.utc }
         ensures some { IsSome (slice_index_or self.new.slots local None) }
@@ -71,8 +74,9 @@ impl Plans {
             → definition_for local ≡ Some definition.now
             → ArePlansFor definition_for self.old → ArePlansFor definition_for self.new }
     {
+        let definition = definition.read();
         self.make_room(definition.fields.len(), definition.developer.len());
-        let plan = Plan::new(self.utc, definition, &mut self.columns, &mut self.developer);
+        let plan = Plan::new(self.utc, &definition, &mut self.columns, &mut self.developer);
         self.slots[usize::from(local)] = Some(plan);
     }
 

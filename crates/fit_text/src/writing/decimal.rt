@@ -1,6 +1,6 @@
 // Numbers in decimal, written three digits at a time from the front.
 
-ghost use Rattle.std.specs.Prelude.{◌≡◌, ℕ, ◌<◌, ◌≤◌, ◌+◌, ◌++◌, length, take, drop, decimal};
+ghost use Rattle.std.specs.Prelude.{◌≡◌, ℕ, ◌<◌, ◌≤◌, ◌+◌, ◌/◌, ◌%◌, ◌++◌, length, take, drop, decimal};
 ghost use Rattle.fit_text.specs.declared.writing.decimal.digits.TheConstants.{DIGITS};
 ghost use Rattle.fit_text.specs.Pen.{Places, three};
 
@@ -21,6 +21,7 @@ pub fn place_number(bytes: &mut [u8], at: usize, number: u64) -> usize
 }
 
 // A number of any length.
+#[inline(never)]
 fn place_long(bytes: &mut [u8], at: usize, number: u64) -> usize
     requires { at + 21 ≤ length bytes.old }
     ensures { Places bytes.old bytes.new at (decimal number) result }
@@ -28,10 +29,61 @@ fn place_long(bytes: &mut [u8], at: usize, number: u64) -> usize
     if number < 1_000_000 {
         return place_short(bytes, at, number as u32);
     }
-    let at = place_long(bytes, at, number / 1_000_000);
-    let six = (number % 1_000_000) as u32;
-    let at = place_three(bytes, at, six / 1000);
-    place_three(bytes, at, six % 1000)
+    if number < 1_000_000_000 {
+        return place_nine(bytes, at, number as u32);
+    }
+    place_longest(bytes, at, number)
+}
+
+// A number of ten digits and more.
+#[inline(never)]
+fn place_longest(bytes: &mut [u8], at: usize, number: u64) -> usize
+    requires long { 1000000000 ≤ number }
+    requires room { at + 21 ≤ length bytes.old }
+    ensures { Places bytes.old bytes.new at (decimal number) result }
+{
+    if number < 1_000_000_000_000 {
+        return place_twelve(bytes, at, number);
+    }
+    let at = place_twelve(bytes, at, number / 1_000_000_000_000);
+    let at = place_six(bytes, at, (number / 1_000_000 % 1_000_000) as u32);
+    place_six(bytes, at, (number % 1_000_000) as u32)
+}
+
+// A number of at most twelve digits.
+fn place_twelve(bytes: &mut [u8], at: usize, number: u64) -> usize
+    requires short { number < 1000000000000 }
+    requires room { at + 13 ≤ length bytes.old }
+    ensures { Places bytes.old bytes.new at (decimal number) result }
+{
+    if number < 1_000_000 {
+        return place_short(bytes, at, number as u32);
+    }
+    let at = place_short(bytes, at, (number / 1_000_000) as u32);
+    place_six(bytes, at, (number % 1_000_000) as u32)
+}
+
+// A number of seven to nine digits.
+#[inline]
+fn place_nine(bytes: &mut [u8], at: usize, number: u32) -> usize
+    requires long { 1000000 ≤ number }
+    requires short { number < 1000000000 }
+    requires room { at + 10 ≤ length bytes.old }
+    ensures { Places bytes.old bytes.new at (decimal number) result }
+{
+    let at = place_first(bytes, at, number / 1_000_000);
+    place_six(bytes, at, number % 1_000_000)
+}
+
+// Six digits.
+#[inline]
+fn place_six(bytes: &mut [u8], at: usize, number: u32) -> usize
+    requires short { number < 1000000 }
+    requires room { at + 7 ≤ length bytes.old }
+    ensures { Places bytes.old bytes.new at (three (number / 1000) ++ three (number % 1000)) result }
+{
+    let at = place_three(bytes, at, number / 1000);
+    place_three(bytes, at, number % 1000)
 }
 
 // A number of at most six digits.

@@ -11,7 +11,8 @@ pub const LABEL: usize = 32;
 /// A text of at most 32 bytes.
 #[derive(Drop)]
 pub struct Label {
-    pub(super) bytes: [u8; LABEL],
+    // One byte more, so that as many can be copied from the second one on.
+    pub(super) bytes: [u8; LABEL + 1],
     pub(super) len: usize,
 }
 
@@ -31,7 +32,7 @@ impl Label {
         ensures { result ≡ [] }
     {
         Label {
-            bytes: [0; LABEL],
+            bytes: [0; LABEL + 1],
             len: 0,
         }
     }

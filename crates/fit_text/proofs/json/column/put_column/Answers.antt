@@ -7,6 +7,4 @@ returns-in_err-room g c = puts_stop c.from_residual.ensures.0 c.in_err-room.ensu
 
 pub returns-in-Other : goal.returns-in-Other
 returns-in-Other g c =
-    puts_same
-    (puts_then (puts_more c.in_ok-room.ensures.puts c.add_name.ensures.name) (rw c.new-value.ensures at c.put_shown.ensures))
-    (column_parts c.args.is_first _ _)
+    puts_same (puts_then (puts_more c.in_ok-room.ensures.puts c.add_member.ensures.member) c.put_other.ensures) (column_parts c.args.is_first _ _)

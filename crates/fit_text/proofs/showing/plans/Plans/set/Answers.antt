@@ -1,7 +1,9 @@
+use Rattle.std.proofs.Common.{Some, sym, ap, ◌∙◌}
 use Rattle.fit_text.proofs.PlanLemmas.{plans_set}
 use Rattle.fit_text.proofs.showing.plans.Plans.set.Goals as goal
 
 pub returns-clause-plans : goal.returns-clause-plans
 returns-clause-plans c = λ definition_for found h.
-    plans_set definition_for c.args.local c.args.definition.now c.make_room.new.self c.new-plan.new.columns c.new-plan.new.developer c.new-plan.result
-    c.from.result _ _ c.from.ensures found c.new-plan.ensures.plan c.new-plan.ensures.after.1 c.new-plan.ensures.developer (c.make_room.ensures.plans definition_for h)
+    plans_set definition_for c.args.local c.read-definition.result c.make_room.new.self c.new-plan.new.columns c.new-plan.new.developer c.new-plan.result
+    c.from.result _ _ c.from.ensures (found ∙ ap Some (sym c.read-definition.ensures)) c.new-plan.ensures.plan c.new-plan.ensures.after.1 c.new-plan.ensures.developer
+    (c.make_room.ensures.plans definition_for h)
