@@ -91,13 +91,13 @@ static uint8_t recover_by_windows(struct pair *files) {
     it.data_size = files->of[0].len;
     it.journal_size = files->of[1].len;
     uint8_t answer = fitrec_recover_begin(&it, &plan);
-    while (answer == FITREC_WANTS) {
+    while (answer == FITREC_NEEDS_WINDOW) {
         carry_out_plan(files, &plan);
         const struct file *from = &files->of[it.file];
         size_t left = it.at < from->len ? from->len - it.at : 0;
         it.filled = left < it.count ? (uint16_t)left : it.count;
         memcpy(it.window, from->bytes + it.at, it.filled);
-        answer = fitrec_recover_on(&it, &plan);
+        answer = fitrec_recover_next(&it, &plan);
     }
     carry_out_plan(files, &plan);
     return answer;
@@ -210,11 +210,11 @@ static void record(struct ride *ride, uint32_t fields, int commits, int samples)
     for (int commit = 0; commit < commits; commit++) {
         for (int k = 0; k < samples; k++) {
             struct fitrec_sample sample = any_sample(time += 1 + chance(2), fields, &distance);
-            if (fitrec_hand_sample(&recorder, &sample, &plan))
+            if (fitrec_add_sample(&recorder, &sample, &plan))
                 fail("a sample was refused");
             take_plan(ride, &files, &plan);
         }
-        if (chance(4) == 0 && !fitrec_lap(&recorder, time, &plan))
+        if (chance(4) == 0 && !fitrec_add_lap(&recorder, time, &plan))
             take_plan(ride, &files, &plan);
         if (fitrec_commit(&recorder, &plan))
             fail("a commit was refused");

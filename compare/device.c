@@ -220,7 +220,7 @@ static uint8_t hand_sample(uint32_t time, char *rest) {
         *value = 0;
         set_value(&sample, word, strtoll(value + 1, NULL, 10));
     }
-    return fitrec_hand_sample(&room.recorder, &sample, &room.plan);
+    return fitrec_add_sample(&room.recorder, &sample, &room.plan);
 }
 
 /* A step that reads both files where they lie. */
@@ -266,9 +266,9 @@ static void fill_window(void) {
 
 /* Gives the window to the call of a line. */
 static uint8_t go_on(const char *word) {
-    if (!strcmp(word, "recover")) return fitrec_recover_on(&room.recovery, &room.plan);
-    if (!strcmp(word, "reopen")) return fitrec_reopen_on(&room.recovery, &room.recorder, &room.plan);
-    return fitrec_erase_on(&room.recovery, &room.plan);
+    if (!strcmp(word, "recover")) return fitrec_recover_next(&room.recovery, &room.plan);
+    if (!strcmp(word, "reopen")) return fitrec_reopen_next(&room.recovery, &room.recorder, &room.plan);
+    return fitrec_erase_next(&room.recovery, &room.plan);
 }
 
 /* A window of the data file that has too few bytes is asked for again. One of the journal is not tried: too few bytes would be its end. */
@@ -278,7 +278,7 @@ static void give_too_few(void) {
     before = *it;
     it->filled = (uint16_t)chance(it->filled);
     uint8_t answer = go_on(chance(2) ? "recover" : "reopen");
-    if (answer != FITREC_WANTS || it->file != before.file || it->at != before.at || it->count != before.count || room.plan.count)
+    if (answer != FITREC_NEEDS_WINDOW || it->file != before.file || it->at != before.at || it->count != before.count || room.plan.count)
         fail("a window with too few bytes was believed");
     fill_window();
 }
@@ -287,7 +287,7 @@ static void give_too_few(void) {
 static void erase_too_late(void) {
     static struct fitrec_recovery before;
     before = room.recovery;
-    if (fitrec_erase_on(&room.recovery, &room.plan) != FITREC_NO_RECORDER || memcmp(&before, &room.recovery, sizeof before) || room.plan.count)
+    if (fitrec_erase_next(&room.recovery, &room.plan) != FITREC_NO_RECORDER || memcmp(&before, &room.recovery, sizeof before) || room.plan.count)
         fail("an erasing took a window of the data file");
 }
 
@@ -297,7 +297,7 @@ static int turn_over(const char *word, uint8_t *answer) {
     static struct fitrec_recorder recorder;
     before = room.recovery, recorder = room.recorder;
     *answer = go_on(strcmp(word, "recover") ? "recover" : "reopen");
-    int is_taken = *answer == FITREC_WANTS;
+    int is_taken = *answer == FITREC_NEEDS_WINDOW;
     if (!is_taken)
         room.recovery = before, room.recorder = recorder;
     return is_taken;
@@ -337,7 +337,7 @@ static uint8_t step_by_windows(const char *word) {
     it->journal_size = in_flash ? in_area.journal_len : in_memory ? memory[1].len : (uint64_t)file_size(&files, FITREC_JOURNAL_FILE);
     uint8_t answer = fitrec_recover_begin(it, &room.plan);
     look_at_mark(it, sizeof *it, "fitw");
-    for (uint32_t most = 2; answer == FITREC_WANTS; most = 0) {
+    for (uint32_t most = 2; answer == FITREC_NEEDS_WINDOW; most = 0) {
         for (uint32_t k = 0; k < room.plan.count; k++)
             if (k >= most || room.plan.calls[k].kind != FITREC_SYNC)
                 fail("a call before the end of a recovery");
@@ -391,9 +391,9 @@ static uint8_t step(char *line, char word[16]) {
         return fitrec_start(recorder, (uint32_t)time, (uint32_t)serial, sport[0] == 'g' ? 0 : sport[0] == 'r' ? 1 : 2, &room.plan);
     }
     if (!strcmp(word, "sample")) return hand_sample((uint32_t)time, line + used);
-    if (!strcmp(word, "lap")) return fitrec_lap(recorder, (uint32_t)time, &room.plan);
-    if (!strcmp(word, "pause")) return fitrec_pause(recorder, (uint32_t)time, &room.plan);
-    if (!strcmp(word, "resume")) return fitrec_resume(recorder, (uint32_t)time, &room.plan);
+    if (!strcmp(word, "lap")) return fitrec_add_lap(recorder, (uint32_t)time, &room.plan);
+    if (!strcmp(word, "pause")) return fitrec_pause_timer(recorder, (uint32_t)time, &room.plan);
+    if (!strcmp(word, "resume")) return fitrec_resume_timer(recorder, (uint32_t)time, &room.plan);
     if (!strcmp(word, "commit")) return fitrec_commit(recorder, &room.plan);
     if (!strcmp(word, "stop")) return fitrec_stop(recorder, (uint32_t)time, &room.plan);
     fail("an unknown line");
@@ -495,8 +495,8 @@ static void refuse_random(void) {
             memcpy(bytes + 1496, "fitr", 4);
         struct fitrec_recorder before = room.recorder;
         struct fitrec_sample sample = FITREC_NO_VALUES(1000000000);
-        uint8_t answers[] = {fitrec_hand_sample(&room.recorder, &sample, &room.plan), fitrec_lap(&room.recorder, 1, &room.plan),
-                             fitrec_pause(&room.recorder, 1, &room.plan), fitrec_resume(&room.recorder, 1, &room.plan),
+        uint8_t answers[] = {fitrec_add_sample(&room.recorder, &sample, &room.plan), fitrec_add_lap(&room.recorder, 1, &room.plan),
+                             fitrec_pause_timer(&room.recorder, 1, &room.plan), fitrec_resume_timer(&room.recorder, 1, &room.plan),
                              fitrec_commit(&room.recorder, &room.plan), fitrec_stop(&room.recorder, 1, &room.plan)};
         for (size_t at = 0; at < sizeof answers; at++)
             if (answers[at] != FITREC_NO_RECORDER)

@@ -71,23 +71,23 @@ uint8_t fitrec_start(struct fitrec_recorder *recorder, uint32_t time, uint32_t s
     return end(recorder, plan, Z_fitrecZ_fitrec_start(&module, recorder_at(), time, serial, sport, plan_at()));
 }
 
-uint8_t fitrec_hand_sample(struct fitrec_recorder *recorder, const struct fitrec_sample *sample, struct fitrec_plan *plan) {
+uint8_t fitrec_add_sample(struct fitrec_recorder *recorder, const struct fitrec_sample *sample, struct fitrec_plan *plan) {
     begin(recorder);
     lend(sample_at(), sample, sizeof *sample);
     return end(recorder, plan, Z_fitrecZ_fitrec_hand_sample(&module, recorder_at(), sample_at(), plan_at()));
 }
 
-uint8_t fitrec_lap(struct fitrec_recorder *recorder, uint32_t time, struct fitrec_plan *plan) {
+uint8_t fitrec_add_lap(struct fitrec_recorder *recorder, uint32_t time, struct fitrec_plan *plan) {
     begin(recorder);
     return end(recorder, plan, Z_fitrecZ_fitrec_lap(&module, recorder_at(), time, plan_at()));
 }
 
-uint8_t fitrec_pause(struct fitrec_recorder *recorder, uint32_t time, struct fitrec_plan *plan) {
+uint8_t fitrec_pause_timer(struct fitrec_recorder *recorder, uint32_t time, struct fitrec_plan *plan) {
     begin(recorder);
     return end(recorder, plan, Z_fitrecZ_fitrec_pause(&module, recorder_at(), time, plan_at()));
 }
 
-uint8_t fitrec_resume(struct fitrec_recorder *recorder, uint32_t time, struct fitrec_plan *plan) {
+uint8_t fitrec_resume_timer(struct fitrec_recorder *recorder, uint32_t time, struct fitrec_plan *plan) {
     begin(recorder);
     return end(recorder, plan, Z_fitrecZ_fitrec_resume(&module, recorder_at(), time, plan_at()));
 }
@@ -114,11 +114,11 @@ uint8_t fitrec_recover_begin(struct fitrec_recovery *recovery, struct fitrec_pla
     return by_windows(Z_fitrecZ_fitrec_recover_begin, recovery, plan);
 }
 
-uint8_t fitrec_recover_on(struct fitrec_recovery *recovery, struct fitrec_plan *plan) {
+uint8_t fitrec_recover_next(struct fitrec_recovery *recovery, struct fitrec_plan *plan) {
     return by_windows(Z_fitrecZ_fitrec_recover_on, recovery, plan);
 }
 
-uint8_t fitrec_erase_on(struct fitrec_recovery *recovery, struct fitrec_plan *plan) {
+uint8_t fitrec_erase_next(struct fitrec_recovery *recovery, struct fitrec_plan *plan) {
     return by_windows(Z_fitrecZ_fitrec_erase_on, recovery, plan);
 }
 
@@ -126,7 +126,7 @@ static uint32_t reopen_on(Z_fitrec_instance_t *instance, u32 recovery, u32 plan)
     return Z_fitrecZ_fitrec_reopen_on(instance, recovery, recorder_at(), plan);
 }
 
-uint8_t fitrec_reopen_on(struct fitrec_recovery *recovery, struct fitrec_recorder *recorder, struct fitrec_plan *plan) {
+uint8_t fitrec_reopen_next(struct fitrec_recovery *recovery, struct fitrec_recorder *recorder, struct fitrec_plan *plan) {
     begin(recorder);
     return end(recorder, plan, by_windows(reopen_on, recovery, plan));
 }

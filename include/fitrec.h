@@ -327,17 +327,17 @@ enum {
 
 /* The answer of a call by windows that goes on: read count bytes of file from at on into window, say in filled how many there were, and
    make the next call. */
-#define FITREC_WANTS 13
+#define FITREC_NEEDS_WINDOW 13
 
 /* Begins a ride on an empty data file. time in seconds since 1989-12-31 00:00 UTC; serial of the device, or 0; sport 0 generic, 1 running,
    2 cycling. At most 11 calls; after them the start is committed. */
 uint8_t fitrec_start(struct fitrec_recorder *recorder, uint32_t time, uint32_t serial, uint8_t sport, struct fitrec_plan *plan);
 
 /* Hands an entry to the recorder. At most one call. A power cut loses the entry unless it is committed. */
-uint8_t fitrec_hand_sample(struct fitrec_recorder *recorder, const struct fitrec_sample *sample, struct fitrec_plan *plan);
-uint8_t fitrec_lap(struct fitrec_recorder *recorder, uint32_t time, struct fitrec_plan *plan);
-uint8_t fitrec_pause(struct fitrec_recorder *recorder, uint32_t time, struct fitrec_plan *plan);
-uint8_t fitrec_resume(struct fitrec_recorder *recorder, uint32_t time, struct fitrec_plan *plan);
+uint8_t fitrec_add_sample(struct fitrec_recorder *recorder, const struct fitrec_sample *sample, struct fitrec_plan *plan);
+uint8_t fitrec_add_lap(struct fitrec_recorder *recorder, uint32_t time, struct fitrec_plan *plan);
+uint8_t fitrec_pause_timer(struct fitrec_recorder *recorder, uint32_t time, struct fitrec_plan *plan);
+uint8_t fitrec_resume_timer(struct fitrec_recorder *recorder, uint32_t time, struct fitrec_plan *plan);
 
 /* Commits all entries so far. At most 8 calls; after them every recovery keeps these entries. */
 uint8_t fitrec_commit(struct fitrec_recorder *recorder, struct fitrec_plan *plan);
@@ -367,8 +367,8 @@ uint8_t fitrec_erase(const uint8_t *data, size_t data_size, const uint8_t *journ
    bytes at a time.
 
    The host sets the recovery to zeros, and data_size and journal_size to the lengths of the files. It calls fitrec_recover_begin, and then
-   again and again one of fitrec_recover_on, fitrec_reopen_on and fitrec_erase_on. After each call it carries out the plan, whole and in
-   order. As long as the answer is FITREC_WANTS, it then reads the window that is asked for, and calls on. Any other answer is the end, and
+   again and again one of fitrec_recover_next, fitrec_reopen_next and fitrec_erase_next. After each call it carries out the plan, whole and in
+   order. As long as the answer is FITREC_NEEDS_WINDOW, it then reads the window that is asked for, and calls on. Any other answer is the end, and
    that of fitrec_recover, fitrec_reopen or fitrec_erase. The host keeps these rules too:
 
    - The recovery stays as it is between two calls, but for window and filled.
@@ -382,17 +382,17 @@ uint8_t fitrec_erase(const uint8_t *data, size_t data_size, const uint8_t *journ
 /* Begins a recovery, a reopening or an erasing. 2 calls, which sync both files. */
 uint8_t fitrec_recover_begin(struct fitrec_recovery *recovery, struct fitrec_plan *plan);
 
-/* Goes on with the window, to a recovery. The plan is empty after FITREC_WANTS; at the end it finishes the data file, with at most 4 calls.
+/* Goes on with the window, to a recovery. The plan is empty after FITREC_NEEDS_WINDOW; at the end it finishes the data file, with at most 4 calls.
    Answers FITREC_NO_RECORDER, and changes nothing, if the recovery is none that was begun. */
-uint8_t fitrec_recover_on(struct fitrec_recovery *recovery, struct fitrec_plan *plan);
+uint8_t fitrec_recover_next(struct fitrec_recovery *recovery, struct fitrec_plan *plan);
 
 /* The same, to a reopening. Until the answer is FITREC_OK the recorder stays as it is. After that it continues the ride as it was committed,
    and the plan cuts off what comes after that, with at most 2 calls. */
-uint8_t fitrec_reopen_on(struct fitrec_recovery *recovery, struct fitrec_recorder *recorder, struct fitrec_plan *plan);
+uint8_t fitrec_reopen_next(struct fitrec_recovery *recovery, struct fitrec_recorder *recorder, struct fitrec_plan *plan);
 
 /* Ends an erasing, with the first window, which is of the journal. At most 6 calls. With a later window, or if the recovery is none that was
    begun, it answers FITREC_NO_RECORDER and changes nothing. */
-uint8_t fitrec_erase_on(struct fitrec_recovery *recovery, struct fitrec_plan *plan);
+uint8_t fitrec_erase_next(struct fitrec_recovery *recovery, struct fitrec_plan *plan);
 
 #ifdef __cplusplus
 }

@@ -24,7 +24,7 @@ int main(void) {
         for (uint32_t k = 0; k < SAMPLES; k++) {
             struct fitrec_sample sample = FITREC_NO_VALUES(1000000000 + k);
             sample.heart_rate = (uint8_t)(90 + k % 80);
-            if (fitrec_hand_sample(&recorder, &sample, &plan))
+            if (fitrec_add_sample(&recorder, &sample, &plan))
                 return 1;
         }
         double took = (now() - begun) / SAMPLES;

@@ -53,9 +53,9 @@ static uint8_t done(int number, const char *word, uint8_t answer) {
         if (status)
             fail("a call failed", status);
     }
-    if (answer && answer != FITREC_WANTS && answer != FITREC_NOTHING_RECORDED)
+    if (answer && answer != FITREC_NEEDS_WINDOW && answer != FITREC_NOTHING_RECORDED)
         fail(word, answer);
-    if (answer != FITREC_WANTS)
+    if (answer != FITREC_NEEDS_WINDOW)
         printf("%d %s: %s\n", number, word, answer ? "NothingRecorded" : "ok");
     return answer;
 }
@@ -67,7 +67,7 @@ static void ride(void) {
     for (uint32_t k = 1; k <= SAMPLES; k++) {
         struct fitrec_sample sample = FITREC_NO_VALUES(1000000000 + k);
         sample.heart_rate = (uint8_t)(60 + chance(99)), sample.power = (uint16_t)chance(700), sample.lat = (int32_t)(566012345 + 1000 * k);
-        done(number++, "sample", fitrec_hand_sample(&recorder, &sample, &plan));
+        done(number++, "sample", fitrec_add_sample(&recorder, &sample, &plan));
         if (k % EVERY == 0)
             done(number++, "commit", fitrec_commit(&recorder, &plan));
     }
@@ -78,12 +78,12 @@ static void recover(void) {
     memset(&recovery, 0, sizeof recovery);
     recovery.data_size = (uint64_t)fs_size(FITREC_DATA_FILE), recovery.journal_size = (uint64_t)fs_size(FITREC_JOURNAL_FILE);
     uint8_t answer = done(0, "recover", fitrec_recover_begin(&recovery, &plan));
-    while (answer == FITREC_WANTS) {
+    while (answer == FITREC_NEEDS_WINDOW) {
         int count = fs_read(recovery.file, recovery.at, recovery.window, recovery.count);
         if (count < 0)
             fail("a window cannot be read", count);
         recovery.filled = (uint16_t)count;
-        answer = done(0, "recover", fitrec_recover_on(&recovery, &plan));
+        answer = done(0, "recover", fitrec_recover_next(&recovery, &plan));
     }
 }
 

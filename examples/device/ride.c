@@ -35,15 +35,15 @@ static uint8_t done(uint8_t answer) {
 }
 
 static uint8_t recover_on(void) {
-    return fitrec_recover_on(&recovery, &plan);
+    return fitrec_recover_next(&recovery, &plan);
 }
 
 static uint8_t reopen_on(void) {
-    return fitrec_reopen_on(&recovery, &recorder, &plan);
+    return fitrec_reopen_next(&recovery, &recorder, &plan);
 }
 
 static uint8_t erase_on(void) {
-    return fitrec_erase_on(&recovery, &plan);
+    return fitrec_erase_next(&recovery, &plan);
 }
 
 /* Finishes, continues or erases the ride that the files hold, with a window of them at a time. */
@@ -52,7 +52,7 @@ static uint8_t by_windows(uint8_t (*on)(void)) {
     recovery.data_size = (uint64_t)file_size(&files, FITREC_DATA_FILE);
     recovery.journal_size = (uint64_t)file_size(&files, FITREC_JOURNAL_FILE);
     uint8_t answer = done(fitrec_recover_begin(&recovery, &plan));
-    while (answer == FITREC_WANTS) {
+    while (answer == FITREC_NEEDS_WINDOW) {
         if (read_window(&files, &recovery))
             give_up("a file cannot be read", answer);
         answer = done(on());
@@ -86,7 +86,7 @@ int main(int count, char **words) {
         struct fitrec_sample sample = FITREC_NO_VALUES(time);
         sample.heart_rate = (uint8_t)heart_rate;
         sample.distance = distance;
-        if ((answer = done(fitrec_hand_sample(&recorder, &sample, &plan))))
+        if ((answer = done(fitrec_add_sample(&recorder, &sample, &plan))))
             fprintf(stderr, "ride: a sample was not taken (%u)\n", answer);
         if (samples % EVERY == EVERY - 1 && done(fitrec_commit(&recorder, &plan)) == FITREC_OK)
             printf("committed %u\n", samples + 1);

@@ -15,7 +15,8 @@ pub fn samples_have_the_fields_of_the_profile()
 
 /// No two recordings have the same messages.
 pub fn messages_have_one_list()
-    ensures { (list other : List Recorded) → Allowed list → Allowed other → spoken list ≡ spoken other
+    ensures { (list other : List Recorded) → Allowed list → Allowed other
+        → spoken list ≡ spoken other
         → list ≡ other }
 {}
 

@@ -132,7 +132,8 @@ impl Totals {
 
     /// Adds an entry. Its `check` must have been Ok. A recording has fewer than 4,294,967,296 entries, including its start.
     pub fn add(&mut self, entry: &Entry)
-        requires { (list : List Recorded) × AreTotals self.old list × (refusal_of list entry.now ≡ None)
+        requires { (list : List Recorded) × AreTotals self.old list
+            × (refusal_of list entry.now ≡ None)
             × (length list < 2 ^ 32) }
         ensures { (list : List Recorded) → AreTotals self.old list
             → AreTotals self.new (list ++ Added entry.now ∷ []) }

@@ -34,12 +34,14 @@ row_of Uint64z = row 0x90 8 0x0000000000000000
 -- the type with this byte in a list of types
 abbrev pub base_type_in : List BaseType → ℕ → Option BaseType
 base_type_in [] code = None
-base_type_in (type ∷ types) code = if (row_of type).code == code then Some type else base_type_in types code
+base_type_in (type ∷ types) code =
+    if (row_of type).code == code then Some type else base_type_in types code
 
 -- the type with this base type byte, if one exists
 abbrev pub base_type : ℕ → Option BaseType
 base_type code =
-    base_type_in (Enum ∷ Sint8 ∷ Uint8 ∷ Sint16 ∷ Uint16 ∷ Sint32 ∷ Uint32 ∷ String ∷ Float32 ∷ Float64 ∷ Uint8z
+    base_type_in (Enum ∷ Sint8 ∷ Uint8 ∷ Sint16 ∷ Uint16 ∷ Sint32 ∷ Uint32 ∷ String ∷ Float32
+    ∷ Float64 ∷ Uint8z
     ∷ Uint16z ∷ Uint32z ∷ Byte ∷ Sint64 ∷ Uint64 ∷ Uint64z ∷ []) code
 
 -- whether values of the type have a sign
@@ -56,4 +58,5 @@ least_of type = if has_sign type then neg_ℤ (pos (2 ^ (8 * (row_of type).size 
 
 abbrev pub greatest_of : BaseType → ℤ
 greatest_of type =
-    if has_sign type then pos (2 ^ (8 * (row_of type).size - 1) - 1) else pos (2 ^ (8 * (row_of type).size) - 1)
+    if has_sign type
+    then pos (2 ^ (8 * (row_of type).size - 1) - 1) else pos (2 ^ (8 * (row_of type).size) - 1)

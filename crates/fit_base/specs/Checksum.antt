@@ -3,12 +3,14 @@ use Rattle.std.specs.Prelude.{ℕ, ◌/◌, ◌%◌, List, [], ◌∷◌, bit_xo
 
 -- the register after one bit
 abbrev pub bit_step : ℕ → ℕ → ℕ
-bit_step register bit = if bit_xor register bit % 2 == 1 then bit_xor (register / 2) 0xA001 else register / 2
+bit_step register bit =
+    if bit_xor register bit % 2 == 1 then bit_xor (register / 2) 0xA001 else register / 2
 
 -- the bits of a byte, low bit first
 abbrev pub bits_of : ℕ → List ℕ
 bits_of byte =
-    byte % 2 ∷ byte / 2 % 2 ∷ byte / 4 % 2 ∷ byte / 8 % 2 ∷ byte / 16 % 2 ∷ byte / 32 % 2 ∷ byte / 64 % 2 ∷ byte / 128 % 2 ∷ []
+    byte % 2 ∷ byte / 2 % 2 ∷ byte / 4 % 2 ∷ byte / 8 % 2 ∷ byte / 16 % 2 ∷ byte / 32 % 2
+    ∷ byte / 64 % 2 ∷ byte / 128 % 2 ∷ []
 
 -- the register after these bytes
 unfoldable pub crc_from : ℕ → List ℕ → ℕ

@@ -15,7 +15,8 @@ number Big bytes = low_first (reverse bytes)
 
 -- a number of this many bytes, read as two's complement
 abbrev pub twos_complement : ℕ → ℕ → ℤ
-twos_complement size n = if nat_lt n (2 ^ (8 * size - 1)) then pos n else pos n -ℤ pos (2 ^ (8 * size))
+twos_complement size n =
+    if nat_lt n (2 ^ (8 * size - 1)) then pos n else pos n -ℤ pos (2 ^ (8 * size))
 
 -- the number of this many bytes that encodes a value: a negative value in two's complement
 abbrev pub as_unsigned : ℕ → ℤ → ℕ

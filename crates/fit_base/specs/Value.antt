@@ -39,7 +39,8 @@ count_of field = if is_raw field then 0 else length field.bytes / value_size fie
 
 -- the number of the value at an index
 abbrev pub unsigned_at : Field → ℕ → ℕ
-unsigned_at field i = number field.arch (take (value_size field) (drop (i * value_size field) field.bytes))
+unsigned_at field i =
+    number field.arch (take (value_size field) (drop (i * value_size field) field.bytes))
 
 abbrev pub signed_at : Field → ℕ → ℤ
 signed_at field i = twos_complement (value_size field) (unsigned_at field i)
@@ -64,7 +65,8 @@ IsInvalidAt field i = IsInvalidBy (base_type field.base) field i
 -- the numbers of this many values of this size, one after another
 abbrev pub numbers : Arch → ℕ → ℕ → List ℕ → List ℕ
 numbers arch size zero bytes = []
-numbers arch size (suc count) bytes = number arch (take size bytes) ∷ numbers arch size count (drop size bytes)
+numbers arch size (suc count) bytes =
+    number arch (take size bytes) ∷ numbers arch size count (drop size bytes)
 
 -- the text of a field: the bytes before the first zero byte
 abbrev pub text_of : Field → List ℕ
@@ -80,4 +82,7 @@ pub data Values : Type 0 where
   Raw : List ℕ → Values
 
 abbrev pub values_of : Field → Values
-values_of field = if is_raw field then Raw field.bytes else Numbers (numbers field.arch (value_size field) (count_of field) field.bytes)
+values_of field =
+    if is_raw field
+    then Raw field.bytes
+    else Numbers (numbers field.arch (value_size field) (count_of field) field.bytes)

@@ -18,7 +18,8 @@ pub fn put(base: BaseType, arch: Arch, value: i128, out: &mut [u8])
     ensures number { number arch out.new ≡ as_unsigned (row_of base).size value }
     // The bytes read back as one value, which is this one.
     ensures one { count_of (field_of base arch out.new) ≡ 1 }
-    ensures unsigned { unsigned_at (field_of base arch out.new) 0 ≡ as_unsigned (row_of base).size value }
+    ensures unsigned { unsigned_at (field_of base arch out.new) 0
+        ≡ as_unsigned (row_of base).size value }
     ensures signed { IsTrue (has_sign base) → signed_at (field_of base arch out.new) 0 ≡ value }
 {
     put_number(arch, number_for(base.size(), value), out);

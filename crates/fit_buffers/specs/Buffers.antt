@@ -20,14 +20,22 @@ room_of Journal b = length b.journal_bytes.now
 
 -- which buffers these are, by the names of both borrows and their lengths
 abbrev pub memory_of : Buffers → List ℕ
-memory_of b = b.data_bytes.ghost_name ∷ b.journal_bytes.ghost_name ∷ room_of Data b ∷ room_of Journal b ∷ []
+memory_of b =
+    b.data_bytes.ghost_name ∷ b.journal_bytes.ghost_name ∷ room_of Data b ∷ room_of Journal b ∷ []
 
 -- nothing is scheduled to fail
 abbrev pub log_in : Buffers → Log
-log_in b = record { counts = counts_in b; schedule = unplanned no_calls; memory = memory_of b; room = no_room }
+log_in b =
+    record {
+      counts = counts_in b;
+      schedule = unplanned no_calls;
+      memory = memory_of b;
+      room = no_room;
+    }
 
 -- If the last call failed, it was a write for which there was no room, which counts as begun; or the counts are at their last value.
 abbrev pub FailsForRoom : Buffers → Type 0
 FailsForRoom b =
     (counts_in b).last_failed ≡ true → (counts_in b).calls < last_count
-    → (story_in b).now.data_file.greatest ≤ room_of Data b → room_of Journal b < (story_in b).now.journal_file.greatest
+    → (story_in b).now.data_file.greatest ≤ room_of Data b
+    → room_of Journal b < (story_in b).now.journal_file.greatest

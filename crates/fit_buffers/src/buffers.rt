@@ -5,7 +5,7 @@ ghost use Rattle.fit_disk.specs.Calls.{ReadsAt, Wrote, Shortened, Synced, IsSoun
 ghost use Rattle.fit_disk.specs.CallSchedule.{counts_of};
 ghost use Rattle.fit_disk.specs.Content.{over};
 ghost use Rattle.fit_disk.specs.Counts.{CountsCall, CountsRead, no_calls, with_call, with_failure, last_count};
-ghost use Rattle.fit_disk.specs.Runs.{Takes};
+ghost use Rattle.fit_disk.specs.Runs.{TakesRoom};
 ghost use Rattle.fit_disk.specs.Stored.{at_rest};
 ghost use Rattle.fit_disk.specs.Story.{seen_of};
 ghost use Rattle.fit_disk.specs.declared.disk.Which.TheVariants.{Data, Journal};
@@ -40,7 +40,8 @@ pub struct Buffers<'a, 'b> {
     pub ghost data_fits: { data_len ≤ length data_bytes.now },
     pub ghost journal_fits: { journal_len ≤ length journal_bytes.now },
     pub ghost in_data: { notes.story.now.data_file.seen ≡ take data_len data_bytes.now },
-    pub ghost in_journal: { notes.story.now.journal_file.seen ≡ take journal_len journal_bytes.now },
+    pub ghost in_journal: { notes.story.now.journal_file.seen
+        ≡ take journal_len journal_bytes.now },
     ghost sound: { IsSound notes.story.now },
     // Only a write without room fails, and it counts as begun.
     ghost room: { (counts_of counts).last_failed ≡ true → (counts_of counts).calls < last_count
@@ -60,7 +61,8 @@ impl<'a, 'b> Buffers<'a, 'b> {
     ) -> Buffers<'a, 'b>
         requires data_fits { data_len ≤ length data_bytes.old }
         requires journal_fits { journal_len ≤ length journal_bytes.old }
-        ensures data_rests { (story_in result).now.data_file ≡ at_rest (take data_len data_bytes.old) }
+        ensures data_rests { (story_in result).now.data_file
+            ≡ at_rest (take data_len data_bytes.old) }
         ensures journal_rests { (story_in result).now.journal_file
             ≡ at_rest (take journal_len journal_bytes.old) }
         ensures data_room { room_of Data result ≡ length data_bytes.old }
@@ -146,7 +148,8 @@ impl Disk for Buffers<'_, '_> {
         ensures counted { CountsCall result (counts_in self.old) (counts_in self.new) }
         ensures reads { (counts_in self.new).data_reads ≡ (counts_in self.old).data_reads }
         ensures memory { memory_of self.new ≡ memory_of self.old }
-        ensures room { Takes 1 0 (IsErr result × (which ≡ Data)) (log_in self.old) (log_in self.new) }
+        ensures room { TakesRoom 1 0 (IsErr result
+            × (which ≡ Data)) (log_in self.old) (log_in self.new) }
     {
         self.counts.call()?;
         Ok(self.content(which).len() as u64)
@@ -171,7 +174,8 @@ impl Disk for Buffers<'_, '_> {
         ensures counted { CountsCall result (counts_in self.old) (counts_in self.new) }
         ensures reads { (counts_in self.new).data_reads ≡ (counts_in self.old).data_reads }
         ensures memory { memory_of self.new ≡ memory_of self.old }
-        ensures room { Takes 1 (length bytes.now) (IsErr result × (at + length bytes.now < 2 ^ 64))
+        ensures room { TakesRoom 1 (length bytes.now) (IsErr result
+            × (at + length bytes.now < 2 ^ 64))
             (log_in self.old) (log_in self.new) }
     {
         self.counts.call()?;
@@ -197,7 +201,7 @@ impl Disk for Buffers<'_, '_> {
         ensures counted { CountsCall result (counts_in self.old) (counts_in self.new) }
         ensures reads { (counts_in self.new).data_reads ≡ (counts_in self.old).data_reads }
         ensures memory { memory_of self.new ≡ memory_of self.old }
-        ensures room { Takes 1 0 (IsErr result) (log_in self.old) (log_in self.new) }
+        ensures room { TakesRoom 1 0 (IsErr result) (log_in self.old) (log_in self.new) }
     {
         self.counts.call()?;
         match which {
@@ -213,7 +217,7 @@ impl Disk for Buffers<'_, '_> {
         ensures counted { CountsCall result (counts_in self.old) (counts_in self.new) }
         ensures reads { (counts_in self.new).data_reads ≡ (counts_in self.old).data_reads }
         ensures memory { memory_of self.new ≡ memory_of self.old }
-        ensures room { Takes 1 0 (IsErr result) (log_in self.old) (log_in self.new) }
+        ensures room { TakesRoom 1 0 (IsErr result) (log_in self.old) (log_in self.new) }
     {
         self.counts.call()?;
         self.notes.note(&[SYNCED, number(which), 0], &[]);

@@ -11,7 +11,7 @@ use Rattle.fit_grammar.specs.Format.File.{File}
 use Rattle.fit_recorder.specs.Calls.Recovery.{IsRecovered, KeepsJournal}
 use Rattle.fit_recorder.specs.Files.Body.{StandsFor}
 use Rattle.fit_recorder.specs.Files.Finished.{finished}
-use Rattle.fit_c.specs.Repaired.{IsRepaired, numbers_of}
+use Rattle.fit_c.specs.Repaired.{IsRepaired, ride_summary_of}
 
 abbrev both : List ℕ → List ℕ → Contents
 both in_data in_journal = record { in_data = in_data; in_journal = in_journal }
@@ -29,7 +29,7 @@ pub repaired_of : (old new : Buffers) (summary : Summary) (data_before journal_b
     → IsRecovered (seen_in (story_in old).now) (story_in new) summary → KeepsJournal (story_in old) (story_in new)
     → (story_in old).now.data_file ≡ at_rest data_before → (story_in old).now.journal_file ≡ at_rest journal_before
     → data_after ≡ take new.data_len new.data_bytes.now → journal_after ≡ take new.journal_len new.journal_bytes.now
-    → IsRepaired (both data_before journal_before) (both data_after journal_after) (numbers_of summary)
+    → IsRepaired (both data_before journal_before) (both data_after journal_after) (ride_summary_of summary)
 repaired_of old new summary data_before journal_before data_after journal_after is keeps data_rests journal_rests data_is journal_is =
     let seen : (story_in new).now.data_file.seen ≡ finished is.finished.body is.list = ap (λ (file : Stored). file.seen) is.finished.rests in
     let body : finished is.finished.body is.list ≡ finished is.stood.body is.list = ap (λ body. finished body is.list) is.same_body in
@@ -41,8 +41,8 @@ repaired_of old new summary data_before journal_before data_after journal_after 
     go : seen_in (story_in old).now ≡ both data_before journal_before → both data_after journal_after ≡ seen_in (story_in new).now
         → (r : IsRecovered (seen_in (story_in old).now) (story_in new) summary)
         → data_after ≡ finished r.stood.body r.list → data_after ≡ finished r.finished.body r.list → journal_after ≡ journal_before
-        → IsRepaired (both data_before journal_before) (both data_after journal_after) (numbers_of summary)
-    go before after r here there kept = subst (λ contents. IsRepaired contents (both data_after journal_after) (numbers_of summary)) before (record {
+        → IsRepaired (both data_before journal_before) (both data_after journal_after) (ride_summary_of summary)
+    go before after r here there kept = subst (λ contents. IsRepaired contents (both data_after journal_after) (ride_summary_of summary)) before (record {
       list = r.list;
       stood = r.stood;
       is = here;
@@ -50,5 +50,5 @@ repaired_of old new summary data_before journal_before data_after journal_after 
       activity = r.finished.activity;
       stands = subst (StandsFor r.list) (sym after) (r.finished.stands (seen_in (story_in new).now) new.sound);
       journal_kept = kept ∙ sym (ap (λ (contents : Contents). contents.in_journal) before);
-      sums_up = ap numbers_of r.sums_up;
+      sums_up = ap ride_summary_of r.sums_up;
     })

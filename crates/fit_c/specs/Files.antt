@@ -11,7 +11,7 @@ use Rattle.fit_grammar.specs.Format.File.{FileValue, FileOf}
 use Rattle.fit_grammar.specs.Format.Message.{messages_of}
 use Rattle.fit_grammar.specs.Format.Refusal.{Refusal}
 use Rattle.fit_text.specs.Text.{text_of}
-use Rattle.fit_c.specs.Repaired.{numbers_of}
+use Rattle.fit_c.specs.Repaired.{ride_summary_of}
 use Rattle.fit_c.specs.declared.repairing.RideSummary.{RideSummary}
 
 -- the bytes are no file; the code and the place are those of their refusal
@@ -53,7 +53,7 @@ pub record IsActivity (bytes : List ℕ) (numbers : RideSummary) : Type 0 where
   pub is : FileOf bytes file
   pub summary : Summary
   pub activity : activity_in (messages_of file.items) ≡ Ok summary
-  pub sums_up : numbers ≡ numbers_of summary
+  pub sums_up : numbers ≡ ride_summary_of summary
 
 -- the bytes are a file that is no activity; the code is ten more than that of the reason
 pub record IsNoActivity (bytes : List ℕ) (code : ℕ) : Type 0 where

@@ -17,10 +17,15 @@ use Rattle.fit_c.specs.declared.repairing.RideSummary.{RideSummary}
 
 -- the files are the first bytes of the two buffers
 abbrev pub contents_in : List ℕ → ℕ → List ℕ → ℕ → Contents
-contents_in in_data data_len in_journal journal_len = record { in_data = take data_len in_data; in_journal = take journal_len in_journal }
+contents_in in_data data_len in_journal journal_len =
+    record {
+      in_data = take data_len in_data;
+      in_journal = take journal_len in_journal;
+    }
 
 -- both files lie in their buffers
-pub record AreWithin (in_data : List ℕ) (data_len : ℕ) (in_journal : List ℕ) (journal_len : ℕ) : Type 0 where
+pub record AreWithin (in_data : List ℕ) (data_len : ℕ) (in_journal : List ℕ)
+    (journal_len : ℕ) : Type 0 where
   pub data_within : data_len ≤ length in_data
   pub journal_within : journal_len ≤ length in_journal
 
@@ -29,8 +34,8 @@ number_or other None = other
 number_or other (Some number) = number
 
 -- the numbers are those of the summary
-abbrev pub numbers_of : Summary → RideSummary
-numbers_of s = record {
+abbrev pub ride_summary_of : Summary → RideSummary
+ride_summary_of s = record {
   records = s.records;
   laps = s.laps;
   sessions = s.sessions;
@@ -50,10 +55,11 @@ pub record IsRepaired (before after : Contents) (numbers : RideSummary) : Type 0
   pub activity : activity_in (spoken list ++ closing list) ≡ Ok (summary_of_list list)
   pub stands : StandsFor list after
   pub journal_kept : after.in_journal ≡ before.in_journal
-  pub sums_up : numbers ≡ numbers_of (summary_of_list list)
+  pub sums_up : numbers ≡ ride_summary_of (summary_of_list list)
 
 -- what the code of a refused repair says of the two buffers and the lengths of the files in them
-pub record IsRefused (code : ℕ) (data_bytes : List ℕ) (data_len : ℕ) (journal_bytes : List ℕ) (journal_len : ℕ) : Type 0 where
+pub record IsRefused (code : ℕ) (data_bytes : List ℕ) (data_len : ℕ) (journal_bytes : List ℕ)
+    (journal_len : ℕ) : Type 0 where
   pub nothing : code ≡ 7 → IsNothing (contents_in data_bytes data_len journal_bytes journal_len)
   pub damaged : code ≡ 8 → IsDamaged (contents_in data_bytes data_len journal_bytes journal_len)
       × (HasChanged (contents_in data_bytes data_len journal_bytes journal_len) → ⊥)

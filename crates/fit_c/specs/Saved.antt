@@ -7,7 +7,7 @@ use Rattle.fit_grammar.specs.Calls.PlainForm.{plain_of}
 use Rattle.fit_grammar.specs.Format.Encoding.{encoded}
 use Rattle.fit_grammar.specs.Format.File.{FileValue}
 use Rattle.fit_files.specs.Printed.Saved.{IsFinishedOf}
-use Rattle.fit_c.specs.Repaired.{IsRepairCode, numbers_of}
+use Rattle.fit_c.specs.Repaired.{IsRepairCode, ride_summary_of}
 use Rattle.fit_c.specs.declared.repairing.RideSummary.{RideSummary}
 
 -- The two files stood for a list, and the bytes are the plain form of its finished file. The numbers are what the list adds up to.
@@ -16,7 +16,7 @@ pub record IsSaved (before : Contents) (bytes : List ℕ) (numbers : RideSummary
   pub file : FileValue
   pub finished : IsFinishedOf before list file
   pub bytes_are : bytes ≡ encoded (plain_of file)
-  pub sums_up : numbers ≡ numbers_of (summary_of_list list)
+  pub sums_up : numbers ≡ ride_summary_of (summary_of_list list)
 
 -- that file has so many bytes, more than there is room for
 pub record NeedsRoomToSave (before : Contents) (room needed : ℕ) : Type 0 where

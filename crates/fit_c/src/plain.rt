@@ -25,7 +25,8 @@ pub extern "C" fn fitrec_plain(
     ensures within { result ≡ 0 → out_len.new ≤ length out.new }
     ensures no_file { 1 ≤ result → result ≤ 9 → IsNoFile bytes.now result fault_place.new }
     ensures no_room { result ≡ 20 → NeedsRoomForPlain bytes.now (length out.old) out_len.new }
-    ensures unchanged { 1 ≤ result → result ≤ 9 → (out_len.new ≡ out_len.old) × (out.new ≡ out.old) }
+    ensures unchanged { 1 ≤ result → result ≤ 9
+        → (out_len.new ≡ out_len.old) × (out.new ≡ out.old) }
     ensures place { (result ≡ 0) ⊎ (20 ≤ result) → fault_place.new ≡ fault_place.old }
 {
     match LentFile::read(bytes) {
@@ -96,7 +97,8 @@ fn plain_size(file: &LentFile<'_>) -> Option<u32>
 // Writes the records of the plain form, which have no room.
 fn write_records(file: &LentFile<'_>, room: &mut Room<'_>) -> Result<(), WritePlainFault>
     requires empty { room.old.tape.bytes ≡ [] }
-    ensures records { IfOk result (λ _. room.new.tape.bytes ≡ encoded_items (plain_items file.now.items)) }
+    ensures records { IfOk result (λ _. room.new.tape.bytes
+        ≡ encoded_items (plain_items file.now.items)) }
 {
     write_plain_records(file, room)
 }

@@ -13,7 +13,7 @@ ghost use Rattle.fit_recorder.specs.Files.Committed.{HasCounted};
 ghost use Rattle.fit_recorder.specs.Files.Limits.{longest_end};
 ghost use Rattle.fit_recorder.specs.Files.Settled.{IsSettled};
 ghost use Rattle.fit_recorder.specs.declared.fault.RecFault.TheVariants as faults;
-ghost use Rattle.fit_c.specs.Repaired.{AreWithin, IsRefused, IsRepaired, IsRepairCode, contents_in, number_or, numbers_of};
+ghost use Rattle.fit_c.specs.Repaired.{AreWithin, IsRefused, IsRepaired, IsRepairCode, contents_in, number_or, ride_summary_of};
 
 use fit_activity::Summary;
 use fit_buffers::Buffers;
@@ -63,11 +63,14 @@ pub extern "C" fn fitrec_repair(
         (contents_in data_bytes.new data_len.new journal_bytes.new journal_len.new) summary.new }
     ensures checked { result ≡ 0
         → HasCounted (take journal_len.old journal_bytes.old) (take data_len.new data_bytes.new) }
-    ensures within { result ≡ 0 → AreWithin data_bytes.new data_len.new journal_bytes.new journal_len.new }
+    ensures within { result ≡ 0
+        → AreWithin data_bytes.new data_len.new journal_bytes.new journal_len.new }
     ensures why { IsRefused result data_bytes.old data_len.old journal_bytes.old journal_len.old }
-    ensures same { 7 ≤ result → contents_in data_bytes.new data_len.new journal_bytes.new journal_len.new
+    ensures same { 7 ≤ result
+        → contents_in data_bytes.new data_len.new journal_bytes.new journal_len.new
         ≡ contents_in data_bytes.old data_len.old journal_bytes.old journal_len.old }
-    ensures unchanged { 7 ≤ result → (data_len.new ≡ data_len.old) × (journal_len.new ≡ journal_len.old)
+    ensures unchanged { 7 ≤ result
+        → (data_len.new ≡ data_len.old) × (journal_len.new ≡ journal_len.old)
         × (summary.new ≡ summary.old) }
 {
     if *data_len > data_bytes.len() as u64 || *journal_len > journal_bytes.len() as u64 {
@@ -96,7 +99,8 @@ pub extern "C" fn fitrec_repair(
 
 // The code of why the recording in these two buffers was not recovered.
 fn code_of(buffers: &Buffers<'_, '_>, fault: RecFault) -> u8
-    ensures changed { result ≡ 16 → (fault ≡ faults.Damaged) × HasChanged (seen_in (story_in buffers.now).now) }
+    ensures changed { result ≡ 16
+        → (fault ≡ faults.Damaged) × HasChanged (seen_in (story_in buffers.now).now) }
     ensures others { (result ≡ 16 → ⊥) → (result ≡ fault_code fault)
         × (fault ≡ faults.Damaged → HasChanged (seen_in (story_in buffers.now).now) → ⊥) }
 {
@@ -117,16 +121,19 @@ fn recovered(buffers: &mut Buffers<'_, '_>) -> Result<Summary, RecFault>
     requires data_room { (story_in buffers.old).now.data_file.greatest + longest_end
         ≤ room_of Data buffers.old }
     requires journal_room { (story_in buffers.old).now.journal_file.greatest ≤ room_of Journal buffers.old }
-    ensures decides { RecoveryAnswers (seen_in (story_in buffers.old).now) (story_in buffers.new) result }
+    ensures decides { RecoveryAnswers (seen_in (story_in buffers.old).now)
+        (story_in buffers.new) result }
     ensures checked { OnOk result
-        (HasCounted (seen_of Journal (story_in buffers.old)) (seen_of Data (story_in buffers.new))) }
+        (HasCounted (seen_of Journal (story_in buffers.old))
+        (seen_of Data (story_in buffers.new))) }
     ensures no_device { IsErrOf result faults.Device → ⊥ }
     ensures settled { IfErr result
         (λ _. IsSettled (seen_in (story_in buffers.old).now) (story_in buffers.new)) }
     ensures journal { KeepsJournal (story_in buffers.old) (story_in buffers.new) }
     ensures known_fault { IfErr result IsRecoveryFault }
     ensures same_data { buffers.new.data_bytes.ghost_name ≡ buffers.old.data_bytes.ghost_name }
-    ensures same_journal { buffers.new.journal_bytes.ghost_name ≡ buffers.old.journal_bytes.ghost_name }
+    ensures same_journal { buffers.new.journal_bytes.ghost_name
+        ≡ buffers.old.journal_bytes.ghost_name }
 {
     let done = recover(buffers);
     let _ = buffers.content(Which::Data); // Its contract: a call fails only for want of room.
@@ -134,7 +141,7 @@ fn recovered(buffers: &mut Buffers<'_, '_>) -> Result<Summary, RecFault>
 }
 
 pub fn numbers(summary: &Summary) -> RideSummary
-    ensures { result ≡ numbers_of summary.now }
+    ensures { result ≡ ride_summary_of summary.now }
 {
     RideSummary {
         records: summary.records,

@@ -42,7 +42,8 @@ pub extern "C" fn fitrec_save(
         → contents_in data_bytes.new data_len.new journal_bytes.new journal_len.new
         ≡ contents_in data_bytes.old data_len.old journal_bytes.old journal_len.old }
     ensures unchanged { 7 ≤ result → result ≤ 16
-        → (data_len.new ≡ data_len.old) × (journal_len.new ≡ journal_len.old) × (summary.new ≡ summary.old)
+        → (data_len.new ≡ data_len.old) × (journal_len.new ≡ journal_len.old)
+        × (summary.new ≡ summary.old)
         × (out_len.new ≡ out_len.old) × (out.new ≡ out.old) }
 {
     let answer = fitrec_repair(data_bytes, data_len, journal_bytes, journal_len, summary);

@@ -58,7 +58,8 @@ IsFolderFault folder _ = ⊥
 
 -- of reading the two files of a recording
 abbrev pub IsReadReported : Fault → Type 0
-IsReadReported (faults.Read name) = (name.now ≡ codes "activity.fit") ⊎ (name.now ≡ codes "activity.frj")
+IsReadReported (faults.Read name) =
+    (name.now ≡ codes "activity.fit") ⊎ (name.now ≡ codes "activity.frj")
 IsReadReported faults.TooLarge = Unit {0}
 IsReadReported faults.NoMemory = Unit {0}
 IsReadReported _ = ⊥

@@ -17,11 +17,13 @@ fault_of_read name NoMemory = faults.NoMemory
 -- the line on where the reading of an input of this name ended
 abbrev pub end_text : List ℕ → ℕ → List ℕ
 end_text name at =
-    codes "fitrec: " ++ shown_text name ++ codes " could not be read from byte " ++ decimal at ++ codes " on\n"
+    codes "fitrec: " ++ shown_text name ++ codes " could not be read from byte " ++ decimal at
+    ++ codes " on\n"
 
 -- the input was refused, and this is the program's fault for it
 abbrev pub IsReadFault : ℕ → Option (List ℕ) → Option (List ℕ) → Bor (List ℕ) → Fault → Type 0
-IsReadFault most old new name fault = (why : ReadFault) × Refuses most old new why × (fault ≡ fault_of_read name why)
+IsReadFault most old new name fault =
+    (why : ReadFault) × Refuses most old new why × (fault ≡ fault_of_read name why)
 
 -- the faults of a file of this name that was not opened or not read
 abbrev pub IsFileFault : Bor (List ℕ) → Fault → Type 0

@@ -26,12 +26,15 @@ use Rattle.fit_commands.specs.declared.fault.Fault.TheVariants as faults
 
 -- `IsResult` holds of the bytes of a file of this name and the result, and the program's fault is one for a fault of that; or the file
 -- was not opened or not read, and nothing is printed.
-abbrev pub Reports : {F : Type 0} → Bor (List ℕ) → Option (List ℕ) → Option (List ℕ) → (F → Fault → Type 0)
+abbrev pub ReportsRun : {F : Type 0} → Bor (List ℕ) → Option (List ℕ) → Option (List ℕ)
+    → (F → Fault → Type 0)
     → (List ℕ → Result (Unit {0}) F → Type 0) → Result (Unit {0}) Fault → Type 0
-Reports {F} name old new IsReported IsResult (Ok done) = (bytes : List ℕ) × (length bytes ≤ 268435456) × IsResult bytes (Ok done)
-Reports {F} name old new IsReported IsResult (Err reported) =
+ReportsRun {F} name old new IsReported IsResult (Ok done) =
+    (bytes : List ℕ) × (length bytes ≤ 268435456) × IsResult bytes (Ok done)
+ReportsRun {F} name old new IsReported IsResult (Err reported) =
     (IsFileFault name reported × (new ≡ old))
-    ⊎ ((why : F) × IsReported why reported × (bytes : List ℕ) × (length bytes ≤ 268435456) × IsResult bytes (Err why))
+    ⊎ ((why : F) × IsReported why reported × (bytes : List ℕ) × (length bytes ≤ 268435456)
+    × IsResult bytes (Err why))
 
 -- the output failed; its name is `-`
 abbrev pub IsOutputReported : Fault → Type 0
@@ -49,7 +52,8 @@ HasPlainForm salvage = (plain : FileValue) × PlainsTo (saved_file salvage) (Ok 
 -- the longest row of whole items in some bytes was found, with its plain form if that was requested, and its length was printed
 abbrev pub SavesFile : Bool → Bool → Option (List ℕ) → Option (List ℕ) → Type 0
 SavesFile all plain old new =
-    (bytes : List ℕ) × (length bytes ≤ 268435456) × (salvage : Salvage) × IsSalvage all bytes salvage
+    (bytes : List ℕ) × (length bytes ≤ 268435456) × (salvage : Salvage)
+    × IsSalvage all bytes salvage
     × (plain ≡ true → HasPlainForm salvage) × Appends old new (kept_text salvage ++ codes "\n")
 
 -- it is the plain form of a file of some bytes
@@ -59,33 +63,38 @@ IsFormOfFile plain = (bytes : List ℕ) × (length bytes ≤ 268435456) × Plain
 -- the plain form of a file was made, and the number of its messages was printed
 abbrev pub PlainsFile : Option (List ℕ) → Option (List ℕ) → Type 0
 PlainsFile old new =
-    (plain : FileValue) × IsFormOfFile plain × Appends old new (messages_text (length (messages_of plain.items)) ++ codes "\n")
+    (plain : FileValue) × IsFormOfFile plain
+    × Appends old new (messages_text (length (messages_of plain.items)) ++ codes "\n")
 
 -- the line of a summary was printed
 abbrev pub PrintsSummary : Option (List ℕ) → Option (List ℕ) → Type 0
 PrintsSummary old new = (summary : Summary) × Appends old new (summary_text summary ++ codes "\n")
 
 -- what a repair prints
-abbrev pub ReportsRepair : Option (List ℕ) → Option (List ℕ) → Result (Unit {0}) RepairFault → Type 0
+abbrev pub ReportsRepair : Option (List ℕ) → Option (List ℕ) → Result (Unit {0}) RepairFault
+    → Type 0
 ReportsRepair old new (Ok done) = PrintsSummary old new
 ReportsRepair old new (Err (repairs.Recorder fault)) = new ≡ old
 ReportsRepair old new (Err repairs.Output) = Unit {0}
 
 -- the two files of a recording were read from these inputs, each to its end, and held these contents
-abbrev pub AreRead : Option (List ℕ) → Option (List ℕ) → Contents → Type 0
-AreRead data_file journal_file contents =
+abbrev pub ReadsBoth : Option (List ℕ) → Option (List ℕ) → Contents → Type 0
+ReadsBoth data_file journal_file contents =
     ((left : Option (List ℕ)) × ReadsAll 268435456 data_file left contents.in_data)
     × ((left : Option (List ℕ)) × ReadsAll 268435456 journal_file left contents.in_journal)
 
 -- The two files of a folder of this name were read, and what they held was repaired, and both files read again, with these checksums. Or
 -- what they held was not repaired, for the reported fault; or they were not opened or not read, and nothing is printed.
-abbrev pub VerifiesFolder : Bor (List ℕ) → (Contents → Type 0) → Option (List ℕ) → Option (List ℕ) → Result FileSums Fault → Type 0
+abbrev pub VerifiesFolder : Bor (List ℕ) → (Contents → Type 0) → Option (List ℕ) → Option (List ℕ)
+    → Result FileSums Fault → Type 0
 VerifiesFolder name WereRead old new (Ok sums) =
-    (contents : Contents) × WereRead contents × (story : Story) × Repairs contents story old new (Ok sums)
+    (contents : Contents) × WereRead contents × (story : Story)
+    × Repairs contents story old new (Ok sums)
     × AreSumsOf (seen_in story.now) sums
 VerifiesFolder name WereRead old new (Err reported) =
     (IsRecordingReported name reported × (new ≡ old))
-    ⊎ ((why : RepairFault) × IsRepairReported why reported × (contents : Contents) × WereRead contents × (story : Story)
+    ⊎ ((why : RepairFault) × IsRepairReported why reported × (contents : Contents)
+    × WereRead contents × (story : Story)
     × Repairs {T = FileSums} contents story old new (Err why))
 
 -- it is the saved ride of the two files of a recording
@@ -94,4 +103,6 @@ IsSavedRide saved = (contents : Contents) × SavesRide contents (Ok saved)
 
 -- such a ride was saved, and the line of its summary printed
 abbrev pub SavesFolder : Option (List ℕ) → Option (List ℕ) → Type 0
-SavesFolder old new = (saved : SavedRide) × IsSavedRide saved × Appends old new (summary_text saved.summary ++ codes "\n")
+SavesFolder old new =
+    (saved : SavedRide) × IsSavedRide saved
+    × Appends old new (summary_text saved.summary ++ codes "\n")

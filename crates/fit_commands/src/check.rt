@@ -2,7 +2,7 @@
 
 ghost use Rattle.fit_files.specs.Printed.Checked.{ChecksBytes};
 ghost use Rattle.fit_commands.specs.Faults.{IsReportFault};
-ghost use Rattle.fit_commands.specs.Reported.{Reports};
+ghost use Rattle.fit_commands.specs.Reported.{ReportsRun};
 
 use crate::fault::Fault;
 use crate::input::{MOST_BYTES, fault_of_report, open_file};
@@ -16,7 +16,8 @@ pub fn check_file<'a, R: Files + AllocGlobal, O: Write>(
     name: &'a str,
     out: &mut O,
 ) -> Result<(), Fault<'a>>
-    ensures { Reports name.entry (O.contents out.old) (O.contents out.new) (IsReportFault name.entry)
+    ensures { ReportsRun name.entry (O.contents out.old) (O.contents out.new)
+        (IsReportFault name.entry)
         (ChecksBytes (O.contents out.old) (O.contents out.new)) result }
 {
     let mut file = open_file(rt, name)?;

@@ -19,7 +19,8 @@ pub fn open_folder<'a, W: Witness>(
     witness: W,
 ) -> Result<Files<W>, Fault<'a>>
     ensures witness { IfOk result (λ files. witness_of files ≡ witness) }
-    ensures fault { IfErr result (λ fault. (why : WhyNotOpen) × (fault ≡ fault_of_open name.entry why)) }
+    ensures fault { IfErr result (λ fault. (why : WhyNotOpen)
+        × (fault ≡ fault_of_open name.entry why)) }
 {
     match Files::open(rt, name, witness) {
         Ok(files) => Ok(files),
@@ -34,7 +35,8 @@ pub fn open_recorded<'a, W: Witness>(
     witness: W,
 ) -> Result<Option<Files<W>>, Fault<'a>>
     ensures witness { IfOk result (λ files. IfSome files (λ files. witness_of files ≡ witness)) }
-    ensures fault { IfErr result (λ fault. (why : WhyNotOpen) × (fault ≡ fault_of_open name.entry why)) }
+    ensures fault { IfErr result (λ fault. (why : WhyNotOpen)
+        × (fault ≡ fault_of_open name.entry why)) }
 {
     match is_one_missing(rt, name) {
         Ok(true) => Ok(None),
@@ -45,10 +47,7 @@ pub fn open_recorded<'a, W: Witness>(
 
 /// Reads the journal of this folder, and what can be read of its data file. Nothing is written. If one of them is missing, the fault says
 /// which, and if both are, it is `NothingRecorded`.
-pub fn read_recorded<'a>(
-    rt: &HostRuntime,
-    name: &'a str,
-) -> Result<(FrontRead, Vec<u8>), Fault<'a>>
+pub fn read_recorded<'a>(rt: &HostRuntime, name: &'a str) -> Result<(FrontRead, Vec<u8>), Fault<'a>>
     ensures { IfErr result (IsLackReported name.entry) }
 {
     match open_files(rt, name)? {

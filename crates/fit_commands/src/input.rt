@@ -71,7 +71,8 @@ pub fn read_input_front<'a, T: Read>(
     name: &'a str,
     from: &mut T,
 ) -> Result<FrontRead, Fault<'a>>
-    ensures front { IfOk result (ReadsFront 268435456 (T.remaining from.old) (T.remaining from.new)) }
+    ensures front { IfOk result
+        (ReadsFront 268435456 (T.remaining from.old) (T.remaining from.new)) }
     ensures refused { IfErr result
         (IsReadFault 268435456 (T.remaining from.old) (T.remaining from.new) name.entry) }
 {

@@ -2,7 +2,7 @@
 
 ghost use Rattle.fit_files.specs.Printed.Shown.{ShowsJson};
 ghost use Rattle.fit_commands.specs.Faults.{IsReportFault};
-ghost use Rattle.fit_commands.specs.Reported.{Reports};
+ghost use Rattle.fit_commands.specs.Reported.{ReportsRun};
 
 use crate::fault::Fault;
 use crate::input::{MOST_BYTES, fault_of_report, open_file};
@@ -17,7 +17,8 @@ pub fn show_as_json<'a, R: Files + AllocGlobal, O: Write>(
     utc: bool,
     out: &mut O,
 ) -> Result<(), Fault<'a>>
-    ensures { Reports name.entry (O.contents out.old) (O.contents out.new) (IsReportFault name.entry)
+    ensures { ReportsRun name.entry (O.contents out.old) (O.contents out.new)
+        (IsReportFault name.entry)
         (ShowsJson utc (O.contents out.old) (O.contents out.new)) result }
 {
     let mut file = open_file(rt, name)?;

@@ -9,7 +9,7 @@ ghost use Rattle.fit_recorder.specs.Files.Committed.{HasCounted};
 ghost use Rattle.fit_files.specs.Calls.Rereading.{AreSumsOf};
 ghost use Rattle.fit_files.specs.Printed.Repaired.{Repairs, IsRepairFault};
 ghost use Rattle.fit_commands.specs.Faults.{AnswersRepair, IsFolderFault, IsOpenReported};
-ghost use Rattle.fit_commands.specs.Reported.{AreRead, ReportsRepair, PrintsSummary, PrintsNothing, VerifiesFolder};
+ghost use Rattle.fit_commands.specs.Reported.{ReadsBoth, ReportsRepair, PrintsSummary, PrintsNothing, VerifiesFolder};
 
 use crate::fault::Fault;
 use crate::folder::{open_files, open_recorded};
@@ -48,7 +48,8 @@ pub fn repair_files<'a, W: Witness, O: Write>(
     ensures checked { IsTrue W.honest → IfOk result (λ done. OnOk done.1
         (HasCounted (seen_of Journal (W.story witness)) (seen_of Data (W.story done.0)))) }
     ensures fault { IfOk result (λ done. IfErr done.1 IsRepairFault) }
-    ensures printed { IfOk result (λ done. ReportsRepair (O.contents out.old) (O.contents out.new) done.1) }
+    ensures printed { IfOk result
+        (λ done. ReportsRepair (O.contents out.old) (O.contents out.new) done.1) }
     ensures reported { IfErr result (IsOpenReported name.entry) }
     ensures quiet { IfErr result (λ _. O.contents out.new ≡ O.contents out.old) }
 {
@@ -67,7 +68,8 @@ pub fn verify_folder<'a, O: Write>(
     name: &'a str,
     out: &mut O,
 ) -> Result<FileSums, Fault<'a>>
-    ensures { VerifiesFolder name.entry (AreRead None None) (O.contents out.old) (O.contents out.new) result }
+    ensures { VerifiesFolder name.entry (ReadsBoth None None) (O.contents out.old)
+        (O.contents out.new) result }
 {
     let (Some(data_file), Some(journal_file)) = open_files(rt, name)? else {
         return Err(Fault::Recorder(RecFault::NothingRecorded));
@@ -83,7 +85,8 @@ pub fn verify_read<'a, D: Read + Drop, J: Read + Drop, O: Write>(
     mut journal_file: J,
     out: &mut O,
 ) -> Result<FileSums, Fault<'a>>
-    ensures { VerifiesFolder name.entry (AreRead (D.remaining data_file) (J.remaining journal_file))
+    ensures { VerifiesFolder name.entry
+        (ReadsBoth (D.remaining data_file) (J.remaining journal_file))
         (O.contents out.old) (O.contents out.new) result }
 {
     let in_data = read_input(rt.alloc(), DATA_NAME, &mut data_file)?;
@@ -104,12 +107,17 @@ pub fn repair_holding<'a, O: Write>(
     out: &mut O,
 ) -> Result<(Shadow, Result<FileSums, RepairFault>), Fault<'a>>
     ensures repaired { IfOk result (λ done.
-        Repairs (record { in_data = in_data.now; in_journal = in_journal.now }) (shadow_story done.0)
+        Repairs (record {
+          in_data =
+              in_data.now;
+          in_journal = in_journal.now;
+        }) (shadow_story done.0)
         (O.contents out.old) (O.contents out.new) done.1) }
     // The body has the checksum that the journal states, if it states one.
     ensures checked { IfOk result (λ done. OnOk done.1
         (HasCounted in_journal.now (seen_of Data (shadow_story done.0)))) }
-    ensures read { IfOk result (λ done. IfOk done.1 (AreSumsOf (seen_in (shadow_story done.0).now))) }
+    ensures read { IfOk result
+        (λ done. IfOk done.1 (AreSumsOf (seen_in (shadow_story done.0).now))) }
     ensures reported { IfErr result (IsOpenReported name.entry) }
     ensures quiet { IfErr result (λ _. O.contents out.new ≡ O.contents out.old) }
 {

@@ -4,9 +4,9 @@ use Rattle.fit_activity.specs.declared.activity.Summary.{Summary}
 use Rattle.fit_device.specs.Answer.{code_of_fault, wants}
 use Rattle.fit_device.specs.Planned.{Leads}
 use Rattle.fit_device.proofs.Leading.{leads_for, leads_since}
-use Rattle.fit_device.specs.Handle.{story_of as story_in_handle}
+use Rattle.fit_device.specs.Handle.{handle_story as story_in_handle}
 use Rattle.fit_device.specs.Recovering.{GoesOnWith}
-use Rattle.fit_device.specs.Windowed.{story_of, IsRecovery, IsTakenUp, Finds, GoesOn, ReopensOn}
+use Rattle.fit_device.specs.Windowed.{recovery_story, IsRecovery, IsTakenUp, Finds, GoesOn, ReopensOn}
 use Rattle.fit_device.specs.declared.files.Files.{Files}
 use Rattle.fit_device.specs.declared.handle.Handle.{Handle}
 use Rattle.fit_device.specs.declared.plan.DevicePlan.{DevicePlan}
@@ -18,7 +18,7 @@ use Rattle.fit_disk.specs.Story.{Story, seen_of}
 use Rattle.fit_disk.specs.declared.disk.Which.TheVariants.{Data, Journal}
 use Rattle.fit_notes.specs.Numbers.{numbers_of}
 use Rattle.fit_plan.specs.declared.plan.Plan.{Plan}
-use Rattle.fit_plan.specs.Plan.{story_in, since_in, counts_in, room_in, whole_room, log_in, most_calls, most_bytes}
+use Rattle.fit_plan.specs.Plan.{plan_story, plan_since, plan_counts, room_in, whole_room, plan_log, most_planned_calls, most_planned_bytes}
 use Rattle.fit_recorder.specs.Calls.Windows.{AreAt, HasMoved, HasRoom, place_of}
 use Rattle.fit_recorder.specs.declared.recovery.windows.Recovery.{Recovery}
 use Rattle.fit_notes.specs.Noted.{which_of}
@@ -33,9 +33,9 @@ use Rattle.fit_recorder.specs.declared.fault.RecFault.{RecFault}
 use Rattle.fit_recorder.specs.declared.fault.RecFault.TheVariants.{NotEmpty, Refused, Full, JournalFull, Device, Failed, NothingRecorded, Damaged}
 
 -- the planned calls lead from the files before to those after
-pub led : (old new : RecoveryHandle) (plan : DevicePlan) (before after : Plan) → since_in before ≡ story_of old
-    → numbers_of (since_in after) ≡ numbers_of (since_in before) → story_of new ≡ story_in after
-    → Leads plan (since_in after) (story_in after) → Leads plan (story_of old) (story_of new)
+pub led : (old new : RecoveryHandle) (plan : DevicePlan) (before after : Plan) → plan_since before ≡ recovery_story old
+    → numbers_of (plan_since after) ≡ numbers_of (plan_since before) → recovery_story new ≡ plan_story after
+    → Leads plan (plan_since after) (plan_story after) → Leads plan (recovery_story old) (recovery_story new)
 led old new plan before after since same story planned = leads_since plan before after _ _ _ since same (sym story) planned
 
 pub answers_for : (answer : Result Summary RecFault) (before after earlier later : Story) → before ≡ earlier → after ≡ later
@@ -77,12 +77,12 @@ pub is_device : (fault : RecFault) (code : ℕ) → code ≡ code_of_fault fault
 is_device fault code is device = is ∙ ap code_of_fault device
 
 -- a plan without calls has room
-pub has_room : (calls bytes : ℕ) (files : Plan) → counts_in files ≡ no_calls → room_in files ≡ whole_room → calls ≤ most_calls → bytes ≤ most_bytes
-    → HasRoom calls bytes (log_in files)
+pub has_room : (calls bytes : ℕ) (files : Plan) → plan_counts files ≡ no_calls → room_in files ≡ whole_room → calls ≤ most_planned_calls → bytes ≤ most_planned_bytes
+    → HasRoom calls bytes (plan_log files)
 has_room calls bytes files none room few short =
-    let made : (counts_in files).calls ≡ 0 = ap (λ (counts : Counts). counts.calls) none in
-    let for_calls : (room_in files).calls ≡ most_calls = ap (λ (room : Room). room.calls) room in
-    let for_bytes : (room_in files).bytes ≡ most_bytes = ap (λ (room : Room). room.bytes) room in
+    let made : (plan_counts files).calls ≡ 0 = ap (λ (counts : Counts). counts.calls) none in
+    let for_calls : (room_in files).calls ≡ most_planned_calls = ap (λ (room : Room). room.calls) room in
+    let for_bytes : (room_in files).bytes ≡ most_planned_bytes = ap (λ (room : Room). room.bytes) room in
     record {
       counted = omega (arith, made, few);
       for_calls = omega (arith, for_calls, few);
@@ -119,7 +119,7 @@ module _ (old new : RecoveryHandle) (plan : DevicePlan) (code : ℕ) (asks : IsR
     asks = λ _ wants. record { body = found.asks wants; moves = λ reads. absurd (reads finds) };
     ended = found.ended;
     same = λ _. (refl, found.same);
-    answers = λ _. ⊎_elim (λ wants. inl wants) (λ answered. inr (inr (answered.0, answered.1, as_a_resume (seen_in (story_of old).now) (story_of new) answered.0 answered.2))) found.answers;
+    answers = λ _. ⊎_elim (λ wants. inl wants) (λ answered. inr (inr (answered.0, answered.1, as_a_resume (seen_in (recovery_story old).now) (recovery_story new) answered.0 answered.2))) found.answers;
     device = found.device;
     checked = λ zero. absurd (not_zero zero);
     any_moment = λ _. unchanged (sym found.planned.ends ∙ found.same);
@@ -127,7 +127,7 @@ module _ (old new : RecoveryHandle) (plan : DevicePlan) (code : ℕ) (asks : IsR
 
 -- after a ride was taken up, and a recorder of it was put into a handle
 pub reopened : (old new : RecoveryHandle) (before after : Handle) (plan : DevicePlan) (ride : FoundRide) (files : Files) → IsRecovery old
-    → IsTakenUp old new plan ride files → GoesOnWith (seen_in (story_of old).now) after → story_in_handle after ≡ files.notes.story
+    → IsTakenUp old new plan ride files → GoesOnWith (seen_in (recovery_story old).now) after → story_in_handle after ≡ files.notes.story
     → ReopensOn old new before after plan 0
 reopened old new before after plan ride files asks taken goes story =
     record {
@@ -138,8 +138,8 @@ reopened old new before after plan ride files asks taken goes story =
       same = λ no. absurd (no refl);
       answers = λ _. inr (inl (refl, goes));
       device = λ device. absurd (omega (arith, device));
-      checked = λ _. subst (λ (later : Story). HasCounted (seen_of Journal (story_of old)) (seen_of Data later)) (sym story) taken.checked;
-      any_moment = λ _. subst (λ (later : Story). Rebuilds (seen_in (story_of old).now) (story_of old) later) taken.planned.ends taken.any_moment;
+      checked = λ _. subst (λ (later : Story). HasCounted (seen_of Journal (recovery_story old)) (seen_of Data later)) (sym story) taken.checked;
+      any_moment = λ _. subst (λ (later : Story). Rebuilds (seen_in (recovery_story old).now) (recovery_story old) later) taken.planned.ends taken.any_moment;
     }
 
 -- a recovery that refuses has changed nothing
@@ -177,15 +177,15 @@ moved handle old new given at moves long placed is full = omega (arith, moves.mo
 
 -- the window of the journal is its front
 pub journal_front : (old new : RecoveryHandle) (story : Story) → IsRecovery old → old.phase ≡ 1 → new.filled ≡ old.filled → new.window ≡ old.window
-    → story ≡ story_of old → AreAt 0 (take new.filled new.window) (seen_of Journal story)
+    → story ≡ recovery_story old → AreAt 0 (take new.filled new.window) (seen_of Journal story)
 journal_front old new story asks finds filled window same =
     let placed = (old.placed asks.0).finds finds in
-    let front : AreAt 0 (take old.filled old.window) (seen_of Journal (story_of old)) =
-    subst (λ (at : ℕ). AreAt at (take old.filled old.window) (seen_of Journal (story_of old))) placed.1
-    (subst (λ (file : ℕ). AreAt old.at (take old.filled old.window) (seen_of (which_of file) (story_of old))) placed.0 (old.part asks.0 asks.1)) in
+    let front : AreAt 0 (take old.filled old.window) (seen_of Journal (recovery_story old)) =
+    subst (λ (at : ℕ). AreAt at (take old.filled old.window) (seen_of Journal (recovery_story old))) placed.1
+    (subst (λ (file : ℕ). AreAt old.at (take old.filled old.window) (seen_of (which_of file) (recovery_story old))) placed.0 (old.part asks.0 asks.1)) in
     subst (λ (story : Story). AreAt 0 (take new.filled new.window) (seen_of Journal story)) (sym same)
-    (subst (λ (n : ℕ). AreAt 0 (take n new.window) (seen_of Journal (story_of old))) (sym filled)
-    (subst (λ (bytes : List ℕ). AreAt 0 (take old.filled bytes) (seen_of Journal (story_of old))) (sym window) front))
+    (subst (λ (n : ℕ). AreAt 0 (take n new.window) (seen_of Journal (recovery_story old))) (sym filled)
+    (subst (λ (bytes : List ℕ). AreAt 0 (take old.filled bytes) (seen_of Journal (recovery_story old))) (sym window) front))
 
 -- and shows its first byte, unless it is empty
 pub front_shows : (front seen : List ℕ) → AreAt 0 front seen → (length front ≡ 0 → length seen ≡ 0) → take 1 front ≡ take 1 seen

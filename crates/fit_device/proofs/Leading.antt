@@ -6,14 +6,14 @@ use Rattle.fit_disk.specs.Story.{Story}
 use Rattle.fit_notes.proofs.Numbers.{same_story}
 use Rattle.fit_notes.specs.Numbers.{numbers_of}
 use Rattle.fit_plan.specs.declared.plan.Plan.{Plan}
-use Rattle.fit_plan.specs.Plan.{since_in}
+use Rattle.fit_plan.specs.Plan.{plan_since}
 
 pub leads_for : (plan : DevicePlan) (before after old new : Story) → before ≡ old → after ≡ new → Leads plan before after → Leads plan old new
 leads_for plan before after old new olds news leads =
     subst (λ (story : Story). Leads plan old story) news (subst (λ (story : Story). Leads plan story after) olds leads)
 
 -- the calls that were planned since the plan began
-pub leads_since : (plan : DevicePlan) (before after : Plan) (old later new : Story) → since_in before ≡ old
-    → numbers_of (since_in after) ≡ numbers_of (since_in before) → later ≡ new → Leads plan (since_in after) later → Leads plan old new
+pub leads_since : (plan : DevicePlan) (before after : Plan) (old later new : Story) → plan_since before ≡ old
+    → numbers_of (plan_since after) ≡ numbers_of (plan_since before) → later ≡ new → Leads plan (plan_since after) later → Leads plan old new
 leads_since plan before after old later new since same news leads =
-    leads_for plan (since_in after) later old new (same_story _ _ same ∙ since) news leads
+    leads_for plan (plan_since after) later old new (same_story _ _ same ∙ since) news leads

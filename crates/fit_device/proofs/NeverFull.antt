@@ -7,7 +7,7 @@ use Rattle.fit_journal.specs.Turn.{committed_slots, slots_left, turn_of}
 use Rattle.fit_journal.specs.declared.slots.Slots.{Slots}
 use Rattle.fit_journal.specs.declared.slots.Stated.{Stated}
 use Rattle.fit_journal.specs.declared.slots.Slots.TheVariants.{InRow, HalfOpen, InTurns}
-use Rattle.fit_plan.specs.Plan.{story_in}
+use Rattle.fit_plan.specs.Plan.{plan_story}
 use Rattle.fit_plan.specs.declared.plan.Plan.{Plan}
 use Rattle.fit_recorder.specs.Calls.After.{AfterCall}
 use Rattle.fit_recorder.specs.Calls.Answers.{CommitAnswers}
@@ -26,7 +26,7 @@ turns_on (InRow slots) len checksum none = let no : ⊥ = cc in absurd no
 turns_on (HalfOpen slots) len checksum none = let no : ⊥ = cc in absurd no
 turns_on (InTurns checked first second) len checksum none = either (turn_of first second == 0) checked _ _ _ _
 
-pub after_commit : (result : Result (Unit {0}) RecFault) (len checksum : ℕ) (before after : Recorder Plan) → AfterCall true story_in result before after
+pub after_commit : (result : Result (Unit {0}) RecFault) (len checksum : ℕ) (before after : Recorder Plan) → AfterCall true plan_story result before after
     → (IsErrOf result Device → ⊥) → OnOk result (journal_slots after ≡ committed_slots (journal_slots before) len checksum)
     → slots_left (journal_slots before) ≡ None → slots_left (journal_slots after) ≡ None
 after_commit (Ok _) len checksum before after called never slots none = ap slots_left slots ∙ turns_on (journal_slots before) len checksum none

@@ -6,17 +6,17 @@ use Rattle.fit_activity.specs.Rides.RunningTotals.{AreTotals}
 use Rattle.fit_device.specs.declared.handle.Handle.{Handle}
 use Rattle.fit_device.specs.declared.plan.DevicePlan.{DevicePlan}
 use Rattle.fit_device.specs.Answer.{code_of, code_of_fault}
-use Rattle.fit_device.specs.Handle.{story_of, NeverFills, WasHanded, Stands}
+use Rattle.fit_device.specs.Handle.{handle_story, HandleNeverFills, WasHanded, Stands}
 use Rattle.fit_device.proofs.Leading.{leads_since}
-use Rattle.fit_device.specs.Steps.{Steps, IsSame}
+use Rattle.fit_device.specs.Steps.{PlansStep, IsSame}
 use Rattle.fit_device.specs.Taken.{IsTaken, IsPut}
-use Rattle.fit_disk.specs.Runs.{Takes}
+use Rattle.fit_disk.specs.Runs.{TakesRoom}
 use Rattle.fit_disk.specs.State.{Contents}
 use Rattle.fit_disk.specs.Story.{Story, Throughout}
 use Rattle.fit_notes.specs.Numbers.{numbers_of}
 use Rattle.fit_plan.proofs.Room.{has_room}
 use Rattle.fit_plan.specs.declared.plan.Plan.{Plan}
-use Rattle.fit_plan.specs.Plan.{story_in, since_in, log_in, most_calls, most_bytes}
+use Rattle.fit_plan.specs.Plan.{plan_story, plan_since, plan_log, most_planned_calls, most_planned_bytes}
 use Rattle.fit_recorder.specs.declared.fault.RecFault.{RecFault}
 use Rattle.fit_recorder.specs.declared.fault.RecFault.TheVariants.{NotEmpty, Refused, Full, JournalFull, Device, Failed, NothingRecorded, Damaged}
 use Rattle.fit_recorder.specs.declared.recorder.Recorder.{Recorder}
@@ -39,7 +39,7 @@ is_at list committed state other story later states stories at =
     subst (λ s. IsAt true other s list committed) stories (subst (λ m. IsAt true m story list committed) states at)
 
 -- a call of a recorder that goes on leaves one that does, unless the device fails
-pub still_going : (result : Result (Unit {0}) RecFault) (before after : Recorder Plan) → AfterCall true story_in result before after
+pub still_going : (result : Result (Unit {0}) RecFault) (before after : Recorder Plan) → AfterCall true plan_story result before after
     → has_failed before ≡ false → (IsErrOf result Device → ⊥) → has_failed after ≡ false
 still_going (Ok _) before after called going never = called.going
 still_going (Err fault) before after called going never =
@@ -69,11 +69,11 @@ not_device NothingRecorded code is never device = omega (arith, is, device)
 not_device Damaged code is never device = omega (arith, is, device)
 
 module _ (old : Handle) (before : Recorder Plan) (taken : IsTaken old before) where
-  pub never_device : (most bytes : ℕ) (Fails : Type 0) (after : Recorder Plan) → most ≤ most_calls → bytes ≤ most_bytes
-      → Takes most bytes Fails (log_in (disk_of before)) (log_in (disk_of after)) → Fails → ⊥
+  pub never_device : (most bytes : ℕ) (Fails : Type 0) (after : Recorder Plan) → most ≤ most_planned_calls → bytes ≤ most_planned_bytes
+      → TakesRoom most bytes Fails (plan_log (disk_of before)) (plan_log (disk_of after)) → Fails → ⊥
   never_device most bytes Fails after = has_room most bytes Fails (disk_of before) (disk_of after) taken.counts taken.room
 
-  pub stood : (list committed : List Recorded) → Stands old list committed → StandsAt true story_in before list committed
+  pub stood : (list committed : List Recorded) → Stands old list committed → StandsAt true plan_story before list committed
   stood list committed stands = is_at list committed _ _ _ _ (sym taken.state) (sym taken.story) stands.at
 
   pub was_going : (list : List Recorded) → WasHanded old list → has_failed before ≡ false
@@ -83,7 +83,7 @@ module _ (old : Handle) (before : Recorder Plan) (taken : IsTaken old before) wh
   was_handed list handed = subst (λ totals. AreTotals totals list) (sym (ap (λ (state : RecorderState). state.totals) taken.state)) handed.totals
 
 module _ (new : Handle) (plan : DevicePlan) (after : Recorder Plan) (put : IsPut new plan after) where
-  pub stands : (list committed : List Recorded) → has_failed after ≡ false → StandsAt true story_in after list committed → Stands new list committed
+  pub stands : (list committed : List Recorded) → has_failed after ≡ false → StandsAt true plan_story after list committed → Stands new list committed
   stands list committed going at = record {
     recorder = put.is_recorder;
     going = put.failed ∙ going;
@@ -102,10 +102,10 @@ module _ (new : Handle) (plan : DevicePlan) (after : Recorder Plan) (put : IsPut
     unchanged is = record {
       state = put.state ∙ ap state_of is ∙ taken.state;
       failed = put.failed ∙ ap has_failed is ∙ taken.failed;
-      story = put.story ∙ ap (λ (recorder : Recorder Plan). story_in (disk_of recorder)) is ∙ taken.story;
+      story = put.story ∙ ap (λ (recorder : Recorder Plan). plan_story (disk_of recorder)) is ∙ taken.story;
     }
 
-    refused : (result : Result (Unit {0}) RecFault) (code : ℕ) → code ≡ code_of result → AfterCall true story_in result before after
+    refused : (result : Result (Unit {0}) RecFault) (code : ℕ) → code ≡ code_of result → AfterCall true plan_story result before after
         → (IsErrOf result Device → ⊥) → (code ≡ 0 → ⊥) → IsSame old new
     refused (Ok _) code is called never no_zero = absurd (no_zero is)
     refused (Err fault) code is called never no_zero =
@@ -115,8 +115,8 @@ module _ (new : Handle) (plan : DevicePlan) (after : Recorder Plan) (put : IsPut
     no_device (Ok _) code is never device = omega (arith, is, device)
     no_device (Err fault) code is never device = not_device fault code is (λ (fault_is : fault ≡ Device). never (ap Err fault_is)) device
 
-    pub steps : (result : Result (Unit {0}) RecFault) (code : ℕ) → code ≡ code_of result → AfterCall true story_in result before after
-        → (IsErrOf result Device → ⊥) → numbers_of (since_in (disk_of after)) ≡ numbers_of (since_in (disk_of before)) → Steps old new plan code
+    pub steps : (result : Result (Unit {0}) RecFault) (code : ℕ) → code ≡ code_of result → AfterCall true plan_story result before after
+        → (IsErrOf result Device → ⊥) → numbers_of (plan_since (disk_of after)) ≡ numbers_of (plan_since (disk_of before)) → PlansStep old new plan code
     steps result code is called never same = record {
       planned = leads_since plan (disk_of before) (disk_of after) _ _ _ taken.since same (sym put.story) put.planned;
       none = λ no. absurd (no taken.is_recorder);
@@ -125,10 +125,10 @@ module _ (new : Handle) (plan : DevicePlan) (after : Recorder Plan) (put : IsPut
       no_device = no_device result code is never;
     }
 
-    pub throughout : (P : Contents → Type 0) → Throughout P (story_in (disk_of before)) (story_in (disk_of after)) → Throughout P (story_of old) (story_of new)
-    throughout P run = subst (λ later. Throughout P (story_of old) later) (sym put.story) (subst (λ earlier. Throughout P earlier (story_in (disk_of after))) taken.story run)
+    pub throughout : (P : Contents → Type 0) → Throughout P (plan_story (disk_of before)) (plan_story (disk_of after)) → Throughout P (handle_story old) (handle_story new)
+    throughout P run = subst (λ later. Throughout P (handle_story old) later) (sym put.story) (subst (λ earlier. Throughout P earlier (plan_story (disk_of after))) taken.story run)
 
     -- the journal keeps slots that take turns
-    pub never_fills : (slots_left (journal_slots before) ≡ None → slots_left (journal_slots after) ≡ None) → NeverFills old → NeverFills new
+    pub never_fills : (slots_left (journal_slots before) ≡ None → slots_left (journal_slots after) ≡ None) → HandleNeverFills old → HandleNeverFills new
     never_fills keeps never =
         ap slots_left (ap (λ (state : RecorderState). state.journal_slots) put.state) ∙ keeps (ap slots_left (ap (λ (state : RecorderState). state.journal_slots) taken.state) ∙ never)

@@ -13,16 +13,20 @@ abbrev pub recovery_mark : ℕ
 recovery_mark = 0x77746966
 
 abbrev pub asked_numbers : (data_size journal_size at file phase count : ℕ) → List ℕ
-asked_numbers data_size journal_size at file phase count = data_size ∷ journal_size ∷ at ∷ file ∷ phase ∷ count ∷ []
+asked_numbers data_size journal_size at file phase count =
+    data_size ∷ journal_size ∷ at ∷ file ∷ phase ∷ count ∷ []
 
 abbrev pub IsAsking : ℕ → ℕ → FrozenRecovery → List ℕ → Type 0
 IsAsking mark seal reading asked = (mark ≡ recovery_mark) × (seal ≡ recovery_seal reading asked)
 
 -- in the first phase both files are at rest; in the second the recovery reads on over them
 abbrev pub ReadsBy : ℕ → FrozenRecovery → Story → Type 0
-ReadsBy phase reading story = (phase ≡ 1 → IsSettled (seen_in story.now) story) × ((phase ≡ 1 → ⊥) → ReadsOnIn reading story)
+ReadsBy phase reading story =
+    (phase ≡ 1 → IsSettled (seen_in story.now) story) × ((phase ≡ 1 → ⊥) → ReadsOnIn reading story)
 
 -- which window is asked for: in the first phase the start of the journal, or all of it; in the second what follows in the body
 pub record IsPlaced (reading : FrozenRecovery) (journal_size at file phase count : ℕ) : Type 0 where
   pub finds : phase ≡ 1 → (file ≡ 1) × (at ≡ 0) × (count ≡ min 512 journal_size)
-  pub reads : (phase ≡ 1 → ⊥) → (file ≡ 0) × (at ≡ header_length + reading.at) × (count ≡ min 512 (reading.len - reading.at))
+  pub reads : (phase ≡ 1 → ⊥)
+      → (file ≡ 0) × (at ≡ header_length + reading.at)
+      × (count ≡ min 512 (reading.len - reading.at))

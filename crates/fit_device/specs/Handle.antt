@@ -11,16 +11,16 @@ use Rattle.fit_journal.specs.Turn.{slots_left}
 use Rattle.fit_recorder.specs.Calls.Frozen.{StandsFrozen, has_failed_in}
 
 -- the story of the two files, once the last plan was carried out
-abbrev pub story_of : Handle → Story
-story_of h = h.notes.story
+abbrev pub handle_story : Handle → Story
+handle_story h = h.notes.story
 
 -- its numbers are those of a recorder
 abbrev pub IsRecorder : Handle → Type 0
 IsRecorder h = IsSealed h.mark h.seal h.recorder h.data_size
 
 -- its journal has no last slot
-abbrev pub NeverFills : Handle → Type 0
-NeverFills h = slots_left (slots_in h.recorder.journal) ≡ None
+abbrev pub HandleNeverFills : Handle → Type 0
+HandleNeverFills h = slots_left (slots_in h.recorder.journal) ≡ None
 
 -- a recorder that was handed this list and has not failed
 pub record WasHanded (h : Handle) (list : List Recorded) : Type 0 where
@@ -32,4 +32,4 @@ pub record WasHanded (h : Handle) (list : List Recorded) : Type 0 where
 pub record Stands (h : Handle) (list committed : List Recorded) : Type 0 where
   pub recorder : IsRecorder h
   pub going : has_failed_in h.recorder ≡ false
-  pub at : StandsFrozen true h.recorder (story_of h) list committed
+  pub at : StandsFrozen true h.recorder (handle_story h) list committed

@@ -4,7 +4,7 @@ use Rattle.std.specs.List.{fold}
 use Rattle.fit_disk.specs.Story.{Story}
 use Rattle.fit_device.specs.declared.plan.DevicePlan.{DevicePlan}
 use Rattle.fit_plan.specs.CutOff.{IsCutOff}
-use Rattle.fit_plan.specs.Plan.{most_calls, most_bytes}
+use Rattle.fit_plan.specs.Plan.{most_planned_calls, most_planned_bytes}
 use Rattle.fit_plan.specs.Planned.{done_by, AllInside}
 use Rattle.fit_plan.specs.Within.{IsWithin}
 use Rattle.fit_plan.specs.declared.calls.Call.{Call}
@@ -22,8 +22,8 @@ carried_out plan story = fold (done_by (bytes_in plan)) story (calls_in plan)
 
 -- The numbers of the plan are within its arrays. Each call is a write, a cut or a sync of one of the two files, and begins inside its file.
 pub record IsWellFormed (plan : DevicePlan) (story : Story) : Type 0 where
-  pub few : plan.count ≤ most_calls
-  pub short : plan.used ≤ most_bytes
+  pub few : plan.count ≤ most_planned_calls
+  pub short : plan.used ≤ most_planned_bytes
   pub calls : All (IsWithin (length (bytes_in plan))) (calls_in plan)
   pub inside : AllInside (bytes_in plan) story (calls_in plan)
 

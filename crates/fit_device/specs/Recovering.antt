@@ -5,7 +5,7 @@ use Rattle.fit_activity.specs.Rides.Recording.{Recorded}
 use Rattle.fit_device.specs.declared.handle.Handle.{Handle}
 use Rattle.fit_device.specs.declared.plan.DevicePlan.{DevicePlan}
 use Rattle.fit_device.specs.Answer.{code_of, code_of_fault}
-use Rattle.fit_device.specs.Handle.{story_of, IsRecorder, Stands}
+use Rattle.fit_device.specs.Handle.{handle_story, IsRecorder, Stands}
 use Rattle.fit_device.specs.Planned.{carried_out, IsWellFormed}
 use Rattle.fit_disk.specs.Calls.{IsSound}
 use Rattle.fit_disk.specs.State.{Contents, seen_in}
@@ -30,7 +30,8 @@ pub record SoundFiles : Type 0 where
 
 -- reads of them give what C lends
 abbrev pub AreLent : SoundFiles → List ℕ → List ℕ → Type 0
-AreLent files in_data in_journal = (seen_of Data files.story ≡ in_data) × (seen_of Journal files.story ≡ in_journal)
+AreLent files in_data in_journal =
+    (seen_of Data files.story ≡ in_data) × (seen_of Journal files.story ≡ in_journal)
 
 -- The answer is that of a recovery, and any part of the plan leaves what the files stood for. After 0 the body that was finished has the
 -- checksum that the journal states. After other codes the plan has no calls, so the files stay. 5 never comes: reads give what is lent, and
@@ -54,14 +55,15 @@ pub record GoesOnWith (contents : Contents) (new : Handle) : Type 0 where
 
 -- no ride continues, for this reason
 abbrev pub IsRefused : Story → ℕ → Type 0
-IsRefused old code = (fault : RecFault) × (code ≡ code_of_fault fault) × IsRefusedFor (seen_in old.now) fault
+IsRefused old code =
+    (fault : RecFault) × (code ≡ code_of_fault fault) × IsRefusedFor (seen_in old.now) fault
 
 -- After 0 the recorder goes on over the files after the plan. After the other answers, which are those of a resume, the handle is none of
 -- a recorder, the plan has no calls, and the files stay. The checksum and 5 are as in a recovery.
 pub record Reopens (old : Story) (new : Handle) (plan : DevicePlan) (code : ℕ) : Type 0 where
   pub well_formed : IsWellFormed plan old
-  pub ok : code ≡ 0 → (story_of new ≡ carried_out plan old) × GoesOnWith (seen_in old.now) new
-  pub checked : code ≡ 0 → HasCounted (seen_of Journal old) (seen_of Data (story_of new))
+  pub ok : code ≡ 0 → (handle_story new ≡ carried_out plan old) × GoesOnWith (seen_in old.now) new
+  pub checked : code ≡ 0 → HasCounted (seen_of Journal old) (seen_of Data (handle_story new))
   pub refused : (code ≡ 0 → ⊥) → IsRefused old code × (IsRecorder new → ⊥) × (plan.count ≡ 0)
   pub same : (code ≡ 0 → ⊥) → carried_out plan old ≡ old
   pub no_device : code ≡ fault_code Device → ⊥

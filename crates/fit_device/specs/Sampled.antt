@@ -10,8 +10,8 @@ unless invalid value = if value == invalid then None else Some value
 abbrev pub unless_signed : ℕ → ℤ → Option ℤ
 unless_signed invalid value = if int_eq value (pos invalid) then None else Some value
 
-abbrev pub sample_of : DeviceSample → Sample
-sample_of s = record {
+abbrev pub sample_given : DeviceSample → Sample
+sample_given s = record {
   time = s.time;
   lat = unless_signed 0x7FFFFFFF s.lat;
   long = unless_signed 0x7FFFFFFF s.long;

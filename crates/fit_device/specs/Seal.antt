@@ -13,11 +13,12 @@ use Rattle.fit_grammar.specs.declared.definition.frozen.FrozenShort.{FrozenShort
 abbrev pub with_number : ℕ → ℕ → ℕ
 with_number register number = crc_from register (to_le_bytes w64 number)
 
-abbrev pub with_definition : ℕ → FrozenDefinition → ℕ
-with_definition register definition = with_number (crc_from register definition.bytes) definition.len
+abbrev pub sealed_with : ℕ → FrozenDefinition → ℕ
+sealed_with register definition = with_number (crc_from register definition.bytes) definition.len
 
 abbrev pub with_short_definition : ℕ → FrozenShort → ℕ
-with_short_definition register definition = with_number (crc_from register definition.bytes) definition.len
+with_short_definition register definition =
+    with_number (crc_from register definition.bytes) definition.len
 
 abbrev pub sums_numbers : FrozenSums → List ℕ
 sums_numbers s =
@@ -28,7 +29,8 @@ sums_numbers s =
 abbrev pub totals_numbers : FrozenTotals → List ℕ
 totals_numbers t =
     sums_numbers t.whole ++ sums_numbers t.lap
-    ++ t.clock.start ∷ t.clock.end ∷ t.clock.lap ∷ t.clock.timer ∷ t.clock.lap_timer ∷ t.clock.running
+    ++ t.clock.start ∷ t.clock.end ∷ t.clock.lap ∷ t.clock.timer ∷ t.clock.lap_timer
+    ∷ t.clock.running
     ∷ t.time ∷ t.serial ∷ t.distance ∷ t.laps ∷ t.sport ∷ t.stopped ∷ t.has_distance ∷ []
 
 -- the other numbers of a recorder, but for its page and its definitions
@@ -47,11 +49,15 @@ reading_numbers f =
 
 -- the check code of some numbers, the totals, and other numbers
 abbrev pub with_totals : List ℕ → FrozenTotals → List ℕ → ℕ
-with_totals first totals others = fold with_number (fold with_number (fold with_number 0 first) (totals_numbers totals)) others
+with_totals first totals others =
+    fold with_number (fold with_number (fold with_number 0 first) (totals_numbers totals)) others
 
 abbrev pub seal_of : FrozenRecorder → ℕ → ℕ
-seal_of f data_size = fold with_definition (crc_from (with_totals (data_size ∷ []) f.totals (recorder_numbers f)) f.page) f.definitions
+seal_of f data_size =
+    fold sealed_with (crc_from
+    (with_totals (data_size ∷ []) f.totals (recorder_numbers f)) f.page) f.definitions
 
 -- of a recovery, with the numbers that say what it asks for
 abbrev pub recovery_seal : FrozenRecovery → List ℕ → ℕ
-recovery_seal f asked = fold with_short_definition (with_totals asked f.heard.totals (reading_numbers f)) f.definitions
+recovery_seal f asked =
+    fold with_short_definition (with_totals asked f.heard.totals (reading_numbers f)) f.definitions

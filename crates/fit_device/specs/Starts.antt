@@ -5,7 +5,7 @@ use Rattle.fit_activity.specs.Rides.Recording.{Started}
 use Rattle.fit_device.specs.Answer.{code_of_fault}
 use Rattle.fit_device.specs.declared.handle.Handle.{Handle}
 use Rattle.fit_device.specs.declared.plan.DevicePlan.{DevicePlan}
-use Rattle.fit_device.specs.Handle.{story_of, IsRecorder, NeverFills, Stands}
+use Rattle.fit_device.specs.Handle.{handle_story, IsRecorder, HandleNeverFills, Stands}
 use Rattle.fit_device.specs.Planned.{Leads}
 use Rattle.fit_disk.specs.Story.{seen_of}
 use Rattle.fit_disk.specs.declared.disk.Which.TheVariants.{Data}
@@ -19,12 +19,13 @@ use Rattle.fit_recorder.specs.declared.fault.RecFault.TheVariants.{Device, NotEm
 -- recorder, the plan has no calls, and the files stay. No call of the plan fails for want of room. Any part of it leaves nothing recorded, or
 -- the start alone.
 pub record Starts (start : Start) (old new : Handle) (plan : DevicePlan) (code : ℕ) : Type 0 where
-  pub planned : Leads plan (story_of old) (story_of new)
+  pub planned : Leads plan (handle_story old) (handle_story new)
   pub no_device : code ≡ fault_code Device → ⊥
-  pub ok : code ≡ 0 → Stands new (Started start ∷ []) (Started start ∷ []) × NeverFills new
-  pub was_empty : code ≡ 0 → seen_of Data (story_of old) ≡ []
-  pub refused : (code ≡ 0 → ⊥) → (fault : RecFault) × (code ≡ code_of_fault fault) × StartAnswers start fault
+  pub ok : code ≡ 0 → Stands new (Started start ∷ []) (Started start ∷ []) × HandleNeverFills new
+  pub was_empty : code ≡ 0 → seen_of Data (handle_story old) ≡ []
+  pub refused : (code ≡ 0 → ⊥)
+      → (fault : RecFault) × (code ≡ code_of_fault fault) × StartAnswers start fault
   pub gone : (code ≡ 0 → ⊥) → IsRecorder new → ⊥
-  pub not_empty : code ≡ fault_code NotEmpty → seen_of Data (story_of old) ≡ [] → ⊥
-  pub same : (code ≡ 0 → ⊥) → (plan.count ≡ 0) × (story_of new ≡ story_of old)
-  pub any_moment : InStart start (story_of old) (story_of new)
+  pub not_empty : code ≡ fault_code NotEmpty → seen_of Data (handle_story old) ≡ [] → ⊥
+  pub same : (code ≡ 0 → ⊥) → (plan.count ≡ 0) × (handle_story new ≡ handle_story old)
+  pub any_moment : InStart start (handle_story old) (handle_story new)

@@ -12,7 +12,7 @@ pub(crate) const NO_RECORDER: u8 = 11;
 pub(crate) const NO_SPORT: u8 = 12;
 
 // A window of a file is asked for.
-pub(crate) const WANTS: u8 = 13;
+pub(crate) const NEEDS_WINDOW: u8 = 13;
 
 pub(crate) fn code_of(answer: &Result<(), RecFault>) -> u8
     ensures { result ≡ number_of answer.now }

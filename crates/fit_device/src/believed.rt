@@ -1,6 +1,6 @@
 // A recovery by windows of which a handle says only that it reads on, and not what it has read.
 
-ghost use Rattle.fit_plan.specs.Plan.{story_in};
+ghost use Rattle.fit_plan.specs.Plan.{plan_story};
 ghost use Rattle.fit_recorder.specs.Calls.Windows.{CanReadOn, ReadsOn};
 
 use fit_plan::Plan;
@@ -16,6 +16,7 @@ pub(crate) struct Believed<'a, 'b> {
 impl Believed<'_, '_> {
     // What is known of the recovery. It does nothing.
     pub(crate) fn reveal(&self)
-        ensures { CanReadOn self.now.recovery.now × ReadsOn (story_in self.now.files.now) self.now.recovery.now }
+        ensures { CanReadOn self.now.recovery.now
+            × ReadsOn (plan_story self.now.files.now) self.now.recovery.now }
     {}
 }

@@ -3,7 +3,7 @@
 ghost use Rattle.std.specs.Prelude.{◌≡◌, length};
 ghost use Rattle.fit_device.specs.Windowed.{Begins, Finds, GoesOn, ReadsRide, ReopensOn, ErasesOn, IsRecovery};
 
-use crate::answer::{NO_RECORDER, WANTS, code_of_fault};
+use crate::answer::{NEEDS_WINDOW, NO_RECORDER, code_of_fault};
 use crate::files::Files;
 use crate::handle::Handle;
 use crate::plan::DevicePlan;
@@ -23,7 +23,7 @@ pub extern "C" fn fitrec_recover_begin(recovery: &mut RecoveryHandle, plan: &mut
         Ok(()) => {
             let count = journal_size.min(512) as u16;
             recovery.ask(files, journal_size, FINDS, 0, count);
-            WANTS
+            NEEDS_WINDOW
         }
         Err(_) => {
             recovery.put_files(files, journal_size);
@@ -34,7 +34,7 @@ pub extern "C" fn fitrec_recover_begin(recovery: &mut RecoveryHandle, plan: &mut
 
 /// Goes on with the window that was asked for: asks for the next one, or ends as `fitrec_recover` does.
 #[unsafe(no_mangle)]
-pub extern "C" fn fitrec_recover_on(recovery: &mut RecoveryHandle, plan: &mut DevicePlan) -> u8
+pub extern "C" fn fitrec_recover_next(recovery: &mut RecoveryHandle, plan: &mut DevicePlan) -> u8
     ensures { GoesOn recovery.old recovery.new plan.new result }
 {
     if !recovery.is_recovery() {
@@ -51,7 +51,7 @@ pub extern "C" fn fitrec_recover_on(recovery: &mut RecoveryHandle, plan: &mut De
 /// Goes on with the window that was asked for: asks for the next one, or ends as `fitrec_reopen` does. Until then the handle stays
 /// as it is.
 #[unsafe(no_mangle)]
-pub extern "C" fn fitrec_reopen_on(
+pub extern "C" fn fitrec_reopen_next(
     recovery: &mut RecoveryHandle,
     handle: &mut Handle,
     plan: &mut DevicePlan,
@@ -76,7 +76,7 @@ pub extern "C" fn fitrec_reopen_on(
 
 /// Ends as `fitrec_erase` does, with the window of the journal that `fitrec_recover_begin` asked for.
 #[unsafe(no_mangle)]
-pub extern "C" fn fitrec_erase_on(recovery: &mut RecoveryHandle, plan: &mut DevicePlan) -> u8
+pub extern "C" fn fitrec_erase_next(recovery: &mut RecoveryHandle, plan: &mut DevicePlan) -> u8
     ensures { ErasesOn recovery.old recovery.new plan.new result }
 {
     if !recovery.asks_for_journal() {
@@ -118,7 +118,7 @@ fn find_body(handle: &mut RecoveryHandle, plan: &mut DevicePlan) -> u8
     match answer {
         Ok(()) => {
             handle.ask_for_body(files, journal_size, &recovery);
-            WANTS
+            NEEDS_WINDOW
         }
         Err(fault) => {
             handle.put_files(files, journal_size);
@@ -142,7 +142,7 @@ fn read_body(handle: &mut RecoveryHandle, plan: &mut DevicePlan) -> u8
     match answer {
         None => {
             handle.ask_for_body(files, journal_size, &recovery);
-            WANTS
+            NEEDS_WINDOW
         }
         Some(answer) => {
             handle.put_files(files, journal_size);
@@ -169,7 +169,7 @@ fn read_ride(handle: &mut RecoveryHandle, plan: &mut DevicePlan) -> Result<(Foun
     match answer {
         None => {
             handle.ask_for_body(files, journal_size, &recovery);
-            Err(WANTS)
+            Err(NEEDS_WINDOW)
         }
         Some(answer) => match answer {
             Ok(ride) => Ok((ride, files)),

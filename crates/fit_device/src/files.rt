@@ -2,9 +2,9 @@
 
 ghost use Rattle.std.specs.Prelude.{◌≡◌, length};
 ghost use Rattle.fit_disk.specs.Calls.{IsSound};
-ghost use Rattle.fit_device.specs.Handle.{story_of};
+ghost use Rattle.fit_device.specs.Handle.{handle_story};
 ghost use Rattle.fit_device.specs.Planned.{Leads};
-ghost use Rattle.fit_plan.specs.Plan.{story_in, since_in};
+ghost use Rattle.fit_plan.specs.Plan.{plan_story, plan_since};
 
 use crate::handle::Handle;
 use crate::plan::DevicePlan;
@@ -23,7 +23,7 @@ pub struct Files {
 impl Files {
     // Those of a handle, once more.
     pub(crate) fn of(handle: &Handle) -> Files
-        ensures { result.notes.story ≡ story_of handle.now }
+        ensures { result.notes.story ≡ handle_story handle.now }
     {
         Files {
             size: handle.data_size,
@@ -34,8 +34,8 @@ impl Files {
     // Puts the calls that are planned into the plan of C, and returns the files.
     // By reference: a plan is large, and each copy takes stack.
     pub(crate) fn after(files: &Plan, plan: &mut DevicePlan) -> Files
-        ensures story { result.notes.story ≡ story_in files.now }
-        ensures planned { Leads plan.new (since_in files.now) (story_in files.now) }
+        ensures story { result.notes.story ≡ plan_story files.now }
+        ensures planned { Leads plan.new (plan_since files.now) (plan_story files.now) }
     {
         plan.fill(files);
         Files {

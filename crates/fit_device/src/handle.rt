@@ -4,7 +4,7 @@ ghost use Rattle.std.specs.Prelude.{◌≡◌, ◌↔◌, true, false, length, I
 ghost use Rattle.fit_disk.specs.Calls.{IsSound};
 ghost use Rattle.fit_device.specs.Sealed.{IsSealed, GoesOnIn};
 ghost use Rattle.fit_disk.specs.Counts.{no_calls};
-ghost use Rattle.fit_plan.specs.Plan.{story_in, since_in, counts_in, room_in, whole_room};
+ghost use Rattle.fit_plan.specs.Plan.{plan_story, plan_since, plan_counts, room_in, whole_room};
 ghost use Rattle.fit_recorder.specs.Calls.Frozen.{state_in, has_failed_in};
 ghost use Rattle.fit_recorder.specs.Calls.Recorder.{GoesOn, state_of, has_failed, disk_of};
 
@@ -38,7 +38,7 @@ pub struct Handle {
 }
 
 impl Handle {
-    ghost use Rattle.fit_device.specs.Handle.{story_of, IsRecorder};
+    ghost use Rattle.fit_device.specs.Handle.{handle_story, IsRecorder};
     ghost use Rattle.fit_device.specs.Recovering.{GoesOnWith};
     ghost use Rattle.fit_disk.specs.State.{Contents};
     ghost use Rattle.fit_recorder.specs.Calls.Ride.{MayGoOn, TakesUp};
@@ -52,10 +52,10 @@ impl Handle {
 
     // Takes the two files out of the handle, which is none of a recorder then.
     pub(crate) fn take_files(&mut self) -> Plan
-        ensures story { story_in result ≡ story_of self.old }
-        ensures since { since_in result ≡ story_of self.old }
+        ensures story { plan_story result ≡ handle_story self.old }
+        ensures since { plan_since result ≡ handle_story self.old }
         ensures recorder { self.new.recorder ≡ self.old.recorder }
-        ensures none { (counts_in result ≡ no_calls) × (room_in result ≡ whole_room) }
+        ensures none { (plan_counts result ≡ no_calls) × (room_in result ≡ whole_room) }
     {
         let plan = Plan::over(self.data_size, mem::replace(&mut self.notes, Notes::new()));
         self.data_size = 0;
@@ -66,7 +66,7 @@ impl Handle {
     // Puts the two files into the handle, which is none of a recorder.
     pub(crate) fn put_files(&mut self, files: Files)
         ensures none { IsRecorder self.new → ⊥ }
-        ensures story { story_of self.new ≡ files.notes.story }
+        ensures story { handle_story self.new ≡ files.notes.story }
     {
         self.mark = 0;
         self.data_size = files.size;
@@ -86,7 +86,7 @@ impl Handle {
         ensures none { result ≡ false → self.new ≡ self.old }
         ensures taken { result ≡ true → IsTaken self.old recorder.new }
         ensures goes_on { result ≡ true
-            → GoesOn true story_in recorder.new × (has_failed recorder.new ≡ false) }
+            → GoesOn true plan_story recorder.new × (has_failed recorder.new ≡ false) }
     {
         if !self.is_recorder() {
             return false;
@@ -105,7 +105,7 @@ impl Handle {
 
     // Puts a recorder into the handle, and its calls into the plan.
     pub(crate) fn put(&mut self, recorder: &Recorder<Plan>, plan: &mut DevicePlan)
-        requires goes_on { GoesOn true story_in recorder.now }
+        requires goes_on { GoesOn true plan_story recorder.now }
         requires going { has_failed recorder.now ≡ false }
         ensures { IsPut self.new plan.new recorder.now }
     {
@@ -122,7 +122,7 @@ impl Handle {
         requires taken { (contents : Contents) × TakesUp contents files.notes.story (Ok ride) }
         ensures goes_on { (contents : Contents) → TakesUp contents files.notes.story (Ok ride)
             → GoesOnWith contents self.new }
-        ensures story { story_of self.new ≡ files.notes.story }
+        ensures story { handle_story self.new ≡ files.notes.story }
     {
         let disk = Plan::over(files.size, files.notes.same());
         let mut recorder = Recorder::idle(disk);
@@ -137,7 +137,7 @@ impl Handle {
         requires { GoesOnIn self.old.recorder files.notes.story }
         ensures recorder { IsRecorder self.new }
         ensures same { self.new.recorder ≡ self.old.recorder }
-        ensures story { story_of self.new ≡ files.notes.story }
+        ensures story { handle_story self.new ≡ files.notes.story }
     {
         self.seal = seal_of(&self.recorder, files.size);
         self.mark = MARK;

@@ -20,8 +20,10 @@ mod state;
 mod thawed;
 mod windowed;
 
-pub use by_windows::{fitrec_erase_on, fitrec_recover_begin, fitrec_recover_on, fitrec_reopen_on};
-pub use handing::{fitrec_hand_sample, fitrec_lap, fitrec_pause, fitrec_resume};
+pub use by_windows::{
+    fitrec_erase_next, fitrec_recover_begin, fitrec_recover_next, fitrec_reopen_next,
+};
+pub use handing::{fitrec_add_lap, fitrec_add_sample, fitrec_pause_timer, fitrec_resume_timer};
 pub use handle::Handle;
 pub use plan::DevicePlan;
 pub use recovering::{fitrec_erase, fitrec_recover, fitrec_reopen};

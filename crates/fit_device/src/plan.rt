@@ -2,7 +2,7 @@
 
 ghost use Rattle.std.specs.Prelude.{◌≡◌, ◌≤◌, take, length};
 ghost use Rattle.fit_disk.specs.Story.{Story};
-ghost use Rattle.fit_plan.specs.Plan.{story_in, since_in};
+ghost use Rattle.fit_plan.specs.Plan.{plan_story, plan_since};
 
 use fit_plan::{Call, MOST_BYTES, MOST_CALLS, Plan};
 
@@ -30,7 +30,7 @@ impl DevicePlan {
 
     // The calls of a plan.
     pub(crate) fn fill(&mut self, plan: &Plan)
-        ensures { Leads self.new (since_in plan.now) (story_in plan.now) }
+        ensures { Leads self.new (plan_since plan.now) (plan_story plan.now) }
     {
         let (calls, bytes) = (plan.calls.calls.as_slice(), plan.calls.bytes.as_slice());
         self.calls[..calls.len()].copy_from_slice(calls);

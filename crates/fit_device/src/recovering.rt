@@ -7,7 +7,7 @@ ghost use Rattle.fit_disk.specs.Calls.{IsSound};
 ghost use Rattle.fit_disk.specs.State.{seen_in};
 ghost use Rattle.fit_disk.specs.Story.{Story, seen_of};
 ghost use Rattle.fit_disk.specs.declared.disk.Which.TheVariants.{Data, Journal};
-ghost use Rattle.fit_plan.specs.Plan.{story_in, since_in, counts_in, room_in, whole_room, log_in};
+ghost use Rattle.fit_plan.specs.Plan.{plan_story, plan_since, plan_counts, room_in, whole_room, plan_log};
 ghost use Rattle.fit_recorder.specs.Calls.Recovery.{InRecovery, RecoveryAnswers};
 ghost use Rattle.fit_recorder.specs.Calls.Ride.{MayGoOn, TakesUp};
 ghost use Rattle.fit_recorder.specs.Calls.Windows.{AreAt, place_of};
@@ -35,7 +35,8 @@ pub extern "C" fn fitrec_recover(
     plan: &mut DevicePlan,
 ) -> u8
     ghost before: { SoundFiles }
-    ensures { AreLent before data_bytes.now journal_bytes.now → Recovers before.story plan.new result }
+    ensures { AreLent before data_bytes.now journal_bytes.now
+        → Recovers before.story plan.new result }
 {
     let mut files = lent(data_bytes, journal_bytes);
     match recover(&mut files, data_bytes, journal_bytes) {
@@ -81,7 +82,8 @@ pub extern "C" fn fitrec_reopen(
 #[unsafe(no_mangle)]
 pub extern "C" fn fitrec_erase(data_bytes: &[u8], journal_bytes: &[u8], plan: &mut DevicePlan) -> u8
     ghost before: { SoundFiles }
-    ensures { AreLent before data_bytes.now journal_bytes.now → Erases before.story plan.new result }
+    ensures { AreLent before data_bytes.now journal_bytes.now
+        → Erases before.story plan.new result }
 {
     let mut files = lent(data_bytes, journal_bytes);
     match erase_known(&mut files, journal_bytes) {
@@ -100,8 +102,9 @@ pub extern "C" fn fitrec_erase(data_bytes: &[u8], journal_bytes: &[u8], plan: &m
 fn lent(data_bytes: &[u8], _journal_bytes: &[u8]) -> Plan
     ghost before: { Story }
     requires sound { IsSound before.now }
-    requires lent { (seen_of Data before ≡ data_bytes.now) × (seen_of Journal before ≡ _journal_bytes.now) }
-    ensures story { story_in result ≡ before }
+    requires lent { (seen_of Data before ≡ data_bytes.now)
+        × (seen_of Journal before ≡ _journal_bytes.now) }
+    ensures story { plan_story result ≡ before }
     ensures begun { Begun result }
 {
     Plan::over(data_bytes.len() as u64, Notes::over())
@@ -110,13 +113,15 @@ fn lent(data_bytes: &[u8], _journal_bytes: &[u8]) -> Plan
 // As `recover` of fit_recorder does over these files.
 fn recover(files: &mut Plan, data_bytes: &[u8], journal_bytes: &[u8]) -> Result<Summary, RecFault>
     requires begun { Begun files.old }
-    requires lent { (seen_of Data (story_in files.old) ≡ data_bytes.now)
-        × (seen_of Journal (story_in files.old) ≡ journal_bytes.now) }
-    ensures decides { RecoveryAnswers (seen_in (story_in files.old).now) (story_in files.new) result }
+    requires lent { (seen_of Data (plan_story files.old) ≡ data_bytes.now)
+        × (seen_of Journal (plan_story files.old) ≡ journal_bytes.now) }
+    ensures decides { RecoveryAnswers (seen_in (plan_story files.old).now)
+        (plan_story files.new) result }
     ensures checked { OnOk result
-        (HasCounted (seen_of Journal (story_in files.old)) (seen_of Data (story_in files.new))) }
-    ensures any_moment { InRecovery (story_in files.old) (story_in files.new) }
-    ensures memory { (log_in files.new).memory ≡ (log_in files.old).memory }
+        (HasCounted (seen_of Journal (plan_story files.old))
+        (seen_of Data (plan_story files.new))) }
+    ensures any_moment { InRecovery (plan_story files.old) (plan_story files.new) }
+    ensures memory { (plan_log files.new).memory ≡ (plan_log files.old).memory }
     ensures no_device { IsErrOf result faults.Device → ⊥ }
 {
     let mut recovery = Recovery::idle();
@@ -131,14 +136,15 @@ fn recover(files: &mut Plan, data_bytes: &[u8], journal_bytes: &[u8]) -> Result<
 // As `take_up` of fit_recorder does over these files.
 fn take_up(files: &mut Plan, data_bytes: &[u8], journal_bytes: &[u8]) -> Result<FoundRide, RecFault>
     requires begun { Begun files.old }
-    requires lent { (seen_of Data (story_in files.old) ≡ data_bytes.now)
-        × (seen_of Journal (story_in files.old) ≡ journal_bytes.now) }
-    ensures taken { TakesUp (seen_in (story_in files.old).now) (story_in files.new) result }
+    requires lent { (seen_of Data (plan_story files.old) ≡ data_bytes.now)
+        × (seen_of Journal (plan_story files.old) ≡ journal_bytes.now) }
+    ensures taken { TakesUp (seen_in (plan_story files.old).now) (plan_story files.new) result }
     ensures goes_on { IfOk result MayGoOn }
     ensures checked { OnOk result
-        (HasCounted (seen_of Journal (story_in files.old)) (seen_of Data (story_in files.new))) }
-    ensures any_moment { InRecovery (story_in files.old) (story_in files.new) }
-    ensures memory { (log_in files.new).memory ≡ (log_in files.old).memory }
+        (HasCounted (seen_of Journal (plan_story files.old))
+        (seen_of Data (plan_story files.new))) }
+    ensures any_moment { InRecovery (plan_story files.old) (plan_story files.new) }
+    ensures memory { (plan_log files.new).memory ≡ (plan_log files.old).memory }
     ensures no_device { IsErrOf result faults.Device → ⊥ }
 {
     let mut recovery = Recovery::idle();
@@ -153,13 +159,13 @@ fn take_up(files: &mut Plan, data_bytes: &[u8], journal_bytes: &[u8]) -> Result<
 // Syncs both files, and finds in the journal how much is committed.
 fn find(files: &mut Plan, journal_bytes: &[u8], recovery: &mut Recovery) -> Result<(), RecFault>
     requires begun { Begun files.old }
-    requires lent { seen_of Journal (story_in files.old) ≡ journal_bytes.now }
+    requires lent { seen_of Journal (plan_story files.old) ≡ journal_bytes.now }
     ensures found { OnOk result (IsFound files.old files.new recovery.new) }
     ensures refused { IfErr result (λ fault.
-        RecoveryAnswers (seen_in (story_in files.old).now) (story_in files.new) (Err fault)) }
+        RecoveryAnswers (seen_in (plan_story files.old).now) (plan_story files.new) (Err fault)) }
     ensures no_device { IsErrOf result faults.Device → ⊥ }
-    ensures any_moment { InRecovery (story_in files.old) (story_in files.new) }
-    ensures memory { (log_in files.new).memory ≡ (log_in files.old).memory }
+    ensures any_moment { InRecovery (plan_story files.old) (plan_story files.new) }
+    ensures memory { (plan_log files.new).memory ≡ (plan_log files.old).memory }
 {
     settle(files)?;
     let mut journal = LentJournal::over(files.size, files.notes.same(), journal_bytes, true);
@@ -168,7 +174,8 @@ fn find(files: &mut Plan, journal_bytes: &[u8], recovery: &mut Recovery) -> Resu
 
 // What a recovery reads next of the data file.
 fn next_window<'a>(recovery: &Recovery, data_bytes: &'a [u8]) -> &'a [u8]
-    requires { place_of recovery.now + (recovery.now.reader.len - recovery.now.reader.at) ≤ length data_bytes.now }
+    requires { place_of recovery.now +
+        (recovery.now.reader.len - recovery.now.reader.at) ≤ length data_bytes.now }
     ensures at { AreAt (place_of recovery.now) result.now data_bytes.now }
     ensures long { length result.now ≡ min 512 (recovery.now.reader.len - recovery.now.reader.at) }
 {

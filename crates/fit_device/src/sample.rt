@@ -1,7 +1,7 @@
 // A sample in the memory of C.
 
 ghost use Rattle.std.specs.Prelude.{◌≡◌, ◌==◌, if◌then◌else◌, pos, Some, None};
-ghost use Rattle.fit_device.specs.Sampled.{unless, unless_signed, sample_of};
+ghost use Rattle.fit_device.specs.Sampled.{unless, unless_signed, sample_given};
 
 use fit_activity::Sample;
 
@@ -25,7 +25,7 @@ pub struct DeviceSample {
 }
 
 pub(crate) fn sample_of(sample: &DeviceSample) -> Sample
-    ensures { result ≡ sample_of sample.now }
+    ensures { result ≡ sample_given sample.now }
 {
     Sample {
         time: sample.time,

@@ -2,7 +2,7 @@
 
 ghost use Rattle.std.specs.Prelude.{◌≡◌};
 ghost use Rattle.std.specs.List.{fold};
-ghost use Rattle.fit_device.specs.Seal.{with_number, with_definition, with_short_definition, sums_numbers, totals_numbers, recorder_numbers, reading_numbers, seal_of, recovery_seal};
+ghost use Rattle.fit_device.specs.Seal.{with_number, sealed_with, with_short_definition, sums_numbers, totals_numbers, recorder_numbers, reading_numbers, seal_of, recovery_seal};
 
 use fit_activity::{FrozenSums, FrozenTotals};
 use fit_base::Crc;
@@ -46,7 +46,7 @@ fn add_numbers(check: &mut Crc, numbers: &[u64])
 }
 
 fn add_definitions(check: &mut Crc, definitions: &[FrozenDefinition])
-    ensures { check.new ≡ fold with_definition check.old definitions.now }
+    ensures { check.new ≡ fold sealed_with check.old definitions.now }
 {
     for definition in definitions {
         check.add(&definition.bytes);

@@ -4,7 +4,7 @@ ghost use Rattle.std.specs.Prelude.{◌≡◌, ◌≤◌, ◌<◌, ◌↔◌, tr
 ghost use Rattle.fit_activity.specs.Rides.Frozen.{sport_in};
 ghost use Rattle.fit_device.specs.Answer.{no_sport};
 ghost use Rattle.fit_device.specs.Starts.{Starts};
-ghost use Rattle.fit_device.specs.Steps.{Commits, Stops};
+ghost use Rattle.fit_device.specs.Steps.{CommitsEntries, EndsRide};
 ghost use Rattle.fit_journal.specs.Turn.{are_checked};
 ghost use Rattle.fit_recorder.specs.Calls.Frozen.{state_in};
 
@@ -30,7 +30,8 @@ pub extern "C" fn fitrec_start(
         handle.old handle.new plan.new result }
     // The journal has checksums.
     ensures checked { result ≡ 0 → are_checked (state_in handle.new.recorder).journal_slots ≡ true }
-    ensures no_sport { 2 < sport → (result ≡ no_sport) × (handle.new ≡ handle.old) × (plan.new.count ≡ 0) }
+    ensures no_sport { 2 < sport
+        → (result ≡ no_sport) × (handle.new ≡ handle.old) × (plan.new.count ≡ 0) }
 {
     let Some(sport) = sport_of(sport) else {
         plan.clear();
@@ -59,7 +60,7 @@ pub extern "C" fn fitrec_start(
 /// Commits all entries so far, and plans at most eight calls. Once these are carried out, every recovery keeps the entries.
 #[unsafe(no_mangle)]
 pub extern "C" fn fitrec_commit(handle: &mut Handle, plan: &mut DevicePlan) -> u8
-    ensures { Commits handle.old handle.new plan.new result }
+    ensures { CommitsEntries handle.old handle.new plan.new result }
 {
     let mut recorder = Recorder::idle(no_files());
     if !handle.take(&mut recorder) {
@@ -75,7 +76,7 @@ pub extern "C" fn fitrec_commit(handle: &mut Handle, plan: &mut DevicePlan) -> u
 /// one.
 #[unsafe(no_mangle)]
 pub extern "C" fn fitrec_stop(handle: &mut Handle, time: u32, plan: &mut DevicePlan) -> u8
-    ensures { Stops time handle.old handle.new plan.new result }
+    ensures { EndsRide time handle.old handle.new plan.new result }
 {
     let mut recorder = Recorder::idle(no_files());
     if !handle.take(&mut recorder) {

@@ -1,7 +1,7 @@
 // A recorder of which a handle says only that it goes on and has not failed, and not at which list.
 
 ghost use Rattle.std.specs.Prelude.{◌≡◌, true, false};
-ghost use Rattle.fit_plan.specs.Plan.{story_in};
+ghost use Rattle.fit_plan.specs.Plan.{plan_story};
 ghost use Rattle.fit_recorder.specs.Calls.Recorder.{GoesOn, has_failed};
 
 use fit_plan::Plan;
@@ -16,6 +16,7 @@ pub(crate) struct Thawed<'a> {
 impl Thawed<'_> {
     // What is known of the recorder. It does nothing.
     pub(crate) fn reveal(&self)
-        ensures { GoesOn true story_in self.now.recorder.now × (has_failed self.now.recorder.now ≡ false) }
+        ensures { GoesOn true plan_story self.now.recorder.now
+            × (has_failed self.now.recorder.now ≡ false) }
     {}
 }

@@ -11,8 +11,8 @@ ghost use Rattle.fit_recorder.specs.Calls.Windows.{AreAt};
 ghost use Rattle.fit_device.specs.Asking.{IsAsking, IsPlaced, asked_numbers, ReadsBy};
 ghost use Rattle.fit_disk.specs.Counts.{no_calls};
 ghost use Rattle.fit_disk.specs.declared.disk.Which.TheVariants.{Data, Journal};
-ghost use Rattle.fit_plan.specs.Lent.{IsLentWhole, story_in as lent_story};
-ghost use Rattle.fit_plan.specs.Plan.{story_in, since_in, counts_in, room_in, whole_room};
+ghost use Rattle.fit_plan.specs.Lent.{IsLentWhole, lent_story};
+ghost use Rattle.fit_plan.specs.Plan.{plan_story, plan_since, plan_counts, room_in, whole_room};
 
 use crate::believed::Believed;
 use crate::files::Files;
@@ -54,18 +54,22 @@ pub struct RecoveryHandle {
     ghost sound: { IsSound notes.story.now },
     ghost sized: { data_size ≡ length notes.story.now.data_file.seen },
     ghost journal_sized: { journal_size ≡ length notes.story.now.journal_file.seen },
-    ghost part: { IsAsking mark seal reading (asked_numbers data_size journal_size at file phase count) → filled ≤ 512
+    ghost part: { IsAsking mark seal reading
+        (asked_numbers data_size journal_size at file phase count) → filled ≤ 512
         → AreAt at (take filled window) (seen_of (which_of file) notes.story) },
-    ghost placed: { IsAsking mark seal reading (asked_numbers data_size journal_size at file phase count)
+    ghost placed: { IsAsking mark seal reading
+        (asked_numbers data_size journal_size at file phase count)
         → IsPlaced reading journal_size at file phase count },
-    ghost settled: { IsAsking mark seal reading (asked_numbers data_size journal_size at file phase count) → phase ≡ 1
+    ghost settled: { IsAsking mark seal reading
+        (asked_numbers data_size journal_size at file phase count) → phase ≡ 1
         → IsSettled (seen_in notes.story.now) notes.story },
-    ghost believed: { IsAsking mark seal reading (asked_numbers data_size journal_size at file phase count) → (phase ≡ 1 → ⊥)
+    ghost believed: { IsAsking mark seal reading
+        (asked_numbers data_size journal_size at file phase count) → (phase ≡ 1 → ⊥)
         → ∥ ReadsOnIn reading notes.story ∥₁ },
 }
 
 impl RecoveryHandle {
-    ghost use Rattle.fit_device.specs.Windowed.{story_of, asked_of, IsRecovery, AsksForBody, AsksForJournal};
+    ghost use Rattle.fit_device.specs.Windowed.{recovery_story, asked_of, IsRecovery, AsksForBody, AsksForJournal};
     ghost use Rattle.fit_recorder.specs.Calls.Windows.{CanReadOn, ReadsOn, place_of};
 
     // Whether it asks for a window.
@@ -99,9 +103,9 @@ impl RecoveryHandle {
 
     // Takes the two files out of the handle, which asks for nothing then.
     pub(crate) fn take_files(&mut self) -> Plan
-        ensures story { story_in result ≡ story_of self.old }
-        ensures since { since_in result ≡ story_of self.old }
-        ensures none { (counts_in result ≡ no_calls) × (room_in result ≡ whole_room) }
+        ensures story { plan_story result ≡ recovery_story self.old }
+        ensures since { plan_since result ≡ recovery_story self.old }
+        ensures none { (plan_counts result ≡ no_calls) × (room_in result ≡ whole_room) }
         ensures window { (self.new.filled ≡ self.old.filled) × (self.new.window ≡ self.old.window) }
         ensures reading { self.new.reading ≡ self.old.reading }
         ensures ended { IsRecovery self.new → ⊥ }
@@ -119,15 +123,15 @@ impl RecoveryHandle {
     pub(crate) fn take_reading(&mut self, recovery: &mut Recovery) -> Plan
         requires asks { IsRecovery self.old }
         requires reads { self.old.phase ≡ 1 → ⊥ }
-        ensures reads { CanReadOn recovery.new × ReadsOn (story_in result) recovery.new }
+        ensures reads { CanReadOn recovery.new × ReadsOn (plan_story result) recovery.new }
         ensures window { (self.new.filled ≡ self.old.filled) × (self.new.window ≡ self.old.window) }
         ensures given { (self.old.filled ≤ 512) × AreAt (place_of recovery.new)
-            (take self.old.filled self.old.window) (seen_of Data (story_in result)) }
+            (take self.old.filled self.old.window) (seen_of Data (plan_story result)) }
         ensures placed { (self.old.at ≡ place_of recovery.new)
             × (self.old.count ≡ min 512 (recovery.new.reader.len - recovery.new.reader.at)) }
-        ensures story { story_in result ≡ story_of self.old }
-        ensures since { since_in result ≡ story_of self.old }
-        ensures none { (counts_in result ≡ no_calls) × (room_in result ≡ whole_room) }
+        ensures story { plan_story result ≡ recovery_story self.old }
+        ensures since { plan_since result ≡ recovery_story self.old }
+        ensures none { (plan_counts result ≡ no_calls) × (room_in result ≡ whole_room) }
         ensures ended { IsRecovery self.new → ⊥ }
     {
         recovery.thaw(&self.reading); // There is one with these numbers, which carry their check code.
@@ -167,9 +171,10 @@ impl RecoveryHandle {
     // The journal of these files, as far as the window has it.
     pub(crate) fn lend(&self, files: &Plan, journal_size: u64) -> LentJournal<'_>
         requires few { self.now.filled ≤ 512 }
-        requires front { AreAt 0 (take self.now.filled self.now.window) (seen_of Journal (story_in files.now)) }
-        requires size { journal_size ≡ length (seen_of Journal (story_in files.now)) }
-        ensures story { lent_story result ≡ story_in files.now }
+        requires front { AreAt 0 (take self.now.filled self.now.window)
+            (seen_of Journal (plan_story files.now)) }
+        requires size { journal_size ≡ length (seen_of Journal (plan_story files.now)) }
+        ensures story { lent_story result ≡ plan_story files.now }
         ensures whole { self.now.filled ≡ journal_size → IsLentWhole result }
     {
         let is_whole = u64::from(self.filled) == journal_size;
@@ -180,7 +185,7 @@ impl RecoveryHandle {
     pub(crate) fn put_files(&mut self, files: Files, journal_size: u64)
         requires { journal_size ≡ length files.notes.story.now.journal_file.seen }
         ensures ended { IsRecovery self.new → ⊥ }
-        ensures story { story_of self.new ≡ files.notes.story }
+        ensures story { recovery_story self.new ≡ files.notes.story }
     {
         self.mark = 0;
         self.data_size = files.size;
@@ -194,7 +199,7 @@ impl RecoveryHandle {
         requires reads { CanReadOn recovery.now × ReadsOn files.notes.story recovery.now }
         ensures asks { AsksForBody self.new }
         ensures at { self.new.at ≡ place_of recovery.now }
-        ensures story { story_of self.new ≡ files.notes.story }
+        ensures story { recovery_story self.new ≡ files.notes.story }
     {
         self.mark = 0;
         recovery.freeze(&mut self.reading);
@@ -206,11 +211,12 @@ impl RecoveryHandle {
     pub(crate) fn ask(&mut self, files: Files, journal_size: u64, phase: u8, at: u64, count: u16)
         requires size { journal_size ≡ length files.notes.story.now.journal_file.seen }
         requires reads { ReadsBy phase self.old.reading files.notes.story }
-        requires placed { IsPlaced self.old.reading journal_size at (if phase == 1 then 1 else 0) phase count }
+        requires placed { IsPlaced self.old.reading journal_size at (if phase == 1
+            then 1 else 0) phase count }
         ensures asks { IsRecovery self.new }
         ensures window { (self.new.file ≡ (if phase == 1 then 1 else 0)) × (self.new.at ≡ at)
             × (self.new.count ≡ count) × (self.new.phase ≡ phase) }
-        ensures story { story_of self.new ≡ files.notes.story }
+        ensures story { recovery_story self.new ≡ files.notes.story }
     {
         self.mark = 0;
         self.data_size = files.size;

@@ -6,7 +6,7 @@ use Rattle.std.proofs.lemmas.List.{get_or_past}
 use Rattle.std.proofs.lemmas.List.FromFn.{length-map-range_with_len, get_or-map-range_with_len}
 use Rattle.fit_disk.specs.Content.{IsBytes}
 use Rattle.fit_disk.specs.Stored.{Stored, IsOutside, Left}
-use Rattle.fit_disk.specs.Cycle.{is_outside, is_kept, free_below, length_by, byte_by, left_by}
+use Rattle.fit_disk.specs.Cycle.{is_outside, is_kept, free_below, length_chosen, byte_by, left_by}
 
 -- the Boolean test of a place implies the relation
 pub outside_is : (place : ℕ) (ranges : List (ℕ × ℕ)) → is_outside place ranges ≡ true → IsOutside place ranges
@@ -32,19 +32,19 @@ kept_same file place left kept =
     left.same place (ltb-true place file.least parts.0) (outside_is place file.written parts.1)
 
 pub length_in_range : (least greatest : ℕ) (choices : List ℕ) → least ≤ greatest
-    → (least ≤ length_by least greatest choices) × (length_by least greatest choices ≤ greatest)
+    → (least ≤ length_chosen least greatest choices) × (length_chosen least greatest choices ≤ greatest)
 length_in_range least greatest choices order = (omega arith, omega arith)
 
 module _ (file : Stored) (choices : List ℕ) where
   len : ℕ
-  len = length_by file.least file.greatest choices
+  len = length_chosen file.least file.greatest choices
 
-  pub length-left_by : length (left_by file choices) ≡ length_by file.least file.greatest choices
-  length-left_by = length-map-range_with_len (byte_by file.least file.written file.synced choices) 0 (length_by file.least file.greatest choices)
+  pub length-left_by : length (left_by file choices) ≡ length_chosen file.least file.greatest choices
+  length-left_by = length-map-range_with_len (byte_by file.least file.written file.synced choices) 0 (length_chosen file.least file.greatest choices)
 
-  pub get_or-left_by : (place : ℕ) → place < length_by file.least file.greatest choices
+  pub get_or-left_by : (place : ℕ) → place < length_chosen file.least file.greatest choices
       → get_or (left_by file choices) place 0 ≡ byte_by file.least file.written file.synced choices place
-  get_or-left_by place low = get_or-map-range_with_len (byte_by file.least file.written file.synced choices) 0 (length_by file.least file.greatest choices) place place 0 low (omega arith)
+  get_or-left_by place low = get_or-map-range_with_len (byte_by file.least file.written file.synced choices) 0 (length_chosen file.least file.greatest choices) place place 0 low (omega arith)
 
   byte_below : (place : ℕ) → Left file file.seen → IsBytes choices → byte_by file.least file.written file.synced choices place < 256
   byte_below place left bytes = by_test (is_kept file.least file.written place) refl
@@ -55,9 +55,9 @@ module _ (file : Stored) (choices : List ℕ) where
       by_test false is = bytes (4 + free_below file.least file.written place)
 
   left_bytes : Left file file.seen → IsBytes choices → IsBytes (left_by file choices)
-  left_bytes left bytes place = by_place (cases_lt place (length_by file.least file.greatest choices))
+  left_bytes left bytes place = by_place (cases_lt place (length_chosen file.least file.greatest choices))
     where
-      by_place : (place < length_by file.least file.greatest choices) ⊎ (length_by file.least file.greatest choices ≤ place) → get_or (left_by file choices) place 0 < 256
+      by_place : (place < length_chosen file.least file.greatest choices) ⊎ (length_chosen file.least file.greatest choices ≤ place) → get_or (left_by file choices) place 0 < 256
       by_place (inl low) = rw (get_or-left_by place low) (byte_below place left bytes)
       by_place (inr past) = rw (get_or_past (left_by file choices) place 0 (omega (arith, length-left_by))) (omega arith)
 

@@ -4,6 +4,6 @@ pub mod Leaving
 pub mod Sound
 mod Cycling
 mod Joining
-mod Halves
+mod MemoryFiles
 mod Records
 mod Reading

@@ -6,7 +6,7 @@ use Rattle.fit_disk.specs.declared.disk.Which.{Which}
 use Rattle.fit_disk.specs.Content.{over}
 use Rattle.fit_disk.specs.Stored.{at_rest, write_begun, cut_begun}
 use Rattle.fit_disk.specs.State.{State, Contents, file_of, with_file, LeavesOnly}
-use Rattle.fit_disk.specs.Story.{Story, then_state, seen_of, Throughout}
+use Rattle.fit_disk.specs.Story.{Story, state_then, seen_of, Throughout}
 use Rattle.fit_disk.specs.Calls.{Wrote, Shortened, Synced}
 
 -- what follows from P is true wherever P is
@@ -24,7 +24,7 @@ module _ (P : Contents → Type 0) where
   begins old here = record { since = []; states = refl; each = All-nil (LeavesOnly P); start = here }
 
   -- one more state
-  pub goes_on : (old mid : Story) (state : State) → Throughout P old mid → LeavesOnly P state → Throughout P old (then_state state mid)
+  pub goes_on : (old mid : Story) (state : State) → Throughout P old mid → LeavesOnly P state → Throughout P old (state_then state mid)
   goes_on old mid state run here = record {
     since = state ∷ run.since;
     states = ap (λ (states : List State). state ∷ states) run.states;
@@ -55,8 +55,8 @@ module _ (P : Contents → Type 0) where
   at_end old new run = last_has run.since old new run.states run.each run.start
 
   -- one more state, which the story has reached
-  to : (old mid new : Story) (state : State) → Throughout P old mid → new ≡ then_state state mid → LeavesOnly P state → Throughout P old new
-  to old mid new state run is here = stays old (then_state state mid) new (goes_on old mid state run here) is
+  to : (old mid new : Story) (state : State) → Throughout P old mid → new ≡ state_then state mid → LeavesOnly P state → Throughout P old new
+  to old mid new state run is here = stays old (state_then state mid) new (goes_on old mid state run here) is
 
   module _ (which : Which) (old mid new : Story) (run : Throughout P old mid) where
     -- a write, whole, in part or not at all

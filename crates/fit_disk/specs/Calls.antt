@@ -18,23 +18,29 @@ PartlyWrote which at count old new =
     × (new ≡ then_file which (write_begun at count now (file_of which old.now)) old)
 
 -- either all of the bytes were written, or the write failed before it began or in part
-pub record Wrote {T E : Type 0} (which : Which) (at : ℕ) (bytes : List ℕ) (result : Result T E) (old new : Story) : Type 0 where
+pub record Wrote {T E : Type 0} (which : Which) (at : ℕ) (bytes : List ℕ) (result : Result T E)
+    (old new : Story) : Type 0 where
   pub ok : OnOk result (new ≡
-      then_file which (write_begun at (length bytes) (over at bytes (seen_of which old)) (file_of which old.now)) old)
+      then_file which (write_begun at (length bytes) (over at bytes (seen_of which old))
+      (file_of which old.now)) old)
   pub err : OnErr result ((new ≡ old) ⊎ PartlyWrote which at (length bytes) old new)
 
 -- a part of the cut was done
 abbrev pub PartlyShortened : Which → ℕ → Story → Story → Type 0
 PartlyShortened which len old new =
-    (now : List ℕ) × PartlyCut len (seen_of which old) now × (new ≡ then_file which (cut_begun len now (file_of which old.now)) old)
+    (now : List ℕ) × PartlyCut len (seen_of which old) now
+    × (new ≡ then_file which (cut_begun len now (file_of which old.now)) old)
 
 -- either the file was cut to the length, or the cut failed before it began or in part
-pub record Shortened {T E : Type 0} (which : Which) (len : ℕ) (result : Result T E) (old new : Story) : Type 0 where
-  pub ok : OnOk result (new ≡ then_file which (cut_begun len (take len (seen_of which old)) (file_of which old.now)) old)
+pub record Shortened {T E : Type 0} (which : Which) (len : ℕ) (result : Result T E)
+    (old new : Story) : Type 0 where
+  pub ok : OnOk result (new
+      ≡ then_file which (cut_begun len (take len (seen_of which old)) (file_of which old.now)) old)
   pub err : OnErr result ((new ≡ old) ⊎ PartlyShortened which len old new)
 
 -- a sync keeps all that reads give of the file; a failed sync keeps nothing new and loses nothing
-pub record Synced {T E : Type 0} (which : Which) (result : Result T E) (old new : Story) : Type 0 where
+pub record Synced {T E : Type 0} (which : Which) (result : Result T E)
+    (old new : Story) : Type 0 where
   pub ok : OnOk result (new ≡ then_file which (at_rest (seen_of which old)) old)
   pub err : OnErr result (new ≡ old)
 

@@ -16,5 +16,5 @@ fault_of_kind OutOfMemory = Memory
 fault_of_kind _ = Open
 
 -- the fault that an error of the system is reported as
-abbrev pub fault_of : Error → OpenFault
-fault_of error = fault_of_kind (error_kind error)
+abbrev pub open_fault_of : Error → OpenFault
+open_fault_of error = fault_of_kind (error_kind error)

@@ -14,8 +14,10 @@ over at bytes old = take at old ++ (bytes ++ drop (at + length bytes) old)
 pub record Torn (at count : ℕ) (old new : List ℕ) : Type 0 where
   pub no_shorter : length old ≤ length new
   pub no_longer : length new ≤ max (length old) (at + count)
-  pub before : (place : ℕ) → place < length old → place < at → slice_index new place ≡ slice_index old place
-  pub after : (place : ℕ) → place < length old → at + count ≤ place → slice_index new place ≡ slice_index old place
+  pub before : (place : ℕ) → place < length old → place < at
+      → slice_index new place ≡ slice_index old place
+  pub after : (place : ℕ) → place < length old → at + count ≤ place
+      → slice_index new place ≡ slice_index old place
 
 -- after any part of a cut: a length between the old one and the one that was meant, and the old content below the latter
 pub record PartlyCut (len : ℕ) (old new : List ℕ) : Type 0 where

@@ -18,8 +18,10 @@ last_count = 2 ^ 64 - 1
 pub record CountsCall {T E : Type 0} (result : Result T E) (old new : Counts) : Type 0 where
   pub made : new.calls ≡ min (old.calls + 1) last_count
   pub no_fewer : old.calls ≤ new.calls
-  pub ok : OnOk result ((old.calls < last_count) × (new.failed ≡ old.failed) × (new.last_failed ≡ false))
-  pub err : OnErr result ((new.failed + old.calls ≡ old.failed + new.calls) × (new.last_failed ≡ true))
+  pub ok : OnOk result ((old.calls < last_count) × (new.failed ≡ old.failed)
+      × (new.last_failed ≡ false))
+  pub err : OnErr result ((new.failed + old.calls ≡ old.failed + new.calls)
+      × (new.last_failed ≡ true))
 
 -- only a read of the data file is counted as one
 abbrev pub CountsRead : Which → Counts → Counts → Type 0
@@ -91,26 +93,33 @@ must_fail counts schedule = is_planned schedule (counts.calls + 1) || (counts.ca
 -- how many of the first so many calls are scheduled to fail
 abbrev pub failures : Schedule → ℕ → ℕ
 failures schedule zero = 0
-failures schedule (suc number) = failures schedule number + (if is_planned schedule (suc number) then 1 else 0)
+failures schedule (suc number) =
+    failures schedule number + (if is_planned schedule (suc number) then 1 else 0)
 
 -- since the schedule was made, as many calls have failed as it gives
 abbrev pub FailedAsPlanned : Counts → Schedule → Type 0
 FailedAsPlanned counts schedule =
-    counts.failed + failures schedule schedule.since.calls ≡ schedule.since.failed + failures schedule counts.calls
+    counts.failed + failures schedule schedule.since.calls
+    ≡ schedule.since.failed + failures schedule counts.calls
 
 -- the number of the k-th call from now; none if the counts reach their last value before it
-abbrev pub number_of : ℕ → ℕ → Option ℕ
-number_of calls k = if nat_lt (calls + k) (2 ^ 64) then Some (calls + k) else None
+abbrev pub call_number : ℕ → ℕ → Option ℕ
+call_number calls k = if nat_lt (calls + k) (2 ^ 64) then Some (calls + k) else None
 
 -- a schedule by which the k-th call from now fails
 abbrev pub failing_at : ℕ → Counts → Schedule → Schedule
-failing_at k counts old = record { fail = number_of counts.calls k; cut = old.cut; since = counts }
+failing_at k counts old =
+    record {
+      fail = call_number counts.calls k;
+      cut = old.cut;
+      since = counts;
+    }
 
 -- a schedule by which the power goes off at the k-th call from now, unless it is off already
 abbrev pub cut_off_at : ℕ → Counts → Schedule → Schedule
 cut_off_at k counts old = record {
   fail = old.fail;
-  cut = if is_from old.cut counts.calls then old.cut else number_of counts.calls k;
+  cut = if is_from old.cut counts.calls then old.cut else call_number counts.calls k;
   since = counts;
 }
 

@@ -22,4 +22,5 @@ pub record FailsIfLost {W T E : Type 0} (result : Result T E) (old new : Files W
 -- If the files are lost, a sync fails. A failed sync makes them lost, unless it could not be counted: then it was not tried.
 pub record FailsSync {W T E : Type 0} (result : Result T E) (old new : Files W) : Type 0 where
   pub fails : is_lost old ≡ true → IsErr result
-  pub lost : is_lost new ≡ (is_lost old || (is_err result && nat_lt (files_counts old).calls last_count))
+  pub lost : is_lost new
+      ≡ (is_lost old || (is_err result && nat_lt (files_counts old).calls last_count))

@@ -6,7 +6,7 @@ pub mod Counts
 pub mod Calls
 pub mod Runs
 pub mod Cycle
-pub mod Half
+pub mod MemoryFile
 pub mod Events
 pub mod Recorded
 pub mod Store

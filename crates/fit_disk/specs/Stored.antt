@@ -14,7 +14,8 @@ pub record Stored : Type 0 where
 -- the place is in none of the ranges
 abbrev pub IsOutside : ℕ → List (ℕ × ℕ) → Type 0
 IsOutside place [] = Unit {0}
-IsOutside place (range ∷ ranges) = ((place < range.0) ⊎ (range.0 + range.1 ≤ place)) × IsOutside place ranges
+IsOutside place (range ∷ ranges) =
+    ((place < range.0) ⊎ (range.0 + range.1 ≤ place)) × IsOutside place ranges
 
 -- a crash may leave this content: it agrees with what was synced at each place below the least length at which nothing was written
 pub record Left (file : Stored) (content : List ℕ) : Type 0 where
@@ -30,12 +31,23 @@ Leaves P file = (content : List ℕ) → Left file content → P content
 
 -- all of the file is kept, as after a successful sync or after a crash that left this content
 abbrev pub at_rest : List ℕ → Stored
-at_rest content = record { synced = content; seen = content; least = length content; greatest = length content; written = [] }
+at_rest content =
+    record {
+      synced = content;
+      seen = content;
+      least = length content;
+      greatest = length content;
+      written = [];
+    }
 
 -- a write of so many bytes at a place has begun, and reads give this now
 abbrev pub write_begun : ℕ → ℕ → List ℕ → Stored → Stored
 write_begun at count now file =
-    record file { seen = now; greatest = max file.greatest (at + count); written = (at, count) ∷ file.written }
+    record file {
+      seen = now;
+      greatest = max file.greatest (at + count);
+      written = (at, count) ∷ file.written;
+    }
 
 -- a cut to a length has begun, and reads give this now
 abbrev pub cut_begun : ℕ → List ℕ → Stored → Stored

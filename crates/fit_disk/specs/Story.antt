@@ -10,12 +10,12 @@ pub record Story : Type 0 where
   pub past : List State
 
 -- the story with one more state
-abbrev pub then_state : State → Story → Story
-then_state state old = record { now = state; past = old.now ∷ old.past }
+abbrev pub state_then : State → Story → Story
+state_then state old = record { now = state; past = old.now ∷ old.past }
 
 -- the story with one more state, in which one file is replaced
 abbrev pub then_file : Which → Stored → Story → Story
-then_file which file old = then_state (with_file which file old.now) old
+then_file which file old = state_then (with_file which file old.now) old
 
 -- what reads of a file give now
 abbrev pub seen_of : Which → Story → List ℕ

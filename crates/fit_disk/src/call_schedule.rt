@@ -14,10 +14,11 @@ pub(crate) struct CallSchedule {
     fail: Option<u64>,
     cut: Option<u64>,
     since: CallCounts,
-    was_refused: bool,
+    growth_was_refused: bool,
     // Memory was refused in the last call.
-    is_refused: bool,
-    ghost planned: { was_refused ≡ false → FailedAsPlanned (counts_of counts) (schedule_by fail cut since) },
+    last_growth_was_refused: bool,
+    ghost planned: { growth_was_refused ≡ false
+        → FailedAsPlanned (counts_of counts) (schedule_by fail cut since) },
 }
 
 impl CallSchedule {
@@ -26,8 +27,8 @@ impl CallSchedule {
     pub(crate) fn new() -> CallSchedule
         ensures counts { schedule_counts result ≡ no_calls }
         ensures schedule { schedule_value result ≡ unplanned no_calls }
-        ensures refused { result.was_refused ≡ false }
-        ensures last { result.is_refused ≡ false }
+        ensures refused { result.growth_was_refused ≡ false }
+        ensures last { result.last_growth_was_refused ≡ false }
     {
         let none = CallCounts::new();
         CallSchedule {
@@ -35,16 +36,16 @@ impl CallSchedule {
             fail: None,
             cut: None,
             since: none,
-            was_refused: false,
-            is_refused: false,
+            growth_was_refused: false,
+            last_growth_was_refused: false,
         }
     }
 
     // Whether memory was refused, or the counts are at their last value.
     pub(crate) fn is_spent(&self) -> bool
-        ensures { result ≡ (self.now.was_refused || (self.now.counts.calls == last_count)) }
+        ensures { result ≡ (self.now.growth_was_refused || (self.now.counts.calls == last_count)) }
     {
-        self.was_refused || self.counts.calls == u64::MAX
+        self.growth_was_refused || self.counts.calls == u64::MAX
     }
 
     // Counts a call. It fails if it is scheduled to, or if the counts are at their last value.
@@ -52,11 +53,12 @@ impl CallSchedule {
         ensures counted { CountsCall result (schedule_counts self.old) (schedule_counts self.new) }
         ensures reads { self.new.counts.data_reads ≡ self.old.counts.data_reads }
         ensures schedule { schedule_value self.new ≡ schedule_value self.old }
-        ensures fails { is_err result ≡ must_fail (schedule_counts self.old) (schedule_value self.old) }
-        ensures refused { self.new.was_refused ≡ self.old.was_refused }
-        ensures last { self.new.is_refused ≡ false }
+        ensures fails { is_err result
+            ≡ must_fail (schedule_counts self.old) (schedule_value self.old) }
+        ensures refused { self.new.growth_was_refused ≡ self.old.growth_was_refused }
+        ensures last { self.new.last_growth_was_refused ≡ false }
     {
-        self.is_refused = false;
+        self.last_growth_was_refused = false;
         self.counts.call()?;
         if is_due(self.fail, self.cut, self.counts.calls) {
             self.counts.fail();
@@ -70,11 +72,12 @@ impl CallSchedule {
         ensures counted { CountsCall result (schedule_counts self.old) (schedule_counts self.new) }
         ensures reads { CountsRead which (schedule_counts self.old) (schedule_counts self.new) }
         ensures schedule { schedule_value self.new ≡ schedule_value self.old }
-        ensures fails { is_err result ≡ must_fail (schedule_counts self.old) (schedule_value self.old) }
-        ensures refused { self.new.was_refused ≡ self.old.was_refused }
-        ensures last { self.new.is_refused ≡ false }
+        ensures fails { is_err result
+            ≡ must_fail (schedule_counts self.old) (schedule_value self.old) }
+        ensures refused { self.new.growth_was_refused ≡ self.old.growth_was_refused }
+        ensures last { self.new.last_growth_was_refused ≡ false }
     {
-        self.is_refused = false;
+        self.last_growth_was_refused = false;
         self.counts.read(which)?;
         if is_due(self.fail, self.cut, self.counts.calls) {
             self.counts.fail();
@@ -88,13 +91,14 @@ impl CallSchedule {
         requires { IsOk answer → self.old.counts.failed < self.old.counts.calls }
         ensures err { IsErr result }
         ensures counts { schedule_counts self.new
-            ≡ (if is_ok answer then with_failure (schedule_counts self.old) else schedule_counts self.old) }
+            ≡ (if is_ok answer
+            then with_failure (schedule_counts self.old) else schedule_counts self.old) }
         ensures schedule { schedule_value self.new ≡ schedule_value self.old }
-        ensures refused { self.new.was_refused ≡ true }
-        ensures last { self.new.is_refused ≡ true }
+        ensures refused { self.new.growth_was_refused ≡ true }
+        ensures last { self.new.last_growth_was_refused ≡ true }
     {
-        self.was_refused = true;
-        self.is_refused = true;
+        self.growth_was_refused = true;
+        self.last_growth_was_refused = true;
         match answer {
             Ok(()) => self.counts.fail(),
             Err(_) => {}
@@ -107,8 +111,8 @@ impl CallSchedule {
         ensures counts { schedule_counts self.new ≡ schedule_counts self.old }
         ensures schedule { schedule_value self.new
             ≡ failing_at k (schedule_counts self.old) (schedule_value self.old) }
-        ensures refused { self.new.was_refused ≡ self.old.was_refused }
-        ensures last { self.new.is_refused ≡ self.old.is_refused }
+        ensures refused { self.new.growth_was_refused ≡ self.old.growth_was_refused }
+        ensures last { self.new.last_growth_was_refused ≡ self.old.last_growth_was_refused }
     {
         self.fail = self.counts.calls.checked_add(u64::from(k));
         self.since = self.counts;
@@ -119,8 +123,8 @@ impl CallSchedule {
         ensures counts { schedule_counts self.new ≡ schedule_counts self.old }
         ensures schedule { schedule_value self.new
             ≡ cut_off_at k (schedule_counts self.old) (schedule_value self.old) }
-        ensures refused { self.new.was_refused ≡ self.old.was_refused }
-        ensures last { self.new.is_refused ≡ self.old.is_refused }
+        ensures refused { self.new.growth_was_refused ≡ self.old.growth_was_refused }
+        ensures last { self.new.last_growth_was_refused ≡ self.old.last_growth_was_refused }
     {
         if !is_from_number(self.cut, self.counts.calls) {
             self.cut = self.counts.calls.checked_add(u64::from(k));
@@ -132,8 +136,8 @@ impl CallSchedule {
     pub(crate) fn drop_plans(&mut self)
         ensures counts { schedule_counts self.new ≡ schedule_counts self.old }
         ensures schedule { schedule_value self.new ≡ unplanned (schedule_counts self.old) }
-        ensures refused { self.new.was_refused ≡ self.old.was_refused }
-        ensures last { self.new.is_refused ≡ self.old.is_refused }
+        ensures refused { self.new.growth_was_refused ≡ self.old.growth_was_refused }
+        ensures last { self.new.last_growth_was_refused ≡ self.old.last_growth_was_refused }
     {
         self.fail = None;
         self.cut = None;

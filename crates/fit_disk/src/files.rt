@@ -44,9 +44,9 @@ impl OpenFault {
 }
 
 impl From<io::Error> for OpenFault {
-    ghost use Rattle.fit_disk.specs.Code.{fault_of};
+    ghost use Rattle.fit_disk.specs.Code.{open_fault_of};
 
-    ghost from_gives = { λ error fault. fault ≡ fault_of error };
+    ghost from_gives = { λ error fault. fault ≡ open_fault_of error };
 
     fn from(error: io::Error) -> OpenFault {
         match error.kind() {
@@ -155,14 +155,21 @@ impl<W: Witness> Disk for Files<W> {
     ghost story = { λ files. W.story (witness_of files) };
 
     ghost log = { λ files.
-        record { counts = files_counts files; schedule = unplanned no_calls; memory = []; room = no_room } };
+        record {
+          counts =
+              files_counts files;
+          schedule = unplanned no_calls;
+          memory = [];
+          room = no_room;
+        } };
 
     ghost sound = { λ files. W.sound (witness_of files) };
 
     fn size(&mut self, which: Which) -> Result<u64, DeviceError>
         ensures size { IsTrue W.honest → IfOk result
             (λ size. size ≡ length (seen_of which (W.story (witness_of self.old)))) }
-        ensures same { IsTrue W.honest → W.story (witness_of self.new) ≡ W.story (witness_of self.old) }
+        ensures same { IsTrue W.honest
+            → W.story (witness_of self.new) ≡ W.story (witness_of self.old) }
         ensures counted { CountsCall result (files_counts self.old) (files_counts self.new) }
         ensures reads { (files_counts self.new).data_reads ≡ (files_counts self.old).data_reads }
         ensures lost { FailsIfLost result self.old self.new }
@@ -176,8 +183,10 @@ impl<W: Witness> Disk for Files<W> {
     fn read(&mut self, which: Which, at: u64, buffer: &mut [u8]) -> Result<usize, DeviceError>
         ensures within { IfOk result (λ count. count ≤ length buffer.old) }
         ensures bytes { IsTrue W.honest → IfOk result
-            (ReadsAt (seen_of which (W.story (witness_of self.old))) at (length buffer.old) buffer.new) }
-        ensures same { IsTrue W.honest → W.story (witness_of self.new) ≡ W.story (witness_of self.old) }
+            (ReadsAt (seen_of which (W.story (witness_of self.old))) at
+            (length buffer.old) buffer.new) }
+        ensures same { IsTrue W.honest
+            → W.story (witness_of self.new) ≡ W.story (witness_of self.old) }
         ensures counted { CountsCall result (files_counts self.old) (files_counts self.new) }
         ensures reads { CountsRead which (files_counts self.old) (files_counts self.new) }
         ensures lost { FailsIfLost result self.old self.new }

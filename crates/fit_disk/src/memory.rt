@@ -2,7 +2,7 @@
 
 ghost use Rattle.std.specs.Prelude.{◌≡◌, ◌⊎◌, ◌<◌, ◌≤◌, true, false, min, length, IfOk, OnErr};
 ghost use Rattle.fit_disk.specs.State.{BothLeft, seen_in};
-ghost use Rattle.fit_disk.specs.Story.{then_state, seen_of};
+ghost use Rattle.fit_disk.specs.Story.{state_then, seen_of};
 ghost use Rattle.fit_disk.specs.Cycle.{cycled, taken_in};
 ghost use Rattle.fit_disk.specs.Events.{fresh};
 ghost use Rattle.fit_disk.specs.Calls.{ReadsAt, Wrote, Shortened, Synced};
@@ -21,21 +21,21 @@ pub struct Memory {
     store: Store,
     call_schedule: CallSchedule,
     /// Unless memory was refused, as many calls have failed since the schedule was made as it gives.
-    pub ghost planned: { call_schedule.was_refused ≡ false
+    pub ghost planned: { call_schedule.growth_was_refused ≡ false
         → FailedAsPlanned (counts_of call_schedule.counts)
         (schedule_by call_schedule.fail call_schedule.cut call_schedule.since) },
 }
 
 impl Memory {
-    ghost use Rattle.fit_disk.specs.Memory.{memory_story, memory_counts, memory_schedule, was_refused, is_refused, is_spent};
+    ghost use Rattle.fit_disk.specs.Memory.{memory_story, memory_counts, memory_schedule, growth_was_refused, last_growth_was_refused, is_spent};
 
     /// Two empty files. Memory is taken only as they grow.
     pub fn new(alloc: Global) -> Memory
         ensures story { memory_story result ≡ fresh }
         ensures counts { memory_counts result ≡ no_calls }
         ensures schedule { memory_schedule result ≡ unplanned no_calls }
-        ensures refused { was_refused result ≡ false }
-        ensures last { is_refused result ≡ false }
+        ensures refused { growth_was_refused result ≡ false }
+        ensures last { last_growth_was_refused result ≡ false }
     {
         Memory {
             store: Store::new(alloc),
@@ -65,8 +65,8 @@ impl Memory {
         ensures counts { memory_counts self.new ≡ memory_counts self.old }
         ensures schedule { memory_schedule self.new
             ≡ failing_at k (memory_counts self.old) (memory_schedule self.old) }
-        ensures refused { was_refused self.new ≡ was_refused self.old }
-        ensures last { is_refused self.new ≡ is_refused self.old }
+        ensures refused { growth_was_refused self.new ≡ growth_was_refused self.old }
+        ensures last { last_growth_was_refused self.new ≡ last_growth_was_refused self.old }
     {
         self.call_schedule.fail_at(k);
     }
@@ -79,8 +79,8 @@ impl Memory {
         ensures counts { memory_counts self.new ≡ memory_counts self.old }
         ensures schedule { memory_schedule self.new
             ≡ cut_off_at k (memory_counts self.old) (memory_schedule self.old) }
-        ensures refused { was_refused self.new ≡ was_refused self.old }
-        ensures last { is_refused self.new ≡ is_refused self.old }
+        ensures refused { growth_was_refused self.new ≡ growth_was_refused self.old }
+        ensures last { last_growth_was_refused self.new ≡ last_growth_was_refused self.old }
     {
         self.call_schedule.cut_at(k);
     }
@@ -91,13 +91,14 @@ impl Memory {
         ensures now { (memory_story self.new).now ≡ cycled choices.now (memory_story self.old).now }
         ensures story { (memory_story self.new ≡ memory_story self.old)
             ⊎ (memory_story self.new
-            ≡ then_state (cycled choices.now (memory_story self.old).now) (memory_story self.old)) }
+            ≡ state_then (cycled choices.now (memory_story self.old).now) (memory_story self.old)) }
         ensures left { BothLeft (memory_story self.old).now (seen_in (memory_story self.new).now) }
-        ensures taken { result ≡ min (taken_in choices.now (memory_story self.old).now) (length choices.now) }
+        ensures taken { result
+            ≡ min (taken_in choices.now (memory_story self.old).now) (length choices.now) }
         ensures counts { memory_counts self.new ≡ memory_counts self.old }
         ensures schedule { memory_schedule self.new ≡ unplanned (memory_counts self.old) }
-        ensures refused { was_refused self.new ≡ was_refused self.old }
-        ensures last { is_refused self.new ≡ is_refused self.old }
+        ensures refused { growth_was_refused self.new ≡ growth_was_refused self.old }
+        ensures last { last_growth_was_refused self.new ≡ last_growth_was_refused self.old }
     {
         self.call_schedule.drop_plans();
         self.store.cycle(choices)
@@ -105,7 +106,7 @@ impl Memory {
 }
 
 impl Disk for Memory {
-    ghost use Rattle.fit_disk.specs.Memory.{memory_story, memory_counts, memory_schedule, memory_log, was_refused, is_refused, FailsByCause, FailsCleanly, write_failed, cut_failed};
+    ghost use Rattle.fit_disk.specs.Memory.{memory_story, memory_counts, memory_schedule, memory_log, growth_was_refused, last_growth_was_refused, FailsByCause, FailsCleanly, write_failed, cut_failed};
 
     ghost honest = { true };
 
@@ -123,8 +124,8 @@ impl Disk for Memory {
         ensures reads { (memory_counts self.new).data_reads ≡ (memory_counts self.old).data_reads }
         ensures planned { memory_schedule self.new ≡ memory_schedule self.old }
         ensures cause { FailsByCause result self.old self.new }
-        ensures refused { was_refused self.new ≡ was_refused self.old }
-        ensures last { is_refused self.new ≡ false }
+        ensures refused { growth_was_refused self.new ≡ growth_was_refused self.old }
+        ensures last { last_growth_was_refused self.new ≡ false }
     {
         self.call_schedule.call()?;
         Ok(self.store.content(which).len() as u64)
@@ -139,8 +140,8 @@ impl Disk for Memory {
         ensures reads { CountsRead which (memory_counts self.old) (memory_counts self.new) }
         ensures planned { memory_schedule self.new ≡ memory_schedule self.old }
         ensures cause { FailsByCause result self.old self.new }
-        ensures refused { was_refused self.new ≡ was_refused self.old }
-        ensures last { is_refused self.new ≡ false }
+        ensures refused { growth_was_refused self.new ≡ growth_was_refused self.old }
+        ensures last { last_growth_was_refused self.new ≡ false }
     {
         self.call_schedule.read(which)?;
         Ok(copy_from(self.store.content(which), at, buffer))
@@ -148,8 +149,10 @@ impl Disk for Memory {
 
     fn write(&mut self, which: Which, at: u64, bytes: &[u8]) -> Result<(), DeviceError>
         requires { at ≤ length (seen_of which (memory_story self.old)) }
-        ensures wrote { Wrote which at bytes.now result (memory_story self.old) (memory_story self.new) }
-        ensures begun { is_refused self.new ≡ false → OnErr result (memory_story self.new
+        ensures wrote { Wrote which at bytes.now result (memory_story self.old)
+            (memory_story self.new) }
+        ensures begun { last_growth_was_refused self.new ≡ false
+            → OnErr result (memory_story self.new
             ≡ write_failed which at (length bytes.now) (memory_story self.old)) }
         ensures cause { FailsByCause result self.old self.new }
         ensures clean { FailsCleanly result self.old self.new }
@@ -166,8 +169,9 @@ impl Disk for Memory {
 
     fn cut(&mut self, which: Which, len: u64) -> Result<(), DeviceError>
         requires { len ≤ length (seen_of which (memory_story self.old)) }
-        ensures shortened { Shortened which len result (memory_story self.old) (memory_story self.new) }
-        ensures begun { is_refused self.new ≡ false
+        ensures shortened { Shortened which len result (memory_story self.old)
+            (memory_story self.new) }
+        ensures begun { last_growth_was_refused self.new ≡ false
             → OnErr result (memory_story self.new ≡ cut_failed which len (memory_story self.old)) }
         ensures cause { FailsByCause result self.old self.new }
         ensures clean { FailsCleanly result self.old self.new }

@@ -89,7 +89,8 @@ impl<W: Witness> Reported<W> {
     pub(crate) fn write(&mut self, which: Which, at: u64, bytes: &[u8]) -> Result<(), DeviceError>
         requires { IsTrue W.honest → at ≤ length (seen_of which (W.story self.old.witness)) }
         ensures { IsTrue W.honest
-            → Wrote which at bytes.now result (W.story self.old.witness) (W.story self.new.witness) }
+            → Wrote which at bytes.now result (W.story self.old.witness)
+            (W.story self.new.witness) }
     {
         let answer = answer_of(self.file(which).write_all_at(bytes, at));
         self.witness.wrote(which, at, bytes, answer)

@@ -67,7 +67,8 @@ impl Witness for Shadow {
     }
 
     fn gave(&self, which: Which, at: u64, room: usize, bytes: &[u8]) -> Result<(), DeviceError>
-        ensures passed { OnOk result (IsPart (seen_of which (shadow_story self.now)) at room bytes.now) }
+        ensures passed { OnOk result
+            (IsPart (seen_of which (shadow_story self.now)) at room bytes.now) }
         ensures refused { OnErr result
             (IsPart (seen_of which (shadow_story self.now)) at room bytes.now → ⊥) }
     {

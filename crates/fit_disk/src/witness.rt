@@ -24,7 +24,8 @@ pub trait Witness: Drop {
 
     /// One read from a place on, with so much room, gave these bytes.
     fn gave(&self, which: Which, at: u64, room: usize, bytes: &[u8]) -> Result<(), DeviceError>
-        ensures { IsTrue honest → OnOk result (IsPart (seen_of which (story self.now)) at room bytes.now) };
+        ensures { IsTrue honest
+            → OnOk result (IsPart (seen_of which (story self.now)) at room bytes.now) };
 
     /// The system's answer to a write of these bytes at a place.
     fn wrote(
@@ -35,7 +36,8 @@ pub trait Witness: Drop {
         answer: Result<(), DeviceError>,
     ) -> Result<(), DeviceError>
         requires { IsTrue honest → at ≤ length (seen_of which (story self.old)) }
-        ensures wrote { IsTrue honest → Wrote which at bytes.now result (story self.old) (story self.new) }
+        ensures wrote { IsTrue honest
+            → Wrote which at bytes.now result (story self.old) (story self.new) }
         ensures failed { IsErr answer → IsErr result };
 
     /// The system's answer to a cut to a length in bytes.
@@ -46,7 +48,8 @@ pub trait Witness: Drop {
         answer: Result<(), DeviceError>,
     ) -> Result<(), DeviceError>
         requires { IsTrue honest → len ≤ length (seen_of which (story self.old)) }
-        ensures shortened { IsTrue honest → Shortened which len result (story self.old) (story self.new) }
+        ensures shortened { IsTrue honest
+            → Shortened which len result (story self.old) (story self.new) }
         ensures failed { IsErr answer → IsErr result };
 
     /// The system's answer to a sync.

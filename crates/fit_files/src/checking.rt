@@ -25,7 +25,8 @@ pub fn check_input<T: Read, O: Write>(
 ) -> Result<(), ReportFault>
     ensures checked { ReportsInput most (T.remaining from.old) (T.remaining from.new)
         (ChecksBytes (O.contents out.old) (O.contents out.new)) result }
-    ensures quiet { (why : ReadFault) → result ≡ Err (Input why) → O.contents out.new ≡ O.contents out.old }
+    ensures quiet { (why : ReadFault) → result ≡ Err (Input why)
+        → O.contents out.new ≡ O.contents out.old }
 {
     match decode_input(alloc, from, most) {
         Ok(file) => check(&file, out),

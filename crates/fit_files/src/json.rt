@@ -26,7 +26,8 @@ pub fn show_json_input<T: Read, O: Write>(
 ) -> Result<(), ReportFault>
     ensures shown { ReportsInput most (T.remaining from.old) (T.remaining from.new)
         (ShowsJson utc (O.contents out.old) (O.contents out.new)) result }
-    ensures quiet { (why : ReadFault) → result ≡ Err (Input why) → O.contents out.new ≡ O.contents out.old }
+    ensures quiet { (why : ReadFault) → result ≡ Err (Input why)
+        → O.contents out.new ≡ O.contents out.old }
 {
     match decode_input(alloc, from, most) {
         Ok(file) => show_flushed(&file, utc, out),
@@ -36,7 +37,8 @@ pub fn show_json_input<T: Read, O: Write>(
 
 // Writes a file as JSON, and flushes the output.
 fn show_flushed<O: Write>(file: &File, utc: bool, out: &mut O) -> Result<(), ReportFault>
-    ensures text { WritesText (O.contents out.old) (O.contents out.new) result (json_of utc file.now) }
+    ensures text { WritesText (O.contents out.old) (O.contents out.new) result
+        (json_of utc file.now) }
     ensures fault { IfErr result IsOutputFault }
 {
     let Ok(()) = show_json(&file.lend(), utc, out) else {

@@ -29,7 +29,8 @@ pub fn plain_input<T: Read>(alloc: Global, from: &mut T, most: usize) -> Result<
 
 // The plain form of a file. `places` has the places of its items in the bytes that it was read from.
 pub(crate) fn plain_of(alloc: Global, file: &File, places: &Places) -> Result<File, ReportFault>
-    ensures { (bytes : List ℕ) → FileOf bytes file.now → ArePlaces bytes places.now → PlainsTo bytes result }
+    ensures { (bytes : List ℕ) → FileOf bytes file.now → ArePlaces bytes places.now
+        → PlainsTo bytes result }
 {
     match plain_file(alloc, file, places) {
         Ok(plain) => Ok(plain),

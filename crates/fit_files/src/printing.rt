@@ -21,7 +21,8 @@ const ROOM: usize = 512;
 pub fn put_line<L: Display, O: io::Write>(line: &L, pen: &mut Pen<'_, O>) -> Result<(), ReportFault>
     ensures fault { IfErr result IsOutputFault }
     ensures same { pen.new.name ≡ pen.old.name }
-    ensures line { IfSome (L.output line.now) (λ text. Puts pen.old pen.new result (text ++ codes "\n")) }
+    ensures line { IfSome (L.output line.now) (λ text. Puts pen.old pen.new result (text
+        ++ codes "\n")) }
 {
     let mut text = ArrayString::<ROOM>::new();
     let Ok(()) = writeln!(text, "{line}") else {
@@ -50,7 +51,8 @@ pub fn print<L: Display, O: io::Write>(line: &L, pen: &mut Pen<'_, O>) -> Result
     ensures fault { IfErr result IsOutputFault }
     ensures same { pen.new.name ≡ pen.old.name }
     ensures none { OnOk result (pen.new.waiting ≡ []) }
-    ensures line { IfSome (L.output line.now) (λ text. Puts pen.old pen.new result (text ++ codes "\n")) }
+    ensures line { IfSome (L.output line.now) (λ text. Puts pen.old pen.new result (text
+        ++ codes "\n")) }
 {
     put_line(line, pen)?;
     flush(pen)

@@ -77,7 +77,8 @@ impl FrontRead {
 
 /// Reads all bytes of an input. Reports `TooLarge` if there are more than `most`.
 pub fn read_all<T: Read>(alloc: Global, from: &mut T, most: usize) -> Result<Vec<u8>, ReadFault>
-    ensures all { IfOk result (λ bytes. IfSome (T.remaining from.old) (λ known. bytes.items ≡ known)) }
+    ensures all { IfOk result (λ bytes. IfSome (T.remaining from.old) (λ known. bytes.items
+        ≡ known)) }
     ensures most { IfOk result (λ bytes. vec_len bytes ≤ most) }
     ensures too_large { result ≡ Err ReadFault.TooLarge
         → IfSome (T.remaining from.old) (λ known. most < length known) }

@@ -3,7 +3,7 @@
 ghost use Rattle.std.specs.Io.KnownBytes.{Appends};
 ghost use Rattle.std.specs.Prelude.{◌≡◌, ◌⊎◌, ◌+◌, ◌++◌, codes, Err, IsTrue, IfOk, IfErr, OnOk, IsErr, IsErrOf};
 ghost use Rattle.fit_activity.specs.declared.activity.Summary.{Summary as AnySummary};
-ghost use Rattle.fit_disk.specs.Runs.{Ran};
+ghost use Rattle.fit_disk.specs.Runs.{MakesAtMost};
 ghost use Rattle.fit_disk.specs.State.{seen_in};
 ghost use Rattle.fit_disk.specs.Story.{seen_of};
 ghost use Rattle.fit_disk.specs.declared.disk.Which.TheVariants.{Data};
@@ -66,7 +66,8 @@ pub fn repair<D: Disk, O: Write>(disk: &mut D, out: &mut O) -> Result<(), Repair
         (O.contents out.new) result }
     // Whatever bytes the files had: the body has the checksum that the journal states, if it states one.
     ensures checked { IsTrue D.honest
-        → OnOk result (HasCounted (journal_in (D.story disk.old)) (seen_of Data (D.story disk.new))) }
+        → OnOk result (HasCounted (journal_in (D.story disk.old))
+        (seen_of Data (D.story disk.new))) }
     ensures fault { IfErr result IsRepairFault }
     // At each moment, and if it was not recovered, the files are as a recovery leaves them.
     ensures any_moment { IsTrue D.honest → InRecovery (D.story disk.old) (D.story disk.new) }
@@ -77,7 +78,7 @@ pub fn repair<D: Disk, O: Write>(disk: &mut D, out: &mut O) -> Result<(), Repair
         × Appends (O.contents out.old) (O.contents out.new) (summary_text summary ++ codes "\n")) }
     ensures quiet { (why : AnyRecFault) → result ≡ Err (faults.Recorder why)
         → O.contents out.new ≡ O.contents out.old }
-    ensures ran { Ran (recovery_calls + most_body_reads) most_body_reads
+    ensures ran { MakesAtMost (recovery_calls + most_body_reads) most_body_reads
         (IsErrOf result (faults.Recorder recording.Device)) (D.log disk.old) (D.log disk.new) }
 {
     report(recover(disk), out)
@@ -94,7 +95,8 @@ pub fn repair_and_read<D: Disk, O: Write>(
         (O.contents out.new) result }
     // Whatever bytes the files had: the body has the checksum that the journal states, if it states one.
     ensures checked { IsTrue D.honest
-        → OnOk result (HasCounted (journal_in (D.story disk.old)) (seen_of Data (D.story disk.new))) }
+        → OnOk result (HasCounted (journal_in (D.story disk.old))
+        (seen_of Data (D.story disk.new))) }
     ensures read { IsTrue D.honest → IfOk result (AreSumsOf (seen_in (D.story disk.new).now)) }
     ensures fault { IfErr result IsRepairFault }
     // At each moment, and if it was not recovered, the files are as a recovery leaves them.
@@ -123,8 +125,10 @@ fn recover_and_read<D: Disk>(disk: &mut D) -> Result<(Summary, FileSums), RecFau
     ensures recovered { IsTrue D.honest → IfOk result
         (λ done. IsRecovered (seen_in (D.story disk.old).now) (D.story disk.new) done.0) }
     ensures checked { IsTrue D.honest
-        → OnOk result (HasCounted (journal_in (D.story disk.old)) (seen_of Data (D.story disk.new))) }
-    ensures read { IsTrue D.honest → IfOk result (λ done. AreSumsOf (seen_in (D.story disk.new).now) done.1) }
+        → OnOk result (HasCounted (journal_in (D.story disk.old))
+        (seen_of Data (D.story disk.new))) }
+    ensures read { IsTrue D.honest
+        → IfOk result (λ done. AreSumsOf (seen_in (D.story disk.new).now) done.1) }
     ensures any_moment { IsTrue D.honest → InRecovery (D.story disk.old) (D.story disk.new) }
     ensures refused { IsTrue D.honest → IfErr result
         (λ fault. RecoveryAnswers (seen_in (D.story disk.old).now) (D.story disk.new) (Err fault)) }

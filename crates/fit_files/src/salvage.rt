@@ -35,9 +35,11 @@ impl Salvage<'_> {
     /// Writes the row as a file of its own: a header, the row and a checksum. After an `Err` a prefix of that file is written. No
     /// data is invented, and no memory is allocated.
     pub fn write<O: Write>(&self, out: &mut O) -> Result<(), EncodeFault>
-        ensures written { WritesText (O.contents out.old) (O.contents out.new) result (saved_file self.now) }
+        ensures written { WritesText (O.contents out.old) (O.contents out.new) result
+            (saved_file self.now) }
         ensures file { (all : Bool) (bytes : List ℕ) (found : IsSalvage all bytes self.now)
-            → FileOf (saved_file self.now) (record { frame = self.now.frame; items = found.items }) }
+            → FileOf (saved_file self.now)
+            (record { frame = self.now.frame; items = found.items }) }
     {
         encode_records(self.frame, self.row, out)
     }
@@ -46,7 +48,8 @@ impl Salvage<'_> {
     pub fn plain(&self, alloc: Global) -> Result<File, ReportFault>
         ensures form { PlainsSalvage self.now result }
         // What `salvage_bytes` found is a file, so no other fault occurs.
-        ensures taken { (all : Bool) (bytes : List ℕ) → IsSalvage all bytes self.now → IfErr result IsNoForm }
+        ensures taken { (all : Bool) (bytes : List ℕ) → IsSalvage all bytes self.now
+            → IfErr result IsNoForm }
     {
         match self.decoded(alloc) {
             Ok((file, places)) => plain_of(alloc, &file, &places),
@@ -58,7 +61,8 @@ impl Salvage<'_> {
     fn decoded(&self, alloc: Global) -> Result<(File, Places), ReportFault>
         ensures decodes { DecodesSalvage self.now result }
         ensures file { (all : Bool) (bytes : List ℕ) (found : IsSalvage all bytes self.now)
-            → FileOf (saved_file self.now) (record { frame = self.now.frame; items = found.items }) }
+            → FileOf (saved_file self.now)
+            (record { frame = self.now.frame; items = found.items }) }
     {
         let mut bytes = Vec::new(alloc);
         let Ok(()) = self.write(&mut bytes) else {
@@ -81,7 +85,8 @@ impl Salvage<'_> {
         ensures fault { IfErr result IsOutputFault }
         ensures none { self.now.not_looked_at ≡ 0 → O.contents out.new ≡ O.contents out.old }
         ensures line { 0 < self.now.not_looked_at
-            → WritesText (O.contents out.old) (O.contents out.new) result (left_text self.now ++ codes "\n") }
+            → WritesText (O.contents out.old) (O.contents out.new) result (left_text self.now
+            ++ codes "\n") }
     {
         if self.not_looked_at == 0 {
             return Ok(());

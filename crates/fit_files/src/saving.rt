@@ -78,7 +78,8 @@ fn finished_of(
     mut data_bytes: Vec<u8>,
     mut journal_bytes: Vec<u8>,
 ) -> Result<(File, Summary), SaveFault>
-    ensures { FinishesRide (record { in_data = data_bytes.items; in_journal = journal_bytes.items }) result }
+    ensures { FinishesRide
+        (record { in_data = data_bytes.items; in_journal = journal_bytes.items }) result }
 {
     let data_len = data_bytes.len();
     let journal_len = journal_bytes.len();
@@ -97,7 +98,8 @@ fn finished_of(
 // The same over buffers with room for what closes the data file.
 fn finished_in(alloc: Global, disk: &mut Buffers<'_, '_>) -> Result<(File, Summary), SaveFault>
     requires fresh { counts_in disk.old ≡ no_calls }
-    requires data_room { (story_in disk.old).now.data_file.greatest + longest_end ≤ room_of Data disk.old }
+    requires data_room { (story_in disk.old).now.data_file.greatest
+        + longest_end ≤ room_of Data disk.old }
     requires journal_room { (story_in disk.old).now.journal_file.greatest ≤ room_of Journal disk.old }
     ensures { FinishesRide (seen_in (story_in disk.old).now) result }
 {
@@ -114,7 +116,8 @@ fn finished_in(alloc: Global, disk: &mut Buffers<'_, '_>) -> Result<(File, Summa
 
 // Why the recording on this disk was not recovered, which stayed as it was.
 fn fault_of(disk: &Buffers<'_, '_>, fault: RecFault) -> SaveFault
-    requires known { fault ≡ recording.NothingRecorded → IsNothing (seen_in (story_in disk.now).now) }
+    requires known { fault ≡ recording.NothingRecorded
+        → IsNothing (seen_in (story_in disk.now).now) }
     requires damaged { fault ≡ recording.Damaged → IsDamaged (seen_in (story_in disk.now).now) }
     requires others { (fault ≡ recording.NothingRecorded) ⊎ (fault ≡ recording.Damaged) }
     ensures { FinishesRide (seen_in (story_in disk.now).now) (Err result) }
@@ -130,11 +133,13 @@ fn fault_of(disk: &Buffers<'_, '_>, fault: RecFault) -> SaveFault
 // Recovers the recording. No call of the disk fails.
 fn recover_in(disk: &mut Buffers<'_, '_>) -> Result<Summary, RecFault>
     requires fresh { counts_in disk.old ≡ no_calls }
-    requires data_room { (story_in disk.old).now.data_file.greatest + longest_end ≤ room_of Data disk.old }
+    requires data_room { (story_in disk.old).now.data_file.greatest
+        + longest_end ≤ room_of Data disk.old }
     requires journal_room { (story_in disk.old).now.journal_file.greatest ≤ room_of Journal disk.old }
     ensures decides { RecoveryAnswers (seen_in (story_in disk.old).now) (story_in disk.new) result }
     ensures no_device { IsErrOf result recording.Device → ⊥ }
-    ensures settled { IfErr result (λ _. IsSettled (seen_in (story_in disk.old).now) (story_in disk.new)) }
+    ensures settled { IfErr result
+        (λ _. IsSettled (seen_in (story_in disk.old).now) (story_in disk.new)) }
     ensures known_fault { IfErr result IsRecoveryFault }
 {
     let done = recover(disk);

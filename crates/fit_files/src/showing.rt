@@ -26,7 +26,8 @@ pub fn show_input<T: Read, O: Write>(
 ) -> Result<(), ReportFault>
     ensures shown { ReportsInput most (T.remaining from.old) (T.remaining from.new)
         (ShowsBytes utc (O.contents out.old) (O.contents out.new)) result }
-    ensures quiet { (why : ReadFault) → result ≡ Err (Input why) → O.contents out.new ≡ O.contents out.old }
+    ensures quiet { (why : ReadFault) → result ≡ Err (Input why)
+        → O.contents out.new ≡ O.contents out.old }
 {
     match decode_input(alloc, from, most) {
         Ok(file) => show_flushed(&file, utc, out),
@@ -51,7 +52,8 @@ pub fn show_bytes<O: Write>(
 
 // Writes the text of a file, and flushes the output.
 fn show_flushed<O: Write>(file: &File, utc: bool, out: &mut O) -> Result<(), ReportFault>
-    ensures text { WritesText (O.contents out.old) (O.contents out.new) result (text_of utc file.now) }
+    ensures text { WritesText (O.contents out.old) (O.contents out.new) result
+        (text_of utc file.now) }
     ensures fault { IfErr result IsOutputFault }
 {
     let Ok(()) = show(&file.lend(), utc, out) else {

@@ -155,7 +155,8 @@ impl File {
         ensures ok { OnOk result (self.new ≡ with_item self.old (Defines d.now)) }
         ensures err { OnErr result (self.new ≡ self.old) }
         ensures too_long { IsErrOf result PutFault.TooLong ↔ IsTooLong self.old (Defines d.now) }
-        ensures memory { IfErr result (λ fault. (fault ≡ PutFault.TooLong) ⊎ (fault ≡ PutFault.Memory)) }
+        ensures memory { IfErr result (λ fault. (fault ≡ PutFault.TooLong)
+            ⊎ (fault ≡ PutFault.Memory)) }
     {
         if d.size() > self.room() {
             return Err(PutFault::TooLong);
@@ -183,7 +184,8 @@ impl File {
         ensures ok { OnOk result (self.new ≡ with_item self.old (Data local offset content.now)) }
         ensures err { OnErr result (self.new ≡ self.old) }
         ensures undefined { IsErrOf result PutFault.UndefinedLocal ↔ IsUndefined self.old local }
-        ensures length { IsErrOf result PutFault.Length ↔ HasWrongLength self.old local offset content.now }
+        ensures length { IsErrOf result PutFault.Length
+            ↔ HasWrongLength self.old local offset content.now }
         ensures too_long { IsErrOf result PutFault.TooLong
             ↔ (CanHold self.old local offset content.now
             × IsTooLong self.old (Data local offset content.now)) }
@@ -233,7 +235,8 @@ impl File {
         requires local { local < 16 }
         requires defined { IsDefined self.old.items (Data local None (time.now ++ content.now)) }
         requires fits { IsTooLong self.old (Data local None (time.now ++ content.now)) → ⊥ }
-        ensures ok { OnOk result (self.new ≡ with_item self.old (Data local None (time.now ++ content.now))) }
+        ensures ok { OnOk result (self.new
+            ≡ with_item self.old (Data local None (time.now ++ content.now))) }
         ensures err { OnErr result (self.new ≡ self.old) }
     {
         self.records.reserve(1 + time.len() + content.len())?;

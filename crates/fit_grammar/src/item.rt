@@ -151,7 +151,8 @@ pub fn next_item<'a, T: Definitions>(window: &'a [u8], table: &'a T) -> Step<'a>
     // What each answer states about the window.
     ensures step { IsStep (T.definition_for table.now) window.now result }
     // When each answer comes.
-    ensures item { (i : AnyItem) (used : ℕ) → ItemAtFront (T.definition_for table.now) window.now i used
+    ensures item { (i : AnyItem) (used : ℕ)
+        → ItemAtFront (T.definition_for table.now) window.now i used
         → IsStepItem result i used }
     ensures more { ItemBegun (T.definition_for table.now) window.now → result ≡ Step.NeedMore }
     ensures undefined { (l : ℕ) → ShowsUndefined (T.definition_for table.now) window.now l
@@ -212,7 +213,8 @@ fn next_data<'a>(
 ) -> Step<'a>
     requires begun { 1 ≤ length window.now }
     requires head { head_of (slice_index window.now 0) ≡ DataHead local offset }
-    ensures { (f : ℕ → Option AnyDefinition) → f local ≡ Some definition.entry → IsStep f window.now result }
+    ensures { (f : ℕ → Option AnyDefinition) → f local ≡ Some definition.entry
+        → IsStep f window.now result }
 {
     let used = 1 + definition.content_size();
     if window.len() < used {

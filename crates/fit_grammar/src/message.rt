@@ -44,7 +44,7 @@ impl<'a> Model for Message<'a> {
 
 impl<'a> Message<'a> {
     ghost use Rattle.std.specs.Prelude.{◌<◌, ℕ, Some};
-    ghost use Rattle.fit_grammar.specs.Calls.LentMessage.{time_of};
+    ghost use Rattle.fit_grammar.specs.Calls.LentMessage.{lent_time};
     ghost use Rattle.fit_grammar.specs.Format.Message.{time_stated};
 
     /// The global message number, as the profile numbers messages.
@@ -81,7 +81,7 @@ impl<'a> Message<'a> {
     /// The time that the message gives, in seconds since 1989-12-31 00:00 UTC: that of its compressed timestamp, or else the
     /// value of its first field 253 of base type 0x86 and size 4 that is not invalid.
     pub fn time(&self) -> Option<u32>
-        ensures time { result ≡ time_of self.now }
+        ensures time { result ≡ lent_time self.now }
         // Its fields state the time too, since that of a compressed timestamp is the first of them. The exception is
         // 0xFFFFFFFF, which is invalid in a field.
         ensures stated { (time : ℕ) → result ≡ Some time → time < 0xFFFFFFFF

@@ -36,8 +36,8 @@ impl<D: Disk> Ride<D> {
     ghost use Rattle.fit_histories.specs.Rides.Replies.{Replies, outlives_stop, RepliesStart, RepliesRecovery, RepliesReopening, RepliesErasing, is_ok};
     ghost use Rattle.fit_histories.specs.Rides.Ride.{CanGoOn, Handed, Called, Answered, disk_in, is_riding, encoded_checksum, encoded_len, slots_of};
     ghost use Rattle.fit_histories.specs.Rides.NeverFull.{NeverFull, StaysNeverFull};
-    ghost use Rattle.fit_histories.specs.Rides.Goes.{Goes};
-    ghost use Rattle.fit_histories.specs.Rides.Standing.{StandsIn, GoesBy, Rests};
+    ghost use Rattle.fit_histories.specs.Rides.Goes.{TakesStep};
+    ghost use Rattle.fit_histories.specs.Rides.Standing.{StandsIn, TakesStepFrom, LeavesAllowed};
     ghost use Rattle.fit_histories.specs.Rides.Left.{LeftBy};
     ghost use Rattle.fit_recorder.specs.Files.NeverFull.{NeverFills};
 
@@ -53,7 +53,8 @@ impl<D: Disk> Ride<D> {
         ensures not_empty { IsTrue D.honest → result.1 ≡ Refused NotEmpty
             → seen_of Data (D.story (disk_in self)) ≢ [] }
         ensures riding { is_riding result.0 ≡ is_ok result.1 }
-        ensures goes { IsTrue D.honest → Goes D.honest D.story (commands.Start start) result.1 self result.0 }
+        ensures goes { IsTrue D.honest
+            → TakesStep D.honest D.story (commands.Start start) result.1 self result.0 }
         ensures never_full { StaysNeverFull D.honest D.story self result.1 result.0 }
         ensures called { Called D.log result.1 self result.0 }
     {
@@ -73,7 +74,8 @@ impl<D: Disk> Ride<D> {
             → Handed self.new (list ++ Added entry.now ∷ []) }
         ensures answered { Answered D.honest D.story result self.old self.new }
         ensures riding { is_riding self.new ≡ is_riding self.old }
-        ensures goes { IsTrue D.honest → Goes D.honest D.story (commands.Entry entry.now) result self.old self.new }
+        ensures goes { IsTrue D.honest
+            → TakesStep D.honest D.story (commands.Entry entry.now) result self.old self.new }
         ensures never_full { StaysNeverFull D.honest D.story self.old result self.new }
         ensures called { Called D.log result self.old self.new }
     {
@@ -92,10 +94,12 @@ impl<D: Disk> Ride<D> {
             → Handed self.new list }
         ensures made { result ≡ Done
             → slots_of self.new
-            ≡ committed_slots (slots_of self.old) (encoded_len self.old) (encoded_checksum self.old) }
+            ≡ committed_slots (slots_of self.old) (encoded_len self.old)
+            (encoded_checksum self.old) }
         ensures answered { Answered D.honest D.story result self.old self.new }
         ensures riding { is_riding self.new ≡ is_riding self.old }
-        ensures goes { IsTrue D.honest → Goes D.honest D.story commands.Commit result self.old self.new }
+        ensures goes { IsTrue D.honest
+            → TakesStep D.honest D.story commands.Commit result self.old self.new }
         ensures never_full { StaysNeverFull D.honest D.story self.old result self.new }
         ensures called { Called D.log result self.old self.new }
     {
@@ -114,7 +118,8 @@ impl<D: Disk> Ride<D> {
         ensures not_done { result.1 ≢ Done }
         ensures answered { Answered D.honest D.story result.1 self result.0 }
         ensures riding { is_riding result.0 ≡ outlives_stop (is_riding self) result.1 }
-        ensures goes { IsTrue D.honest → Goes D.honest D.story (commands.Entry (Stop time)) result.1 self result.0 }
+        ensures goes { IsTrue D.honest
+            → TakesStep D.honest D.story (commands.Entry (Stop time)) result.1 self result.0 }
         ensures never_full { StaysNeverFull D.honest D.story self result.1 result.0 }
         ensures called { Called D.log result.1 self result.0 }
     {
@@ -133,7 +138,7 @@ impl<D: Disk> Ride<D> {
         ensures ended { is_riding result.0 ≡ false }
         ensures disk { disk_in result.0 ≡ disk_in self }
         ensures step { IsTrue D.honest → (before : History) → StandsIn D.honest D.story self before
-            → GoesBy D.honest D.story before commands.Restart result.1 result.0 }
+            → TakesStepFrom D.honest D.story before commands.Restart result.1 result.0 }
         ensures never_full { StaysNeverFull D.honest D.story self result.1 result.0 }
     {
         (Ride::Idle(self.into_disk()), Reply::Done)
@@ -143,7 +148,8 @@ impl<D: Disk> Ride<D> {
     pub fn recover(self) -> (Ride<D>, Reply)
         ensures replies { RepliesRecovery result.1 }
         ensures ended { is_riding result.0 ≡ false }
-        ensures goes { IsTrue D.honest → Goes D.honest D.story commands.Recover result.1 self result.0 }
+        ensures goes { IsTrue D.honest
+            → TakesStep D.honest D.story commands.Recover result.1 self result.0 }
         ensures never_full { StaysNeverFull D.honest D.story self result.1 result.0 }
         ensures called { Called D.log result.1 self result.0 }
     {
@@ -160,7 +166,8 @@ impl<D: Disk> Ride<D> {
         ensures full { IsTrue D.honest → result.1 ≡ Refused JournalFull
             → HasNoRoom (seen_in (D.story (disk_in self)).now) }
         ensures riding { is_riding result.0 ≡ is_ok result.1 }
-        ensures goes { IsTrue D.honest → Goes D.honest D.story commands.Reopen result.1 self result.0 }
+        ensures goes { IsTrue D.honest
+            → TakesStep D.honest D.story commands.Reopen result.1 self result.0 }
         ensures never_full { StaysNeverFull D.honest D.story self result.1 result.0 }
         ensures called { Called D.log result.1 self result.0 }
     {
@@ -174,7 +181,8 @@ impl<D: Disk> Ride<D> {
     pub fn erase(self) -> (Ride<D>, Reply)
         ensures replies { RepliesErasing result.1 }
         ensures ended { is_riding result.0 ≡ false }
-        ensures goes { IsTrue D.honest → Goes D.honest D.story commands.Erase result.1 self result.0 }
+        ensures goes { IsTrue D.honest
+            → TakesStep D.honest D.story commands.Erase result.1 self result.0 }
         ensures never_full { StaysNeverFull D.honest D.story self result.1 result.0 }
         ensures called { Called D.log result.1 self result.0 }
     {
@@ -197,8 +205,9 @@ impl<D: Disk> Ride<D> {
     pub fn into_disk(self) -> D
         ensures disk { result ≡ disk_in self }
         ensures rests { IsTrue D.honest → (before : History) → StandsIn D.honest D.story self before
-            → Rests (ended before) (D.story result) }
-        ensures never_fills { IsTrue D.honest → (before : History) → StandsIn D.honest D.story self before
+            → LeavesAllowed (ended before) (D.story result) }
+        ensures never_fills { IsTrue D.honest → (before : History)
+            → StandsIn D.honest D.story self before
             → NeverFull D.story self → LeavesOnly NeverFills (D.story result).now }
     {
         match self {

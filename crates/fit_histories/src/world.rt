@@ -64,10 +64,12 @@ pub fn run_for_replies(
     checked: bool,
 ) -> Result<Vec<Reply>, NoMemory>
     requires { All (λ event. CanRun event.command) events.now }
-    ensures history { IfOk result (λ replies. (outcomes : List Outcome) × IsHistory events.now outcomes
+    ensures history { IfOk result (λ replies. (outcomes : List Outcome)
+        × IsHistory events.now outcomes
         × (replies.items ≡ map reply_in outcomes)) }
     ensures follows { IfOk result (λ replies. (outcomes : List Outcome)
-        × FollowsChoices choices.now events.now outcomes × (replies.items ≡ map reply_in outcomes)) }
+        × FollowsChoices choices.now events.now outcomes
+        × (replies.items ≡ map reply_in outcomes)) }
     ensures never_full { IfOk result (λ replies. (outcomes : List Outcome) × NoneFull outcomes
         × (replies.items ≡ map reply_in outcomes)) }
 {
@@ -87,7 +89,8 @@ fn run_for<K: Keeper>(
 ) -> Result<(), NoMemory>
     requires can { All (λ event. CanRun event.command) events.now }
     requires first { K.WasReported keeper.old [] }
-    ensures { OnOk result ((outcomes : List Outcome) × FollowsChoices choices.entry.now events.now outcomes
+    ensures { OnOk result ((outcomes : List Outcome)
+        × FollowsChoices choices.entry.now events.now outcomes
         × NoneFull outcomes × K.WasReported keeper.new outcomes) }
 {
     let mut ride = Ride::Idle(Memory::new(alloc));

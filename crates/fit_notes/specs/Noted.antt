@@ -21,14 +21,18 @@ found which bytes story = record { now = with_file which (at_rest bytes) story.n
 
 abbrev pub wrote : Which → ℕ → List ℕ → Story → Story
 wrote which at bytes story =
-    then_file which (write_begun at (length bytes) (over at bytes (seen_of which story)) (file_of which story.now)) story
+    then_file which (write_begun at (length bytes) (over at bytes (seen_of which story))
+    (file_of which story.now)) story
 
 -- a write for which there was no room: it counts as begun, and reads give what they gave before
 abbrev pub refused : Which → ℕ → List ℕ → Story → Story
-refused which at bytes story = then_file which (write_begun at (length bytes) (seen_of which story) (file_of which story.now)) story
+refused which at bytes story =
+    then_file which (write_begun at (length bytes) (seen_of which story)
+    (file_of which story.now)) story
 
 abbrev pub shortened : Which → ℕ → Story → Story
-shortened which len story = then_file which (cut_begun len (take len (seen_of which story)) (file_of which story.now)) story
+shortened which len story =
+    then_file which (cut_begun len (take len (seen_of which story)) (file_of which story.now)) story
 
 abbrev pub synced : Which → Story → Story
 synced which story = then_file which (at_rest (seen_of which story)) story
@@ -47,4 +51,7 @@ since_by numbers story since = if slice_index numbers 0 == 5 then story else sin
 
 -- a mark changes nothing of the story itself
 abbrev pub noted_by : List ℕ → List ℕ → Story → Story
-noted_by numbers bytes story = if slice_index numbers 0 == 5 then story else noted (slice_index numbers 0) (which_of (slice_index numbers 1)) (slice_index numbers 2) bytes story
+noted_by numbers bytes story =
+    if slice_index numbers 0 == 5
+    then story else noted (slice_index numbers 0) (which_of (slice_index numbers 1))
+    (slice_index numbers 2) bytes story

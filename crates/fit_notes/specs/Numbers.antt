@@ -17,7 +17,9 @@ then_pair pair rest = pair.0 ∷ pair.1 ∷ rest
 
 abbrev pub then_stored : Stored → List ℕ → List ℕ
 then_stored file rest =
-    then_all then_number file.synced (then_all then_number file.seen (file.least ∷ file.greatest ∷ then_all then_pair file.written rest))
+    then_all then_number file.synced
+    (then_all then_number file.seen
+    (file.least ∷ file.greatest ∷ then_all then_pair file.written rest))
 
 abbrev pub then_state : State → List ℕ → List ℕ
 then_state state rest = then_stored state.data_file (then_stored state.journal_file rest)

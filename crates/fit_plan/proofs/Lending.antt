@@ -3,11 +3,11 @@ use Rattle.std.proofs.Common.{◌≡◌, ◌≤◌, ◌<◌, ◌-◌, ◌+◌, m
 use Rattle.std.proofs.lemmas.List.{drop-take, take-take, length-take}
 use Rattle.fit_disk.specs.Calls.{ReadsAt}
 use Rattle.fit_disk.specs.Counts.{Counts, last_count, no_calls}
-use Rattle.fit_disk.specs.Runs.{Ran}
+use Rattle.fit_disk.specs.Runs.{MakesAtMost}
 use Rattle.fit_disk.specs.Story.{Story}
 use Rattle.fit_notes.proofs.Numbers.{same_story}
 use Rattle.fit_notes.specs.Numbers.{numbers_of}
-use Rattle.fit_plan.specs.Lent.{counts_in, since_in, story_in, log_in, number_of, IsLentWhole}
+use Rattle.fit_plan.specs.Lent.{lent_counts, lent_since, lent_story, lent_log, bit_of, IsLentWhole}
 use Rattle.fit_plan.specs.Part.{BeginsWith}
 use Rattle.fit_plan.specs.declared.journal.LentJournal.{LentJournal}
 
@@ -34,20 +34,20 @@ reads_file seen file front buffer at room count is_whole same is enough reads =
     subst (λ bytes. ReadsAt bytes at room buffer count) same (reads_front file front buffer at room count is_whole is enough reads)
 
 -- over a whole journal no run of calls fails that changes nothing and reads nothing of the data file
-pub no_failure : (most : ℕ) (Failed : Type 0) (old new : LentJournal) → IsLentWhole old → most < last_count → Ran most 0 Failed (log_in old) (log_in new)
-    → story_in new ≡ story_in old → Failed → ⊥
+pub no_failure : (most : ℕ) (Failed : Type 0) (old new : LentJournal) → IsLentWhole old → most < last_count → MakesAtMost most 0 Failed (lent_log old) (lent_log new)
+    → lent_story new ≡ lent_story old → Failed → ⊥
 no_failure most Failed old new lent few ran same failed =
-    let none : counts_in old ≡ no_calls = lent.none in
-    let calls : (counts_in old).calls ≡ 0 = ap (λ (counts : Counts). counts.calls) none in
-    let reads : (counts_in old).data_reads ≡ 0 = ap (λ (counts : Counts). counts.data_reads) none in
-    let before : (counts_in old).failed ≡ 0 = ap (λ (counts : Counts). counts.failed) none in
-    let few_calls : (counts_in new).calls < last_count = omega (arith, ran.at_most, calls, few) in
-    let no_reads : (counts_in new).data_reads ≡ 0 = omega (arith, ran.few_reads, reads) in
-    let numbers : number_of new.is_whole ∷ numbers_of (since_in new) ≡ number_of old.is_whole ∷ numbers_of (since_in old) = ran.memory in
-    let began : since_in new ≡ since_in old = same_story _ _ cc in
-    let whole : new.is_whole ≡ true = is_whole new.is_whole (ap (λ (numbers : List ℕ). first_of numbers) numbers ∙ ap number_of lent.whole) in
-    let past : length (since_in new).past ≡ length (story_in new).past = ap (λ (story : Story). length story.past) (began ∙ lent.began ∙ sym same) in
-    let one : (counts_in new).failed ≡ (counts_in old).failed + 1 = (ran.cause failed).one few_calls in
+    let none : lent_counts old ≡ no_calls = lent.none in
+    let calls : (lent_counts old).calls ≡ 0 = ap (λ (counts : Counts). counts.calls) none in
+    let reads : (lent_counts old).data_reads ≡ 0 = ap (λ (counts : Counts). counts.data_reads) none in
+    let before : (lent_counts old).failed ≡ 0 = ap (λ (counts : Counts). counts.failed) none in
+    let few_calls : (lent_counts new).calls < last_count = omega (arith, ran.at_most, calls, few) in
+    let no_reads : (lent_counts new).data_reads ≡ 0 = omega (arith, ran.few_reads, reads) in
+    let numbers : bit_of new.is_whole ∷ numbers_of (lent_since new) ≡ bit_of old.is_whole ∷ numbers_of (lent_since old) = ran.memory in
+    let began : lent_since new ≡ lent_since old = same_story _ _ cc in
+    let whole : new.is_whole ≡ true = is_whole new.is_whole (ap (λ (numbers : List ℕ). first_of numbers) numbers ∙ ap bit_of lent.whole) in
+    let past : length (lent_since new).past ≡ length (lent_story new).past = ap (λ (story : Story). length story.past) (began ∙ lent.began ∙ sym same) in
+    let one : (lent_counts new).failed ≡ (lent_counts old).failed + 1 = (ran.cause failed).one few_calls in
     let unchanged : new.has_changed ≡ false = is_unchanged new.has_changed (λ changed. omega (arith, new.noted changed, past)) in
     omega (arith, new.went unchanged whole no_reads few_calls, one)
   where
@@ -55,7 +55,7 @@ no_failure most Failed old new lent few ran same failed =
     first_of [] = 0
     first_of (n ∷ ns) = n
 
-    is_whole : (b : Bool) → number_of b ≡ 1 → b ≡ true
+    is_whole : (b : Bool) → bit_of b ≡ 1 → b ≡ true
     is_whole true one = refl
     is_whole false one = absurd (omega (arith, one))
 

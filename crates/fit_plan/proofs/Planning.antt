@@ -9,10 +9,10 @@ use Rattle.fit_disk.specs.Story.{Story}
 use Rattle.fit_plan.specs.declared.calls.Call.{Call}
 use Rattle.fit_notes.specs.Noted.{which_of}
 use Rattle.fit_plan.specs.Carried.{carried}
-use Rattle.fit_plan.specs.Planned.{bytes_of, done_by, AllInside, BeginsInside}
+use Rattle.fit_plan.specs.Planned.{call_bytes, done_by, AllInside, BeginsInside}
 use Rattle.fit_plan.specs.Within.{IsWithin}
 
-bytes_kept : (bytes more : List ℕ) (call : Call) → IsWithin (length bytes) call → bytes_of (bytes ++ more) call ≡ bytes_of bytes call
+bytes_kept : (bytes more : List ℕ) (call : Call) → IsWithin (length bytes) call → call_bytes (bytes ++ more) call ≡ call_bytes bytes call
 bytes_kept bytes more call within =
     ap (take call.count) (drop-append-le call.start bytes more (omega (arith, within.within)))
     ∙ take-append-le call.count (drop call.start bytes) more (omega (arith, within.within, length-drop call.start bytes))
@@ -32,7 +32,7 @@ pub planned_more : (bytes more : List ℕ) (calls : List Call) (call : Call) (si
     → call.start ≡ length bytes → call.count ≡ length more
     → fold (done_by (bytes ++ more)) since (calls ++ call ∷ []) ≡ carried call.kind (which_of call.file) call.at more (fold (done_by bytes) since calls)
 planned_more bytes more calls call since within start count =
-    let own : bytes_of (bytes ++ more) call ≡ more = ap (take call.count) (drop_at bytes more call.start (sym start)) ∙ take_all call.count more (omega (arith, count)) in
+    let own : call_bytes (bytes ++ more) call ≡ more = ap (take call.count) (drop_at bytes more call.start (sym start)) ∙ take_all call.count more (omega (arith, count)) in
     fold_push (done_by (bytes ++ more)) since calls call
     ∙ ap (λ (bytes' : List ℕ). carried call.kind (which_of call.file) call.at bytes' (fold (done_by (bytes ++ more)) since calls)) own
     ∙ ap (λ (story : Story). carried call.kind (which_of call.file) call.at more story) (fold_kept bytes more calls since within)

@@ -17,7 +17,7 @@ use Rattle.fit_plan.specs.declared.calls.Call.{Call}
 use Rattle.fit_plan.specs.Between.{states_of, GoesOnTo, IsLeftBetween}
 use Rattle.fit_plan.specs.Carried.{carried}
 use Rattle.fit_plan.specs.CutOff.{PartlyDone, IsCutOff, done_first}
-use Rattle.fit_plan.specs.Planned.{bytes_of, done_by}
+use Rattle.fit_plan.specs.Planned.{call_bytes, done_by}
 use Rattle.fit_plan.specs.Within.{IsWithin}
 
 past_of : (is_write is_cut : Bool) (x y z : Story) (past : List State) → x.past ≡ past → y.past ≡ past → z.past ≡ past
@@ -35,7 +35,7 @@ goes_on bytes [] story = ([], refl)
 goes_on bytes (call ∷ calls) story =
     let next : Story = done_by bytes story call in
     let rest : GoesOnTo next (fold (done_by bytes) next calls) = goes_on bytes calls next in
-    let before : states_of next ≡ (next.now ∷ []) ++ states_of story = ap (λ (past : List State). next.now ∷ past) (one_state call.kind (which_of call.file) call.at (bytes_of bytes call) story) in
+    let before : states_of next ≡ (next.now ∷ []) ++ states_of story = ap (λ (past : List State). next.now ∷ past) (one_state call.kind (which_of call.file) call.at (call_bytes bytes call) story) in
     (rest.0 ++ (next.now ∷ []), rest.1 ∙ ap (λ (states : List State). rest.0 ++ states) before ∙ sym (append_assoc rest.0 (next.now ∷ []) (states_of story)))
 
 -- the next call leads to a story from which the others go on
@@ -52,7 +52,7 @@ module _ (bytes : List ℕ) (calls rest : List Call) (count : ℕ) (call : Call)
   to_next =
       let before : GoesOnTo old mid = goes_on bytes (take count calls) old in
       let one : states_of (done_by bytes mid call) ≡ ((done_by bytes mid call).now ∷ []) ++ states_of mid =
-      ap (λ (past : List State). (done_by bytes mid call).now ∷ past) (one_state call.kind (which_of call.file) call.at (bytes_of bytes call) mid) in
+      ap (λ (past : List State). (done_by bytes mid call).now ∷ past) (one_state call.kind (which_of call.file) call.at (call_bytes bytes call) mid) in
       ((done_by bytes mid call).now ∷ before.0, one ∙ ap (λ (states : List State). (done_by bytes mid call).now ∷ states) before.1)
 
   from_next : GoesOnTo (done_by bytes mid call) (fold (done_by bytes) old calls)
@@ -126,8 +126,8 @@ left_by_cut bytes calls old mid contents within off left = by_end off.ends
     by_end (inl same) = at_first (subst (λ (story : Story). BothLeft story.now contents) same left)
     by_end (inr (call, rest, next, inl (kind, part))) =
         let call_within : IsWithin (length bytes) call = All-head (IsWithin (length bytes)) call rest (subst (All (IsWithin (length bytes))) next (All-drop (IsWithin (length bytes)) off.count calls within)) in
-        let all : length (bytes_of bytes call) ≡ call.count = omega (arith, call_within.within, length-take call.count (drop call.start bytes), length-drop call.start bytes) in
-        at_next call rest next (rw kind (wrote_left (which_of call.file) call.at call.count (bytes_of bytes call) (done_first off.count bytes calls old) mid contents all part left))
+        let all : length (call_bytes bytes call) ≡ call.count = omega (arith, call_within.within, length-take call.count (drop call.start bytes), length-drop call.start bytes) in
+        at_next call rest next (rw kind (wrote_left (which_of call.file) call.at call.count (call_bytes bytes call) (done_first off.count bytes calls old) mid contents all part left))
     by_end (inr (call, rest, next, inr (inl (kind, part)))) = at_next call rest next (rw kind (cut_left (which_of call.file) call.at (done_first off.count bytes calls old) mid contents part left))
     by_end (inr (call, rest, next, inr (inr (kind, same)))) = at_first (subst (λ (story : Story). BothLeft story.now contents) same left)
 

@@ -11,7 +11,8 @@ use Rattle.fit_plan.specs.declared.calls.Call.{Call}
 abbrev pub PartlyDone : Call → Story → Story → Type 0
 PartlyDone call old new =
     ((call.kind ≡ 1) × PartlyWrote (which_of call.file) call.at call.count old new)
-    ⊎ (((call.kind ≡ 2) × PartlyShortened (which_of call.file) call.at old new) ⊎ ((call.kind ≡ 3) × (new ≡ old)))
+    ⊎ (((call.kind ≡ 2) × PartlyShortened (which_of call.file) call.at old new)
+    ⊎ ((call.kind ≡ 3) × (new ≡ old)))
 
 -- the story after the first so many calls
 abbrev pub done_first : ℕ → List ℕ → List Call → Story → Story
@@ -21,4 +22,5 @@ done_first count bytes calls story = fold (done_by bytes) story (take count call
 pub record IsCutOff (bytes : List ℕ) (calls : List Call) (old new : Story) : Type 0 where
   pub count : ℕ
   pub ends : (new ≡ done_first count bytes calls old)
-      ⊎ ((call : Call) × (rest : List Call) × (drop count calls ≡ call ∷ rest) × PartlyDone call (done_first count bytes calls old) new)
+      ⊎ ((call : Call) × (rest : List Call) × (drop count calls ≡ call ∷ rest)
+      × PartlyDone call (done_first count bytes calls old) new)

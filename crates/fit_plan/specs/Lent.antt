@@ -6,26 +6,32 @@ use Rattle.fit_disk.specs.Story.{Story}
 use Rattle.fit_notes.specs.Numbers.{numbers_of}
 use Rattle.fit_plan.specs.declared.journal.LentJournal.{LentJournal}
 
-abbrev pub story_in : LentJournal → Story
-story_in l = l.notes.story
+abbrev pub lent_story : LentJournal → Story
+lent_story l = l.notes.story
 
 -- the story when it was lent
-abbrev pub since_in : LentJournal → Story
-since_in l = l.notes.since
+abbrev pub lent_since : LentJournal → Story
+lent_since l = l.notes.since
 
-abbrev pub counts_in : LentJournal → Counts
-counts_in l = counts_of l.counts
+abbrev pub lent_counts : LentJournal → Counts
+lent_counts l = counts_of l.counts
 
-abbrev pub number_of : Bool → ℕ
-number_of true = 1
-number_of false = 0
+abbrev pub bit_of : Bool → ℕ
+bit_of true = 1
+bit_of false = 0
 
 -- no call changes which journal it is
-abbrev pub log_in : LentJournal → Log
-log_in l = record { counts = counts_in l; schedule = unplanned no_calls; memory = number_of l.is_whole ∷ numbers_of (since_in l); room = no_room }
+abbrev pub lent_log : LentJournal → Log
+lent_log l =
+    record {
+      counts = lent_counts l;
+      schedule = unplanned no_calls;
+      memory = bit_of l.is_whole ∷ numbers_of (lent_since l);
+      room = no_room;
+    }
 
 -- all of the journal is lent, and no call was made
 pub record IsLentWhole (l : LentJournal) : Type 0 where
   pub whole : l.is_whole ≡ true
-  pub began : since_in l ≡ story_in l
-  pub none : counts_in l ≡ no_calls
+  pub began : lent_since l ≡ lent_story l
+  pub none : lent_counts l ≡ no_calls

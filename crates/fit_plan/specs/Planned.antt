@@ -8,12 +8,13 @@ use Rattle.fit_plan.specs.declared.calls.Calls.{Calls}
 use Rattle.fit_plan.specs.Carried.{carried}
 
 -- the bytes of a call among those of the plan
-abbrev pub bytes_of : List ℕ → Call → List ℕ
-bytes_of bytes call = take call.count (drop call.start bytes)
+abbrev pub call_bytes : List ℕ → Call → List ℕ
+call_bytes bytes call = take call.count (drop call.start bytes)
 
 -- the story after one more call
 abbrev pub done_by : List ℕ → Story → Call → Story
-done_by bytes story call = carried call.kind (which_of call.file) call.at (bytes_of bytes call) story
+done_by bytes story call =
+    carried call.kind (which_of call.file) call.at (call_bytes bytes call) story
 
 -- the story after all of them
 abbrev pub planned : Calls → Story → Story
@@ -25,7 +26,9 @@ BeginsInside story call = call.at ≤ length (seen_of (which_of call.file) story
 
 -- so does each of these, over the files that those before it leave
 abbrev pub AllInside : List ℕ → Story → List Call → Type 0
-AllInside bytes story calls = (k : ℕ) → k < length calls → HoldsAt (BeginsInside (fold (done_by bytes) story (take k calls))) calls k
+AllInside bytes story calls =
+    (k : ℕ) → k < length calls
+    → HoldsAt (BeginsInside (fold (done_by bytes) story (take k calls))) calls k
 
 abbrev pub AreInside : Calls → Story → Type 0
 AreInside calls since = AllInside calls.bytes.items since calls.calls.items

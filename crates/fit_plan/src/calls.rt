@@ -65,7 +65,8 @@ impl Calls {
         ensures ok { OnOk result ((since : Story) → planned self.new since
             ≡ carried kind (which_of file) at bytes.now (planned self.old since)) }
         ensures inside { OnOk result ((since : Story) → AreInside self.old since
-            → at ≤ length (seen_of (which_of file) (planned self.old since)) → AreInside self.new since) }
+            → at ≤ length (seen_of (which_of file) (planned self.old since))
+            → AreInside self.new since) }
         ensures err { OnErr result (self.new ≡ self.old) }
         ensures added { OnOk result ((length self.new.calls.items ≡ length self.old.calls.items + 1)
             × (length self.new.bytes.items ≡ length self.old.bytes.items + length bytes.now)) }

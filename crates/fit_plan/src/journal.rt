@@ -4,7 +4,7 @@ ghost use Rattle.std.specs.Prelude.{◌≡◌, ◌+◌, ◌<◌, ◌≤◌, ◌^
 ghost use Rattle.fit_disk.specs.CallSchedule.{counts_of};
 ghost use Rattle.fit_disk.specs.Calls.{ReadsAt, Wrote, Shortened, Synced, IsSound};
 ghost use Rattle.fit_disk.specs.Counts.{CountsCall, CountsRead, last_count, no_calls, with_failure};
-ghost use Rattle.fit_disk.specs.Runs.{Takes};
+ghost use Rattle.fit_disk.specs.Runs.{TakesRoom};
 ghost use Rattle.fit_disk.specs.Story.{seen_of};
 ghost use Rattle.fit_disk.specs.declared.disk.Which.TheVariants.{Data, Journal};
 ghost use Rattle.fit_plan.specs.Part.{BeginsWith};
@@ -27,7 +27,8 @@ pub struct LentJournal<'a> {
     notes: Notes,
     ghost sound: { IsSound notes.story.now },
     ghost sized: { has_changed ≡ false → size ≡ length notes.story.now.data_file.seen },
-    ghost front: { has_changed ≡ false → BeginsWith notes.story.now.journal_file.seen bytes.now is_whole },
+    ghost front: { has_changed ≡ false
+        → BeginsWith notes.story.now.journal_file.seen bytes.now is_whole },
     ghost longer: { length notes.since.past ≤ length notes.story.past },
     ghost noted: { has_changed ≡ true → length notes.since.past < length notes.story.past },
     // A whole journal gives all reads until it is changed.
@@ -36,7 +37,7 @@ pub struct LentJournal<'a> {
 }
 
 impl<'a> LentJournal<'a> {
-    ghost use Rattle.fit_plan.specs.Lent.{story_in, since_in, counts_in, IsLentWhole};
+    ghost use Rattle.fit_plan.specs.Lent.{lent_story, lent_since, lent_counts, IsLentWhole};
 
     /// Two files with this story, of which the data file has this length in bytes, and the journal begins with these bytes.
     /// `is_whole` says that it has no others.
@@ -44,9 +45,9 @@ impl<'a> LentJournal<'a> {
         requires sound { IsSound notes.story.now }
         requires sized { size ≡ length notes.story.now.data_file.seen }
         requires front { BeginsWith notes.story.now.journal_file.seen bytes.now is_whole }
-        ensures story { story_in result ≡ notes.story }
-        ensures since { since_in result ≡ notes.story }
-        ensures counts { counts_in result ≡ no_calls }
+        ensures story { lent_story result ≡ notes.story }
+        ensures since { lent_since result ≡ notes.story }
+        ensures counts { lent_counts result ≡ no_calls }
         ensures whole { is_whole ≡ true → IsLentWhole result }
     {
         notes.note(&[MARK, 0, 0], &[]);
@@ -63,7 +64,8 @@ impl<'a> LentJournal<'a> {
     // Whether what is lent has all bytes that a read of a file may give.
     fn has_all(&self, which: Which, at: u64, room: usize) -> bool
         ensures journal { IsTrue result → (which ≡ Journal) × (self.now.has_changed ≡ false) }
-        ensures within { IsTrue result → self.now.is_whole ≡ false → at + room ≤ length self.now.bytes.now }
+        ensures within { IsTrue result → self.now.is_whole ≡ false
+            → at + room ≤ length self.now.bytes.now }
         ensures no { result ≡ false → which ≡ Journal → self.now.has_changed ≡ false
             → self.now.is_whole ≡ false }
     {
@@ -76,13 +78,13 @@ impl<'a> LentJournal<'a> {
 
     // Lets the last call fail.
     fn failed<T>(&mut self) -> Result<T, DeviceError>
-        requires counted { (counts_in self.old).failed < (counts_in self.old).calls }
+        requires counted { (lent_counts self.old).failed < (lent_counts self.old).calls }
         requires cause { self.old.has_changed ≡ false → self.old.is_whole ≡ true
-            → (counts_in self.old).data_reads ≡ 0 → last_count ≤ (counts_in self.old).calls }
+            → (lent_counts self.old).data_reads ≡ 0 → last_count ≤ (lent_counts self.old).calls }
         ensures err { IsErr result }
-        ensures counts { counts_in self.new ≡ with_failure (counts_in self.old) }
-        ensures story { story_in self.new ≡ story_in self.old }
-        ensures since { since_in self.new ≡ since_in self.old }
+        ensures counts { lent_counts self.new ≡ with_failure (lent_counts self.old) }
+        ensures story { lent_story self.new ≡ lent_story self.old }
+        ensures since { lent_since self.new ≡ lent_since self.old }
         ensures whole { self.new.is_whole ≡ self.old.is_whole }
     {
         self.counts.fail();
@@ -91,23 +93,24 @@ impl<'a> LentJournal<'a> {
 }
 
 impl Disk for LentJournal<'_> {
-    ghost use Rattle.fit_plan.specs.Lent.{story_in, counts_in, log_in};
+    ghost use Rattle.fit_plan.specs.Lent.{lent_story, lent_counts, lent_log};
 
     ghost honest = { true };
 
-    ghost story = { story_in };
+    ghost story = { lent_story };
 
-    ghost log = { log_in };
+    ghost log = { lent_log };
 
     ghost sound = { λ l _. l.sound };
 
     fn size(&mut self, which: Which) -> Result<u64, DeviceError>
-        ensures size { IfOk result (λ size. size ≡ length (seen_of which (story_in self.old))) }
-        ensures same { story_in self.new ≡ story_in self.old }
-        ensures counted { CountsCall result (counts_in self.old) (counts_in self.new) }
-        ensures reads { (counts_in self.new).data_reads ≡ (counts_in self.old).data_reads }
-        ensures memory { (log_in self.new).memory ≡ (log_in self.old).memory }
-        ensures room { Takes 1 0 (IsErr result × (which ≡ Data)) (log_in self.old) (log_in self.new) }
+        ensures size { IfOk result (λ size. size ≡ length (seen_of which (lent_story self.old))) }
+        ensures same { lent_story self.new ≡ lent_story self.old }
+        ensures counted { CountsCall result (lent_counts self.old) (lent_counts self.new) }
+        ensures reads { (lent_counts self.new).data_reads ≡ (lent_counts self.old).data_reads }
+        ensures memory { (lent_log self.new).memory ≡ (lent_log self.old).memory }
+        ensures room { TakesRoom 1 0 (IsErr result
+            × (which ≡ Data)) (lent_log self.old) (lent_log self.new) }
     {
         self.counts.call()?;
         if self.has_changed {
@@ -128,11 +131,11 @@ impl Disk for LentJournal<'_> {
     fn read(&mut self, which: Which, at: u64, buffer: &mut [u8]) -> Result<usize, DeviceError>
         ensures within { IfOk result (λ count. count ≤ length buffer.old) }
         ensures bytes { IfOk result
-            (ReadsAt (seen_of which (story_in self.old)) at (length buffer.old) buffer.new) }
-        ensures same { story_in self.new ≡ story_in self.old }
-        ensures counted { CountsCall result (counts_in self.old) (counts_in self.new) }
-        ensures reads { CountsRead which (counts_in self.old) (counts_in self.new) }
-        ensures memory { (log_in self.new).memory ≡ (log_in self.old).memory }
+            (ReadsAt (seen_of which (lent_story self.old)) at (length buffer.old) buffer.new) }
+        ensures same { lent_story self.new ≡ lent_story self.old }
+        ensures counted { CountsCall result (lent_counts self.old) (lent_counts self.new) }
+        ensures reads { CountsRead which (lent_counts self.old) (lent_counts self.new) }
+        ensures memory { (lent_log self.new).memory ≡ (lent_log self.old).memory }
     {
         self.counts.read(which)?;
         if !self.has_all(which, at, buffer.len()) {
@@ -142,13 +145,15 @@ impl Disk for LentJournal<'_> {
     }
 
     fn write(&mut self, which: Which, at: u64, bytes: &[u8]) -> Result<(), DeviceError>
-        requires { at ≤ length (seen_of which (story_in self.old)) }
-        ensures wrote { Wrote which at bytes.now result (story_in self.old) (story_in self.new) }
-        ensures counted { CountsCall result (counts_in self.old) (counts_in self.new) }
-        ensures reads { (counts_in self.new).data_reads ≡ (counts_in self.old).data_reads }
-        ensures memory { (log_in self.new).memory ≡ (log_in self.old).memory }
-        ensures room { Takes 1 (length bytes.now) (IsErr result × (at + length bytes.now < 2 ^ 64))
-            (log_in self.old) (log_in self.new) }
+        requires { at ≤ length (seen_of which (lent_story self.old)) }
+        ensures wrote { Wrote which at bytes.now result (lent_story self.old)
+            (lent_story self.new) }
+        ensures counted { CountsCall result (lent_counts self.old) (lent_counts self.new) }
+        ensures reads { (lent_counts self.new).data_reads ≡ (lent_counts self.old).data_reads }
+        ensures memory { (lent_log self.new).memory ≡ (lent_log self.old).memory }
+        ensures room { TakesRoom 1 (length bytes.now) (IsErr result
+            × (at + length bytes.now < 2 ^ 64))
+            (lent_log self.old) (lent_log self.new) }
     {
         self.counts.call()?;
         self.has_changed = true;
@@ -158,12 +163,12 @@ impl Disk for LentJournal<'_> {
     }
 
     fn cut(&mut self, which: Which, len: u64) -> Result<(), DeviceError>
-        requires { len ≤ length (seen_of which (story_in self.old)) }
-        ensures shortened { Shortened which len result (story_in self.old) (story_in self.new) }
-        ensures counted { CountsCall result (counts_in self.old) (counts_in self.new) }
-        ensures reads { (counts_in self.new).data_reads ≡ (counts_in self.old).data_reads }
-        ensures memory { (log_in self.new).memory ≡ (log_in self.old).memory }
-        ensures room { Takes 1 0 (IsErr result) (log_in self.old) (log_in self.new) }
+        requires { len ≤ length (seen_of which (lent_story self.old)) }
+        ensures shortened { Shortened which len result (lent_story self.old) (lent_story self.new) }
+        ensures counted { CountsCall result (lent_counts self.old) (lent_counts self.new) }
+        ensures reads { (lent_counts self.new).data_reads ≡ (lent_counts self.old).data_reads }
+        ensures memory { (lent_log self.new).memory ≡ (lent_log self.old).memory }
+        ensures room { TakesRoom 1 0 (IsErr result) (lent_log self.old) (lent_log self.new) }
     {
         self.counts.call()?;
         self.has_changed = true;
@@ -173,11 +178,11 @@ impl Disk for LentJournal<'_> {
     }
 
     fn sync(&mut self, which: Which) -> Result<(), DeviceError>
-        ensures synced { Synced which result (story_in self.old) (story_in self.new) }
-        ensures counted { CountsCall result (counts_in self.old) (counts_in self.new) }
-        ensures reads { (counts_in self.new).data_reads ≡ (counts_in self.old).data_reads }
-        ensures memory { (log_in self.new).memory ≡ (log_in self.old).memory }
-        ensures room { Takes 1 0 (IsErr result) (log_in self.old) (log_in self.new) }
+        ensures synced { Synced which result (lent_story self.old) (lent_story self.new) }
+        ensures counted { CountsCall result (lent_counts self.old) (lent_counts self.new) }
+        ensures reads { (lent_counts self.new).data_reads ≡ (lent_counts self.old).data_reads }
+        ensures memory { (lent_log self.new).memory ≡ (lent_log self.old).memory }
+        ensures room { TakesRoom 1 0 (IsErr result) (lent_log self.old) (lent_log self.new) }
     {
         self.counts.call()?;
         self.notes.note(&[SYNCED, u64::from(number(which)), 0], &[]);

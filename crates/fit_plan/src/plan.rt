@@ -4,7 +4,7 @@ ghost use Rattle.std.specs.Prelude.{◌≡◌, ◌+◌, ◌<◌, ◌≤◌, ◌^
 ghost use Rattle.fit_disk.specs.CallSchedule.{counts_of};
 ghost use Rattle.fit_disk.specs.Calls.{ReadsAt, Wrote, Shortened, Synced, IsSound};
 ghost use Rattle.fit_disk.specs.Counts.{CountsCall, CountsRead, no_calls, with_read, with_failure, with_uncounted, last_count};
-ghost use Rattle.fit_disk.specs.Runs.{Takes};
+ghost use Rattle.fit_disk.specs.Runs.{TakesRoom};
 ghost use Rattle.fit_disk.specs.Story.{seen_of};
 ghost use Rattle.fit_disk.specs.declared.disk.Which.TheVariants.{Data};
 ghost use Rattle.fit_notes.specs.Noted.{number_of};
@@ -45,15 +45,15 @@ pub struct Plan {
 }
 
 impl Plan {
-    ghost use Rattle.fit_plan.specs.Plan.{story_in, since_in, counts_in, room_in, whole_room};
+    ghost use Rattle.fit_plan.specs.Plan.{plan_story, plan_since, plan_counts, room_in, whole_room};
 
     /// No calls yet, over two files with this story, of which the data file has this length in bytes.
     pub fn over(size: u64, mut notes: Notes) -> Plan
         requires sound { IsSound notes.story.now }
         requires sized { size ≡ length notes.story.now.data_file.seen }
-        ensures story { story_in result ≡ notes.story }
-        ensures since { since_in result ≡ notes.story }
-        ensures counts { counts_in result ≡ no_calls }
+        ensures story { plan_story result ≡ notes.story }
+        ensures since { plan_since result ≡ notes.story }
+        ensures counts { plan_counts result ≡ no_calls }
         ensures room { room_in result ≡ whole_room }
     {
         notes.note(&[MARK, 0, 0], &[]);
@@ -67,11 +67,11 @@ impl Plan {
 
     // Counts a read, which plans nothing.
     pub(crate) fn count_read(&mut self, which: Which) -> Result<(), DeviceError>
-        ensures ok { OnOk result (counts_in self.new ≡ with_read which (counts_in self.old)) }
-        ensures err { OnErr result (((counts_in self.old).calls ≡ last_count)
-            × (counts_in self.new ≡ with_uncounted (counts_in self.old))) }
-        ensures story { story_in self.new ≡ story_in self.old }
-        ensures since { since_in self.new ≡ since_in self.old }
+        ensures ok { OnOk result (plan_counts self.new ≡ with_read which (plan_counts self.old)) }
+        ensures err { OnErr result (((plan_counts self.old).calls ≡ last_count)
+            × (plan_counts self.new ≡ with_uncounted (plan_counts self.old))) }
+        ensures story { plan_story self.new ≡ plan_story self.old }
+        ensures since { plan_since self.new ≡ plan_since self.old }
         ensures room { room_in self.new ≡ room_in self.old }
     {
         self.counts.read(which)
@@ -79,11 +79,11 @@ impl Plan {
 
     // Lets the last call fail.
     fn failed<T>(&mut self) -> Result<T, DeviceError>
-        requires { (counts_in self.old).failed < (counts_in self.old).calls }
+        requires { (plan_counts self.old).failed < (plan_counts self.old).calls }
         ensures err { IsErr result }
-        ensures counts { counts_in self.new ≡ with_failure (counts_in self.old) }
-        ensures story { story_in self.new ≡ story_in self.old }
-        ensures since { since_in self.new ≡ since_in self.old }
+        ensures counts { plan_counts self.new ≡ with_failure (plan_counts self.old) }
+        ensures story { plan_story self.new ≡ plan_story self.old }
+        ensures since { plan_since self.new ≡ plan_since self.old }
         ensures room { room_in self.new ≡ room_in self.old }
     {
         self.counts.fail();
@@ -102,23 +102,24 @@ pub(crate) fn number(which: Which) -> u8
 }
 
 impl Disk for Plan {
-    ghost use Rattle.fit_plan.specs.Plan.{story_in, since_in, counts_in, room_in, log_in};
+    ghost use Rattle.fit_plan.specs.Plan.{plan_story, plan_since, plan_counts, room_in, plan_log};
 
     ghost honest = { true };
 
-    ghost story = { story_in };
+    ghost story = { plan_story };
 
-    ghost log = { log_in };
+    ghost log = { plan_log };
 
     ghost sound = { λ p _. p.sound };
 
     fn size(&mut self, which: Which) -> Result<u64, DeviceError>
-        ensures size { IfOk result (λ size. size ≡ length (seen_of which (story_in self.old))) }
-        ensures same { story_in self.new ≡ story_in self.old }
-        ensures since { since_in self.new ≡ since_in self.old }
-        ensures counted { CountsCall result (counts_in self.old) (counts_in self.new) }
-        ensures reads { (counts_in self.new).data_reads ≡ (counts_in self.old).data_reads }
-        ensures room { Takes 1 0 (IsErr result × (which ≡ Data)) (log_in self.old) (log_in self.new) }
+        ensures size { IfOk result (λ size. size ≡ length (seen_of which (plan_story self.old))) }
+        ensures same { plan_story self.new ≡ plan_story self.old }
+        ensures since { plan_since self.new ≡ plan_since self.old }
+        ensures counted { CountsCall result (plan_counts self.old) (plan_counts self.new) }
+        ensures reads { (plan_counts self.new).data_reads ≡ (plan_counts self.old).data_reads }
+        ensures room { TakesRoom 1 0 (IsErr result
+            × (which ≡ Data)) (plan_log self.old) (plan_log self.new) }
     {
         self.counts.call()?;
         match which {
@@ -130,11 +131,11 @@ impl Disk for Plan {
     fn read(&mut self, which: Which, at: u64, buffer: &mut [u8]) -> Result<usize, DeviceError>
         ensures within { IfOk result (λ count. count ≤ length buffer.old) }
         ensures bytes { IfOk result
-            (ReadsAt (seen_of which (story_in self.old)) at (length buffer.old) buffer.new) }
-        ensures same { story_in self.new ≡ story_in self.old }
-        ensures since { since_in self.new ≡ since_in self.old }
-        ensures counted { CountsCall result (counts_in self.old) (counts_in self.new) }
-        ensures reads { CountsRead which (counts_in self.old) (counts_in self.new) }
+            (ReadsAt (seen_of which (plan_story self.old)) at (length buffer.old) buffer.new) }
+        ensures same { plan_story self.new ≡ plan_story self.old }
+        ensures since { plan_since self.new ≡ plan_since self.old }
+        ensures counted { CountsCall result (plan_counts self.old) (plan_counts self.new) }
+        ensures reads { CountsRead which (plan_counts self.old) (plan_counts self.new) }
         ensures room { room_in self.new ≡ room_in self.old }
     {
         self.count_read(which)?;
@@ -142,13 +143,15 @@ impl Disk for Plan {
     }
 
     fn write(&mut self, which: Which, at: u64, bytes: &[u8]) -> Result<(), DeviceError>
-        requires { at ≤ length (seen_of which (story_in self.old)) }
-        ensures wrote { Wrote which at bytes.now result (story_in self.old) (story_in self.new) }
-        ensures since { since_in self.new ≡ since_in self.old }
-        ensures counted { CountsCall result (counts_in self.old) (counts_in self.new) }
-        ensures reads { (counts_in self.new).data_reads ≡ (counts_in self.old).data_reads }
-        ensures room { Takes 1 (length bytes.now) (IsErr result × (at + length bytes.now < 2 ^ 64))
-            (log_in self.old) (log_in self.new) }
+        requires { at ≤ length (seen_of which (plan_story self.old)) }
+        ensures wrote { Wrote which at bytes.now result (plan_story self.old)
+            (plan_story self.new) }
+        ensures since { plan_since self.new ≡ plan_since self.old }
+        ensures counted { CountsCall result (plan_counts self.old) (plan_counts self.new) }
+        ensures reads { (plan_counts self.new).data_reads ≡ (plan_counts self.old).data_reads }
+        ensures room { TakesRoom 1 (length bytes.now) (IsErr result
+            × (at + length bytes.now < 2 ^ 64))
+            (plan_log self.old) (plan_log self.new) }
     {
         self.counts.call()?;
         let file = number(which);
@@ -167,12 +170,12 @@ impl Disk for Plan {
     }
 
     fn cut(&mut self, which: Which, len: u64) -> Result<(), DeviceError>
-        requires { len ≤ length (seen_of which (story_in self.old)) }
-        ensures shortened { Shortened which len result (story_in self.old) (story_in self.new) }
-        ensures since { since_in self.new ≡ since_in self.old }
-        ensures counted { CountsCall result (counts_in self.old) (counts_in self.new) }
-        ensures reads { (counts_in self.new).data_reads ≡ (counts_in self.old).data_reads }
-        ensures room { Takes 1 0 (IsErr result) (log_in self.old) (log_in self.new) }
+        requires { len ≤ length (seen_of which (plan_story self.old)) }
+        ensures shortened { Shortened which len result (plan_story self.old) (plan_story self.new) }
+        ensures since { plan_since self.new ≡ plan_since self.old }
+        ensures counted { CountsCall result (plan_counts self.old) (plan_counts self.new) }
+        ensures reads { (plan_counts self.new).data_reads ≡ (plan_counts self.old).data_reads }
+        ensures room { TakesRoom 1 0 (IsErr result) (plan_log self.old) (plan_log self.new) }
     {
         self.counts.call()?;
         let file = number(which);
@@ -188,11 +191,11 @@ impl Disk for Plan {
     }
 
     fn sync(&mut self, which: Which) -> Result<(), DeviceError>
-        ensures synced { Synced which result (story_in self.old) (story_in self.new) }
-        ensures since { since_in self.new ≡ since_in self.old }
-        ensures counted { CountsCall result (counts_in self.old) (counts_in self.new) }
-        ensures reads { (counts_in self.new).data_reads ≡ (counts_in self.old).data_reads }
-        ensures room { Takes 1 0 (IsErr result) (log_in self.old) (log_in self.new) }
+        ensures synced { Synced which result (plan_story self.old) (plan_story self.new) }
+        ensures since { plan_since self.new ≡ plan_since self.old }
+        ensures counted { CountsCall result (plan_counts self.old) (plan_counts self.new) }
+        ensures reads { (plan_counts self.new).data_reads ≡ (plan_counts self.old).data_reads }
+        ensures room { TakesRoom 1 0 (IsErr result) (plan_log self.old) (plan_log self.new) }
     {
         self.counts.call()?;
         let file = number(which);

@@ -3,7 +3,7 @@
 ghost use Rattle.std.specs.Prelude.{◌≡◌, ◌↔◌, true, false, IsTrue, List, map, take};
 ghost use Rattle.arrayvec.specs.ArrayVec.{ArrayVec as AnyArrayVec};
 ghost use Rattle.fit_recorder.specs.Calls.Recorder.{IsIdle, state_of, has_failed, disk_of};
-ghost use Rattle.fit_recorder.specs.Calls.Frozen.{definition_in, definitions_in, state_in, has_failed_in, IsPossible};
+ghost use Rattle.fit_recorder.specs.Calls.Frozen.{definition_bytes_in, definitions_in, state_in, has_failed_in, IsPossible};
 
 use crate::limits::{LONGEST_ITEM, PAGE};
 use crate::recorder::Recorder;
@@ -143,14 +143,14 @@ fn thaw_page(bytes: &[u8; PAGE], len: u16, page: &mut ArrayVec<u8, PAGE>)
 }
 
 fn freeze_definition(definition: &ArrayVec<u8, LONGEST_ITEM>, numbers: &mut FrozenDefinition)
-    ensures { definition_in numbers.new ≡ definition.now }
+    ensures { definition_bytes_in numbers.new ≡ definition.now }
 {
     numbers.len = definition.len() as u8;
     numbers.bytes[..definition.len()].copy_from_slice(definition.as_slice());
 }
 
 fn thaw_definition(numbers: &FrozenDefinition, definition: &mut ArrayVec<u8, LONGEST_ITEM>)
-    ensures { definition.new ≡ definition_in numbers.now }
+    ensures { definition.new ≡ definition_bytes_in numbers.now }
 {
     definition.clear();
     definition

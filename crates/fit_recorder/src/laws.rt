@@ -27,9 +27,11 @@ pub fn files_stand_for_one_list()
 /// If the files stand for a recording and no device call fails, a recovery answers `Ok` with the finished file of exactly
 /// that recording.
 pub fn what_stands_is_recovered()
-    ensures { (list : List Recorded) (contents : Contents) (story : Story) (result : Result Summary RecFault)
+    ensures { (list : List Recorded) (contents : Contents) (story : Story)
+        (result : Result Summary RecFault)
         → StandsFor list contents
-        → RecoveryAnswers contents story result → (result ≡ Err Device) ⊎ RecoversList list story result }
+        → RecoveryAnswers contents story result
+        → (result ≡ Err Device) ⊎ RecoversList list story result }
 {}
 
 /// If the files stand for a recording, its body has the checksum that the journal states, if it states one.

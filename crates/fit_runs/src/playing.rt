@@ -26,7 +26,8 @@ pub fn play<D: Disk, O: Write>(
     requires { All IsReplayed events.now }
     ensures most { IfOk result.1 (λ refused. refused ≤ length events.now) }
     ensures outcome { IfOk result.1 (λ refused.
-        AreReported events.now (LeavesAfter D.honest (D.story disk) (D.story result.0) events.now) refused
+        AreReported events.now
+        (LeavesAfter D.honest (D.story disk) (D.story result.0) events.now) refused
         (O.contents out.old) (O.contents out.new)) }
     ensures broken_off { IfErr result.1 (λ _.
         BreaksOff D.honest (D.story disk) (D.story result.0) events.now (O.contents out.old)
@@ -51,7 +52,8 @@ fn play_by<D: Disk, O: Write>(
     ensures most { IfOk result.1 (λ refused. refused ≤ length events.now) }
     ensures same { pen.new.name ≡ pen.old.name }
     ensures outcome { IfOk result.1 (λ refused.
-        AreReported events.now (LeavesAfter D.honest (D.story disk) (D.story result.0) events.now) refused
+        AreReported events.now
+        (LeavesAfter D.honest (D.story disk) (D.story result.0) events.now) refused
         pen.old.held pen.new.held) }
     ensures broken_off { IfErr result.1 (λ _.
         BreaksOff D.honest (D.story disk) (D.story result.0) events.now pen.old.held pen.new.held) }

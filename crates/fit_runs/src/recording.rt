@@ -1,7 +1,7 @@
 // Records a ride from lines that come one by one.
 
 ghost use Rattle.std.specs.Prelude.{◌≡◌, []};
-ghost use Rattle.fit_runs.specs.Rides.Turns.{Records};
+ghost use Rattle.fit_runs.specs.Rides.Turns.{RecordsBytes};
 
 mod clock;
 mod held;
@@ -31,8 +31,9 @@ pub fn record<D: Disk, T: Read, O: Write>(
     every: Option<u32>,
     out: &mut O,
 ) -> (D, Result<usize, ReportFault>)
-    ensures { Records D.honest (D.story disk) (D.story result.0) every
-        (T.remaining from.old) (T.remaining from.new) (O.contents out.old) (O.contents out.new) result.1 }
+    ensures { RecordsBytes D.honest (D.story disk) (D.story result.0) every
+        (T.remaining from.old) (T.remaining from.new) (O.contents out.old)
+        (O.contents out.new) result.1 }
 {
     let mut pen = Pen::new(out);
     let recorded = record_by(alloc, disk, from, every, &mut pen);
@@ -50,7 +51,7 @@ fn record_by<D: Disk, T: Read, O: Write>(
 ) -> (D, Result<usize, ReportFault>)
     requires { pen.old.waiting ≡ [] }
     ensures same { pen.new.name ≡ pen.old.name }
-    ensures outcome { Records D.honest (D.story disk) (D.story result.0) every
+    ensures outcome { RecordsBytes D.honest (D.story disk) (D.story result.0) every
         (T.remaining from.old) (T.remaining from.new) pen.old.held pen.new.held result.1 }
 {
     let mut listener = Listener::new(disk, every);

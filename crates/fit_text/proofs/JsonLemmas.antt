@@ -19,7 +19,7 @@ use Rattle.fit_text.specs.declared.showing.plan.Plan.{Plan}
 use Rattle.fit_text.specs.Date.{dates_of}
 use Rattle.fit_text.specs.Json.{quoted, bytes_json, field_json, developer_json, name_json, message_json}
 use Rattle.fit_text.specs.Members.{separator, joined, inner, column_json, columns_json, time_json}
-use Rattle.fit_text.specs.Plan.{field_at, json_at, time_definition, IsColumn, AreColumns, IsPlanOf}
+use Rattle.fit_text.specs.Plan.{field_at, json_at, time_field_definition, IsColumn, AreColumns, IsPlanOf}
 use Rattle.fit_text.specs.Profile.{FieldNames, message_named, names_of_fields}
 use Rattle.fit_text.specs.Text.{field_name}
 use Rattle.fit_text.proofs.PlanLemmas.{columns_size}
@@ -91,7 +91,7 @@ flipped false true e = refl
 flipped false false e = cc
 
 members_by : (names : FieldNames) (dates : List ℕ) (arch : Arch) (fields : List FieldDefinition) (columns : List Column) (content : List ℕ)
-    (column : Column) (time : Option ℕ) → IfSome time (λ time. time < 2 ^ 32) → IsColumn names dates time_definition column →
+    (column : Column) (time : Option ℕ) → IfSome time (λ time. time < 2 ^ 32) → IsColumn names dates time_field_definition column →
     AreColumns names dates fields columns →
     time_json dates column time ++ columns_json (is_none time) dates arch columns content
     ≡ join_by (field_json names dates) (codes ",") (time_fields time ++ fields_of arch fields content)
@@ -99,7 +99,7 @@ members_by names dates arch fields columns content column None fits is are = col
 members_by names dates arch fields columns content column (Some time) fits is are =
     let all : low_first (to_le_bytes w32 time) ≡ time = omega (arith, fits) in
     ap (λ t. t ++ columns_json false dates arch columns content)
-    (column_is names dates Little time_definition column (to_le_bytes w32 time) is ∙ ap (λ n. field_json names dates (time_field n)) all)
+    (column_is names dates Little time_field_definition column (to_le_bytes w32 time) is ∙ ap (λ n. field_json names dates (time_field n)) all)
     ∙ ap (λ t. field_json names dates (time_field time) ++ t) (columns_are false names dates arch fields columns content are)
 
 line_parts : (head times fields developer : List ℕ) →

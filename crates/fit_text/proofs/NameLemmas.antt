@@ -1,7 +1,7 @@
 -- The names of messages and fields are short: for `profile`.
 use Rattle.std.proofs.Common.{◌≡◌, ℕ, ◌≤◌, Bool, true, false, ◌&&◌, ◌==◌, nat_le, List, [], ◌∷◌, length, Option, Some, None, IfSome, option_map, refl, if◌then◌else◌, tests}
 use Rattle.std.specs.Borrow.{Bor}
-use Rattle.fit_text.specs.Profile.{FieldNames, MessageNames, name_in, message_in, fields_in, are_short, all_short, common_fields, messages, sample_names, message_named, names_of_fields}
+use Rattle.fit_text.specs.Profile.{FieldNames, MessageNames, name_in, message_in, field_names_in, are_short, all_short, common_fields, messages, sample_names, message_named, names_of_fields}
 
 both : (a b : Bool) → (a && b) ≡ true → (a ≡ true) × (b ≡ true)
 both true b e = (refl, e)
@@ -32,11 +32,11 @@ chosen_rows : (b : Bool) (o p : FieldNames) → are_short o ≡ true → are_sho
 chosen_rows true o p h k = h
 chosen_rows false o p h k = k
 
-fields_short : (rows : MessageNames) (number : ℕ) → all_short rows ≡ true → are_short (fields_in rows number) ≡ true
+fields_short : (rows : MessageNames) (number : ℕ) → all_short rows ≡ true → are_short (field_names_in rows number) ≡ true
 fields_short [] number e = refl
 fields_short (row ∷ rows) number e =
     let parts = both (nat_le (length row.1) 30 && are_short row.2) (all_short rows) e in
-    chosen_rows (row.0 == number) row.2 (fields_in rows number)
+    chosen_rows (row.0 == number) row.2 (field_names_in rows number)
     (both (nat_le (length row.1) 30) (are_short row.2) parts.0).1 (fields_short rows number parts.1)
 
 messages_short : all_short messages ≡ true
@@ -68,5 +68,5 @@ short_common o number e = named_short o (name_in common_fields number) e (name_s
 pub short_own : (o : Option (Bor (List ℕ))) (global number : ℕ) → option_map (λ name. name.now) o ≡ name_in (names_of_fields global) number →
     IfSome o (λ name. length name.now ≤ 30)
 short_own o global number e =
-    let short = chosen_rows (global == 20) sample_names (fields_in messages global) sample_short (fields_short messages global messages_short) in
+    let short = chosen_rows (global == 20) sample_names (field_names_in messages global) sample_short (fields_short messages global messages_short) in
     named_short o (name_in (names_of_fields global) number) e (name_short (names_of_fields global) number short)

@@ -35,7 +35,7 @@ use Rattle.fit_text.specs.Date.{dates_of}
 use Rattle.fit_text.specs.Profile.{FieldNames, names_of_fields}
 use Rattle.fit_text.specs.Form.{plain_as, number_as, numbers_as}
 use Rattle.fit_text.specs.Json.{bytes_json, number_json, numbers_json}
-use Rattle.fit_text.specs.Plan.{field_at, shown_at, json_at, whole_of, ShowsWhole, IsKind, IsWholeOf, IsKindOf, time_definition, time_text, column_text, columns_text, IsColumn, AreColumns, HaveKinds, IsPlanOf, IsPlanIn, IsPlanAt, ArePlansFor}
+use Rattle.fit_text.specs.Plan.{field_at, shown_at, json_at, whole_of, ShowsWhole, IsKind, IsWholeOf, IsKindOf, time_field_definition, time_text, column_text, columns_text, IsColumn, AreColumns, HaveKinds, IsPlanOf, IsPlanIn, IsPlanAt, ArePlansFor}
 use Rattle.fit_text.specs.Text.{hex_text, IsNumber, number_text, numbers_text, message_name, field_name, field_text, developer_text, message_text}
 use Rattle.fit_text.proofs.FieldLemmas.{number_values}
 use Rattle.fit_text.proofs.JsonValueLemmas.{number_values as json_values}
@@ -236,11 +236,11 @@ column_shows names dates arch field column bytes h =
 
 -- the text of a time is that of its field
 time_shown : (names : FieldNames) (dates : List ℕ) (column : Column) (time : Option ℕ) → IfSome time (λ time. time < 2 ^ 32) →
-    IsColumn names dates time_definition column → time_text dates column time ≡ flat_map (field_text names dates) (time_fields time)
+    IsColumn names dates time_field_definition column → time_text dates column time ≡ flat_map (field_text names dates) (time_fields time)
 time_shown names dates column None fits h = refl
 time_shown names dates column (Some time) fits h =
     let all : low_first (to_le_bytes w32 time) ≡ time = omega (arith, fits) in
-    column_shows names dates Little time_definition column (to_le_bytes w32 time) h
+    column_shows names dates Little time_field_definition column (to_le_bytes w32 time) h
     ∙ ap (λ n. field_text names dates (time_field n)) all ∙ sym (append-nil _)
 
 pub columns_show : (names : FieldNames) (dates : List ℕ) (arch : Arch) (fields : List FieldDefinition) (columns : List Column)

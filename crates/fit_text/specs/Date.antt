@@ -27,7 +27,8 @@ calendar_time time = if nat_le 268435456 time then Some time else None
 -- the time that is shown as a date, if the field has one of these numbers and one valid uint32 that is a calendar time
 abbrev pub date_in : List ℕ → MessageField → Option ℕ
 date_in numbers field =
-    if list_any (λ number. number == field.number) numbers then option_and_then calendar_time (value_in Uint32 field) else None
+    if list_any (λ number. number == field.number) numbers
+    then option_and_then calendar_time (value_in Uint32 field) else None
 
 -- ---- dates
 
@@ -40,7 +41,12 @@ pub record Day : Type 0 where
 -- the next day
 abbrev pub next_day : Day → Day
 next_day d =
-    if nat_lt d.day (days_in_month (pos d.year) d.month) then record { year = d.year; month = d.month; day = d.day + 1 }
+    if nat_lt d.day (days_in_month (pos d.year) d.month) then record {
+      year =
+          d.year;
+      month = d.month;
+      day = d.day + 1;
+    }
     else if nat_lt d.month 12 then record { year = d.year; month = d.month + 1; day = 1 }
     else record { year = d.year + 1; month = 1; day = 1 }
 
@@ -55,12 +61,14 @@ two_digits n = (48 + n / 10) ∷ (48 + n % 10) ∷ []
 
 abbrev pub day_text : Day → List ℕ
 day_text d =
-    two_digits (d.year / 100) ++ two_digits (d.year % 100) ++ codes "-" ++ two_digits d.month ++ codes "-" ++ two_digits d.day
+    two_digits (d.year / 100) ++ two_digits (d.year % 100) ++ codes "-" ++ two_digits d.month
+    ++ codes "-" ++ two_digits d.day
 
 -- the time of day, so many seconds after midnight
 abbrev pub clock_text : ℕ → List ℕ
 clock_text second =
-    two_digits (second / 3600) ++ codes ":" ++ two_digits (second / 60 % 60) ++ codes ":" ++ two_digits (second % 60)
+    two_digits (second / 3600) ++ codes ":" ++ two_digits (second / 60 % 60) ++ codes ":"
+    ++ two_digits (second % 60)
 
 -- the seconds since 1970 of a time that counts from 1989-12-31
 abbrev pub unix_second : ℕ → ℕ
@@ -68,4 +76,5 @@ unix_second time = time + 631065600
 
 unfoldable pub date_text : ℕ → List ℕ
 date_text time =
-    day_text (day_after (unix_second time / 86400)) ++ codes "T" ++ clock_text (unix_second time % 86400) ++ codes "Z"
+    day_text (day_after (unix_second time / 86400)) ++ codes "T"
+    ++ clock_text (unix_second time % 86400) ++ codes "Z"

@@ -16,7 +16,8 @@ use Rattle.fit_grammar.specs.Format.File.{FileValue}
 
 -- a whole number in decimal, read as two's complement if its type has a sign
 unfoldable pub whole_text : BaseType → ℕ → List ℕ
-whole_text type n = if has_sign type then signed_decimal (twos_complement (row_of type).size n) else decimal n
+whole_text type n =
+    if has_sign type then signed_decimal (twos_complement (row_of type).size n) else decimal n
 
 -- a number that is not invalid; for a float, the bytes of its bits
 unfoldable pub plain_as : (List ℕ → List ℕ) → BaseType → ℕ → List ℕ
@@ -37,7 +38,8 @@ numbers_as none written type numbers = join_by (number_as none written type) (co
 -- the line of a header and of the number of bytes of records, with what is in front of each number, and what is at its end
 abbrev pub header_by : (header protocol profile records last : List ℕ) → Frame → ℕ → List ℕ
 header_by header protocol profile records last frame size =
-    header ++ decimal frame.header_size ++ protocol ++ decimal (frame.protocol / 16) ++ codes "." ++ decimal (frame.protocol % 16)
+    header ++ decimal frame.header_size ++ protocol ++ decimal (frame.protocol / 16) ++ codes "."
+    ++ decimal (frame.protocol % 16)
     ++ profile ++ decimal frame.profile ++ records ++ decimal size ++ last
 
 -- the lines of the messages, numbered from 0
@@ -45,6 +47,8 @@ abbrev pub numbered : (ℕ → Message → List ℕ) → List Message → List �
 numbered line messages = flat_map (λ row. line row.0 row.1) (enumerate_from 0 messages)
 
 -- a whole file: the line of its header, the lines of its messages, and one that counts them
-abbrev pub lines_of : (Frame → ℕ → List ℕ) → (ℕ → Message → List ℕ) → (ℕ → List ℕ) → FileValue → List ℕ
+abbrev pub lines_of : (Frame → ℕ → List ℕ) → (ℕ → Message → List ℕ) → (ℕ → List ℕ) → FileValue
+    → List ℕ
 lines_of header line count v =
-    header v.frame (data_size v.items) ++ numbered line (messages_of v.items) ++ count (length (messages_of v.items))
+    header v.frame (data_size v.items) ++ numbered line (messages_of v.items)
+    ++ count (length (messages_of v.items))

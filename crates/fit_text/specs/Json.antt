@@ -23,12 +23,15 @@ quoted text = codes "\"" ++ text ++ codes "\""
 
 -- a byte of a string: as it is if it is printable, or part of a character of UTF-8; any other by its number, as `\u00E9`
 unfoldable pub string_byte : Bool → ℕ → List ℕ
-string_byte in_utf8 byte = if is_plain byte || (in_utf8 && nat_le 128 byte) then byte ∷ [] else codes "\\u00" ++ hex_byte byte
+string_byte in_utf8 byte =
+    if is_plain byte || (in_utf8 && nat_le 128 byte)
+    then byte ∷ [] else codes "\\u00" ++ hex_byte byte
 
 -- a string up to its first zero byte; one that is no UTF-8 is read as Latin-1
 unfoldable pub string_json : List ℕ → List ℕ
 string_json bytes =
-    let text = before_first (λ byte. byte == 0) bytes in quoted (flat_map (string_byte (is_utf8 text)) text)
+    let text = before_first (λ byte. byte == 0) bytes in quoted
+    (flat_map (string_byte (is_utf8 text)) text)
 
 -- ---- values
 
@@ -47,7 +50,8 @@ number_json type n = number_as (codes "null") bytes_json type n
 -- one number, or an array of several
 unfoldable pub numbers_json : BaseType → List ℕ → List ℕ
 numbers_json type (n ∷ []) = number_json type n
-numbers_json type numbers = codes "[" ++ numbers_as (codes "null") bytes_json type numbers ++ codes "]"
+numbers_json type numbers =
+    codes "[" ++ numbers_as (codes "null") bytes_json type numbers ++ codes "]"
 
 -- the values of a type, of which there is at least one
 abbrev pub some_json : Option BaseType → List ℕ → List ℕ
@@ -71,12 +75,14 @@ shown_json None field = values_json (base_type field.base) field.values
 
 -- a field with its name, if the fields of these numbers are dates
 abbrev pub field_json : FieldNames → List ℕ → MessageField → List ℕ
-field_json names dates field = quoted (field_name names field.number) ++ codes ":" ++ shown_json (date_in dates field) field
+field_json names dates field =
+    quoted (field_name names field.number) ++ codes ":" ++ shown_json (date_in dates field) field
 
 -- a developer field: the index of its developer data, its number and its bytes
 abbrev pub developer_json : MessageDeveloperField → List ℕ
 developer_json field =
-    codes "{\"index\":" ++ decimal field.index ++ codes ",\"number\":" ++ decimal field.number ++ codes ",\"bytes\":"
+    codes "{\"index\":" ++ decimal field.index ++ codes ",\"number\":" ++ decimal field.number
+    ++ codes ",\"bytes\":"
     ++ bytes_json field.bytes ++ codes "}"
 
 -- the name of a message, if it has one
@@ -90,15 +96,18 @@ message_json utc number message =
     codes "{\"number\":" ++ decimal number ++ codes ",\"message\":" ++ decimal message.global
     ++ codes ",\"name\":" ++ name_json (message_named message.global)
     ++ codes ",\"fields\":{"
-    ++ join_by (field_json (names_of_fields message.global) (dates_of utc message.global)) (codes ",") message.fields
-    ++ codes "},\"developer\":[" ++ join_by developer_json (codes ",") message.developer ++ codes "]}\n"
+    ++ join_by (field_json (names_of_fields message.global) (dates_of utc message.global))
+    (codes ",") message.fields
+    ++ codes "},\"developer\":[" ++ join_by developer_json (codes ",") message.developer
+    ++ codes "]}\n"
 
 -- ---- files
 
 -- the first line: what the header states, and the number of bytes of records
 abbrev pub header_json : Frame → ℕ → List ℕ
 header_json frame size =
-    header_by (codes "{\"header\":") (codes ",\"protocol\":\"") (codes "\",\"profile\":") (codes ",\"data\":") (codes "}\n") frame size
+    header_by (codes "{\"header\":") (codes ",\"protocol\":\"") (codes "\",\"profile\":")
+    (codes ",\"data\":") (codes "}\n") frame size
 
 -- the last line
 abbrev pub count_json : ℕ → List ℕ

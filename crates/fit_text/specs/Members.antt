@@ -14,7 +14,8 @@ separator is_first = if is_first then [] else codes ","
 
 -- the texts of these, with commas between them, and one in front if they are not the first
 abbrev pub joined : {X : Type 0} → Bool → (X → List ℕ) → List X → List ℕ
-joined is_first f xs = if is_first then join_by f (codes ",") xs else flat_map (λ x. codes "," ++ f x) xs
+joined is_first f xs =
+    if is_first then join_by f (codes ",") xs else flat_map (λ x. codes "," ++ f x) xs
 
 -- a label without its first and its last byte
 abbrev pub inner : List ℕ → List ℕ

@@ -18,14 +18,15 @@ pub record Continues (old new : Written) (text : List ℕ) : Type 0 where
   pub appended : Appends old.held new.held handed
 
 -- at Ok the text was put; at Err a prefix of the text that waited followed by the new one was handed over
-pub record Puts {T E : Type 0} (old new : Written) (result : Result T E) (text : List ℕ) : Type 0 where
+pub record Puts {T E : Type 0} (old new : Written) (result : Result T E)
+    (text : List ℕ) : Type 0 where
   pub same : new.name ≡ old.name
   pub all : OnOk result (Continues old new text)
   pub beginning : OnErr result (AppendsBeginning old.held new.held (old.waiting ++ text))
 
 -- the text was put
-abbrev pub Took : Written → List ℕ → Written → Type 0
-Took old text new = (new.name ≡ old.name) × Continues old new text
+abbrev pub AddsBytes : Written → List ℕ → Written → Type 0
+AddsBytes old text new = (new.name ≡ old.name) × Continues old new text
 
 -- the text was added to what waits
 pub record Adds (old new : Written) (text : List ℕ) : Type 0 where

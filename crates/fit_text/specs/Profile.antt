@@ -23,9 +23,9 @@ abbrev pub message_in : MessageNames → ℕ → Option (List ℕ)
 message_in [] number = None
 message_in (row ∷ rows) number = if row.0 == number then Some row.1 else message_in rows number
 
-abbrev pub fields_in : MessageNames → ℕ → FieldNames
-fields_in [] number = []
-fields_in (row ∷ rows) number = if row.0 == number then row.2 else fields_in rows number
+abbrev pub field_names_in : MessageNames → ℕ → FieldNames
+field_names_in [] number = []
+field_names_in (row ∷ rows) number = if row.0 == number then row.2 else field_names_in rows number
 
 -- the rows of a table in src/
 abbrev pub field_rows : List (ℕ × Bor (List ℕ)) → FieldNames
@@ -38,7 +38,8 @@ unfoldable pub common_fields : FieldNames
 common_fields = map (λ row. (row.0, row.1.now)) COMMON_FIELDS.now
 
 unfoldable pub messages : MessageNames
-messages = map (λ row. (row.0, row.1.now, map (λ field. (field.0, field.1.now)) row.2.now)) MESSAGES.now
+messages =
+    map (λ row. (row.0, row.1.now, map (λ field. (field.0, field.1.now)) row.2.now)) MESSAGES.now
 
 -- the names of a sample's fields, from their table
 abbrev pub sample_name_rows : List SourceRow → FieldNames
@@ -53,7 +54,7 @@ message_named number = message_in messages number
 
 -- the names of its fields; none if the message has no name; a record has those of a sample
 abbrev pub names_of_fields : ℕ → FieldNames
-names_of_fields number = if number == 20 then sample_names else fields_in messages number
+names_of_fields number = if number == 20 then sample_names else field_names_in messages number
 
 -- the name that a field has in every message, or else among these
 abbrev pub field_named : FieldNames → ℕ → Option (List ℕ)

@@ -35,7 +35,8 @@ escaped byte = if is_plain byte then byte ∷ [] else 92 ∷ 120 ∷ hex_byte by
 
 -- a string between quotation marks, up to its first zero byte
 unfoldable pub string_text : List ℕ → List ℕ
-string_text bytes = codes "\"" ++ flat_map escaped (before_first (λ byte. byte == 0) bytes) ++ codes "\""
+string_text bytes =
+    codes "\"" ++ flat_map escaped (before_first (λ byte. byte == 0) bytes) ++ codes "\""
 
 -- the bytes of a field of type byte, which is invalid if all of them are FF
 unfoldable pub byte_text : List ℕ → List ℕ
@@ -89,25 +90,30 @@ shown_text None field = values_text (base_type field.base) field.values
 -- a field, if the fields of these numbers are shown as dates
 abbrev pub field_text : FieldNames → List ℕ → MessageField → List ℕ
 field_text names dates field =
-    codes " " ++ field_name names field.number ++ codes "=" ++ shown_text (date_in dates field) field
+    codes " " ++ field_name names field.number ++ codes "="
+    ++ shown_text (date_in dates field) field
 
 -- a developer field, by the index of its developer data and its number; its bytes have two digits each
 abbrev pub developer_text : MessageDeveloperField → List ℕ
 developer_text field =
-    codes " developer_" ++ decimal field.index ++ codes "_" ++ decimal field.number ++ codes "=" ++ hex_text field.bytes
+    codes " developer_" ++ decimal field.index ++ codes "_" ++ decimal field.number ++ codes "="
+    ++ hex_text field.bytes
 
 -- the line of a message, which begins with its number
 abbrev pub message_text : Bool → ℕ → Message → List ℕ
 message_text utc number message =
     decimal number ++ codes " " ++ message_name message.global
-    ++ flat_map (field_text (names_of_fields message.global) (dates_of utc message.global)) message.fields
+    ++ flat_map (field_text (names_of_fields message.global)
+    (dates_of utc message.global)) message.fields
     ++ flat_map developer_text message.developer ++ codes "\n"
 
 -- ---- files
 
 -- the first line: what the header states, and the number of bytes of records
 abbrev pub header_text : Frame → ℕ → List ℕ
-header_text frame size = header_by (codes "header ") (codes " protocol ") (codes " profile ") (codes " data ") (codes "\n") frame size
+header_text frame size =
+    header_by (codes "header ") (codes " protocol ") (codes " profile ") (codes " data ")
+    (codes "\n") frame size
 
 -- the last line
 abbrev pub count_text : ℕ → List ℕ

@@ -1,7 +1,7 @@
 // The names of messages and fields. The definition of the shown text reads this table too.
 
 ghost use Rattle.std.specs.Prelude.{◌≡◌, ◌≤◌, length, option_map, IfSome};
-ghost use Rattle.fit_text.specs.Profile.{message_named, names_of_fields, field_named, name_in, message_in, fields_in, field_rows, message_rows, sample_name_rows};
+ghost use Rattle.fit_text.specs.Profile.{message_named, names_of_fields, field_named, name_in, message_in, field_names_in, field_rows, message_rows, sample_name_rows};
 
 use fit_activity::{FieldRow, SAMPLE_FIELDS};
 
@@ -101,7 +101,8 @@ pub fn message_name(number: u16) -> Option<&'static str>
 /// The name that a field has in every message, or else in those with this global number.
 #[tactic(auto, unfolding(crate::specs::Profile::common_fields))]
 pub fn field_name(global: u16, number: u8) -> Option<&'static str>
-    ensures named { option_map (λ name. name.now) result ≡ field_named (names_of_fields global) number }
+    ensures named { option_map (λ name. name.now) result
+        ≡ field_named (names_of_fields global) number }
     ensures short { IfSome result (λ name. length name.now ≤ 30) }
 {
     match field_name_in(COMMON_FIELDS, number) {
@@ -123,7 +124,8 @@ fn own_name(global: u16, number: u8) -> Option<&'static str>
 }
 
 fn message_name_in(mut rows: &[MessageName], number: u16) -> Option<&'static str>
-    ensures { option_map (λ name. name.now) result ≡ message_in (message_rows rows.entry.now) number }
+    ensures { option_map (λ name. name.now) result
+        ≡ message_in (message_rows rows.entry.now) number }
 {
     while let [row, others @ ..] = rows {
         if row.0 == number {
@@ -135,7 +137,7 @@ fn message_name_in(mut rows: &[MessageName], number: u16) -> Option<&'static str
 }
 
 fn fields_in(mut rows: &[MessageName], number: u16) -> &'static [FieldName]
-    ensures { field_rows result.now ≡ fields_in (message_rows rows.entry.now) number }
+    ensures { field_rows result.now ≡ field_names_in (message_rows rows.entry.now) number }
 {
     while let [row, others @ ..] = rows {
         if row.0 == number {
@@ -159,7 +161,8 @@ fn field_name_in(mut rows: &[FieldName], number: u8) -> Option<&'static str>
 }
 
 fn sample_name_in(mut rows: &[FieldRow], number: u8) -> Option<&'static str>
-    ensures { option_map (λ name. name.now) result ≡ name_in (sample_name_rows rows.entry.now) number }
+    ensures { option_map (λ name. name.now) result
+        ≡ name_in (sample_name_rows rows.entry.now) number }
 {
     while let [row, others @ ..] = rows {
         if row.0 == number {

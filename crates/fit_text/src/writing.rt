@@ -5,7 +5,7 @@ ghost use Rattle.std.specs.Fmt.{signed_decimal};
 ghost use Rattle.fit_text.specs.declared.writing.TheConstants.{SIZE, ROOM};
 ghost use Rattle.fit_text.specs.Json.{quoted};
 ghost use Rattle.fit_text.specs.Members.{separator, inner};
-ghost use Rattle.fit_text.specs.Pen.{Written, Puts, Adds, Took};
+ghost use Rattle.fit_text.specs.Pen.{Written, Puts, Adds, AddsBytes};
 
 mod decimal;
 mod label;
@@ -50,7 +50,8 @@ impl<'a, W: Write> Model for Pen<'a, W> {
 impl<'a, W: Write> Pen<'a, W> {
     /// A pen that has put nothing yet.
     pub fn new(out: &'a mut W) -> Self
-        ensures { result ≡ record { name = out.entry.ghost_name; held = W.contents out.old; waiting = [] } }
+        ensures { result
+            ≡ record { name = out.entry.ghost_name; held = W.contents out.old; waiting = [] } }
     {
         Pen {
             bytes: [0; SIZE],
@@ -194,7 +195,7 @@ impl<'a, W: Write> Pen<'a, W> {
 }
 
 impl<W: Write> fmt::Write for Pen<'_, W> {
-    ghost write_str_gives = { Took };
+    ghost write_str_gives = { AddsBytes };
 
     fn write_str(&mut self, text: &str) -> fmt::Result {
         self.put(text.as_bytes()).map_err(|_| fmt::Error)

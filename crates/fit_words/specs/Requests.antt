@@ -19,23 +19,29 @@ pub record IsFlag (found : Found) (name : List ℕ) (is_set : Bool) : Type 0 whe
 -- the subcommand of this name makes this request, with these words
 abbrev pub IsAskedBy : List ℕ → Found → Request → Type 0
 IsAskedBy name found (Show file utc json) =
-    (name ≡ codes "show") × IsWord found (codes "FILE") file × IsFlag found (codes "utc") utc × IsFlag found (codes "json") json
+    (name ≡ codes "show") × IsWord found (codes "FILE") file × IsFlag found (codes "utc") utc
+    × IsFlag found (codes "json") json
 IsAskedBy name found (Check file) = (name ≡ codes "check") × IsWord found (codes "FILE") file
 IsAskedBy name found (Replay script folder checked) =
-    (name ≡ codes "replay") × IsWord found (codes "SCRIPT") script × IsWord found (codes "FOLDER") folder
+    (name ≡ codes "replay") × IsWord found (codes "SCRIPT") script
+    × IsWord found (codes "FOLDER") folder
     × IsFlag found (codes "checked") checked
 IsAskedBy name found (Record folder every) =
-    (name ≡ codes "record") × IsWord found (codes "FOLDER") folder × (option_map (λ word. word.now) every ≡ first_value found (codes "commit"))
+    (name ≡ codes "record") × IsWord found (codes "FOLDER") folder
+    × (option_map (λ word. word.now) every ≡ first_value found (codes "commit"))
 IsAskedBy name found (Save folder to earlier) =
     (name ≡ codes "save") × IsWord found (codes "FOLDER") folder × IsWord found (codes "OUT") to
     × IsFlag found (codes "earlier") earlier
 IsAskedBy name found (Repair folder verify) =
-    (name ≡ codes "repair") × IsWord found (codes "FOLDER") folder × IsFlag found (codes "verify") verify
+    (name ≡ codes "repair") × IsWord found (codes "FOLDER") folder
+    × IsFlag found (codes "verify") verify
 IsAskedBy name found (Salvage file to all plain) =
     (name ≡ codes "salvage") × IsWord found (codes "IN") file × IsWord found (codes "OUT") to
     × IsFlag found (codes "all") all × IsFlag found (codes "plain") plain
-IsAskedBy name found (Plain file to) = (name ≡ codes "plain") × IsWord found (codes "IN") file × IsWord found (codes "OUT") to
+IsAskedBy name found (Plain file to) =
+    (name ≡ codes "plain") × IsWord found (codes "IN") file × IsWord found (codes "OUT") to
 IsAskedBy name found (Simulate script choices checked) =
-    (name ≡ codes "simulate") × IsWord found (codes "SCRIPT") script × (choices.now ≡ unwrap_or (first_value found (codes "choices")) [])
+    (name ≡ codes "simulate") × IsWord found (codes "SCRIPT") script
+    × (choices.now ≡ unwrap_or (first_value found (codes "choices")) [])
     × IsFlag found (codes "checked") checked
 IsAskedBy name found Version = name ≡ codes "version"

@@ -9,7 +9,8 @@ use Rattle.std.specs.Str.{chars}
 -- a character that ends a line, is invisible, or turns the direction of the text
 abbrev pub is_format : ℕ → Bool
 is_format c =
-    c == 0x61C || c == 0x200B || is_in_range 0x200E 0x200F c || is_in_range 0x2028 0x202E c || is_in_range 0x2060 0x206F c || c == 0xFEFF
+    c == 0x61C || c == 0x200B || is_in_range 0x200E 0x200F c || is_in_range 0x2028 0x202E c
+    || is_in_range 0x2060 0x206F c || c == 0xFEFF
 
 -- a character that comes as it is
 abbrev pub is_shown : ℕ → Bool

@@ -53,4 +53,5 @@ abbrev pub IsRecordReported : Bor (List ℕ) → Fault → Type 0
 IsRecordReported folder reported =
     ((why : OpenFault) × (reported ≡ fault_of_open folder why))
     ⊎ ((count : ℕ) × (1 ≤ count) × (reported ≡ faults.Refused count))
-    ⊎ ((name : Bor (List ℕ)) × (name.now ≡ codes "-") × (why : ReportFault) × IsReportFault name why reported)
+    ⊎ ((name : Bor (List ℕ)) × (name.now ≡ codes "-") × (why : ReportFault)
+    × IsReportFault name why reported)

@@ -20,8 +20,8 @@ use Rattle.fit_activity.specs.Rides.Refusal.{has_stopped, Allowed}
 use Rattle.fit_activity.specs.Messages.ProfileField.{as_message}
 use Rattle.fit_activity.specs.Messages.ProfileMessage.{session_message}
 use Rattle.fit_activity.specs.Messages.RideMessages.{profile_messages_of, profile_messages_after, messages_spoken, spoken, closing_messages_of, closing}
-use Rattle.fit_activity.specs.Files.Activity.{has_global, count_of, activity_in}
-use Rattle.fit_activity.specs.Private.Seen.{session_values, first_session_values, judged}
+use Rattle.fit_activity.specs.Files.Activity.{has_global, messages_counted, activity_in}
+use Rattle.fit_activity.specs.Private.Seen.{session_values, first_session_values, activity_seen}
 use Rattle.fit_activity.specs.Files.Finished.{summary_of_list}
 use Rattle.fit_activity.proofs.FinishedActivity.Passed.{values_by, seen_from}
 use Rattle.fit_activity.proofs.OneList.Reheard.{messages_after}
@@ -29,10 +29,10 @@ use Rattle.fit_activity.proofs.RunningTotals.Bounded.{IsValid, in-bounds, valid-
 
 -- the messages of an element: a sample has a record, a lap has a lap, and none has a session or an activity
 record Counts (messages : List Message) (r : Recorded) : Type 0 where
-  records : count_of 20 messages ≡ cond (is_sample r) 1 0
-  laps : count_of 19 messages ≡ cond (is_lap r) 1 0
-  sessions : count_of 18 messages ≡ 0
-  activities : count_of 34 messages ≡ 0
+  records : messages_counted 20 messages ≡ cond (is_sample r) 1 0
+  laps : messages_counted 19 messages ≡ cond (is_lap r) 1 0
+  sessions : messages_counted 18 messages ≡ 0
+  activities : messages_counted 34 messages ≡ 0
 
 each-counts : (before : List Recorded) (r : Recorded) → Counts (messages_spoken before r) r
 each-counts before (Started s) = record { records = refl; laps = refl; sessions = refl; activities = refl }
@@ -43,14 +43,14 @@ each-counts before (Added (Resume time)) = record { records = refl; laps = refl;
 each-counts before (Added (Stop time)) = record { records = refl; laps = refl; sessions = refl; activities = refl }
 
 -- if each element that passes the test has one such message and others none, a list has as many as elements that pass
-counts : (global : ℕ) (test : Recorded → Bool) → ((before : List Recorded) (r : Recorded) → count_of global (messages_spoken before r) ≡ cond (test r) 1 0)
-    → (before list : List Recorded) → count_of global (messages_after before list) ≡ count_by test list
+counts : (global : ℕ) (test : Recorded → Bool) → ((before : List Recorded) (r : Recorded) → messages_counted global (messages_spoken before r) ≡ cond (test r) 1 0)
+    → (before list : List Recorded) → messages_counted global (messages_after before list) ≡ count_by test list
 counts global test each before [] = refl
 counts global test each before (r ∷ list) =
     let rest = profile_messages_after (before ++ r ∷ []) list in
-    ap (count_of global) (map-append as_message (profile_messages_of before r) rest)
+    ap (messages_counted global) (map-append as_message (profile_messages_of before r) rest)
     ∙ sum_by-append (λ m. cond (has_global global m) 1 0) (messages_spoken before r) (map as_message rest)
-    ∙ ap (λ (n : ℕ). n + count_of global (map as_message rest)) (each before r)
+    ∙ ap (λ (n : ℕ). n + messages_counted global (map as_message rest)) (each before r)
     ∙ ap (λ (n : ℕ). cond (test r) 1 0 + n) (counts global test each (before ++ r ∷ []) list)
     ∙ sym (sum_by-cons (λ x. cond (test x) 1 0) r list)
 
@@ -58,11 +58,11 @@ none-passes : (list : List Recorded) → count_by (λ r. false) list ≡ 0
 none-passes [] = refl
 none-passes (r ∷ list) = omega (arith, sum_by-cons (λ (x : Recorded). 0) r list, none-passes list)
 
-pub records-spoken : (list : List Recorded) → count_of 20 (spoken list) ≡ count_by is_sample list
+pub records-spoken : (list : List Recorded) → messages_counted 20 (spoken list) ≡ count_by is_sample list
 records-spoken list = counts 20 is_sample (λ before r. (each-counts before r).records) [] list
 
 -- at least one of its messages is not a record
-pub records-few : (list : List Recorded) → Allowed list → count_of 20 (spoken list) < length (spoken list)
+pub records-few : (list : List Recorded) → Allowed list → messages_counted 20 (spoken list) < length (spoken list)
 records-few [] allowed = absurd allowed
 records-few (Added e ∷ list) allowed = absurd allowed
 records-few (Started s ∷ list) allowed = omega (arith, count_by-le-length (has_global 20) (messages_after (Started s ∷ []) list))
@@ -79,10 +79,10 @@ not-found test (m ∷ messages) none =
 
 -- the messages that close a recording: one lap, one session and one activity
 record Closes (messages : List Message) (session : SessionSummary) : Type 0 where
-  records : count_of 20 messages ≡ 0
-  laps : count_of 19 messages ≡ 1
-  sessions : count_of 18 messages ≡ 1
-  activities : count_of 34 messages ≡ 1
+  records : messages_counted 20 messages ≡ 0
+  laps : messages_counted 19 messages ≡ 1
+  sessions : messages_counted 18 messages ≡ 1
+  activities : messages_counted 34 messages ≡ 1
   session' : find (has_global 18) messages ≡ Some (as_message (session_message session))
 
 closes : (stopped : Bool) (time : ℕ) (lap : LapSummary) (session : SessionSummary) (activity : ActivitySummary)
@@ -132,12 +132,12 @@ summary_from records laps session =
       distance_cm = session.distance_cm;
     }
 
-judged-activity : (records laps : ℕ) (session : SessionValues)
-    → judged (seen_from true true true records (laps + 1) 1 1 session) ≡ Ok (summary_from records (laps + 1) session)
-judged-activity records laps session =
+activity_seen-activity : (records laps : ℕ) (session : SessionValues)
+    → activity_seen (seen_from true true true records (laps + 1) 1 1 session) ≡ Ok (summary_from records (laps + 1) session)
+activity_seen-activity records laps session =
     ap (λ b. cond b (Err NoLap) (Ok (summary_from records (laps + 1) session))) (ne_eqb (laps + 1) 0 (λ e. omega (arith, e)))
 
-counted : (global : ℕ) (stated end : List Message) (a b : ℕ) → count_of global stated ≡ a → count_of global end ≡ b → count_of global (stated ++ end) ≡ a + b
+counted : (global : ℕ) (stated end : List Message) (a b : ℕ) → messages_counted global stated ≡ a → messages_counted global end ≡ b → messages_counted global (stated ++ end) ≡ a + b
 counted global stated end a b before after = omega (arith, before, after, sum_by-append (λ m. cond (has_global global m) 1 0) stated end)
 
 pub finished : (list : List Recorded) → Allowed list → activity_in (spoken list ++ closing list) ≡ Ok (summary_of_list list)
@@ -148,7 +148,7 @@ finished (Started s ∷ list) allowed =
     let stated = spoken whole in
     let all = stated ++ closing whole in
     let end = closes (has_stopped whole) (end_time whole) (lap_of whole) (session_of whole) (activity_of whole) in
-    let records : count_of 20 all ≡ count_by is_sample whole = omega (arith, counted 20 stated (closing whole) _ 0 (records-spoken whole) end.records) in
+    let records : messages_counted 20 all ≡ count_by is_sample whole = omega (arith, counted 20 stated (closing whole) _ 0 (records-spoken whole) end.records) in
     let laps = counted 19 stated (closing whole) _ 1 (counts 19 is_lap (λ before r. (each-counts before r).laps) [] whole) end.laps in
     let none = counts 18 (λ r. false) (λ before r. (each-counts before r).sessions) [] whole ∙ none-passes whole in
     let sessions = counted 18 stated (closing whole) 0 1 none end.sessions in
@@ -159,9 +159,9 @@ finished (Started s ∷ list) allowed =
     let values = ap values_by session
     ∙ session-read (session_of whole) (valid-start s allowed.0 allowed.1) (omega (arith, bounds.long))
     (omega (arith, bounds.long, timer-le whole s.time (end_time whole))) (less-nothing (known_distance whole) bounds.distance) in
-    ap (λ (n : ℕ). judged (seen_from true true true n (count_of 19 all) (count_of 18 all) (count_of 34 all) (first_session_values all))) records
-    ∙ ap (λ (n : ℕ). judged (seen_from true true true (count_by is_sample whole) n (count_of 18 all) (count_of 34 all) (first_session_values all))) laps
-    ∙ ap (λ (n : ℕ). judged (seen_from true true true (count_by is_sample whole) (count_by is_lap whole + 1) n (count_of 34 all) (first_session_values all))) sessions
-    ∙ ap (λ (n : ℕ). judged (seen_from true true true (count_by is_sample whole) (count_by is_lap whole + 1) 1 n (first_session_values all))) activities
-    ∙ ap (λ v. judged (seen_from true true true (count_by is_sample whole) (count_by is_lap whole + 1) 1 1 v)) values
-    ∙ judged-activity _ _ _
+    ap (λ (n : ℕ). activity_seen (seen_from true true true n (messages_counted 19 all) (messages_counted 18 all) (messages_counted 34 all) (first_session_values all))) records
+    ∙ ap (λ (n : ℕ). activity_seen (seen_from true true true (count_by is_sample whole) n (messages_counted 18 all) (messages_counted 34 all) (first_session_values all))) laps
+    ∙ ap (λ (n : ℕ). activity_seen (seen_from true true true (count_by is_sample whole) (count_by is_lap whole + 1) n (messages_counted 34 all) (first_session_values all))) sessions
+    ∙ ap (λ (n : ℕ). activity_seen (seen_from true true true (count_by is_sample whole) (count_by is_lap whole + 1) 1 n (first_session_values all))) activities
+    ∙ ap (λ v. activity_seen (seen_from true true true (count_by is_sample whole) (count_by is_lap whole + 1) 1 1 v)) values
+    ∙ activity_seen-activity _ _ _

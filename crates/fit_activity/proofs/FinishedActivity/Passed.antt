@@ -7,8 +7,8 @@ use Rattle.fit_base.specs.declared.base.BaseType.TheVariants.{Enum, Uint32}
 use Rattle.fit_grammar.specs.Format.Message.{Message}
 use Rattle.fit_activity.specs.declared.activity.seen.Seen.{Seen}
 use Rattle.fit_activity.specs.declared.activity.seen.SessionValues.{SessionValues}
-use Rattle.fit_activity.specs.Files.Activity.{has_global, value_of, begins_with_file_id, is_activity_file, is_four, count_of}
-use Rattle.fit_activity.specs.Private.Seen.{session_values, is_some_message, seen_of, seen_with}
+use Rattle.fit_activity.specs.Files.Activity.{has_global, value_of, begins_with_file_id, is_activity_file, is_four, messages_counted}
+use Rattle.fit_activity.specs.Private.Seen.{session_values, is_some_message, seen_in_messages, seen_with}
 
 -- the first message that passes a test
 find-by : (b : Bool) (k : ℕ) (p : Message → Bool) (x m : Message) (rest : Option Message)
@@ -55,7 +55,7 @@ some-push : (messages : List Message) (m : Message) → true ≡ is_some_message
 some-push [] m = refl
 some-push (x ∷ messages) m = refl
 
-pub count-push : (global : ℕ) (messages : List Message) (m : Message) → count_of global messages + cond (m.global == global) 1 0 ≡ count_of global (messages ++ m ∷ [])
+pub count-push : (global : ℕ) (messages : List Message) (m : Message) → messages_counted global messages + cond (m.global == global) 1 0 ≡ messages_counted global (messages ++ m ∷ [])
 count-push global messages m = sym (sum_by_push (λ x. cond (has_global global x) 1 0) messages m)
 
 abbrev pub seen_from : Bool → Bool → Bool → ℕ → ℕ → ℕ → ℕ → SessionValues → Seen
@@ -71,29 +71,29 @@ seen_from begun file_id activity_file records laps sessions activities session =
       session = session;
     }
 
-pub seen-push : (messages : List Message) (m : Message) → seen_with (seen_of messages) m ≡ seen_of (messages ++ m ∷ [])
+pub seen-push : (messages : List Message) (m : Message) → seen_with (seen_in_messages messages) m ≡ seen_in_messages (messages ++ m ∷ [])
 seen-push messages m =
     let all = messages ++ m ∷ [] in
     let f = cond (is_some_message messages) (begins_with_file_id messages) (has_global 0 m) in
     let a = cond (is_some_message messages) (is_activity_file messages) (is_four (value_of Enum 0 m)) in
-    let r = count_of 20 messages + cond (m.global == 20) 1 0 in
-    let l = count_of 19 messages + cond (m.global == 19) 1 0 in
-    let s = count_of 18 messages + cond (m.global == 18) 1 0 in
-    let c = count_of 34 messages + cond (m.global == 34) 1 0 in
-    let v = cond ((count_of 18 messages == 0) && has_global 18 m) (session_values m) (values_by (find (has_global 18) messages)) in
-    let session = values-cond ((count_of 18 messages == 0) && has_global 18 m) m (find (has_global 18) messages) ∙ ap values_by (sym (find-push (has_global 18) messages m)) in
+    let r = messages_counted 20 messages + cond (m.global == 20) 1 0 in
+    let l = messages_counted 19 messages + cond (m.global == 19) 1 0 in
+    let s = messages_counted 18 messages + cond (m.global == 18) 1 0 in
+    let c = messages_counted 34 messages + cond (m.global == 34) 1 0 in
+    let v = cond ((messages_counted 18 messages == 0) && has_global 18 m) (session_values m) (values_by (find (has_global 18) messages)) in
+    let session = values-cond ((messages_counted 18 messages == 0) && has_global 18 m) m (find (has_global 18) messages) ∙ ap values_by (sym (find-push (has_global 18) messages m)) in
     ap (λ b. seen_from b f a r l s c v) (some-push messages m)
     ∙ ap (λ b. seen_from (is_some_message all) b a r l s c v) (begins-push messages m)
     ∙ ap (λ b. seen_from (is_some_message all) (begins_with_file_id all) b r l s c v) (activity-push messages m)
     ∙ ap (λ (n : ℕ). seen_from (is_some_message all) (begins_with_file_id all) (is_activity_file all) n l s c v) (count-push 20 messages m)
-    ∙ ap (λ (n : ℕ). seen_from (is_some_message all) (begins_with_file_id all) (is_activity_file all) (count_of 20 all) n s c v) (count-push 19 messages m)
-    ∙ ap (λ (n : ℕ). seen_from (is_some_message all) (begins_with_file_id all) (is_activity_file all) (count_of 20 all) (count_of 19 all) n c v) (count-push 18 messages m)
-    ∙ ap (λ (n : ℕ). seen_from (is_some_message all) (begins_with_file_id all) (is_activity_file all) (count_of 20 all) (count_of 19 all) (count_of 18 all) n v) (count-push 34 messages m)
-    ∙ ap (λ w. seen_from (is_some_message all) (begins_with_file_id all) (is_activity_file all) (count_of 20 all) (count_of 19 all) (count_of 18 all) (count_of 34 all) w) session
+    ∙ ap (λ (n : ℕ). seen_from (is_some_message all) (begins_with_file_id all) (is_activity_file all) (messages_counted 20 all) n s c v) (count-push 19 messages m)
+    ∙ ap (λ (n : ℕ). seen_from (is_some_message all) (begins_with_file_id all) (is_activity_file all) (messages_counted 20 all) (messages_counted 19 all) n c v) (count-push 18 messages m)
+    ∙ ap (λ (n : ℕ). seen_from (is_some_message all) (begins_with_file_id all) (is_activity_file all) (messages_counted 20 all) (messages_counted 19 all) (messages_counted 18 all) n v) (count-push 34 messages m)
+    ∙ ap (λ w. seen_from (is_some_message all) (begins_with_file_id all) (is_activity_file all) (messages_counted 20 all) (messages_counted 19 all) (messages_counted 18 all) (messages_counted 34 all) w) session
 
 -- a count has room for one more message, among fewer than 2^32
 pub count-room : (global : ℕ) (done : List Message) (m : Message) (rest all : List Message) → all ≡ done ++ m ∷ rest → length all < 2 ^ 32
-    → count_of global done + 1 < 2 ^ 32
+    → messages_counted global done + 1 < 2 ^ 32
 count-room global done m rest all joined few =
     let whole = ap length joined ∙ length-append done (m ∷ rest) in
     omega (arith, whole, few, count_by-le-length (has_global global) done)

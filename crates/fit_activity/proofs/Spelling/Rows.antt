@@ -5,7 +5,7 @@ use Rattle.std.proofs.lemmas.List.Sums.{sum_by-cons}
 use Rattle.fit_base.specs.Base.{row_of}
 use Rattle.fit_activity.specs.declared.speaking.profile_field.ProfileField.{ProfileField}
 use Rattle.fit_activity.specs.Rides.Table.{FieldRow, ValuesFit, AreShort, Ascend, sample_rows}
-use Rattle.fit_activity.specs.Messages.ProfileField.{profile_field, OptionFits, IsShort, present, content_length}
+use Rattle.fit_activity.specs.Messages.ProfileField.{profile_field, OptionFits, IsShortField, present, content_length}
 use Rattle.fit_activity.specs.Messages.ProfileMessage.{fields_by}
 use Rattle.fit_activity.specs.Private.Reader.{Lack}
 
@@ -23,7 +23,7 @@ rows-fit (row ∷ rows) [] short fits = tt
 rows-fit (row ∷ rows) (None ∷ values) short fits = (tt, rows-fit rows values short.1 fits.1)
 rows-fit (row ∷ rows) (Some value ∷ values) short fits = (record { value = fits.0; short = short.0 }, rows-fit rows values short.1 fits.1)
 
-pub rows-short : (rows : List FieldRow) (values : List (Option ℕ)) → AreShort rows → AllByRecursion IsShort (present (fields_by rows values))
+pub rows-short : (rows : List FieldRow) (values : List (Option ℕ)) → AreShort rows → AllByRecursion IsShortField (present (fields_by rows values))
 rows-short [] values short = tt
 rows-short (row ∷ rows) [] short = tt
 rows-short (row ∷ rows) (None ∷ values) short = rows-short rows values short.1

@@ -16,12 +16,14 @@ has_global global m = m.global == global
 abbrev pub value_in : BaseType → MessageField → Option ℕ
 value_in base field =
     if field.base == (row_of base).code
-    then option_and_then (λ value. if value == (row_of base).invalid then None else Some value) (one_of field.values)
+    then option_and_then (λ value. if value == (row_of base).invalid
+    then None else Some value) (one_of field.values)
     else None
 
 -- the same for the first field of this number
 abbrev pub value_of : BaseType → ℕ → Message → Option ℕ
-value_of base number m = option_and_then (value_in base) (find (λ field. field.number == number) m.fields)
+value_of base number m =
+    option_and_then (value_in base) (find (λ field. field.number == number) m.fields)
 
 -- the first message is a file_id
 abbrev pub begins_with_file_id : List Message → Bool
@@ -38,19 +40,20 @@ is_activity_file [] = false
 is_activity_file (m ∷ messages) = is_four (value_of Enum 0 m)
 
 -- how many messages have this global number
-abbrev pub count_of : ℕ → List Message → ℕ
-count_of global messages = count_by (has_global global) messages
+abbrev pub messages_counted : ℕ → List Message → ℕ
+messages_counted global messages = count_by (has_global global) messages
 
 -- a value of the first session
 abbrev pub session_value : ℕ → List Message → Option ℕ
-session_value number messages = option_and_then (value_of Uint32 number) (find (has_global 18) messages)
+session_value number messages =
+    option_and_then (value_of Uint32 number) (find (has_global 18) messages)
 
 abbrev pub summary_of : List Message → Summary
 summary_of messages =
     record {
-      records = count_of 20 messages;
-      laps = count_of 19 messages;
-      sessions = count_of 18 messages;
+      records = messages_counted 20 messages;
+      laps = messages_counted 19 messages;
+      sessions = messages_counted 18 messages;
       start = session_value 2 messages;
       elapsed_ms = session_value 7 messages;
       timer_ms = session_value 8 messages;
@@ -62,9 +65,9 @@ abbrev pub activity_in : List Message → Result Summary ActivityFault
 activity_in messages =
     if not (begins_with_file_id messages) then Err NoFileId
     else if not (is_activity_file messages) then Err NotActivity
-    else if count_of 19 messages == 0 then Err NoLap
-    else if count_of 18 messages == 0 then Err NoSession
-    else if count_of 34 messages == 0 then Err NoActivity
+    else if messages_counted 19 messages == 0 then Err NoLap
+    else if messages_counted 18 messages == 0 then Err NoSession
+    else if messages_counted 34 messages == 0 then Err NoActivity
     else Ok (summary_of messages)
 
 -- the number of a fault

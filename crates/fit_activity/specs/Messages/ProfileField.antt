@@ -22,7 +22,8 @@ invalid_of base = (row_of base).invalid
 
 -- the field with this value, or with the invalid value if there is none
 abbrev pub profile_field_or_invalid : ℕ → BaseType → Option ℕ → ProfileField
-profile_field_or_invalid number base value = profile_field number base (unwrap_or value (invalid_of base))
+profile_field_or_invalid number base value =
+    profile_field number base (unwrap_or value (invalid_of base))
 
 abbrev pub is_invalid : ProfileField → Bool
 is_invalid field = field.value == invalid_of field.base
@@ -33,8 +34,8 @@ pub record ProfileFieldFits (field : ProfileField) : Type 0 where
   pub short : (row_of field.base).size ≤ 4
 
 -- its base type has at most four bytes
-abbrev pub IsShort : ProfileField → Type 0
-IsShort field = (row_of field.base).size ≤ 4
+abbrev pub IsShortField : ProfileField → Type 0
+IsShortField field = (row_of field.base).size ≤ 4
 
 -- the fields that are present
 abbrev pub present : List (Option ProfileField) → List ProfileField
@@ -45,7 +46,12 @@ OptionFits field = IfSome field ProfileFieldFits
 
 -- the field in a message
 abbrev pub message_field : ProfileField → MessageField
-message_field field = record { number = field.number; base = (row_of field.base).code; values = Numbers (field.value ∷ []) }
+message_field field =
+    record {
+      number = field.number;
+      base = (row_of field.base).code;
+      values = Numbers (field.value ∷ []);
+    }
 
 -- the value, if there is exactly one
 abbrev pub one_of : Values → Option ℕ
@@ -65,15 +71,25 @@ ProfileMessageFits profile_message = AllByRecursion ProfileFieldFits profile_mes
 -- the message as it is read, which does not depend on the local number; it has no developer fields
 abbrev pub as_message : ProfileMessage → Message
 as_message profile_message =
-    record { global = profile_message.global; fields = map message_field profile_message.fields; developer = [] }
+    record {
+      global = profile_message.global;
+      fields = map message_field profile_message.fields;
+      developer = [];
+    }
 
 -- its definition, little-endian
 abbrev pub field_definition : ProfileField → FieldDefinition
-field_definition field = record { number = field.number; size = (row_of field.base).size; base = (row_of field.base).code }
+field_definition field =
+    record {
+      number = field.number;
+      size = (row_of field.base).size;
+      base = (row_of field.base).code;
+    }
 
 abbrev pub as_definition : ProfileMessage → Definition
 as_definition profile_message =
-    native_definition profile_message.local Little profile_message.global (map field_definition profile_message.fields)
+    native_definition profile_message.local Little profile_message.global
+    (map field_definition profile_message.fields)
 
 -- the bytes of its content, little-endian
 abbrev pub field_content : ProfileField → List ℕ

@@ -7,7 +7,7 @@ use Rattle.fit_activity.specs.declared.activity.ActivityFault.{ActivityFault}
 use Rattle.fit_activity.specs.declared.activity.ActivityFault.TheVariants.{NoFileId, NotActivity, NoLap, NoSession, NoActivity}
 use Rattle.fit_activity.specs.declared.activity.seen.Seen.{Seen}
 use Rattle.fit_activity.specs.declared.activity.seen.SessionValues.{SessionValues}
-use Rattle.fit_activity.specs.Files.Activity.{has_global, is_four, value_of, begins_with_file_id, is_activity_file, count_of, session_value}
+use Rattle.fit_activity.specs.Files.Activity.{has_global, is_four, value_of, begins_with_file_id, is_activity_file, messages_counted, session_value}
 
 -- the values of a session that go into a summary
 abbrev pub session_values : Message → SessionValues
@@ -34,16 +34,16 @@ first_session_values messages =
     }
 
 -- what is kept of messages
-abbrev pub seen_of : List Message → Seen
-seen_of messages =
+abbrev pub seen_in_messages : List Message → Seen
+seen_in_messages messages =
     record {
       begun = is_some_message messages;
       file_id = begins_with_file_id messages;
       activity_file = is_activity_file messages;
-      records = count_of 20 messages;
-      laps = count_of 19 messages;
-      sessions = count_of 18 messages;
-      activities = count_of 34 messages;
+      records = messages_counted 20 messages;
+      laps = messages_counted 19 messages;
+      sessions = messages_counted 18 messages;
+      activities = messages_counted 34 messages;
       session = first_session_values messages;
     }
 
@@ -58,7 +58,10 @@ first_seen seen m =
 
 abbrev pub session_seen : Seen → Message → Seen
 session_seen seen m =
-    record seen { session = if (seen.sessions == 0) && has_global 18 m then session_values m else seen.session }
+    record seen {
+      session =
+          if (seen.sessions == 0) && has_global 18 m then session_values m else seen.session;
+    }
 
 abbrev pub counted : Seen → ℕ → Seen
 counted seen global =
@@ -73,8 +76,8 @@ abbrev pub seen_with : Seen → Message → Seen
 seen_with seen m = counted (session_seen (first_seen seen m) m) m.global
 
 -- the first fault, else the summary, from what is kept
-abbrev pub judged : Seen → Result Summary ActivityFault
-judged seen =
+abbrev pub activity_seen : Seen → Result Summary ActivityFault
+activity_seen seen =
     if not seen.file_id then Err NoFileId
     else if not seen.activity_file then Err NotActivity
     else if seen.laps == 0 then Err NoLap

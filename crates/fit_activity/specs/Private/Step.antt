@@ -21,7 +21,15 @@ use Rattle.fit_activity.specs.Rides.Refusal.{wants_timer, is_resume, is_less, in
 
 -- the clock of a start; at a later time; with the timer running or stopped; and at the beginning of a lap
 abbrev pub clock_at : ℕ → Clock
-clock_at time = record { start = time; end = time; lap = time; running = true; timer = 0; lap_timer = 0 }
+clock_at time =
+    record {
+      start = time;
+      end = time;
+      lap = time;
+      running = true;
+      timer = 0;
+      lap_timer = 0;
+    }
 
 abbrev pub more_seconds : Clock → ℕ → ℕ
 more_seconds clock time = if clock.running then time - clock.end else 0
@@ -47,7 +55,11 @@ no_tally = record { total = 0; count = 0; greatest = None }
 abbrev pub tally_with : Tally → Option ℕ → Tally
 tally_with tally None = tally
 tally_with tally (Some value) =
-    record { total = tally.total + value; count = tally.count + 1; greatest = greater_of tally.greatest (Some value) }
+    record {
+      total = tally.total + value;
+      count = tally.count + 1;
+      greatest = greater_of tally.greatest (Some value);
+    }
 
 -- the value, if it is below 65536; if it is below 256
 abbrev pub in_two_bytes : ℕ → Option ℕ
@@ -61,7 +73,13 @@ average_of tally = if tally.count == 0 then None else in_two_bytes (tally.total 
 
 -- the sums of no samples, and with one more sample
 abbrev pub sums_at : Option ℕ → Sums
-sums_at distance = record { known = unwrap_or distance 0; speed = None; heart_rate = no_tally; power = no_tally }
+sums_at distance =
+    record {
+      known = unwrap_or distance 0;
+      speed = None;
+      heart_rate = no_tally;
+      power = no_tally;
+    }
 
 abbrev pub sums_with : Sums → AnySample → Sums
 sums_with sums s =
@@ -101,21 +119,34 @@ stretch_by sums from to secs known =
 -- the totals of a start, by their parts
 abbrev pub totals_from : Start → Clock → Sums → Sums → TotalsState
 totals_from start clock whole lap =
-    record { start = start; clock = clock; stopped = false; laps = 0; distance = None; whole = whole; lap = lap }
+    record {
+      start = start;
+      clock = clock;
+      stopped = false;
+      laps = 0;
+      distance = None;
+      whole = whole;
+      lap = lap;
+    }
 
 abbrev pub totals_at : Start → TotalsState
 totals_at start = totals_from start (clock_at start.time) (sums_at None) (sums_at None)
 
 -- the open lap by the clock at its end, the session, and the activity
 abbrev pub lap_by : TotalsState → Clock → LapSummary
-lap_by totals clock = record { index = totals.laps; stretch = stretch_by totals.lap clock.lap clock.end clock.lap_timer totals.distance }
+lap_by totals clock =
+    record {
+      index = totals.laps;
+      stretch = stretch_by totals.lap clock.lap clock.end clock.lap_timer totals.distance;
+    }
 
 abbrev pub session_by : TotalsState → SessionSummary
 session_by totals =
     record {
       sport = totals.start.sport;
       laps = totals.laps + 1;
-      stretch = stretch_by totals.whole totals.clock.start totals.clock.end totals.clock.timer totals.distance;
+      stretch =
+          stretch_by totals.whole totals.clock.start totals.clock.end totals.clock.timer totals.distance;
     }
 
 abbrev pub activity_by : TotalsState → ActivitySummary
@@ -138,21 +169,33 @@ totals_after totals (Lap time) =
       laps = totals.laps + 1;
       lap = sums_at totals.distance;
     }
-totals_after totals (Pause time) = record totals { clock = clock_switched (clock_until totals.clock time) false }
-totals_after totals (Resume time) = record totals { clock = clock_switched (clock_until totals.clock time) true }
-totals_after totals (Stop time) = record totals { clock = clock_switched (clock_until totals.clock time) false; stopped = true }
+totals_after totals (Pause time) = record totals {
+  clock = clock_switched
+      (clock_until totals.clock time) false;
+}
+totals_after totals (Resume time) = record totals {
+  clock = clock_switched
+      (clock_until totals.clock time) true;
+}
+totals_after totals (Stop time) = record totals {
+  clock = clock_switched
+      (clock_until totals.clock time) false;
+  stopped = true;
+}
 
 -- the refusal of an entry, by the numbers that are kept
 abbrev pub refusal_by_values : TotalsState → AnySample → Option Refusal
 refusal_by_values totals s =
-    option_or (option_map Value (invalid_field_of s)) (if is_less s.distance totals.distance then Some Distance else None)
+    option_or (option_map Value (invalid_field_of s)) (if is_less s.distance totals.distance
+    then Some Distance else None)
 
 abbrev pub refusal_by_kind : TotalsState → Entry → Option Refusal
 refusal_by_kind totals e =
     if wants_timer e && not totals.clock.running then Some TimerStopped
     else if is_resume e && totals.clock.running then Some TimerRunning
     else if is_lap (Added e) && nat_le 999 totals.laps then Some TooManyLaps
-    else option_or (option_map Value (invalid_field e)) (if is_less (distance_of (Added e)) totals.distance then Some Distance else None)
+    else option_or (option_map Value (invalid_field e))
+    (if is_less (distance_of (Added e)) totals.distance then Some Distance else None)
 
 abbrev pub refusal_by : TotalsState → Entry → Option Refusal
 refusal_by totals e =

@@ -20,7 +20,12 @@ abbrev pub sport_in : ℕ → Sport
 sport_in number = if number == 0 then Generic else if number == 1 then Running else Cycling
 
 abbrev pub tally_in : FrozenTally → Tally
-tally_in f = record { total = f.total; count = f.count; greatest = if_set f.has_greatest f.greatest }
+tally_in f =
+    record {
+      total = f.total;
+      count = f.count;
+      greatest = if_set f.has_greatest f.greatest;
+    }
 
 abbrev pub sums_in : FrozenSums → Sums
 sums_in f = record {

@@ -74,19 +74,22 @@ refusal_of list e =
     else if wants_timer e && not (runs_now list) then Some TimerStopped
     else if is_resume e && runs_now list then Some TimerRunning
     else if is_lap_too_many list e then Some TooManyLaps
-    else option_or (option_map Value (invalid_field e)) (if loses_distance list e then Some Distance else None)
+    else option_or (option_map Value (invalid_field e)) (if loses_distance list e
+    then Some Distance else None)
 
 -- each entry has its numbers in range, and is not refused after the list and the entries before it
 abbrev pub AllowedAfter : List Recorded → List Recorded → Type 0
 AllowedAfter before [] = Unit {0}
 AllowedAfter before (Started s ∷ list) = ⊥
-AllowedAfter before (Added e ∷ list) = EntryFits e × (refusal_of before e ≡ None) × AllowedAfter (before ++ Added e ∷ []) list
+AllowedAfter before (Added e ∷ list) =
+    EntryFits e × (refusal_of before e ≡ None) × AllowedAfter (before ++ Added e ∷ []) list
 
 -- a start that is not refused, and then entries that are not refused
 abbrev pub Allowed : List Recorded → Type 0
 Allowed [] = ⊥
 Allowed (Added e ∷ list) = ⊥
-Allowed (Started s ∷ list) = StartFits s × (start_refusal s ≡ None) × AllowedAfter (Started s ∷ []) list
+Allowed (Started s ∷ list) =
+    StartFits s × (start_refusal s ≡ None) × AllowedAfter (Started s ∷ []) list
 
 -- the number of a refusal
 abbrev pub refusal_code : Refusal → ℕ

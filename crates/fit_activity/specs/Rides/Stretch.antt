@@ -79,7 +79,8 @@ stated_speed (Some speed) = if nat_lt 65534 speed then None else Some speed
 -- mm/s from cm and seconds: none if there is no distance or the seconds are 0
 abbrev pub speed_over : Option ℕ → ℕ → Option ℕ
 speed_over None secs = None
-speed_over (Some distance) secs = if secs == 0 then None else stated_speed (Some (10 * distance / secs))
+speed_over (Some distance) secs =
+    if secs == 0 then None else stated_speed (Some (10 * distance / secs))
 
 -- the summary of the stretch of a list from one second to another, by the elements before it and in it
 abbrev pub summary : List Recorded → List Recorded → List Recorded → ℕ → ℕ → Stretch
@@ -121,4 +122,8 @@ session_of list =
     }
 
 abbrev pub activity_of : List Recorded → ActivitySummary
-activity_of list = record { time = end_time list; timer = 1000 * timer list (start_time list) (end_time list) }
+activity_of list =
+    record {
+      time = end_time list;
+      timer = 1000 * timer list (start_time list) (end_time list);
+    }

@@ -79,7 +79,8 @@ of_raw time values =
 
 -- each value fits into the bytes of its row's base type
 abbrev pub ValuesFit : List FieldRow → List (Option ℕ) → Type 0
-ValuesFit (row ∷ rows) (value ∷ values) = IfSome value (λ n. n < 256 ^ (row_of row.1).size) × ValuesFit rows values
+ValuesFit (row ∷ rows) (value ∷ values) =
+    IfSome value (λ n. n < 256 ^ (row_of row.1).size) × ValuesFit rows values
 ValuesFit _ _ = ⊤
 
 -- each number is in the range of its field's type: it fits into its bytes, and equals the number read back from them

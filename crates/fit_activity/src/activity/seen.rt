@@ -33,11 +33,11 @@ pub(crate) struct SessionValues {
 }
 
 impl Seen {
-    ghost use Rattle.fit_activity.specs.Private.Seen.{seen_of, seen_with, first_seen, session_seen, counted, judged};
+    ghost use Rattle.fit_activity.specs.Private.Seen.{seen_in_messages, seen_with, first_seen, session_seen, counted, activity_seen};
 
     // No messages.
     pub(crate) fn new() -> Seen
-        ensures { result ≡ seen_of [] }
+        ensures { result ≡ seen_in_messages [] }
     {
         Seen {
             begun: false,
@@ -108,7 +108,7 @@ impl Seen {
 
     // The first fault of the messages, else their summary.
     pub(crate) fn verdict(&self) -> Result<Summary, ActivityFault>
-        ensures { result ≡ judged self.now }
+        ensures { result ≡ activity_seen self.now }
     {
         if !self.file_id {
             return Err(ActivityFault::NoFileId);

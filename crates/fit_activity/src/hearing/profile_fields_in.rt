@@ -4,7 +4,7 @@ ghost use Rattle.std.specs.Prelude.{◌≡◌, ◌≤◌, List, [], Some, IfSome
 ghost use Rattle.std.specs.List.{AllByRecursion};
 ghost use Rattle.fit_grammar.specs.Calls.LentField.{field_view};
 ghost use Rattle.fit_activity.specs.declared.speaking.profile_field.ProfileField.{ProfileField as AnyProfileField};
-ghost use Rattle.fit_activity.specs.Messages.ProfileField.{message_field, ProfileFieldFits, IsShort};
+ghost use Rattle.fit_activity.specs.Messages.ProfileField.{message_field, ProfileFieldFits, IsShortField};
 
 use crate::hearing::one_value::one_value;
 use crate::speaking::profile_field::ProfileField;
@@ -16,10 +16,13 @@ pub(crate) fn profile_fields_in(message: &Message) -> Option<ArrayVec<ProfileFie
     ensures some { IfSome result
         (λ profile_fields. map message_field profile_fields.items ≡ message.now.message.fields) }
     ensures alone { IfSome result (λ profile_fields. message.now.message.developer ≡ []) }
-    ensures fit { IfSome result (λ profile_fields. AllByRecursion ProfileFieldFits profile_fields.items) }
-    ensures only { (profile_fields : List AnyProfileField) → AllByRecursion IsShort profile_fields
+    ensures fit { IfSome result
+        (λ profile_fields. AllByRecursion ProfileFieldFits profile_fields.items) }
+    ensures only { (profile_fields : List AnyProfileField)
+        → AllByRecursion IsShortField profile_fields
         → length profile_fields ≤ 15 → map message_field profile_fields ≡ message.now.message.fields
-        → message.now.message.developer ≡ [] → IsSomeAnd result (λ found. found.items ≡ profile_fields) }
+        → message.now.message.developer ≡ []
+        → IsSomeAnd result (λ found. found.items ≡ profile_fields) }
 {
     if message.developer_fields().next().is_some() {
         return None;
@@ -29,9 +32,12 @@ pub(crate) fn profile_fields_in(message: &Message) -> Option<ArrayVec<ProfileFie
 
 // The fields, if there are at most 15 and each has one value of at most four bytes.
 fn all_of(fields: Fields) -> Option<ArrayVec<ProfileField, 15>>
-    ensures some { IfSome result (λ profile_fields. map message_field profile_fields.items ≡ fields.entry) }
-    ensures fit { IfSome result (λ profile_fields. AllByRecursion ProfileFieldFits profile_fields.items) }
-    ensures only { (profile_fields : List AnyProfileField) → AllByRecursion IsShort profile_fields
+    ensures some { IfSome result (λ profile_fields. map message_field profile_fields.items
+        ≡ fields.entry) }
+    ensures fit { IfSome result
+        (λ profile_fields. AllByRecursion ProfileFieldFits profile_fields.items) }
+    ensures only { (profile_fields : List AnyProfileField)
+        → AllByRecursion IsShortField profile_fields
         → length profile_fields ≤ 15 → map message_field profile_fields ≡ fields.entry
         → IsSomeAnd result (λ found. found.items ≡ profile_fields) }
 {
@@ -47,9 +53,10 @@ fn all_of(fields: Fields) -> Option<ArrayVec<ProfileField, 15>>
 
 // The field with its value, if it has exactly one, of at most four bytes.
 fn profile_field_of(field: &Field) -> Option<ProfileField>
-    ensures some { IfSome result (λ profile_fields. message_field profile_fields ≡ field_view field.now) }
+    ensures some { IfSome result (λ profile_fields. message_field profile_fields
+        ≡ field_view field.now) }
     ensures fits { IfSome result ProfileFieldFits }
-    ensures only { (profile_fields : AnyProfileField) → IsShort profile_fields
+    ensures only { (profile_fields : AnyProfileField) → IsShortField profile_fields
         → message_field profile_fields ≡ field_view field.now → result ≡ Some profile_fields }
 {
     let base = field.value.base_type()?;

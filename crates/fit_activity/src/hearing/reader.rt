@@ -48,7 +48,8 @@ impl<'a> Reader<'a> {
     // Takes the next field, if it has this number and type.
     pub(crate) fn next(&mut self, number: u8, base: BaseType) -> Option<u32>
         ensures read { Reads number base self.old result self.new }
-        ensures fits { IfSome result (λ value. ProfileFieldFits (reported_field number base value)) }
+        ensures fits { IfSome result
+            (λ value. ProfileFieldFits (reported_field number base value)) }
     {
         let [first, others @ ..] = self.rest else {
             return None;

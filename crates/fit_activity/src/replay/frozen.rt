@@ -1,7 +1,7 @@
 // A replay as plain numbers, which C can keep.
 
 ghost use Rattle.std.specs.Prelude.{◌≡◌, true};
-ghost use Rattle.fit_activity.specs.Messages.FrozenReplay.{replay_in, IsPossible};
+ghost use Rattle.fit_activity.specs.Messages.FrozenReplay.{replay_in, IsPossibleReplay};
 
 use crate::recording::start::Start;
 use crate::replay::{Heard, Replay};
@@ -22,7 +22,7 @@ impl Replay {
     /// Writes the replay as plain numbers.
     pub fn freeze(&self, numbers: &mut FrozenReplay)
         ensures replay { replay_in numbers.new ≡ self.now }
-        ensures possible { IsPossible numbers.new }
+        ensures possible { IsPossibleReplay numbers.new }
     {
         match &self.heard {
             Heard::Nothing => numbers.kind = 0,
@@ -48,7 +48,7 @@ impl Replay {
     /// Makes this the replay with these numbers. Reports `false` if no replay has them.
     pub fn thaw(&mut self, numbers: &FrozenReplay) -> bool
         ensures replay { result ≡ true → self.new ≡ replay_in numbers.now }
-        ensures possible { IsPossible numbers.now → result ≡ true }
+        ensures possible { IsPossibleReplay numbers.now → result ≡ true }
     {
         let FrozenTotals { time, serial, .. } = numbers.totals;
         self.heard = match numbers.kind {

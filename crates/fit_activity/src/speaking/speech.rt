@@ -97,7 +97,8 @@ impl SpokenMessage {
         requires local { self.now.definition.local < 16 }
         requires room { item_size (Defines self.now.definition) ≤ length out.old }
         ensures count { result ≡ item_size (Defines self.now.definition) }
-        ensures written { out.new ≡ encoded_item (Defines self.now.definition) ++ drop result out.old }
+        ensures written { out.new
+            ≡ encoded_item (Defines self.now.definition) ++ drop result out.old }
         // This follows from the types.
         ensures fits { DefinitionFits self.now.definition }
     {
@@ -130,7 +131,10 @@ impl SpokenMessage {
         requires few { length self.old.definition.fields.items < 19 }
         requires short { length self.old.content + content_length (field.now ∷ []) ≤ 41 }
         ensures fields { self.new.definition ≡ record self.old.definition {
-          fields = record { items = self.old.definition.fields.items ++ field_definition field.now ∷ [] };
+          fields = record {
+            items = self.old.definition.fields.items
+                ++ field_definition field.now ∷ [];
+          };
         } }
         ensures content { self.new.content ≡ self.old.content ++ field_content field.now }
     {
@@ -174,7 +178,8 @@ impl SpokenMessage {
     // The message with these fields.
     fn spell(&mut self, local: u8, global: u16, fields: &[ProfileField])
         requires { CanBeSpelled fields.now }
-        ensures { self.new ≡ spelled (record { local = local; global = global; fields = fields.now }) }
+        ensures { self.new
+            ≡ spelled (record { local = local; global = global; fields = fields.now }) }
     {
         self.begin(local, global);
         self.put_all(fields);

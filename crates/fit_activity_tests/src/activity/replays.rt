@@ -19,7 +19,7 @@ pub(super) fn replay(file: &File) -> Option<Replay> {
     let _frame = file.frame();
     let mut replay = Replay::new();
     for message in file.messages() {
-        match replay.hear(&message) {
+        match replay.apply(&message) {
             Ok(()) => {}
             Err(_) => return None,
         }

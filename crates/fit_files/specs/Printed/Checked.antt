@@ -13,13 +13,17 @@ use Rattle.std.specs.Io.KnownBytes.{Appends}
 
 -- The bytes are a file and an activity, and the line of its summary was printed, or a prefix of it and the output failed; or they are
 -- not, and nothing was written.
-abbrev pub ChecksBytes : {T : Type 0} → Option (List ℕ) → Option (List ℕ) → List ℕ → Result T ReportFault → Type 0
+abbrev pub ChecksBytes : {T : Type 0} → Option (List ℕ) → Option (List ℕ) → List ℕ
+    → Result T ReportFault → Type 0
 ChecksBytes old new bytes (Ok done) =
-    (v : FileValue) × FileOf bytes v × (summary : Summary) × (activity_in (messages_of v.items) ≡ Ok summary)
+    (v : FileValue) × FileOf bytes v × (summary : Summary)
+    × (activity_in (messages_of v.items) ≡ Ok summary)
     × Appends old new (summary_text summary ++ codes "\n")
 ChecksBytes old new bytes (Err (faults.File fault)) = IsFaultOf bytes fault × (new ≡ old)
-ChecksBytes old new bytes (Err (faults.Activity fault)) = (v : FileValue) × FileOf bytes v × (activity_in (messages_of v.items) ≡ Err fault) × (new ≡ old)
+ChecksBytes old new bytes (Err (faults.Activity fault)) =
+    (v : FileValue) × FileOf bytes v × (activity_in (messages_of v.items) ≡ Err fault) × (new ≡ old)
 ChecksBytes old new bytes (Err faults.Output) =
-    (v : FileValue) × FileOf bytes v × (summary : Summary) × (activity_in (messages_of v.items) ≡ Ok summary)
+    (v : FileValue) × FileOf bytes v × (summary : Summary)
+    × (activity_in (messages_of v.items) ≡ Ok summary)
     × AppendsBeginning old new (summary_text summary ++ codes "\n")
 ChecksBytes old new bytes (Err fault) = ⊥

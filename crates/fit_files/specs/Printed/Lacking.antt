@@ -6,7 +6,8 @@ use Rattle.fit_files.specs.declared.lack.Lack.TheVariants.{NoData, EmptyData, No
 -- of a journal with these bytes; 70 is the first byte of each journal, `F`
 abbrev pub journal_lack : List ℕ → Lack
 journal_lack [] = EmptyJournal
-journal_lack (first ∷ rest) = if nat_lt (length rest) 7 || not (first == 70) then JournalHead else NoCommit
+journal_lack (first ∷ rest) =
+    if nat_lt (length rest) 7 || not (first == 70) then JournalHead else NoCommit
 
 -- of a data file and a journal with these bytes
 abbrev pub lack_of : List ℕ → List ℕ → Lack

@@ -18,7 +18,8 @@ pub record IsPlainForm (v plain : FileValue) : Type 0 where
 abbrev pub PlainsTo : List ℕ → Result FileValue ReportFault → Type 0
 PlainsTo bytes (Ok plain) = (v : FileValue) × FileOf bytes v × IsPlainForm v plain
 PlainsTo bytes (Err (faults.File fault)) = IsFaultOf bytes fault
-PlainsTo bytes (Err (faults.Plain fault)) = (v : FileValue) × FileOf bytes v × IsPlainFaultOf bytes v fault
+PlainsTo bytes (Err (faults.Plain fault)) =
+    (v : FileValue) × FileOf bytes v × IsPlainFaultOf bytes v fault
 PlainsTo bytes (Err fault) = ⊥
 
 -- the line with the number of messages

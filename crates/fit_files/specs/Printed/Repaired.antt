@@ -13,20 +13,29 @@ use Rattle.fit_files.specs.Printed.Summary.{summary_text}
 
 -- The recording was recovered, and the line of its summary was printed, or a prefix of it and the output failed; or it was not
 -- recovered, for what reads gave of its files, and nothing was printed.
-abbrev pub Repairs : {T : Type 0} → Contents → Story → Option (List ℕ) → Option (List ℕ) → Result T RepairFault → Type 0
-Repairs contents story old new (Ok done) = (summary : Summary) × IsRecovered contents story summary × Appends old new (summary_text summary ++ codes "\n")
+abbrev pub Repairs : {T : Type 0} → Contents → Story → Option (List ℕ) → Option (List ℕ)
+    → Result T RepairFault → Type 0
+Repairs contents story old new (Ok done) =
+    (summary : Summary) × IsRecovered contents story summary
+    × Appends old new (summary_text summary ++ codes "\n")
 Repairs contents story old new (Err faults.Output) =
-    (summary : Summary) × IsRecovered contents story summary × AppendsBeginning old new (summary_text summary ++ codes "\n")
-Repairs contents story old new (Err (faults.Recorder fault)) = RecoveryAnswers contents story (Err fault) × (new ≡ old)
+    (summary : Summary) × IsRecovered contents story summary
+    × AppendsBeginning old new (summary_text summary ++ codes "\n")
+Repairs contents story old new (Err (faults.Recorder fault)) =
+    RecoveryAnswers contents story (Err fault) × (new ≡ old)
 
 -- The line of a recovery's summary was printed, or a prefix of it and the output failed; or the recovery answered a fault, and nothing
 -- was printed.
-abbrev pub ReportsRecovered : {T : Type 0} → Result Summary RecFault → Option (List ℕ) → Option (List ℕ) → Result T RepairFault → Type 0
+abbrev pub ReportsRecovered : {T : Type 0} → Result Summary RecFault → Option (List ℕ)
+    → Option (List ℕ) → Result T RepairFault → Type 0
 ReportsRecovered recovered old new (Ok done) =
-    (summary : Summary) × (recovered ≡ Ok summary) × Appends old new (summary_text summary ++ codes "\n")
+    (summary : Summary) × (recovered ≡ Ok summary)
+    × Appends old new (summary_text summary ++ codes "\n")
 ReportsRecovered recovered old new (Err faults.Output) =
-    (summary : Summary) × (recovered ≡ Ok summary) × AppendsBeginning old new (summary_text summary ++ codes "\n")
-ReportsRecovered recovered old new (Err (faults.Recorder fault)) = (recovered ≡ Err fault) × (new ≡ old)
+    (summary : Summary) × (recovered ≡ Ok summary)
+    × AppendsBeginning old new (summary_text summary ++ codes "\n")
+ReportsRecovered recovered old new (Err (faults.Recorder fault)) =
+    (recovered ≡ Err fault) × (new ≡ old)
 
 -- the faults of a repair, over any disk
 abbrev pub IsRepairFault : RepairFault → Type 0

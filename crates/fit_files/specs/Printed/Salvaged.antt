@@ -40,8 +40,10 @@ pub record IsSalvage (all : Bool) (bytes : List ℕ) (salvage : Salvage) : Type 
   pub frame_is : salvage.frame ≡ salvaged_frame frame
   pub looked_is : salvage.looked_at ≡ length (looked_at all size (drop frame.header_size bytes))
   pub left_is : salvage.not_looked_at ≡ not_looked_at all size (drop frame.header_size bytes)
-  pub longest : IsLongestFront (looked_at all size (drop frame.header_size bytes)) (length salvage.row.now)
-  pub row_is : salvage.row.now ≡ take (length salvage.row.now) (looked_at all size (drop frame.header_size bytes))
+  pub longest : IsLongestFront (looked_at all size (drop frame.header_size bytes))
+      (length salvage.row.now)
+  pub row_is : salvage.row.now
+      ≡ take (length salvage.row.now) (looked_at all size (drop frame.header_size bytes))
   pub are_records : Records salvage.row.now items
 
 -- the bytes do not begin with a header, and this is their refusal as a file
@@ -72,7 +74,8 @@ IsNoForm _ = ⊥
 
 -- the line with how many of the bytes looked at were kept
 abbrev pub kept_text : Salvage → List ℕ
-kept_text salvage = codes "kept " ++ decimal (length salvage.row.now) ++ codes " of " ++ decimal salvage.looked_at
+kept_text salvage =
+    codes "kept " ++ decimal (length salvage.row.now) ++ codes " of " ++ decimal salvage.looked_at
 
 -- the line with how many bytes after the end that a header gives were not looked at
 abbrev pub count_left : ℕ → List ℕ

@@ -25,9 +25,11 @@ pub record IsFinishedOf (contents : Contents) (list : List Recorded) (v : FileVa
 -- The finished file of the list that the two files stand for, and the summary of that list. If `NothingRecorded` or `Damaged` is
 -- answered, the two files hold nothing recorded, or are damaged; after `Changed` the body has another checksum than the journal states.
 abbrev pub FinishesRide : Contents → Result (FileValue × Summary) SaveFault → Type 0
-FinishesRide contents (Ok found) = (list : List Recorded) × IsFinishedOf contents list found.0 × (found.1 ≡ summary_of_list list)
+FinishesRide contents (Ok found) =
+    (list : List Recorded) × IsFinishedOf contents list found.0 × (found.1 ≡ summary_of_list list)
 FinishesRide contents (Err (faults.Recorder NothingRecorded)) = IsNothing contents
-FinishesRide contents (Err (faults.Recorder Damaged)) = IsDamaged contents × (HasChanged contents → ⊥)
+FinishesRide contents (Err (faults.Recorder Damaged)) =
+    IsDamaged contents × (HasChanged contents → ⊥)
 FinishesRide contents (Err faults.Changed) = IsDamaged contents × HasChanged contents
 FinishesRide contents (Err (faults.Recorder fault)) = ⊥
 FinishesRide contents (Err faults.TooLarge) = ⊥
@@ -38,7 +40,9 @@ abbrev pub SavesRide : Contents → Result SavedRide SaveFault → Type 0
 SavesRide contents (Ok saved) =
     (v : FileValue) × FinishesRide contents (Ok (v, saved.summary)) × IsPlainForm v saved.file
 SavesRide contents (Err faults.TooLarge) =
-    (v : FileValue) × (summary : Summary) × FinishesRide contents (Ok (v, summary)) × (place : ℕ) × (too_long_at v ≡ Some place)
+    (v : FileValue) × (summary : Summary) × FinishesRide contents (Ok (v, summary)) × (place : ℕ)
+    × (too_long_at v ≡ Some place)
 SavesRide contents (Err faults.NoMemory) = Unit {0}
 SavesRide contents (Err faults.Changed) = FinishesRide contents (Err faults.Changed)
-SavesRide contents (Err (faults.Recorder fault)) = FinishesRide contents (Err (faults.Recorder fault))
+SavesRide contents (Err (faults.Recorder fault)) =
+    FinishesRide contents (Err (faults.Recorder fault))

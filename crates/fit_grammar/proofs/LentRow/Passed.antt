@@ -17,7 +17,7 @@ use Rattle.fit_grammar.specs.Calls.Step.{ItemAtFront}
 use Rattle.fit_grammar.specs.Calls.Table.{in_force_after}
 use Rattle.fit_grammar.specs.Private.Decoding.{BeginsWith, IsRefusedBy, Reached, WindowShows, fault_of}
 use Rattle.fit_grammar.specs.Private.ItemRow.{items_in, AreRead}
-use Rattle.fit_grammar.specs.Private.Passing.{PassesItem, HasPassedTo, HasPassedAll, file_of, end_of}
+use Rattle.fit_grammar.specs.Private.Passing.{PassesItem, HasPassedTo, HasPassedAll, framed_items, end_of}
 use Rattle.fit_grammar.proofs.Decoding.Longer.{reached_within}
 use Rattle.fit_grammar.proofs.Decoding.Reached.{reached_first, reached_more, records_size}
 use Rattle.fit_grammar.proofs.Decoding.Shown.{reached_refused}
@@ -40,7 +40,7 @@ passes_more f g b h at size used written p lt t =
     subst (λ (e : ℕ → Option Definition). ItemAtFront e (drop at b) t.item used) p.in_force_are t.at_front in
     record {
       items = p.items ++ t.item ∷ [];
-      reached = reached_more b (file_of h.frame p.items) (file_of h.frame (p.items ++ t.item ∷ [])) at (end_of h) used p.reached
+      reached = reached_more b (framed_items h.frame p.items) (framed_items h.frame (p.items ++ t.item ∷ [])) at (end_of h) used p.reached
           (record { item = t.item; at_front = front; inside = t.inside; added = refl }) lt;
       size_is = omega (arith, p.size_is, t.written_is, data_size-push p.items t.item);
       in_force_are = t.taken ∙ ap (in_force_after t.item) p.in_force_are ∙ in_force_after-in_force p.items t.item;
@@ -70,14 +70,14 @@ pub passing_refused : (f : ℕ → Option Definition) (b : List ℕ) (h : Header
 passing_refused f b h at size kind p lt sh =
     let shown = subst (λ (e : ℕ → Option Definition). WindowShows e (drop at b) (end_of h - at) kind) p.in_force_are sh in
     refused_of b (fault_of kind at (length b))
-    (reached_refused b (file_of h.frame p.items) at (end_of h) kind (fault_of kind at (length b)) p.reached lt (inr shown) refl)
+    (reached_refused b (framed_items h.frame p.items) at (end_of h) kind (fault_of kind at (length b)) p.reached lt (inr shown) refl)
     (not_memory f (drop at b) (end_of h - at) at (length b) kind sh)
 
 -- after the last one
 pub passes_all : (f : ℕ → Option Definition) (b : List ℕ) (h : Header) (at size : ℕ) → HasPassedTo f b h at size → end_of h ≤ at
     → HasPassedAll b h size
 passes_all f b h at size p le =
-    let v = file_of h.frame p.items in
+    let v = framed_items h.frame p.items in
     let there : at ≡ end_of h = omega (arith, (reached_within b v at (end_of h) p.reached).1) in
     record { items = p.items; reached = subst (λ (n : ℕ). Reached b v n (end_of h)) there p.reached; size_is = p.size_is }
 
@@ -120,7 +120,7 @@ records_read b h size p =
 
 -- and can be those of a file in memory
 pub passed_fits : (b : List ℕ) (h : Header) (size : ℕ) (p : HasPassedAll b h size) → FrameFits h.frame → AreBytes b
-    → CanBeFile (file_of h.frame p.items)
+    → CanBeFile (framed_items h.frame p.items)
 passed_fits b h size p frame_fits a =
     let r = p.reached in
     let f = r.front in

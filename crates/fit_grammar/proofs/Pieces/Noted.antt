@@ -13,7 +13,7 @@ use Rattle.fit_grammar.specs.Format.File.{FileValue, IsHeader}
 use Rattle.fit_grammar.specs.Format.Refusal.{Front, IsFront, front_bytes, front_end}
 use Rattle.fit_grammar.specs.Calls.Places.{ArePlaces, place_read, written_end}
 use Rattle.fit_grammar.specs.Private.Decoding.{Reached, BeginsWith}
-use Rattle.fit_grammar.specs.Private.Feeding.{AreNoted, TakesNext, noted}
+use Rattle.fit_grammar.specs.Private.Feeding.{AreNoted, TakesNext, with_place}
 use Rattle.fit_grammar.proofs.OneItem.Spelling.{spelling_one}
 use Rattle.fit_grammar.proofs.Decoding.Alignment.{Aligned, longer, shorter}
 use Rattle.fit_grammar.proofs.Decoding.Fronts.{same_fronts}
@@ -33,7 +33,7 @@ none_left before (item ∷ items) r =
       some_bytes item,
     ))
 
--- after the header no place is noted
+-- after the header no place is with_place
 pub none_noted : (b : List ℕ) (h : Header) → BeginsWith b h → length b ≡ h.frame.header_size → AreNoted b (h.frame.header_size + 0) []
 none_noted b h p whole = record {
   places = λ g rest q e.
@@ -47,7 +47,7 @@ none_noted b h p whole = record {
   all = λ place le. omega arith;
 }
 
--- ---- a place is noted after the others
+-- ---- a place is with_place after the others
 
 -- the number of places before this one, with one more place
 read_with : (places : List ℕ) (at place : ℕ)
@@ -183,7 +183,7 @@ a_byte_longer f own item places p s d n more =
 
 noted_more : (f : Front) (own : List ℕ) (item : Item) (places : List ℕ) → IsFront f → Spells item own → IsDefined f.items item
     → AreNoted (front_bytes f) (written_end f) places
-    → AreNoted (front_bytes f ++ own) (written_end f + item_size item) (noted places (front_end f) (item_size item) (length own))
+    → AreNoted (front_bytes f ++ own) (written_end f + item_size item) (with_place places (front_end f) (item_size item) (length own))
 noted_more f own item places p s d n =
     elim (eqb_tells (length own) (item_size item)) [
       | inl same ↦ rw same.0 (same_long f own item places p s d n same.1)
@@ -235,12 +235,12 @@ noted_next b v w places after at end used r t n =
       sum_by-append item_size v.items (item ∷ []),
       reached_written b v at end r,
     ) in
-    let is : after ≡ noted places (front_end f) (item_size item) (length own) =
-    t.noted_is ∙ ap (λ (n : ℕ). noted places n (item_size item) used) r.at_is
-    ∙ ap (λ (n : ℕ). noted places (front_end f) (item_size item) n) (sym long) in
+    let is : after ≡ with_place places (front_end f) (item_size item) (length own) =
+    t.noted_is ∙ ap (λ (n : ℕ). with_place places n (item_size item) used) r.at_is
+    ∙ ap (λ (n : ℕ). with_place places (front_end f) (item_size item) n) (sym long) in
     rw (bytes, written, is) (noted_more f own item places r.is_front t.taken.at_front.spelled defined here)
 
--- after the last item all places are noted
+-- after the last item all places are with_place
 pub all_noted : (b : List ℕ) (v : FileValue) (places : List ℕ) (at end written : ℕ) → Reached b v at end → end ≤ at
     → AreNoted (take at b) written places → ArePlaces b places
 all_noted b v places at end written r le n g rest q e =

@@ -7,7 +7,7 @@ use Rattle.fit_grammar.specs.declared.file.fault.FaultKind.TheVariants.{Truncate
 use Rattle.fit_grammar.specs.declared.file.fault.FileFault.{FileFault}
 use Rattle.fit_grammar.specs.Format.Refusal.{IsCutShort, IsFaultOf}
 use Rattle.fit_grammar.specs.Calls.Pieces.{ShowsNothing, IsShownBy}
-use Rattle.fit_grammar.specs.Calls.Fed.{WasFed, IsOpen, carried}
+use Rattle.fit_grammar.specs.Calls.Fed.{WasFed, IsOpen, carried_length}
 
 -- a fault that a prefix shows is the refusal of the bytes
 pub shown_fault : (b : List ℕ) (fault : FileFault) → IsShownBy b fault → IsFaultOf b fault
@@ -29,8 +29,8 @@ open_quiet fed (states.Records reading) is was =
     ]
 open_quiet fed (states.Refused fault) is was = absurd is
 
--- fewer bytes are carried than the longest item has
-pub carried_short : (fed : List ℕ) (state : State) → WasFed fed state → carried state < 130051
+-- fewer bytes are carried_length than the longest item has
+pub carried_short : (fed : List ℕ) (state : State) → WasFed fed state → carried_length state < 130051
 carried_short fed (states.Header header) was = omega arith
 carried_short fed (states.Records reading) was = was.short
 carried_short fed (states.Refused fault) was = omega arith

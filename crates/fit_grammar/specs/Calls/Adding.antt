@@ -24,8 +24,10 @@ IsOffset local (Some offset) = (local < 4) × (offset < 32)
 -- the content is as long as the definition in force requires, and the time offset is possible
 abbrev pub CanHold : FileValue → ℕ → Option ℕ → List ℕ → Type 0
 CanHold v local offset content =
-    IsSomeAnd (in_force v.items local) (λ d. content_size d ≡ length content) × IsOffset local offset
+    IsSomeAnd (in_force v.items local) (λ d. content_size d ≡ length content)
+    × IsOffset local offset
 
 -- a definition is in force, but the content's length or the time offset does not fit
 abbrev pub HasWrongLength : FileValue → ℕ → Option ℕ → List ℕ → Type 0
-HasWrongLength v local offset content = IsSome (in_force v.items local) × (CanHold v local offset content → ⊥)
+HasWrongLength v local offset content =
+    IsSome (in_force v.items local) × (CanHold v local offset content → ⊥)

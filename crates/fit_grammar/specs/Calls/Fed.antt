@@ -10,7 +10,8 @@ use Rattle.fit_grammar.specs.Private.Feeding.{ReadsOn}
 
 -- the bytes that were fed
 abbrev pub WasFed : List ℕ → State → Type 0
-WasFed fed (states.Header header) = (header.items ≡ fed) × IsShort fed × IsCutShort fed Truncated (length fed)
+WasFed fed (states.Header header) =
+    (header.items ≡ fed) × IsShort fed × IsCutShort fed Truncated (length fed)
 WasFed fed (states.Records reading) = ReadsOn fed reading
 WasFed fed (states.Refused fault) = IsShownBy fed fault
 
@@ -20,6 +21,6 @@ IsOpen (states.Refused fault) = ⊥
 IsOpen _ = Unit {0}
 
 -- how many bytes of an unfinished item are kept
-abbrev pub carried : State → ℕ
-carried (states.Records reading) = length reading.carry.items
-carried _ = 0
+abbrev pub carried_length : State → ℕ
+carried_length (states.Records reading) = length reading.carry.items
+carried_length _ = 0

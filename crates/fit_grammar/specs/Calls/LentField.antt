@@ -6,8 +6,18 @@ use Rattle.fit_grammar.specs.Format.Message.{MessageDeveloperField, MessageField
 
 -- its number, its base type byte and its values
 abbrev pub field_view : Field → MessageField
-field_view field = record { number = field.number; base = field.value.base; values = values_of field.value }
+field_view field =
+    record {
+      number = field.number;
+      base = field.value.base;
+      values = values_of field.value;
+    }
 
 -- a developer field's index, number and bytes
 abbrev pub developer_view : DeveloperField → MessageDeveloperField
-developer_view field = record { index = field.index; number = field.number; bytes = field.bytes.now }
+developer_view field =
+    record {
+      index = field.index;
+      number = field.number;
+      bytes = field.bytes.now;
+    }

@@ -28,7 +28,8 @@ pub data LentItem : Type 0 where
 -- an item of a file, as it is lent
 abbrev pub lent_item : FileItem → LentItem
 lent_item (files.Definition d) = DefinesHere d
-lent_item (files.Data m time) = DataHere (data_under m.definition m.local m.offset time m.content.now)
+lent_item (files.Data m time) =
+    DataHere (data_under m.definition m.local m.offset time m.content.now)
 
 -- the item alone
 abbrev pub item_lent : LentItem → Item
@@ -49,7 +50,8 @@ messages_in (DataHere m ∷ items) = message_here m ∷ messages_in items
 abbrev pub lent_at : List Item → ℕ → Item → Option LentItem
 lent_at before time (Defines d) = Some (DefinesHere d)
 lent_at before time (Data local offset content) =
-    option_map (λ d. DataHere (data_under d local offset (compressed_time time offset) content)) (in_force before local)
+    option_map (λ d. DataHere (data_under d local offset (compressed_time time offset) content))
+    (in_force before local)
 
 -- items after the items `before`, starting from the time before them
 abbrev pub lent_after : List Item → ℕ → List Item → List LentItem
@@ -65,6 +67,7 @@ items_lent items = lent_after [] 0 items
 -- if these definitions are in force before the items, each data message has the one of its local number
 abbrev pub AllUnder : (ℕ → Option Definition) → List LentItem → Type 0
 AllUnder definition_for [] = Unit {0}
-AllUnder definition_for (DefinesHere d ∷ items) = (d.local < 16) × AllUnder (in_force_after (Defines d) definition_for) items
+AllUnder definition_for (DefinesHere d ∷ items) =
+    (d.local < 16) × AllUnder (in_force_after (Defines d) definition_for) items
 AllUnder definition_for (DataHere m ∷ items) =
     (m.local < 16) × (definition_for m.local ≡ Some m.definition) × AllUnder definition_for items

@@ -18,5 +18,5 @@ message_lent (items.Data m) before =
     Some (record { compressed = time; message = message_under m.definition time m.content.now })
 
 -- the time that a message gives: that of its compressed timestamp, or else the one that its fields state
-abbrev pub time_of : LentMessage → Option ℕ
-time_of m = option_or m.compressed (time_stated m.message.fields)
+abbrev pub lent_time : LentMessage → Option ℕ
+lent_time m = option_or m.compressed (time_stated m.message.fields)

@@ -9,4 +9,5 @@ pub record IsLongestFront (bytes : List ℕ) (front : ℕ) : Type 0 where
   pub within : front ≤ length bytes
   pub items : List Item
   pub are_records : Records (take front bytes) items
-  pub longest : (n : ℕ) (others : List Item) → n ≤ length bytes → Records (take n bytes) others → n ≤ front
+  pub longest : (n : ℕ) (others : List Item) → n ≤ length bytes → Records (take n bytes) others
+      → n ≤ front

@@ -10,6 +10,7 @@ pub record AppendsBeginning (old new : Option (List ℕ)) (text : List ℕ) : Ty
   pub appended : Appends old new part
 
 -- at Ok all of the text was appended, and at Err a prefix of it
-pub record WritesText {T E : Type 0} (old new : Option (List ℕ)) (result : Result T E) (text : List ℕ) : Type 0 where
+pub record WritesText {T E : Type 0} (old new : Option (List ℕ)) (result : Result T E)
+    (text : List ℕ) : Type 0 where
   pub all : OnOk result (Appends old new text)
   pub beginning : OnErr result (AppendsBeginning old new text)

@@ -7,7 +7,8 @@ use Rattle.fit_grammar.specs.Format.Refusal.{Front, IsFront, front_bytes, front_
 
 -- no prefix of the bytes shows a fault
 abbrev pub ShowsNothing : List ℕ → Type 0
-ShowsNothing bytes = (n : ℕ) (kind : FaultKind) (place : ℕ) → n ≤ length bytes → Shows kind place (take n bytes) → ⊥
+ShowsNothing bytes =
+    (n : ℕ) (kind : FaultKind) (place : ℕ) → n ≤ length bytes → Shows kind place (take n bytes) → ⊥
 
 -- the shortest prefix of the bytes that shows a fault shows this one; or it is lack of memory, at an item that begins at or
 -- before the refusal's place
@@ -20,4 +21,5 @@ IsShownBy bytes fault =
 -- no row of whole items at the front of the bytes ends past the place
 abbrev pub NoItemEndsPast : List ℕ → ℕ → Type 0
 NoItemEndsPast bytes place =
-    (front : Front) (rest : List ℕ) → IsFront front → bytes ≡ front_bytes front ++ rest → front_end front ≤ place
+    (front : Front) (rest : List ℕ) → IsFront front → bytes ≡ front_bytes front ++ rest
+    → front_end front ≤ place

@@ -16,4 +16,5 @@ written_end front = front.frame.header_size + data_size front.items
 -- the places are right wherever a row of whole items ends in the bytes
 abbrev pub ArePlaces : List ℕ → List ℕ → Type 0
 ArePlaces bytes longer =
-    (front : Front) (rest : List ℕ) → IsFront front → bytes ≡ front_bytes front ++ rest → place_read longer (written_end front) ≡ front_end front
+    (front : Front) (rest : List ℕ) → IsFront front → bytes ≡ front_bytes front ++ rest
+    → place_read longer (written_end front) ≡ front_end front

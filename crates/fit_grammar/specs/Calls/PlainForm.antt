@@ -77,7 +77,8 @@ timed_after timed (DataHere m) = slice_set timed m.local (is_some m.time)
 
 abbrev pub plain_after : List Bool → List LentItem → List Item
 plain_after timed [] = []
-plain_after timed (item ∷ items) = plain_item timed item ++ plain_after (timed_after timed item) items
+plain_after timed (item ∷ items) =
+    plain_item timed item ++ plain_after (timed_after timed item) items
 
 -- the plain form of a row of items
 abbrev pub plain_items : List Item → List Item
@@ -101,14 +102,16 @@ has_too_many_fields (Data local offset content) = false
 
 -- after so many bytes, with these items the records would exceed 4,294,967,295 bytes, or a definition would have 256 fields
 abbrev pub is_too_long : ℕ → List Item → Bool
-is_too_long size items = list_any has_too_many_fields items || nat_lt 4294967295 (size + data_size items)
+is_too_long size items =
+    list_any has_too_many_fields items || nat_lt 4294967295 (size + data_size items)
 
 -- the place of the first item that is too long, from this place on, after so many bytes of plain items
 abbrev pub too_long_after : List Bool → ℕ → ℕ → List LentItem → Option ℕ
 too_long_after timed size place [] = None
 too_long_after timed size place (item ∷ items) =
     if is_too_long size (plain_item timed item) then Some place
-    else too_long_after (timed_after timed item) (size + data_size (plain_item timed item)) (place + item_size (item_lent item)) items
+    else too_long_after (timed_after timed item) (size + data_size (plain_item timed item))
+    (place + item_size (item_lent item)) items
 
 -- the same for a whole file; the place is an offset from its front
 abbrev pub too_long_at : FileValue → Option ℕ

@@ -50,7 +50,8 @@ pub record CanFollow (before : List Item) (item : Item) : Type 0 where
 -- after these items, each of the items can be in its place
 abbrev pub AllCanFollow : List Item → List Item → Type 0
 AllCanFollow before [] = Unit {0}
-AllCanFollow before (item ∷ items) = CanFollow before item × AllCanFollow (before ++ item ∷ []) items
+AllCanFollow before (item ∷ items) =
+    CanFollow before item × AllCanFollow (before ++ item ∷ []) items
 
 -- what a file can be
 pub record CanBeFile (v : FileValue) : Type 0 where

@@ -11,7 +11,8 @@ definition_in table local = slice_index_or table local None
 
 -- the definitions in force after an item, given those in force before it
 abbrev pub in_force_after : Item → (ℕ → Option Definition) → ℕ → Option Definition
-in_force_after item definition_for local = option_or (definition_by item local) (definition_for local)
+in_force_after item definition_for local =
+    option_or (definition_by item local) (definition_for local)
 
 -- the most bytes that a short definition is written as
 abbrev pub longest_short : ℕ

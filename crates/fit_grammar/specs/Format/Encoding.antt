@@ -31,8 +31,10 @@ data_byte local (Some offset) = 128 + 32 * local + offset
 
 abbrev pub encoded_item : Item → List ℕ
 encoded_item (Defines d) =
-    definition_byte d.local (has_any d.developer.items) ∷ 0 ∷ arch_byte d.arch ∷ (two_bytes d.arch d.global ++ length d.fields.items
-    ∷ (flat_map field_bytes d.fields.items ++ developer_part (has_any d.developer.items) d.developer.items))
+    definition_byte d.local (has_any d.developer.items) ∷ 0 ∷ arch_byte d.arch ∷
+    (two_bytes d.arch d.global ++ length d.fields.items
+    ∷ (flat_map field_bytes d.fields.items
+    ++ developer_part (has_any d.developer.items) d.developer.items))
 encoded_item (Data local offset content) = data_byte local offset ∷ content
 
 -- the numbers of the first byte fit into their bits
@@ -60,7 +62,8 @@ with_checksum bytes = bytes ++ two_bytes Little (crc bytes)
 -- the header over this many bytes of records; one of 14 bytes has its checksum
 abbrev pub encoded_header : Frame → ℕ → List ℕ
 encoded_header frame size =
-    if frame.header_size == 14 then with_checksum (header_front frame size) else header_front frame size
+    if frame.header_size == 14
+    then with_checksum (header_front frame size) else header_front frame size
 
 -- the file: header, records and closing checksum
 abbrev pub encoded : FileValue → List ℕ

@@ -24,7 +24,8 @@ pub record IsFrame (frame : Frame) : Type 0 where
 -- the checksum of a header of 14 bytes is either zero, which means "not given", or right
 abbrev pub ChecksHeader : List ℕ → Type 0
 ChecksHeader header =
-    (low_first (slice_range header 12 14) ≡ 0) ⊎ (low_first (slice_range header 12 14) ≡ crc (take 12 header))
+    (low_first (slice_range header 12 14) ≡ 0)
+    ⊎ (low_first (slice_range header 12 14) ≡ crc (take 12 header))
 
 -- the bytes are a header of this frame over this many bytes of records
 pub record IsHeader (header : List ℕ) (frame : Frame) (size : ℕ) : Type 0 where

@@ -58,7 +58,8 @@ pub record SpellsDefinition (d : Definition) (bytes : List ℕ) : Type 0 where
   pub global_1 : ℕ
   pub global_2 : ℕ
   pub announced : Bool
-  pub laid_out : bytes ≡ first ∷ reserved ∷ architecture ∷ global_1 ∷ global_2 ∷ length d.fields.items
+  pub laid_out : bytes
+      ≡ first ∷ reserved ∷ architecture ∷ global_1 ∷ global_2 ∷ length d.fields.items
       ∷ (flat_map field_bytes d.fields.items ++ developer_part announced d.developer.items)
   pub head : head_of first ≡ DefinitionHead d.local announced
   pub none : announced ≡ false → d.developer.items ≡ []
@@ -94,9 +95,16 @@ has_any (field ∷ fields) = true
 -- a definition without developer fields
 abbrev pub native_definition : ℕ → Arch → ℕ → List FieldDefinition → Definition
 native_definition local arch global fields =
-    record { local = local; arch = arch; global = global; fields = record { items = fields }; developer = record { items = [] } }
+    record {
+      local = local;
+      arch = arch;
+      global = global;
+      fields = record { items = fields };
+      developer = record { items = [] };
+    }
 
 -- the number of bytes that an item is written as
 abbrev pub item_size : Item → ℕ
-item_size (Defines d) = 6 + 3 * length d.fields.items + part_size (has_any d.developer.items) (length d.developer.items)
+item_size (Defines d) =
+    6 + 3 * length d.fields.items + part_size (has_any d.developer.items) (length d.developer.items)
 item_size (Data local offset content) = 1 + length content

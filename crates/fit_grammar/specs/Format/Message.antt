@@ -34,7 +34,8 @@ fields_of arch (field ∷ fields) content =
     record {
       number = field.number;
       base = field.base;
-      values = values_of (record { base = field.base; arch = arch; bytes = take field.size content });
+      values =
+          values_of (record { base = field.base; arch = arch; bytes = take field.size content });
     } ∷ fields_of arch fields (drop field.size content)
 
 -- the developer fields of the content, one after another; they come after the fields
@@ -71,7 +72,8 @@ time_in _ = None
 
 -- the time that a field states, if it is field 253 of base type 0x86
 abbrev pub stated_by : MessageField → Option ℕ
-stated_by field = if (field.number == 253) && (field.base == 0x86) then time_in field.values else None
+stated_by field =
+    if (field.number == 253) && (field.base == 0x86) then time_in field.values else None
 
 -- the first field 253 of base type 0x86 with one value that is not invalid
 abbrev pub time_stated : List MessageField → Option ℕ

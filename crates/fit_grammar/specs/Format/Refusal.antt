@@ -35,7 +35,8 @@ abbrev pub HeaderShows : FaultKind → ℕ → List ℕ → Type 0
 HeaderShows HeaderSize place bytes =
     (place ≡ 0) × (length bytes ≡ 1) × (slice_index bytes 0 ≢ 12) × (slice_index bytes 0 ≢ 14)
 HeaderShows Protocol place bytes =
-    (place ≡ 1) × (length bytes ≡ 2) × (slice_index bytes 1 / 16 ≢ 1) × (slice_index bytes 1 / 16 ≢ 2)
+    (place ≡ 1) × (length bytes ≡ 2) × (slice_index bytes 1 / 16 ≢ 1)
+    × (slice_index bytes 1 / 16 ≢ 2)
 HeaderShows Magic place bytes = (place ≡ 8) × (length bytes ≡ 12) × (slice_range bytes 8 12 ≢ mark)
 HeaderShows HeaderCrc place bytes =
     (place ≡ 12) × (length bytes ≡ 14) × (slice_index bytes 0 ≡ 14) × (ChecksHeader bytes → ⊥)
@@ -45,22 +46,26 @@ HeaderShows _ place bytes = ⊥
 abbrev pub SplitsAtFirst : Front → List ℕ → Type 0
 SplitsAtFirst front tail =
     (byte : ℕ) × (tail ≡ byte ∷ [])
-    × (((local : ℕ) × (announced : Bool) × (head_of byte ≡ DefinitionHead local announced) × (front.size < length front.records + 6))
+    × (((local : ℕ) × (announced : Bool) × (head_of byte ≡ DefinitionHead local announced)
+    × (front.size < length front.records + 6))
     ⊎ ((local : ℕ) × (offset : Option ℕ) × (head_of byte ≡ DataHead local offset)
-    × IsSomeAnd (in_force front.items local) (λ d. front.size < length front.records + (1 + content_size d))))
+    × IsSomeAnd (in_force front.items local)
+    (λ d. front.size < length front.records + (1 + content_size d))))
 
 -- six bytes of a definition show, by the number of its fields, that it extends past the end of the data; if developer fields
 -- are announced, the byte with their number counts too
 abbrev pub SplitsAtCount : Front → List ℕ → Type 0
 SplitsAtCount front tail =
-    (length tail ≡ 6) × (local : ℕ) × (announced : Bool) × (head_of (slice_index tail 0) ≡ DefinitionHead local announced)
+    (length tail ≡ 6) × (local : ℕ) × (announced : Bool)
+    × (head_of (slice_index tail 0) ≡ DefinitionHead local announced)
     × (front.size < length front.records + (6 + 3 * slice_index tail 5 + part_size announced 0))
 
 -- the bytes of a definition up to the number of its developer fields show by that number that it extends past the end of the
 -- data
 abbrev pub SplitsAtDeveloperCount : Front → List ℕ → Type 0
 SplitsAtDeveloperCount front tail =
-    (length tail ≡ 7 + 3 * slice_index tail 5) × (local : ℕ) × (head_of (slice_index tail 0) ≡ DefinitionHead local true)
+    (length tail ≡ 7 + 3 * slice_index tail 5) × (local : ℕ)
+    × (head_of (slice_index tail 0) ≡ DefinitionHead local true)
     × (front.size < length front.records
     + (6 + 3 * slice_index tail 5 + part_size true (slice_index tail (6 + 3 * slice_index tail 5))))
 
@@ -70,13 +75,16 @@ TailShows (UndefinedLocal local) front tail =
     (length front.records < front.size) × (byte : ℕ) × (offset : Option ℕ) × (tail ≡ byte ∷ [])
     × (head_of byte ≡ DataHead local offset) × (in_force front.items local ≡ None)
 TailShows SplitMessage front tail =
-    (length front.records < front.size) × (SplitsAtFirst front tail ⊎ (SplitsAtCount front tail ⊎ SplitsAtDeveloperCount front tail))
+    (length front.records < front.size)
+    × (SplitsAtFirst front tail ⊎ (SplitsAtCount front tail ⊎ SplitsAtDeveloperCount front tail))
 -- all the records, and then two bytes that are not the checksum
 TailShows FileCrc front tail =
-    (length front.records ≡ front.size) × (length tail ≡ 2) × (low_first tail ≢ crc (front_bytes front))
+    (length front.records ≡ front.size) × (length tail ≡ 2)
+    × (low_first tail ≢ crc (front_bytes front))
 -- a file, and then one byte more
 TailShows TrailingBytes front tail =
-    (length front.records ≡ front.size) × (length tail ≡ 3) × IsClosing (front_bytes front) (take 2 tail)
+    (length front.records ≡ front.size) × (length tail ≡ 3)
+    × IsClosing (front_bytes front) (take 2 tail)
 TailShows _ front tail = ⊥
 
 -- the place of a fault after a front: an item's first byte, the checksum, or the byte after it
@@ -102,13 +110,15 @@ pub record IsShortestShown (bytes : List ℕ) (kind : FaultKind) (place : ℕ) :
   pub count : ℕ
   pub within : count ≤ length bytes
   pub shown : Shows kind place (take count bytes)
-  pub shortest : (n : ℕ) (other : FaultKind) (at : ℕ) → n < count → Shows other at (take n bytes) → ⊥
+  pub shortest : (n : ℕ) (other : FaultKind) (at : ℕ) → n < count → Shows other at (take n bytes)
+      → ⊥
 
 -- no prefix shows a fault, and the bytes are no file: the input ends too soon
 pub record IsCutShort (bytes : List ℕ) (kind : FaultKind) (place : ℕ) : Type 0 where
   pub truncated : kind ≡ Truncated
   pub at_end : place ≡ length bytes
-  pub none_shown : (n : ℕ) (other : FaultKind) (at : ℕ) → n ≤ length bytes → Shows other at (take n bytes) → ⊥
+  pub none_shown : (n : ℕ) (other : FaultKind) (at : ℕ) → n ≤ length bytes
+      → Shows other at (take n bytes) → ⊥
   pub no_file : (v : FileValue) → FileOf bytes v → ⊥
 
 -- the refusal of bytes that are no file

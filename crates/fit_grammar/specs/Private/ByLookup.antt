@@ -19,23 +19,27 @@ abbrev pub time_by : (ℕ → Option Definition) → ℕ → Item → Option ℕ
 time_by definition_for time (Defines d) = None
 time_by definition_for time (Data local (Some offset) content) = Some (next_time time offset)
 time_by definition_for time (Data local None content) =
-    option_and_then (λ m. time_stated m.fields) (message_by definition_for time (Data local None content))
+    option_and_then (λ m. time_stated m.fields)
+    (message_by definition_for time (Data local None content))
 
 -- the item as it is lent
 abbrev pub lent_by : (ℕ → Option Definition) → ℕ → Item → Option LentItem
 lent_by definition_for time (Defines d) = Some (DefinesHere d)
 lent_by definition_for time (Data local offset content) =
-    option_map (λ d. DataHere (data_under d local offset (compressed_time time offset) content)) (definition_for local)
+    option_map (λ d. DataHere (data_under d local offset (compressed_time time offset) content))
+    (definition_for local)
 
 -- the items, starting from the time before them
 abbrev pub lent_items_by : (ℕ → Option Definition) → ℕ → List Item → List LentItem
 lent_items_by definition_for time [] = []
 lent_items_by definition_for time (item ∷ items) =
     option_to_list (lent_by definition_for time item)
-    ++ lent_items_by (in_force_after item definition_for) (unwrap_or (time_by definition_for time item) time) items
+    ++ lent_items_by (in_force_after item definition_for)
+    (unwrap_or (time_by definition_for time item) time) items
 
 -- each of the items has a spelling and is defined in its place
 abbrev pub AllDefinedBy : (ℕ → Option Definition) → List Item → Type 0
 AllDefinedBy definition_for [] = Unit {0}
 AllDefinedBy definition_for (item ∷ items) =
-    HasEncoding item × IsDefinedBy definition_for item × AllDefinedBy (in_force_after item definition_for) items
+    HasEncoding item × IsDefinedBy definition_for item
+    × AllDefinedBy (in_force_after item definition_for) items

@@ -48,7 +48,8 @@ pub record TakesItem (old new : FileValue) (window : List ℕ) (left used : ℕ)
   pub added : new ≡ with_item old item
 
 -- the item at the front of the window has this length; all of it is there, and within what is left of the data
-pub record IsWholeLength (definition_for : ℕ → Option Definition) (window : List ℕ) (left used : ℕ) : Type 0 where
+pub record IsWholeLength (definition_for : ℕ → Option Definition) (window : List ℕ)
+    (left used : ℕ) : Type 0 where
   pub least : least_length_of definition_for window ≡ Ok used
   pub inside : used ≤ left
   pub there : used ≤ length window
@@ -60,12 +61,14 @@ WindowShows definition_for window left (UndefinedLocal local) =
 WindowShows definition_for window left SplitMessage =
     (least : ℕ) × (least_length_of definition_for window ≡ Ok least) × (left < least)
 WindowShows definition_for window left Truncated =
-    (least : ℕ) × (least_length_of definition_for window ≡ Ok least) × (least ≤ left) × ItemBegun definition_for window
+    (least : ℕ) × (least_length_of definition_for window ≡ Ok least) × (least ≤ left)
+    × ItemBegun definition_for window
 WindowShows definition_for window left _ = ⊥
 
 -- lack of memory for an item whose first byte is there, or the fault that the window shows
 abbrev pub IsItemFault : (ℕ → Option Definition) → List ℕ → ℕ → FaultKind → Type 0
-IsItemFault definition_for window left kind = ((kind ≡ Memory) × (1 ≤ length window)) ⊎ WindowShows definition_for window left kind
+IsItemFault definition_for window left kind =
+    ((kind ≡ Memory) × (1 ≤ length window)) ⊎ WindowShows definition_for window left kind
 
 -- a fault is at its item, or, if the input ends too soon, at the end of the input
 abbrev pub fault_of : FaultKind → ℕ → ℕ → FileFault
@@ -76,7 +79,9 @@ fault_of kind at len = record { kind = kind; place = at }
 abbrev pub EndShows : List ℕ → ℕ → FaultKind → ℕ → Type 0
 EndShows bytes end Truncated place = (place ≡ length bytes) × (length bytes < end + 2)
 EndShows bytes end FileCrc place =
-    (place ≡ end) × (end + 2 ≤ length bytes) × (low_first (take 2 (drop end bytes)) ≢ crc (take end bytes))
+    (place ≡ end) × (end + 2 ≤ length bytes)
+    × (low_first (take 2 (drop end bytes)) ≢ crc (take end bytes))
 EndShows bytes end TrailingBytes place =
-    (place ≡ end + 2) × (end + 2 < length bytes) × IsClosing (take end bytes) (take 2 (drop end bytes))
+    (place ≡ end + 2) × (end + 2 < length bytes)
+    × IsClosing (take end bytes) (take 2 (drop end bytes))
 EndShows bytes end _ place = ⊥

@@ -8,7 +8,8 @@ use Rattle.fit_grammar.specs.Format.Item.{DefinitionHead, head_of, arch_of, part
 
 -- the fields that bytes spell, three bytes for each
 abbrev pub fields_in : List ℕ → List FieldDefinition
-fields_in (number ∷ size ∷ base ∷ bytes) = record { number = number; size = size; base = base } ∷ fields_in bytes
+fields_in (number ∷ size ∷ base ∷ bytes) = record { number = number; size = size; base = base }
+    ∷ fields_in bytes
 fields_in _ = []
 
 -- the developer fields that bytes spell; they have their index in the place of a base type
@@ -26,7 +27,10 @@ definition_at bytes =
       arch = arch_of (slice_index bytes 2);
       global = number (arch_of (slice_index bytes 2)) (slice_range bytes 3 5);
       fields = record { items = fields_in (take (3 * slice_index bytes 5) (drop 6 bytes)) };
-      developer = record { items = developer_in (drop (3 * slice_index bytes 5 + 1) (drop 6 bytes)) };
+      developer = record {
+        items = developer_in
+            (drop (3 * slice_index bytes 5 + 1) (drop 6 bytes));
+      };
     }
 
 -- the bytes of one definition, no more and no less
@@ -34,4 +38,6 @@ pub record AreDefinition (bytes : List ℕ) : Type 0 where
   pub announced : Bool
   pub head : head_of (slice_index bytes 0) ≡ DefinitionHead (slice_index bytes 0 % 16) announced
   pub fields : 6 + 3 * slice_index bytes 5 ≤ length bytes
-  pub whole : length bytes ≡ 6 + 3 * slice_index bytes 5 + part_size announced (slice_index bytes (6 + 3 * slice_index bytes 5))
+  pub whole : length bytes
+      ≡ 6 + 3 * slice_index bytes 5 + part_size announced
+      (slice_index bytes (6 + 3 * slice_index bytes 5))

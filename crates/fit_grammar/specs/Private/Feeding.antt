@@ -17,15 +17,17 @@ use Rattle.fit_grammar.specs.Calls.Step.{ItemBegun}
 use Rattle.fit_grammar.specs.Private.Decoding.{Reached, IsShort, BeginsWith, TakesItem, IsItemFault}
 
 -- the places with one more item, which was at `at`, is written in `written` bytes and was read in `used`
-abbrev pub noted : List ℕ → ℕ → ℕ → ℕ → List ℕ
-noted longer at written used = if used == written then longer else longer ++ (at - length longer) ∷ []
+abbrev pub with_place : List ℕ → ℕ → ℕ → ℕ → List ℕ
+with_place longer at written used =
+    if used == written then longer else longer ++ (at - length longer) ∷ []
 
 -- an item of `used` bytes was taken from the front of the window, which is at place `at`
-pub record TakesNext (old new : FileValue) (before after window : List ℕ) (at left used : ℕ) : Type 0 where
+pub record TakesNext (old new : FileValue) (before after window : List ℕ)
+    (at left used : ℕ) : Type 0 where
   pub taken : TakesItem old new window left used
-  pub noted_is : after ≡ noted before at (item_size taken.item) used
+  pub noted_is : after ≡ with_place before at (item_size taken.item) used
 
--- the places of the items in these bytes, which end at `written` as they are written; all noted places are before that
+-- the places of the items in these bytes, which end at `written` as they are written; all with_place places are before that
 pub record AreNoted (bytes : List ℕ) (written : ℕ) (longer : List ℕ) : Type 0 where
   pub places : ArePlaces bytes longer
   pub all : (place : ℕ) → written ≤ place → place_read longer place ≡ place + length longer
@@ -35,7 +37,8 @@ pub record StandsBefore (bytes : List ℕ) (r : Reading) (window : List ℕ) : T
   pub reached : Reached bytes r.file r.at r.end
   pub window_is : drop r.at bytes ≡ window
   pub checked : r.checksum ≡ crc (take r.end bytes)
-  pub noted : AreNoted (take r.at bytes) (r.file.frame.header_size + data_size r.file.items) r.places
+  pub with_place : AreNoted (take r.at bytes)
+      (r.file.frame.header_size + data_size r.file.items) r.places
 
 -- the bytes end within an item that is not whole
 pub record Waits (bytes : List ℕ) (r : Reading) (carry : List ℕ) : Type 0 where
@@ -45,7 +48,8 @@ pub record Waits (bytes : List ℕ) (r : Reading) (carry : List ℕ) : Type 0 wh
 -- these bytes were read
 pub record ReadsOn (fed : List ℕ) (r : Reading) : Type 0 where
   pub stands : StandsBefore fed r (r.carry.items ++ r.closing.items)
-  pub within : r.at < r.end → (r.closing.items ≡ []) × ItemBegun (in_force r.file.items) r.carry.items
+  pub within : r.at < r.end
+      → (r.closing.items ≡ []) × ItemBegun (in_force r.file.items) r.carry.items
   pub after : r.end ≤ r.at → r.carry.items ≡ []
   pub short : length r.carry.items < 130051
   pub cut : length r.closing.items < 2 → IsCutShort fed Truncated (length fed)
@@ -64,8 +68,10 @@ pub record GoesOnFrom (old new : Reading) : Type 0 where
 
 -- the bytes of the header so far, and the header once it is whole
 abbrev pub TakesHeader : List ℕ → List ℕ → Option Header → Type 0
-TakesHeader bytes taken None = (taken ≡ bytes) × IsShort bytes × IsCutShort bytes Truncated (length bytes)
-TakesHeader bytes taken (Some header) = (taken ≡ take 14 bytes) × BeginsWith taken header × (header.data_size < 4294967296)
+TakesHeader bytes taken None =
+    (taken ≡ bytes) × IsShort bytes × IsCutShort bytes Truncated (length bytes)
+TakesHeader bytes taken (Some header) =
+    (taken ≡ take 14 bytes) × BeginsWith taken header × (header.data_size < 4294967296)
 
 -- what the bytes after the records show
 abbrev pub ClosingShows : List ℕ → ℕ → FaultKind → Type 0
@@ -89,7 +95,9 @@ CarriesOn bytes new piece (Some used) =
 abbrev pub TakesBegun : Reading → Reading → ℕ → Option ℕ → Type 0
 TakesBegun old new had None =
     IsItemFault (in_force old.file.items) old.carry.items (old.end - old.at) Truncated
-    × (new.file ≡ old.file) × (new.places ≡ old.places) × (new.at ≡ old.at) × (new.carry ≡ old.carry)
+    × (new.file ≡ old.file) × (new.places ≡ old.places) × (new.at ≡ old.at)
+    × (new.carry ≡ old.carry)
 TakesBegun old new had (Some used) =
-    TakesNext old.file new.file old.places new.places old.carry.items old.at (old.end - old.at) (had + used)
+    TakesNext old.file new.file old.places new.places old.carry.items old.at (old.end - old.at)
+    (had + used)
     × (new.at ≡ old.at + (had + used)) × (new.carry.items ≡ [])

@@ -5,7 +5,8 @@ use Rattle.fit_grammar.specs.Format.Item.{Item}
 use Rattle.fit_grammar.specs.Format.Records.{Records, in_force}
 
 -- so many of the first bytes are the records of some items, and these definitions are in force after them
-pub record HasPassed (definition_for : ℕ → Option Definition) (bytes : List ℕ) (front : ℕ) : Type 0 where
+pub record HasPassed (definition_for : ℕ → Option Definition) (bytes : List ℕ)
+    (front : ℕ) : Type 0 where
   pub within : front ≤ length bytes
   pub items : List Item
   pub are_records : Records (take front bytes) items

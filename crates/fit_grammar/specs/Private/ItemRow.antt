@@ -15,7 +15,8 @@ abbrev pub item_by : (ℕ → Option Definition) → Head → List ℕ → Item
 item_by definition_for (DefinitionHead local announced) bytes =
     Defines (definition_at (take (definition_length_of announced bytes) bytes))
 item_by definition_for (DataHead local offset) bytes =
-    Data local offset (take (unwrap_or (option_map content_size (definition_for local)) 0) (drop 1 bytes))
+    Data local offset (take (unwrap_or (option_map content_size (definition_for local)) 0)
+    (drop 1 bytes))
 
 abbrev pub item_at : (ℕ → Option Definition) → List ℕ → Item
 item_at definition_for bytes = item_by definition_for (head_of (slice_index bytes 0)) bytes
@@ -34,7 +35,8 @@ items_at zero definition_for bytes = []
 items_at (suc count) definition_for [] = []
 items_at (suc count) definition_for (byte ∷ bytes) =
     let item = item_at definition_for (byte ∷ bytes) in
-    item ∷ items_at count (in_force_after item definition_for) (drop (length_at definition_for (byte ∷ bytes)) (byte ∷ bytes))
+    item ∷ items_at count (in_force_after item definition_for)
+    (drop (length_at definition_for (byte ∷ bytes)) (byte ∷ bytes))
 
 -- all the items of a row of bytes, under these definitions
 abbrev pub items_under : (ℕ → Option Definition) → List ℕ → List Item
@@ -48,7 +50,8 @@ items_in bytes = items_under (in_force []) bytes
 abbrev pub RecordsBy : (ℕ → Option Definition) → List ℕ → List Item → Type 0
 RecordsBy definition_for bytes [] = bytes ≡ []
 RecordsBy definition_for bytes (item ∷ items) =
-    (used : ℕ) × ItemAtFront definition_for bytes item used × RecordsBy (in_force_after item definition_for) (drop used bytes) items
+    (used : ℕ) × ItemAtFront definition_for bytes item used
+    × RecordsBy (in_force_after item definition_for) (drop used bytes) items
 
 -- all of the bytes are read as items
 abbrev pub AreRead : (ℕ → Option Definition) → List ℕ → Type 0
@@ -60,8 +63,10 @@ IsLentBy definition_for (items.Definition d) = d.local < 16
 IsLentBy definition_for (items.Data m) = definition_for m.local ≡ Some m.definition
 
 -- the bytes spell this item and others, and `others` are the bytes of those
-pub record IsFirst (definition_for : ℕ → Option Definition) (bytes : List ℕ) (item : ReadItem) (others : List ℕ) : Type 0 where
-  pub first : items_under definition_for bytes ≡ item_of item ∷ items_under (in_force_after (item_of item) definition_for) others
+pub record IsFirst (definition_for : ℕ → Option Definition) (bytes : List ℕ) (item : ReadItem)
+    (others : List ℕ) : Type 0 where
+  pub first : items_under definition_for bytes
+      ≡ item_of item ∷ items_under (in_force_after (item_of item) definition_for) others
   pub read : AreRead (in_force_after (item_of item) definition_for) others
   pub fewer : length others < length bytes
   pub lent : IsLentBy definition_for item

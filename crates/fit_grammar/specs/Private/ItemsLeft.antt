@@ -7,7 +7,8 @@ use Rattle.fit_grammar.specs.Calls.Table.{definition_in}
 use Rattle.fit_grammar.specs.Private.ByLookup.{lent_items_by}
 
 abbrev pub items_left : Inside → List LentItem
-items_left s = lent_items_by (definition_in s.latest) s.time (items_under (definition_in s.latest) s.rest.now)
+items_left s =
+    lent_items_by (definition_in s.latest) s.time (items_under (definition_in s.latest) s.rest.now)
 
 -- the bytes are those of the items that are left
 abbrev pub AreLeft : Inside → Type 0

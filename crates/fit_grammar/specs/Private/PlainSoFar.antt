@@ -26,14 +26,16 @@ AreTimed definition_for timed items =
     (l : ℕ) → in_force items l ≡ option_map (timed_definition (is_timed timed l)) (definition_for l)
 
 -- these items are the plain form of the file up to this place; the items `left` come after it
-pub record PlainSoFar (v : FileValue) (items : List Item) (timed : List Bool) (place : ℕ) (left : List LentItem) : Type 0 where
+pub record PlainSoFar (v : FileValue) (items : List Item) (timed : List Bool) (place : ℕ)
+    (left : List LentItem) : Type 0 where
   pub definition_for : ℕ → Option Definition
   pub under : AllUnder definition_for left
   pub named : (l : ℕ) (d : Definition) → definition_for l ≡ Some d → d.local ≡ l
   pub are_timed : AreTimed definition_for timed items
   pub count : length timed ≡ 16
   pub made : items ++ plain_after timed left ≡ plain_after none_timed (items_lent v.items)
-  pub long : too_long_after timed (data_size items) place left ≡ too_long_after none_timed 0 v.frame.header_size (items_lent v.items)
+  pub long : too_long_after timed (data_size items) place left
+      ≡ too_long_after none_timed 0 v.frame.header_size (items_lent v.items)
   pub before : List Item
   pub passed : v.items ≡ before ++ map item_lent left
   pub place_is : place ≡ v.frame.header_size + data_size before

@@ -13,10 +13,12 @@ IsWritable (DefinesHere d) = d.local < 16
 IsWritable (DataHere m) = (m.local < 16) × (m.definition.local ≡ m.local)
 
 -- the text of these items was handed over and added to the checksum, and the plain form of the items `left` comes after it
-pub record WrittenTo (items : List Item) (old now : Option (List ℕ)) (before after : ℕ) (timed : List Bool) (left : List LentItem) : Type 0 where
+pub record WrittenTo (items : List Item) (old now : Option (List ℕ)) (before after : ℕ)
+    (timed : List Bool) (left : List LentItem) : Type 0 where
   pub definition_for : ℕ → Option Definition
   pub under : AllUnder definition_for left
   pub named : (l : ℕ) (d : Definition) → definition_for l ≡ Some d → d.local ≡ l
   pub made : List Item
   pub parts : items ≡ made ++ plain_after timed left
-  pub written : WritesChecked {T = Unit {0}} {E = Unit {0}} old now before after (Ok tt) (encoded_items made)
+  pub written : WritesChecked {T = Unit {0}} {E = Unit {0}} old now before after (Ok tt)
+      (encoded_items made)

@@ -52,7 +52,8 @@ impl Table {
     pub fn take(&mut self, d: &Definition)
         requires { d.now.local < 16 }
         ensures taken { definition_in self.new d.now.local ≡ Some d.now }
-        ensures others { (l : ℕ) → l ≢ d.now.local → definition_in self.new l ≡ definition_in self.old l }
+        ensures others { (l : ℕ) → l ≢ d.now.local
+            → definition_in self.new l ≡ definition_in self.old l }
     {
         self.keep(WrittenDefinition::new(d));
     }
@@ -61,7 +62,8 @@ impl Table {
     pub(crate) fn keep(&mut self, written: WrittenDefinition)
         requires { written.local < 16 }
         ensures taken { definition_in self.new written.local ≡ Some written }
-        ensures others { (l : ℕ) → l ≢ written.local → definition_in self.new l ≡ definition_in self.old l }
+        ensures others { (l : ℕ) → l ≢ written.local
+            → definition_in self.new l ≡ definition_in self.old l }
     {
         let local = written.lend().local() as usize;
         self.slots[local] = Some(written);

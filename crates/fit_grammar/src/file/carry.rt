@@ -15,7 +15,8 @@ use crate::item::writing::LONGEST_DEFINITION;
 // Adds bytes to the carried item until it is whole, and takes it. Returns how many of these bytes it used, or `None` if the
 // item is still cut.
 pub(crate) fn take_carried(reading: &mut Reading, bytes: &[u8]) -> Result<Option<usize>, FaultKind>
-    requires stands { (b : List ℕ) × StandsBefore b reading.old (reading.old.carry.items ++ bytes.now) }
+    requires stands { (b : List ℕ)
+        × StandsBefore b reading.old (reading.old.carry.items ++ bytes.now) }
     requires more { reading.old.at < reading.old.end }
     requires closing { reading.old.closing.items ≡ [] }
     requires begun { ItemBegun (in_force reading.old.file.items) reading.old.carry.items }
@@ -44,7 +45,8 @@ fn take_begun(reading: &mut Reading, had: usize) -> Result<Option<usize>, FaultK
     requires more { reading.old.at < reading.old.end }
     requires noted { length reading.old.places ≤ reading.old.at }
     requires had { had ≤ length reading.old.carry.items }
-    requires begun { ItemBegun (in_force reading.old.file.items) (take had reading.old.carry.items) }
+    requires begun { ItemBegun (in_force reading.old.file.items)
+        (take had reading.old.carry.items) }
     ensures same { GoesOnFrom reading.old reading.new }
     ensures taken { IfOk result (TakesBegun reading.old reading.new had) }
     ensures fault { IfErr result (λ kind.
@@ -86,7 +88,8 @@ pub(crate) fn keep_begun(carry: &mut Vec<u8>, bytes: &[u8]) -> Result<(), FaultK
 
 // An upper bound of the length of an item that begins with these bytes.
 fn most_length(file: &File, carry: &[u8]) -> usize
-    ensures least { IfOk (least_length_of (in_force file.now.items) carry.now) (λ least. least ≤ result) }
+    ensures least { IfOk (least_length_of (in_force file.now.items) carry.now)
+        (λ least. least ≤ result) }
     ensures longest { 1537 ≤ result }
     ensures bound { result ≤ 130051 }
 {

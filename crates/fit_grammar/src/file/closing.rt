@@ -15,7 +15,8 @@ pub(crate) fn take_closing(
     bytes: &[u8],
 ) -> Result<(), FaultKind>
     ensures items { OnOk result (closing.new.items ≡ closing.old.items ++ bytes.now) }
-    ensures right { OnOk result (2 ≤ length closing.new.items → low_first closing.new.items ≡ checksum) }
+    ensures right { OnOk result (2 ≤ length closing.new.items
+        → low_first closing.new.items ≡ checksum) }
     ensures within { OnOk result (length closing.new.items ≤ 2) }
     ensures shown { IfErr result (ClosingShows (closing.old.items ++ bytes.now) checksum) }
 {

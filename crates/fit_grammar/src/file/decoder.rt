@@ -6,7 +6,7 @@ ghost use Rattle.fit_grammar.specs.Format.Refusal.{IsFaultOf};
 ghost use Rattle.fit_grammar.specs.Calls.Pieces.{ShowsNothing, IsShownBy, NoItemEndsPast};
 ghost use Rattle.fit_grammar.specs.Calls.Places.{ArePlaces};
 ghost use Rattle.fit_grammar.specs.Private.Decoding.{BeginsWith};
-ghost use Rattle.fit_grammar.specs.Calls.Fed.{WasFed, IsOpen, carried};
+ghost use Rattle.fit_grammar.specs.Calls.Fed.{WasFed, IsOpen, carried_length};
 ghost use Rattle.fit_grammar.specs.Private.Feeding.{ReadsOn};
 
 use crate::file::header::{Header, LONGEST_HEADER, fault, take_header};
@@ -62,18 +62,22 @@ impl Decoder {
         // Whatever was fed before, these bytes are now fed after it.
         ensures fed { (fed : List ℕ) → WasFed fed self.old → WasFed (fed ++ bytes.now) self.new }
         // It succeeds only if no prefix shows a fault.
-        ensures quiet { (fed : List ℕ) → WasFed fed self.old → OnOk result (ShowsNothing (fed ++ bytes.now)) }
+        ensures quiet { (fed : List ℕ) → WasFed fed self.old
+            → OnOk result (ShowsNothing (fed ++ bytes.now)) }
         ensures open { OnOk result (IsOpen self.new) }
         // A refusal comes with the byte that shows it.
-        ensures refused { (fed : List ℕ) → WasFed fed self.old → IfErr result (IsShownBy (fed ++ bytes.now)) }
+        ensures refused { (fed : List ℕ) → WasFed fed self.old
+            → IfErr result (IsShownBy (fed ++ bytes.now)) }
         // Lack of memory comes only for an item that was not whole before.
         ensures asked { (fed : List ℕ) → WasFed fed self.old → IsOpen self.old
-            → IfErr result (λ fault. fault.kind ≡ FaultKind.Memory → NoItemEndsPast fed fault.place) }
+            → IfErr result (λ fault. fault.kind ≡ FaultKind.Memory
+            → NoItemEndsPast fed fault.place) }
         // Fewer bytes are kept of an unfinished item than the longest item has.
-        ensures short { carried self.new < 130051 }
+        ensures short { carried_length self.new < 130051 }
         // A refusal is kept, and every later call returns it.
         ensures keeps { IfErr result (λ fault. self.new ≡ State.Refused fault) }
-        ensures for_good { (fault : FileFault) → self.old ≡ State.Refused fault → result ≡ Err fault }
+        ensures for_good { (fault : FileFault) → self.old ≡ State.Refused fault
+            → result ≡ Err fault }
     {
         step(self.alloc, &mut self.state, bytes)
     }
@@ -94,7 +98,8 @@ impl Decoder {
     /// The same, with the places that the items had in the bytes that were fed.
     pub fn finish_with_places(self) -> Result<(File, Places), FileFault>
         ensures file { (fed : List ℕ) → WasFed fed self → IfOk result (λ read. FileOf fed read.0) }
-        ensures places { (fed : List ℕ) → WasFed fed self → IfOk result (λ read. ArePlaces fed read.1) }
+        ensures places { (fed : List ℕ) → WasFed fed self
+            → IfOk result (λ read. ArePlaces fed read.1) }
         ensures refused { (fed : List ℕ) → WasFed fed self → IfErr result (IsFaultOf fed) }
         ensures for_good { (fault : FileFault) → self ≡ State.Refused fault → result ≡ Err fault }
     {
@@ -111,7 +116,8 @@ fn step(alloc: Global, state: &mut State, bytes: &[u8]) -> Result<(), FileFault>
     requires { (fed : List ℕ) × WasFed fed state.old }
     ensures fed { (fed : List ℕ) → WasFed fed state.old → WasFed (fed ++ bytes.now) state.new }
     ensures open { OnOk result (IsOpen state.new) }
-    ensures refused { (fed : List ℕ) → WasFed fed state.old → IfErr result (IsShownBy (fed ++ bytes.now)) }
+    ensures refused { (fed : List ℕ) → WasFed fed state.old
+        → IfErr result (IsShownBy (fed ++ bytes.now)) }
     ensures asked { (fed : List ℕ) → WasFed fed state.old → IsOpen state.old
         → IfErr result (λ fault. fault.kind ≡ FaultKind.Memory → NoItemEndsPast fed fault.place) }
     ensures keeps { IfErr result (λ fault. state.new ≡ State.Refused fault) }
@@ -129,9 +135,11 @@ fn step(alloc: Global, state: &mut State, bytes: &[u8]) -> Result<(), FileFault>
 // Continues from the end of the bytes so far.
 fn take(alloc: Global, state: &mut State, bytes: &[u8]) -> Result<(), FileFault>
     requires { (fed : List ℕ) × WasFed fed state.old }
-    ensures fed { (fed : List ℕ) → WasFed fed state.old → OnOk result (WasFed (fed ++ bytes.now) state.new) }
+    ensures fed { (fed : List ℕ) → WasFed fed state.old
+        → OnOk result (WasFed (fed ++ bytes.now) state.new) }
     ensures open { OnOk result (IsOpen state.new) }
-    ensures refused { (fed : List ℕ) → WasFed fed state.old → IfErr result (IsShownBy (fed ++ bytes.now)) }
+    ensures refused { (fed : List ℕ) → WasFed fed state.old
+        → IfErr result (IsShownBy (fed ++ bytes.now)) }
     ensures asked { (fed : List ℕ) → WasFed fed state.old → IsOpen state.old
         → IfErr result (λ fault. fault.kind ≡ FaultKind.Memory → NoItemEndsPast fed fault.place) }
     ensures for_good { (fault : FileFault) → state.old ≡ State.Refused fault → result ≡ Err fault }

@@ -29,7 +29,8 @@ pub fn encode_records<W: Write>(
     out: &mut W,
 ) -> Result<(), EncodeFault>
     requires { length records.now < 2 ^ 32 }
-    ensures written { WritesText (W.contents out.old) (W.contents out.new) result (framed frame records.now) }
+    ensures written { WritesText (W.contents out.old) (W.contents out.new) result
+        (framed frame records.now) }
     // If the records are those of some items, it is a file of these items.
     ensures file { (items : List AnyItem) → IsFrame frame → Records records.now items
         → FileOf (framed frame records.now) (record { frame = frame; items = items }) }
@@ -43,7 +44,8 @@ pub fn encode_records<W: Write>(
 // The header, the records and the checksum of both.
 fn put_framed<W: Write>(out: &mut W, frame: Frame, records: &[u8]) -> Result<(), WriteFailed>
     requires { length records.now < 2 ^ 32 }
-    ensures { WritesText (W.contents out.old) (W.contents out.new) result (framed frame records.now) }
+    ensures { WritesText (W.contents out.old) (W.contents out.new) result
+        (framed frame records.now) }
 {
     let mut checksum = Crc::new();
     put_header(out, &mut checksum, frame, records.len() as u32)?;
@@ -58,7 +60,8 @@ pub(crate) fn put_header<W: Write>(
     frame: Frame,
     size: u32,
 ) -> Result<(), WriteFailed>
-    ensures { WritesChecked (W.contents out.old) (W.contents out.new) checksum.old checksum.new result
+    ensures { WritesChecked (W.contents out.old)
+        (W.contents out.new) checksum.old checksum.new result
         (encoded_header frame size) }
 {
     let front = header_front(frame, size);

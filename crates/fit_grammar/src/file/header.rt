@@ -77,7 +77,8 @@ pub(crate) fn read_header(bytes: &[u8]) -> Result<Header, FileFault>
 /// Reads the header that the bytes begin with, whatever its checksum is. If they begin with none, the fault is the one that
 /// they have as a file.
 pub fn read_header_front(bytes: &[u8]) -> Result<Header, FileFault>
-    ensures header { IfOk result (λ header. BeginsWithHeader bytes.now header.frame header.data_size) }
+    ensures header { IfOk result
+        (λ header. BeginsWithHeader bytes.now header.frame header.data_size) }
     ensures fits { IfOk result (λ header. header.data_size < 2 ^ 32) }
     ensures refused { IfErr result
         (λ fault. (fault.kind ≢ FaultKind.Memory) × Refusal bytes.now fault.kind fault.place) }
@@ -85,7 +86,8 @@ pub fn read_header_front(bytes: &[u8]) -> Result<Header, FileFault>
         (λ _. (frame : AnyFrame) (size : ℕ) → BeginsWithHeader bytes.now frame size → ⊥) }
     // When the bytes end within their header.
     ensures short { IfErr result (λ fault. fault.kind ≡ FaultKind.Truncated
-        → (length bytes.now < 14) × ((length bytes.now ≡ 0) ⊎ (length bytes.now < slice_index bytes.now 0))) }
+        → (length bytes.now < 14)
+        × ((length bytes.now ≡ 0) ⊎ (length bytes.now < slice_index bytes.now 0))) }
 {
     let len = bytes.len();
     if len == 0 {

@@ -7,7 +7,7 @@ ghost use Rattle.fit_grammar.specs.Format.File.{FileValue as AnyFile, FileOf, Is
 ghost use Rattle.fit_grammar.specs.Format.Refusal.{Refusal};
 ghost use Rattle.fit_grammar.specs.Calls.LentItem.{items_lent, item_lent, messages_in, AllUnder};
 ghost use Rattle.fit_grammar.specs.Calls.Possible.{CanBeFile};
-ghost use Rattle.fit_grammar.specs.Private.Passing.{HasPassedAll, file_of};
+ghost use Rattle.fit_grammar.specs.Private.Passing.{HasPassedAll, framed_items};
 
 use crate::file::header::{Header, read_header};
 use crate::file::passing::{close, pass_items};
@@ -62,7 +62,8 @@ impl<'a> LentFile<'a> {
     // The file whose items after this header were all passed over. They are written as `size` bytes.
     fn of_passed(bytes: &'a [u8], header: Header, size: u32) -> LentFile<'a>
         requires { HasPassedAll bytes.now header size }
-        ensures { (passed : HasPassedAll bytes.now header size) → result ≡ file_of header.frame passed.items }
+        ensures { (passed : HasPassedAll bytes.now header size)
+            → result ≡ framed_items header.frame passed.items }
     {
         let (_, after) = bytes.split_at(header.frame.header_size as usize);
         let (records, _) = after.split_at(header.data_size as usize);

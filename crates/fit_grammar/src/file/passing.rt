@@ -48,7 +48,8 @@ fn pass_item<'a>(
     left: usize,
 ) -> Result<(usize, usize), FaultKind>
     ensures passed { IfOk result (λ counts.
-        PassesItem (definition_in latest.old) (definition_in latest.new) window.now left counts.0 counts.1) }
+        PassesItem (definition_in latest.old)
+        (definition_in latest.new) window.now left counts.0 counts.1) }
     ensures shown { IfErr result (WindowShows (definition_in latest.old) window.now left) }
 {
     let used = whole_length(least_after(window, latest), window, left)?;
@@ -86,7 +87,8 @@ fn fault_at(kind: FaultKind, at: usize, len: usize) -> FileFault
 // Checks what follows the records, which end at `end`: their checksum, and nothing else.
 pub(crate) fn close(bytes: &[u8], end: usize) -> Result<(), FileFault>
     requires { (v : FileValue) × Reached bytes.now v end end }
-    ensures file { (v : FileValue) → Reached bytes.now v end end → OnOk result (FileOf bytes.now v) }
+    ensures file { (v : FileValue) → Reached bytes.now v end end
+        → OnOk result (FileOf bytes.now v) }
     ensures refused { IfErr result (IsRefusedBy bytes.now) }
 {
     let (before, after) = bytes.split_at(end);

@@ -2,7 +2,7 @@
 
 ghost use Rattle.std.specs.Prelude.{◌≡◌, ◌<◌, ◌≤◌, ◌^◌, [], length, OnOk};
 ghost use Rattle.fit_grammar.specs.Calls.Places.{place_read};
-ghost use Rattle.fit_grammar.specs.Private.Feeding.{noted};
+ghost use Rattle.fit_grammar.specs.Private.Feeding.{with_place};
 
 use std::alloc::{AllocError, Global};
 use std::marker::Model;
@@ -36,7 +36,7 @@ impl Places {
     // Notes the next item, which was at this place with so many bytes.
     pub(crate) fn note(&mut self, at: usize, written: usize, used: usize) -> Result<(), AllocError>
         requires { length self.old ≤ at }
-        ensures { OnOk result (self.new ≡ noted self.old at written used) }
+        ensures { OnOk result (self.new ≡ with_place self.old at written used) }
     {
         if used != written {
             self.longer.push(at - self.longer.len())?;

@@ -62,8 +62,10 @@ pub(crate) fn read_on(reading: &mut Reading, bytes: &[u8]) -> Result<(), FileFau
     requires { (fed : List ℕ) × ReadsOn fed reading.old }
     ensures ok { (fed : List ℕ) → ReadsOn fed reading.old
         → OnOk result (ReadsOn (fed ++ bytes.now) reading.new) }
-    ensures err { (fed : List ℕ) → ReadsOn fed reading.old → IfErr result (IsShownBy (fed ++ bytes.now)) }
-    ensures later { IfErr result (λ fault. fault.kind ≡ FaultKind.Memory → reading.old.at ≤ fault.place) }
+    ensures err { (fed : List ℕ) → ReadsOn fed reading.old
+        → IfErr result (IsShownBy (fed ++ bytes.now)) }
+    ensures later { IfErr result (λ fault. fault.kind ≡ FaultKind.Memory
+        → reading.old.at ≤ fault.place) }
 {
     add_checksum(reading, bytes);
     match take_bytes(reading, bytes) {
@@ -87,17 +89,20 @@ fn add_checksum(reading: &mut Reading, bytes: &[u8])
 // Takes the bytes, which follow the carried ones.
 fn take_bytes(reading: &mut Reading, bytes: &[u8]) -> Result<(), FaultKind>
     requires stands { (b : List ℕ)
-        × StandsBefore b reading.old (reading.old.carry.items ++ reading.old.closing.items ++ bytes.now) }
+        × StandsBefore b reading.old (reading.old.carry.items ++ reading.old.closing.items
+        ++ bytes.now) }
     requires within { reading.old.at < reading.old.end
         → (reading.old.closing.items ≡ [])
         × ItemBegun (in_force reading.old.file.items) reading.old.carry.items }
     requires after { reading.old.end ≤ reading.old.at → reading.old.carry.items ≡ [] }
     requires short { length reading.old.carry.items < 130051 }
     ensures ok { (b : List ℕ)
-        → StandsBefore b reading.old (reading.old.carry.items ++ reading.old.closing.items ++ bytes.now)
+        → StandsBefore b reading.old (reading.old.carry.items ++ reading.old.closing.items
+        ++ bytes.now)
         → OnOk result (ReadsOn b reading.new) }
     ensures err { (b : List ℕ)
-        → StandsBefore b reading.old (reading.old.carry.items ++ reading.old.closing.items ++ bytes.now)
+        → StandsBefore b reading.old (reading.old.carry.items ++ reading.old.closing.items
+        ++ bytes.now)
         → IfErr result (λ kind. IsShownBy b (fault_in reading.new kind)) }
     ensures end { reading.new.end ≡ reading.old.end }
     ensures later { reading.old.at ≤ reading.new.at }
@@ -111,7 +116,8 @@ fn take_bytes(reading: &mut Reading, bytes: &[u8]) -> Result<(), FaultKind>
 
 // Takes the carried item, and what follows it.
 fn take_on(reading: &mut Reading, bytes: &[u8]) -> Result<(), FaultKind>
-    requires stands { (b : List ℕ) × StandsBefore b reading.old (reading.old.carry.items ++ bytes.now) }
+    requires stands { (b : List ℕ)
+        × StandsBefore b reading.old (reading.old.carry.items ++ bytes.now) }
     requires more { reading.old.at < reading.old.end }
     requires closing { reading.old.closing.items ≡ [] }
     requires begun { ItemBegun (in_force reading.old.file.items) reading.old.carry.items }
@@ -133,7 +139,8 @@ fn take_on(reading: &mut Reading, bytes: &[u8]) -> Result<(), FaultKind>
 
 // Takes whole items in place, and keeps what follows them.
 fn take_rest(reading: &mut Reading, bytes: &[u8]) -> Result<(), FaultKind>
-    requires stands { (b : List ℕ) × StandsBefore b reading.old (reading.old.closing.items ++ bytes.now) }
+    requires stands { (b : List ℕ)
+        × StandsBefore b reading.old (reading.old.closing.items ++ bytes.now) }
     requires within { reading.old.at < reading.old.end → reading.old.closing.items ≡ [] }
     requires none { reading.old.carry.items ≡ [] }
     ensures ok { (b : List ℕ) → StandsBefore b reading.old (reading.old.closing.items ++ bytes.now)
@@ -154,7 +161,8 @@ fn keep_rest(reading: &mut Reading, rest: &[u8]) -> Result<(), FaultKind>
     requires stands { (b : List ℕ) × TakesItems b reading.old rest.now }
     requires none { reading.old.carry.items ≡ [] }
     requires short { reading.old.at < reading.old.end → length rest.now < 130051 }
-    ensures ok { (b : List ℕ) → TakesItems b reading.old rest.now → OnOk result (ReadsOn b reading.new) }
+    ensures ok { (b : List ℕ) → TakesItems b reading.old rest.now
+        → OnOk result (ReadsOn b reading.new) }
     ensures err { (b : List ℕ) → TakesItems b reading.old rest.now
         → IfErr result (λ kind. IsShownBy b (fault_in reading.new kind)) }
     ensures end { reading.new.end ≡ reading.old.end }
@@ -182,7 +190,8 @@ fn fault_here(reading: &Reading, kind: FaultKind) -> FileFault
 pub(crate) fn finished(reading: Reading) -> Result<(File, Places), FileFault>
     requires { (fed : List ℕ) × ReadsOn fed reading }
     ensures file { (fed : List ℕ) → ReadsOn fed reading → IfOk result (λ read. FileOf fed read.0) }
-    ensures places { (fed : List ℕ) → ReadsOn fed reading → IfOk result (λ read. ArePlaces fed read.1) }
+    ensures places { (fed : List ℕ) → ReadsOn fed reading
+        → IfOk result (λ read. ArePlaces fed read.1) }
     ensures refused { (fed : List ℕ) → ReadsOn fed reading → IfErr result (IsFaultOf fed) }
 {
     if reading.closing.len() < 2 {

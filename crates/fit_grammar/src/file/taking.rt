@@ -16,11 +16,13 @@ use crate::item::first_byte::{Head, read_head};
 
 // Takes whole items, up to the end of the data or to an unfinished item. Returns how many bytes they have.
 pub(crate) fn take_items(reading: &mut Reading, bytes: &[u8]) -> Result<usize, FaultKind>
-    requires stands { (b : List ℕ) × StandsBefore b reading.old (reading.old.closing.items ++ bytes.now) }
+    requires stands { (b : List ℕ)
+        × StandsBefore b reading.old (reading.old.closing.items ++ bytes.now) }
     requires within { reading.old.at < reading.old.end → reading.old.closing.items ≡ [] }
     ensures same { GoesOnFrom reading.old reading.new × (reading.new.carry ≡ reading.old.carry) }
     ensures ok { (b : List ℕ) → StandsBefore b reading.old (reading.old.closing.items ++ bytes.now)
-        → IfOk result (λ used. (used ≤ length bytes.now) × TakesItems b reading.new (drop used bytes.now)) }
+        → IfOk result (λ used. (used ≤ length bytes.now)
+        × TakesItems b reading.new (drop used bytes.now)) }
     ensures err { (b : List ℕ) → StandsBefore b reading.old (reading.old.closing.items ++ bytes.now)
         → IfErr result (λ kind. IsShownBy b (fault_in reading.new kind)) }
     // The rest of an unfinished item is shorter than the longest item.
@@ -60,7 +62,8 @@ pub(crate) fn take_item(
 ) -> Result<usize, FaultKind>
     requires fits { data_size file.old.items + left < 2 ^ 32 }
     requires noted { length places.old ≤ at }
-    ensures taken { IfOk result (TakesNext file.old file.new places.old places.new window.now at left) }
+    ensures taken { IfOk result
+        (TakesNext file.old file.new places.old places.new window.now at left) }
     ensures fault { IfErr result (IsItemFault (in_force file.old.items) window.now left) }
     ensures err { OnErr result (file.new ≡ file.old) }
     // An item that is cut leaves both as they were.

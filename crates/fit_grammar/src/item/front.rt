@@ -36,7 +36,8 @@ fn step_after<'a>(window: &'a [u8], latest: &Latest<'a>) -> Step<'a>
 // If the item is a definition, makes it the latest of its local number.
 fn take_over<'a>(latest: &mut Latest<'a>, item: &Item<'a>)
     requires { DefinesBelow 16 (Step.Item item.now 0) }
-    ensures { definition_in latest.new ≡ in_force_after (item_of item.now) (definition_in latest.old) }
+    ensures { definition_in latest.new
+        ≡ in_force_after (item_of item.now) (definition_in latest.old) }
 {
     match item {
         Item::Definition(definition) => latest.take(definition),

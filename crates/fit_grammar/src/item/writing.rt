@@ -47,7 +47,8 @@ pub fn write_native_definition(
     requires room { 6 + 3 * length fields.now ≤ length out.old }
     ensures count { result ≡ 6 + 3 * length fields.now }
     ensures written { out.new
-        ≡ encoded_item (Defines (native_definition local arch global fields.now)) ++ drop result out.old }
+        ≡ encoded_item (Defines (native_definition local arch global fields.now))
+        ++ drop result out.old }
     ensures fits { DefinitionFits (native_definition local arch global fields.now) }
 {
     write_front(0x40 + local, arch, global, fields, out)
@@ -65,7 +66,8 @@ fn write_front(
     requires count { length fields.now < 256 }
     requires room { 6 + 3 * length fields.now ≤ length out.old }
     ensures count { result ≡ 6 + 3 * length fields.now }
-    ensures written { out.new ≡ first ∷ 0 ∷ arch_byte arch ∷ (two_bytes arch global ++ length fields.now
+    ensures written { out.new
+        ≡ first ∷ 0 ∷ arch_byte arch ∷ (two_bytes arch global ++ length fields.now
         ∷ (flat_map field_bytes fields.now ++ drop result out.old)) }
     // As their types guarantee.
     ensures global { global < 65536 }
@@ -80,7 +82,8 @@ fn write_front(
 // The first byte of a definition. It announces developer fields if there are any.
 fn first_byte(definition: &Definition) -> u8
     requires { definition.now.local < 16 }
-    ensures { result ≡ definition_byte definition.now.local (has_any definition.now.developer.items) }
+    ensures { result
+        ≡ definition_byte definition.now.local (has_any definition.now.developer.items) }
 {
     if definition.developer.is_empty() {
         0x40 + definition.local
@@ -94,7 +97,8 @@ fn write_developer_part(fields: &[DeveloperFieldDefinition], out: &mut [u8]) -> 
     requires count { length fields.now < 256 }
     requires room { part_size (has_any fields.now) (length fields.now) ≤ length out.old }
     ensures count { result ≡ part_size (has_any fields.now) (length fields.now) }
-    ensures written { out.new ≡ developer_part (has_any fields.now) fields.now ++ drop result out.old }
+    ensures written { out.new
+        ≡ developer_part (has_any fields.now) fields.now ++ drop result out.old }
     ensures fit { AllByRecursion DeveloperFieldFits fields.now }
 {
     if fields.is_empty() {
@@ -111,7 +115,8 @@ pub fn write_data(local: u8, offset: Option<u8>, content: &[u8], out: &mut [u8])
     requires encoding { HasEncoding (Data local offset []) }
     requires room { 1 + length content.now ≤ length out.old }
     ensures count { result ≡ 1 + length content.now }
-    ensures written { out.new ≡ encoded_item (Data local offset content.now) ++ drop result out.old }
+    ensures written { out.new
+        ≡ encoded_item (Data local offset content.now) ++ drop result out.old }
     // As its type guarantees.
     ensures bytes { AllByRecursion (λ byte. byte < 256) content.now }
 {
@@ -157,7 +162,8 @@ fn number_bytes(arch: Arch, number: u16) -> [u8; 2]
 // Writes the fields, three bytes for each.
 fn write_fields(fields: &[FieldDefinition], out: &mut [u8])
     requires { 3 * length fields.now ≤ length out.old }
-    ensures written { out.new ≡ flat_map field_bytes fields.now ++ drop (3 * length fields.now) out.old }
+    ensures written { out.new
+        ≡ flat_map field_bytes fields.now ++ drop (3 * length fields.now) out.old }
     // As their types guarantee.
     ensures fit { AllByRecursion FieldFits fields.now }
 {
@@ -170,7 +176,8 @@ fn write_fields(fields: &[FieldDefinition], out: &mut [u8])
 // Writes the developer fields, three bytes for each.
 fn write_developer_fields(fields: &[DeveloperFieldDefinition], out: &mut [u8])
     requires { 3 * length fields.now ≤ length out.old }
-    ensures written { out.new ≡ flat_map developer_bytes fields.now ++ drop (3 * length fields.now) out.old }
+    ensures written { out.new
+        ≡ flat_map developer_bytes fields.now ++ drop (3 * length fields.now) out.old }
     // As their types guarantee.
     ensures fit { AllByRecursion DeveloperFieldFits fields.now }
 {

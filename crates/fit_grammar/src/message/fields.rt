@@ -31,7 +31,8 @@ impl<'m> Model for Fields<'m> {
     ghost view = { λ s. time_fields (option_map (λ bytes. low_first bytes.now) s.time)
         ++ fields_of s.arch (fields_in s.fields.now) s.content.now };
 
-    ghost invariant = { λ s. (sum_by (λ field. field.size) (fields_in s.fields.now) ≤ length s.content.now)
+    ghost invariant = { λ s.
+        (sum_by (λ field. field.size) (fields_in s.fields.now) ≤ length s.content.now)
         × IfSome s.time (λ bytes. length bytes.now ≡ 4) };
 }
 

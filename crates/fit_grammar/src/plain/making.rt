@@ -50,7 +50,8 @@ impl Plain {
         ensures frame { OnOk result (self.new.file.frame ≡ self.old.file.frame) }
         ensures items { OnOk result (self.new.file.items
             ≡ self.old.file.items ++ plain_item self.old.timed (lent_item item.now)) }
-        ensures timed { OnOk result (self.new.timed ≡ timed_after self.old.timed (lent_item item.now)) }
+        ensures timed { OnOk result (self.new.timed
+            ≡ timed_after self.old.timed (lent_item item.now)) }
         ensures fits { OnOk result (is_too_long (data_size self.old.file.items)
             (plain_item self.old.timed (lent_item item.now)) ≡ false) }
         ensures too_long { IfErr result (λ kind. kind ≡ PlainFaultKind.TooLong
@@ -70,7 +71,8 @@ impl Plain {
     #[inline(never)]
     fn take_definition(&mut self, definition: &DefinitionMessage<'_>) -> Result<(), PlainFaultKind>
         requires { definition.now.local < 16 }
-        ensures file { OnOk result (self.new.file ≡ with_item self.old.file (Defines definition.now)) }
+        ensures file { OnOk result (self.new.file
+            ≡ with_item self.old.file (Defines definition.now)) }
         ensures timed { OnOk result
             (self.new.timed ≡ slice_set self.old.timed definition.now.local false) }
         ensures fits { OnOk result (is_too_long (data_size self.old.file.items)
@@ -89,10 +91,12 @@ impl Plain {
         message: &DataMessage<'_>,
         time: Option<u32>,
     ) -> Result<(), PlainFaultKind>
-        requires { IsReady self.old.file.items self.old.timed (DataHere (lent_data message.now time)) }
+        requires { IsReady self.old.file.items self.old.timed
+            (DataHere (lent_data message.now time)) }
         ensures frame { OnOk result (self.new.file.frame ≡ self.old.file.frame) }
         ensures items { OnOk result (self.new.file.items
-            ≡ self.old.file.items ++ plain_item self.old.timed (DataHere (lent_data message.now time))) }
+            ≡ self.old.file.items
+            ++ plain_item self.old.timed (DataHere (lent_data message.now time))) }
         ensures timed { OnOk result
             (self.new.timed ≡ slice_set self.old.timed message.now.local (is_some time)) }
         ensures fits { OnOk result (is_too_long (data_size self.old.file.items)
@@ -129,7 +133,8 @@ impl Plain {
             ≡ with_item self.old.file (Defines (timed_definition timed definition.now))) }
         ensures timed { OnOk result
             (self.new.timed ≡ slice_set self.old.timed definition.now.local timed) }
-        ensures few { OnOk result (length (timed_definition timed definition.now).fields.items ≤ 255) }
+        ensures few { OnOk result
+            (length (timed_definition timed definition.now).fields.items ≤ 255) }
         ensures fits { OnOk result (data_size self.old.file.items
             + item_size (Defines (timed_definition timed definition.now)) + following < 2 ^ 32) }
         ensures too_long { IfErr result (λ kind. kind ≡ PlainFaultKind.TooLong

@@ -50,7 +50,8 @@ pub fn write_plain<W: Write>(
     out: &mut W,
 ) -> Result<(), WritePlainFault>
     requires { size ≡ data_size (plain_items file.now.items) }
-    ensures { WritesText (W.contents out.old) (W.contents out.new) result (encoded (plain_of file.now)) }
+    ensures { WritesText (W.contents out.old) (W.contents out.new) result
+        (encoded (plain_of file.now)) }
 {
     let mut checksum = Crc::new();
     put_header(out, &mut checksum, file.frame(), size)?;
@@ -65,7 +66,8 @@ fn put_items<W: Write>(
     checksum: &mut Crc,
     file: &LentFile<'_>,
 ) -> Result<(), WritePlainFault>
-    ensures { WritesChecked (W.contents out.old) (W.contents out.new) checksum.old checksum.new result
+    ensures { WritesChecked (W.contents out.old)
+        (W.contents out.new) checksum.old checksum.new result
         (encoded_items (plain_items file.now.items)) }
 {
     let mut timed = [false; 16];
@@ -83,7 +85,8 @@ fn put_item<W: Write>(
     item: &FileItem<'_>,
 ) -> Result<(), WritePlainFault>
     requires { IsWritable (lent_item item.now) }
-    ensures text { WritesChecked (W.contents out.old) (W.contents out.new) checksum.old checksum.new result
+    ensures text { WritesChecked (W.contents out.old)
+        (W.contents out.new) checksum.old checksum.new result
         (encoded_items (plain_item timed.old (lent_item item.now))) }
     ensures timed { OnOk result (timed.new ≡ timed_after timed.old (lent_item item.now)) }
 {
@@ -109,7 +112,8 @@ fn put_definition_before<W: Write>(
     needs: bool,
 ) -> Result<(), WritePlainFault>
     requires { (message.now.local < 16) × (message.now.definition.local ≡ message.now.local) }
-    ensures text { WritesChecked (W.contents out.old) (W.contents out.new) checksum.old checksum.new result
+    ensures text { WritesChecked (W.contents out.old)
+        (W.contents out.new) checksum.old checksum.new result
         (encoded_items
         (definitions_before (is_timed timed.old message.now.local) needs message.now.definition)) }
     ensures timed { OnOk result (timed.new ≡ slice_set timed.old message.now.local needs) }
@@ -131,7 +135,8 @@ fn put_definition<W: Write>(
     definition: &Definition,
 ) -> Result<(), WriteFailed>
     requires { definition.now.local < 16 }
-    ensures { WritesChecked (W.contents out.old) (W.contents out.new) checksum.old checksum.new result
+    ensures { WritesChecked (W.contents out.old)
+        (W.contents out.new) checksum.old checksum.new result
         (encoded_item (Defines definition.now)) }
 {
     put_checked(out, checksum, WrittenDefinition::new(definition).bytes())
@@ -144,7 +149,8 @@ fn put_data<W: Write>(
     message: &DataMessage<'_>,
     time: Option<u32>,
 ) -> Result<(), WriteFailed>
-    ensures { WritesChecked (W.contents out.old) (W.contents out.new) checksum.old checksum.new result
+    ensures { WritesChecked (W.contents out.old)
+        (W.contents out.new) checksum.old checksum.new result
         (encoded_item (plain_data (lent_data message.now time))) }
 {
     put_checked(out, checksum, &[message.local])?;
@@ -158,7 +164,8 @@ fn put_time<W: Write>(
     arch: Arch,
     time: Option<u32>,
 ) -> Result<(), WriteFailed>
-    ensures { WritesChecked (W.contents out.old) (W.contents out.new) checksum.old checksum.new result
+    ensures { WritesChecked (W.contents out.old)
+        (W.contents out.new) checksum.old checksum.new result
         (time_front arch time) }
 {
     match time {

@@ -31,7 +31,7 @@ use Rattle.fit_recorder.proofs.RecoveredList.OneList.{not_nothing}
 use Rattle.fit_histories.specs.Histories.Claims.{Claim, no_claim, whole, has_none, with_start}
 use Rattle.fit_histories.specs.Histories.Table.{History, Idle, claims_of, was_begun, ended, IsFileOf, Fault, Finds, StartStep, RecoverStep, ReopenStep, EraseStep}
 use Rattle.fit_histories.specs.Rides.Replies.{reply_of, recovered_of}
-use Rattle.fit_histories.specs.Rides.Standing.{outcome, Keeps, Fits, Rests}
+use Rattle.fit_histories.specs.Rides.Standing.{outcome, KeepsClaim, Fits, LeavesAllowed}
 use Rattle.fit_histories.proofs.Histories.Claims.{same_contents, nothing_there, list_there, not_damaged, some_list, keeps_list, keeps_whole, keeps_none, keeps_more, keeps_before, keeps_started}
 
 -- `Next` holds of a state in which no recorder runs, and a power cut leaves only what that state allows
@@ -39,17 +39,17 @@ pub record GoesIdle (Next : History → Type 0) (story : Story) : Type 0 where
   pub claims : List Claim
   pub begun : Bool
   pub step : Next (Idle claims begun)
-  pub rests : Rests (Idle claims begun) story
+  pub rests : LeavesAllowed (Idle claims begun) story
 
 -- a finished file is a file of its list
 pub file_seen : (list : List Recorded) (story : Story) → IsFinished list story → IsFileOf (seen_of Data story) list
 file_seen list story file = subst (λ bytes. File bytes (spoken list ++ closing list)) (sym (ap (λ file. file.seen) file.rests)) file.valid
 
 -- and its whole list is recorded
-pub finished_rests : (list : List Recorded) (story : Story) (begun : Bool) → (begun ≡ false → ⊥) → IsFinished list story → Rests (Idle (whole list ∷ []) begun) story
+pub finished_rests : (list : List Recorded) (story : Story) (begun : Bool) → (begun ≡ false → ⊥) → IsFinished list story → LeavesAllowed (Idle (whole list ∷ []) begun) story
 finished_rests list story begun is file contents left = record { keeps = keeps_whole list contents (file.stands contents left); empty = λ unbegun. absurd (is unbegun) }
 
-module _ (before : History) (old : Story) (rests : Rests (ended before) old) (sound : IsSound old.now) where
+module _ (before : History) (old : Story) (rests : LeavesAllowed (ended before) old) (sound : IsSound old.now) where
   -- what reads give is as the history allows
   seen_fits : Fits (ended before) (seen_in old.now)
   seen_fits = rests (seen_in old.now) sound
@@ -77,32 +77,32 @@ module _ (before : History) (old : Story) (rests : Rests (ended before) old) (so
       by false is = absurd (some (seen_fits.empty is))
 
   -- only what could be left before is left
-  same_rests : (new : Story) → LeavesOnly (BothLeft old.now) new.now → Rests (ended before) new
+  same_rests : (new : Story) → LeavesOnly (BothLeft old.now) new.now → LeavesAllowed (ended before) new
   same_rests new same contents left = rests contents (same contents left)
 
   -- ---- a start that is refused or broken off
 
   module _ (start : Start) (new : Story) (run : InStart start old new) where
-    broken_start : Rests (Idle (with_start start (claims_of before)) true) new
+    broken_start : LeavesAllowed (Idle (with_start start (claims_of before)) true) new
     broken_start contents left = record { keeps = ⊎_elim first after run.after; empty = λ unbegun. absurd (true≢false unbegun) }
       where
-        first : new ≡ run.found → Keeps (with_start start (claims_of before)) contents
+        first : new ≡ run.found → KeepsClaim (with_start start (claims_of before)) contents
         first same =
             let left_before = at_end (BothLeft old.now) old run.found run.before contents (subst (λ story. BothLeft story.now contents) same left) in
             keeps_before start (claims_of before) contents (rests contents left_before).keeps
 
-        after : (seen_of Data old ≡ []) × Throughout (λ contents. IsNothing contents ⊎ StandsFor (Started start ∷ []) contents) run.found new → Keeps (with_start start (claims_of before)) contents
+        after : (seen_of Data old ≡ []) × Throughout (λ contents. IsNothing contents ⊎ StandsFor (Started start ∷ []) contents) run.found new → KeepsClaim (with_start start (claims_of before)) contents
         after second =
             keeps_started start (claims_of before) contents (empty_there second.0) (at_end (λ contents. IsNothing contents ⊎ StandsFor (Started start ∷ []) contents) run.found new second.1 contents left)
 
-    not_started : (seen_of Data old ≡ [] → ⊥) → Rests (ended before) new
+    not_started : (seen_of Data old ≡ [] → ⊥) → LeavesAllowed (ended before) new
     not_started some = ⊎_elim
         (λ same. same_rests new (λ contents left. at_end (BothLeft old.now) old run.found run.before contents (subst (λ story. BothLeft story.now contents) same left)))
         (λ second. absurd (some second.0)) run.after
 
     pub start_goes : (fault : RecFault) → StartAnswers start fault → ((refusal : Refusal) → fault ≡ Refused refusal → new ≡ old) → (fault ≡ NotEmpty → seen_of Data old ≡ [] → ⊥)
         → GoesIdle (StartStep before start (Fault fault)) new
-    start_goes (Refused refusal) is same some = record { claims = claims_of before; begun = was_begun before; step = (is, refl); rests = subst (Rests (ended before)) (sym (same refusal refl)) rests }
+    start_goes (Refused refusal) is same some = record { claims = claims_of before; begun = was_begun before; step = (is, refl); rests = subst (LeavesAllowed (ended before)) (sym (same refusal refl)) rests }
     start_goes NotEmpty is same some = record { claims = claims_of before; begun = was_begun before; step = (is, begun_there (some refl), refl); rests = not_started (some refl) }
     start_goes Device is same some = record { claims = with_start start (claims_of before); begun = true; step = (is, refl); rests = broken_start }
     start_goes Full none same some = absurd none
@@ -120,7 +120,7 @@ module _ (before : History) (old : Story) (rests : Rests (ended before) old) (so
         same_contents contents (seen_in old.now) (rest_left new.now.data_file _ contents.in_data settled.data_rests left.data_left)
         (rest_left new.now.journal_file _ contents.in_journal settled.journal_rests left.journal_left)
 
-    nothing_rests : IsNothing (seen_in old.now) → IsSettled (seen_in old.now) new → Rests (Idle (no_claim ∷ []) (was_begun before)) new
+    nothing_rests : IsNothing (seen_in old.now) → IsSettled (seen_in old.now) new → LeavesAllowed (Idle (no_claim ∷ []) (was_begun before)) new
     nothing_rests nothing settled contents left =
         let same = left_seen contents settled left in
         record {
@@ -128,7 +128,7 @@ module _ (before : History) (old : Story) (rests : Rests (ended before) old) (so
           empty = λ unbegun. ap (λ (contents : Contents). contents.in_data) same ∙ seen_fits.empty unbegun;
         }
 
-    rebuilt_rests : (found : Story) → LeavesOnly (BothLeft old.now) found.now → Rebuilds (seen_in old.now) found new → Rests (ended before) new
+    rebuilt_rests : (found : Story) → LeavesOnly (BothLeft old.now) found.now → Rebuilds (seen_in old.now) found new → LeavesAllowed (ended before) new
     rebuilt_rests found first (unchanged same) contents left = same_rests new (subst (λ story. LeavesOnly (BothLeft old.now) story.now) (sym same) first) contents left
     rebuilt_rests found first (standing body list recording commits run) contents left =
         let stood = recording_stands body list recording (seen_in old.now) commits in
@@ -138,11 +138,11 @@ module _ (before : History) (old : Story) (rests : Rests (ended before) old) (so
           empty = λ unbegun. absurd (begun_by list stood unbegun);
         }
 
-    settled_rests : IsSettled (seen_in old.now) new → Rests (ended before) new
+    settled_rests : IsSettled (seen_in old.now) new → LeavesAllowed (ended before) new
     settled_rests settled contents left = subst (Fits (ended before)) (sym (left_seen contents settled left)) seen_fits
 
     -- one that the device broke off
-    broken_rests : InRecovery old new → Rests (ended before) new
+    broken_rests : InRecovery old new → LeavesAllowed (ended before) new
     broken_rests run =
         let first = at_end (BothLeft old.now) old run.found run.before in
         ⊎_elim (λ same. same_rests new (subst (λ story. LeavesOnly (BothLeft old.now) story.now) (sym same) first)) (λ after. rebuilt_rests run.found first after.1) run.after
@@ -184,7 +184,7 @@ module _ (before : History) (old : Story) (rests : Rests (ended before) old) (so
     -- ---- a reopening that is refused or broken off
 
     -- what stays after a fault other than `Device`
-    kept_rests : (fault : RecFault) → (fault ≡ Device → ⊥) → (fault ≡ Device) ⊎ IsSettled (seen_in old.now) new → Rests (ended before) new
+    kept_rests : (fault : RecFault) → (fault ≡ Device → ⊥) → (fault ≡ Device) ⊎ IsSettled (seen_in old.now) new → LeavesAllowed (ended before) new
     kept_rests fault other settled = settled_rests (⊎_elim (λ device. absurd (other device)) (λ kept. kept) settled)
 
     pub reopen_goes : (fault : RecFault) → IsRefusedFor (seen_in old.now) fault → InRecovery old new
@@ -220,12 +220,12 @@ module _ (before : History) (old : Story) (rests : Rests (ended before) old) (so
 
     -- ---- an erasing
 
-    erase_done : new.now.data_file ≡ at_rest [] → Rests (Idle (no_claim ∷ []) false) new
+    erase_done : new.now.data_file ≡ at_rest [] → LeavesAllowed (Idle (no_claim ∷ []) false) new
     erase_done empty contents left =
         let none = rest_left new.now.data_file [] contents.in_data empty left.data_left in
         record { keeps = keeps_none [] contents (inl none); empty = λ _. none }
 
-    erase_broken : Throughout (LeftOrErased old.now) old new → (LeavesOnly IsEmpty old.now → Throughout IsEmpty old new) → Rests (Idle (no_claim ∷ claims_of before) (was_begun before)) new
+    erase_broken : Throughout (LeftOrErased old.now) old new → (LeavesOnly IsEmpty old.now → Throughout IsEmpty old new) → LeavesAllowed (Idle (no_claim ∷ claims_of before) (was_begun before)) new
     erase_broken run stays contents left =
         record {
           keeps = ⊎_elim (λ could. keeps_more no_claim (claims_of before) contents (rests contents could).keeps) (λ erased. keeps_none (claims_of before) contents (inr erased.nothing)) (at_end (LeftOrErased old.now) old new run contents left);

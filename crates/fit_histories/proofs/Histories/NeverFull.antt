@@ -18,7 +18,7 @@ use Rattle.fit_recorder.specs.declared.fault.RecFault.{RecFault}
 use Rattle.fit_recorder.specs.declared.fault.RecFault.TheVariants.{JournalFull, Device, Failed}
 use Rattle.fit_recorder.specs.declared.recorder.Recorder.{Recorder}
 use Rattle.fit_recorder.specs.Files.Body.{StandsFor}
-use Rattle.fit_recorder.specs.Files.Committed.{Commits}
+use Rattle.fit_recorder.specs.Files.Committed.{IsCommitted}
 use Rattle.fit_recorder.specs.Files.NeverFull.{NeverFills}
 use Rattle.fit_recorder.specs.Calls.Answers.{StartAnswers}
 use Rattle.fit_recorder.specs.Calls.Erasing.{Erased, LeftOrErased}
@@ -56,7 +56,7 @@ module _ (old : Story) (sound : IsSound old.now) (before : LeavesOnly NeverFills
       unchanged_fills same c left = before c (at_end (BothLeft old.now) old run.found run.before c (subst (λ (story : Story). BothLeft story.now c) same left))
 
       -- if a body was committed, the data file was not empty
-      committed_fills : (body : List ℕ) → Commits body (seen_in old.now) → LeavesOnly NeverFills new.now
+      committed_fills : (body : List ℕ) → IsCommitted body (seen_in old.now) → LeavesOnly NeverFills new.now
       committed_fills body commits c left =
           let long = commits.in_data.long in
           ⊎_elim

@@ -10,7 +10,7 @@ use Rattle.fit_scripts.specs.declared.command.Command.{Command}
 use Rattle.fit_scripts.specs.declared.command.Command.TheVariants as commands
 use Rattle.fit_scripts.specs.declared.event.Event.{Event}
 use Rattle.fit_histories.specs.Histories.Arranged.{Arranged, nothing_arranged, MayFail, arranged_after}
-use Rattle.fit_histories.specs.Histories.Plain.{IsRide, RodeWell, HadRoom, is_full, command_of, RidesGoWell}
+use Rattle.fit_histories.specs.Histories.Plain.{IsRide, RodeWell, HadRoom, is_full, event_command, RidesGoWell}
 use Rattle.fit_histories.specs.Histories.Runs.{Runs}
 use Rattle.fit_histories.specs.Histories.Table.{History, Riding, Outcome, Done, Stopped, Fault, Step, StartStep, HandStep, CommitStep, StopStep, at_first}
 
@@ -24,7 +24,7 @@ Reports before arranged [] (outcome ∷ outcomes) = ⊥
 Reports before arranged (command ∷ commands) [] = ⊥
 
 run_reports : (before : History) (arranged : Arranged) (events : List Event) (outcomes : List Outcome) → Runs before arranged events outcomes →
-    Reports before arranged (map command_of events) outcomes
+    Reports before arranged (map event_command events) outcomes
 run_reports before arranged [] [] runs = tt
 run_reports before arranged (event ∷ events) (outcome ∷ outcomes) runs =
     (runs.0, runs.1, runs.2, run_reports runs.0 (arranged_after arranged event.command outcome) events outcomes runs.3)
@@ -127,4 +127,4 @@ whole_ride start first rest (outcome ∷ outcomes) is allowed ride reports room 
 
 pub rides_go_well : RidesGoWell
 rides_go_well start first events all is allowed ride runs room =
-    whole_ride start first.command (map command_of events) all is allowed ride (run_reports at_first nothing_arranged (first ∷ events) all runs) room
+    whole_ride start first.command (map event_command events) all is allowed ride (run_reports at_first nothing_arranged (first ∷ events) all runs) room

@@ -3,7 +3,7 @@ use Rattle.std.proofs.Common.{◌≡◌, ◌∙◌, ap, sym, true≢false, ℕ, 
 use Rattle.std.specs.Prelude.{IfErr, IsErrOf}
 use Rattle.fit_activity.specs.declared.activity.Summary.{Summary}
 use Rattle.fit_disk.specs.Counts.{Log}
-use Rattle.fit_disk.specs.Runs.{Ran}
+use Rattle.fit_disk.specs.Runs.{MakesAtMost}
 use Rattle.fit_disk.specs.Story.{Story}
 use Rattle.fit_recorder.specs.declared.fault.RecFault.{RecFault}
 use Rattle.fit_recorder.specs.declared.fault.RecFault.TheVariants.{NotEmpty, Refused, Full, JournalFull, Device, Failed, NothingRecorded, Damaged}
@@ -63,7 +63,7 @@ device_outcome (Ok done) is = absurd cc
 device_outcome (Err fault) is = cc
 
 -- and the reply is counted as the call was
-pub counted_by : {most reads : ℕ} (result : Result (Unit {0}) RecFault) (reply : Reply) (old new : Log) → reply ≡ reply_of result → Ran most reads (IsErrOf result Device) old new
+pub counted_by : {most reads : ℕ} (result : Result (Unit {0}) RecFault) (reply : Reply) (old new : Log) → reply ≡ reply_of result → MakesAtMost most reads (IsErrOf result Device) old new
     → IsCounted reply old.counts new.counts
 counted_by result reply old new is run = record {
   cause = λ device. run.cause (device_outcome result (sym is ∙ device));

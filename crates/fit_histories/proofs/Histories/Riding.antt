@@ -22,7 +22,7 @@ use Rattle.fit_recorder.specs.Calls.Answers.{HandAnswers, CommitAnswers, IsLastS
 use Rattle.fit_recorder.specs.Files.Body.{StandsFor}
 use Rattle.fit_recorder.specs.Files.Finished.{IsFinished}
 use Rattle.fit_recorder.specs.Calls.Resume.{IsResumed}
-use Rattle.fit_recorder.specs.Calls.After.{CommittedAll, Took}
+use Rattle.fit_recorder.specs.Calls.After.{CommitsAll, AddsEntry}
 use Rattle.fit_recorder.specs.Calls.Recorder.{StandsAt, WasHanded, HasEnded, disk_of, has_failed, data_len, journal_slots}
 use Rattle.fit_recorder.proofs.Commit.Standing.{has_stopped-push}
 use Rattle.fit_scripts.specs.declared.command.Command.{Command}
@@ -33,19 +33,19 @@ use Rattle.fit_histories.specs.declared.ride.Ride.TheVariants as rides
 use Rattle.fit_histories.specs.Histories.Claims.{has_none, whole}
 use Rattle.fit_histories.specs.Histories.Table.{History, Idle, Riding, Outcome, Done, Fault, claims_of, ended, Step, HandStep, EntryStep}
 use Rattle.fit_histories.specs.Rides.Replies.{reply_of}
-use Rattle.fit_histories.specs.Rides.Standing.{outcome, Rests, RidesOn, StandsIn, GoesBy}
+use Rattle.fit_histories.specs.Rides.Standing.{outcome, LeavesAllowed, RidesOn, StandsIn, TakesStepFrom}
 use Rattle.fit_histories.proofs.Histories.Claims.{keeps_front}
 use Rattle.fit_histories.proofs.Histories.Idle.{GoesIdle, file_seen, finished_rests, found}
 
 -- what a power cut leaves of a ride that is broken off: a prefix of its list
 front_rests : (list committed rest : List Recorded) (promise : ℕ) (reopened failed : Bool) (story : Story) → list ≡ committed ++ rest → promise ≡ length committed
-    → LeavesOnly (StandsFor committed) story.now → Rests (Riding list promise reopened failed) story
+    → LeavesOnly (StandsFor committed) story.now → LeavesAllowed (Riding list promise reopened failed) story
 front_rests list committed rest promise reopened failed story begins promised stands contents left =
     record { keeps = keeps_front list committed rest promise contents begins (omega (arith, promised)) (stands contents left); empty = λ unbegun. absurd (true≢false unbegun) }
 
 -- or all of it
 either_rests : (list committed rest : List Recorded) (promise : ℕ) (reopened failed : Bool) (story : Story) → list ≡ committed ++ rest → promise ≡ length committed
-    → LeavesOnly (λ c. StandsFor committed c ⊎ StandsFor list c) story.now → Rests (Riding list promise reopened failed) story
+    → LeavesOnly (λ c. StandsFor committed c ⊎ StandsFor list c) story.now → LeavesAllowed (Riding list promise reopened failed) story
 either_rests list committed rest promise reopened failed story begins promised stands contents left =
     let few : promise ≤ length list = omega (arith, promised, ap (λ (list : List Recorded). length list) begins, length-append committed rest) in
     record {
@@ -72,13 +72,13 @@ never_full (InTurns checked first second) turns last = absurd last
 module _ {D : Type 0} (honest : Bool) (story : D → Story) where
   -- no recorder runs after the command
   pub idle_goes : (before : History) (command : Command) (reply : Reply) (disk : D) → GoesIdle (λ after. Step before command (outcome reply (seen_of Data (story disk))) after) (story disk)
-      → GoesBy honest story before command reply (rides.Idle disk)
+      → TakesStepFrom honest story before command reply (rides.Idle disk)
   idle_goes before command reply disk goes = record { after = Idle goes.claims goes.begun; step = goes.step; stands = goes.rests }
 
   -- a recorder has begun
   pub started_goes : (before : History) (start : Start) (recorder : Recorder D) → has_none (claims_of before) ≡ true → start_refusal start ≡ None
       → StandsAt honest story recorder (Started start ∷ []) (Started start ∷ []) → has_failed recorder ≡ false
-      → slots_left (journal_slots recorder) ≡ None → GoesBy honest story before (commands.Start start) replies.Done (rides.Riding recorder)
+      → slots_left (journal_slots recorder) ≡ None → TakesStepFrom honest story before (commands.Start start) replies.Done (rides.Riding recorder)
   started_goes before start recorder none allowed stands going turns =
       record {
         after = Riding (Started start ∷ []) 1 false false;
@@ -87,8 +87,8 @@ module _ {D : Type 0} (honest : Bool) (story : D → Story) where
       }
 
   -- a recorded ride continues
-  pub reopened_goes : (before : History) (old : Story) → Rests (ended before) old → IsSound old.now → (recorder : Recorder D) → IsResumed honest story (seen_in old.now) recorder
-      → GoesBy honest story before commands.Reopen replies.Done (rides.Riding recorder)
+  pub reopened_goes : (before : History) (old : Story) → LeavesAllowed (ended before) old → IsSound old.now → (recorder : Recorder D) → IsResumed honest story (seen_in old.now) recorder
+      → TakesStepFrom honest story before commands.Reopen replies.Done (rides.Riding recorder)
   reopened_goes before old rests sound recorder resumed =
       let list = resumed.list in
       record {
@@ -107,12 +107,12 @@ module _ {D : Type 0} (honest : Bool) (story : D → Story) where
       }
 
   -- what may be left of a ride may be left of it after its end
-  pub ended_fits : (before : History) (at : Story) → Rests before at → Rests (ended before) at
+  pub ended_fits : (before : History) (at : Story) → LeavesAllowed before at → LeavesAllowed (ended before) at
   ended_fits before at rests contents left = record { keeps = (rests contents left).keeps; empty = (rests contents left).empty }
 
   -- the recorder that runs ends
   pub ended_rests : (before : History) (recorder : Recorder D) → StandsIn honest story (rides.Riding recorder) before
-      → ((list committed : List Recorded) → StandsAt honest story recorder list committed → LeavesOnly (StandsFor committed) (story (disk_of recorder)).now) → Rests (ended before) (story (disk_of recorder))
+      → ((list committed : List Recorded) → StandsAt honest story recorder list committed → LeavesOnly (StandsFor committed) (story (disk_of recorder)).now) → LeavesAllowed (ended before) (story (disk_of recorder))
   ended_rests (Idle claims begun) recorder none left = absurd none
   ended_rests (Riding list promise reopened false) recorder on left =
       ended_fits (Riding list promise reopened false) (story (disk_of recorder)) (front_rests list on.committed on.rest promise reopened false (story (disk_of recorder)) on.begins on.promised (left list on.committed on.stands))
@@ -127,10 +127,10 @@ module _ {D : Type 0} (honest : Bool) (story : D → Story) where
     -- a recorder in which a call failed answers only `Failed`
     still_failed : (list : List Recorded) (promise : ℕ) (reopened : Bool) (command : Command) → StandsIn honest story (rides.Riding old) (Riding list promise reopened true)
         → ((after : History) → after ≡ Riding list promise reopened true → Step (Riding list promise reopened true) command (Fault Failed) after)
-        → GoesBy honest story (Riding list promise reopened true) command (reply_of result) (rides.Riding new)
+        → TakesStepFrom honest story (Riding list promise reopened true) command (reply_of result) (rides.Riding new)
     still_failed list promise reopened command broken step = by result refl
       where
-        by : (r : Result (Unit {0}) RecFault) → result ≡ r → GoesBy honest story (Riding list promise reopened true) command (reply_of r) (rides.Riding new)
+        by : (r : Result (Unit {0}) RecFault) → result ≡ r → TakesStepFrom honest story (Riding list promise reopened true) command (reply_of r) (rides.Riding new)
         by (Ok done) is = let clash : Ok done ≡ Err Failed = sym is ∙ failed broken.0 in absurd cc
         by (Err fault) is =
             let same_err : Err fault ≡ Err Failed = sym is ∙ failed broken.0 in
@@ -140,7 +140,7 @@ module _ {D : Type 0} (honest : Bool) (story : D → Story) where
 
     -- a refusal that changes nothing
     kept_goes : (list : List Recorded) (promise : ℕ) (reopened : Bool) (command : Command) (fault : RecFault) → result ≡ Err fault → fault ≢ Device → RidesOn honest story old list promise reopened
-        → Step (Riding list promise reopened false) command (Fault fault) (Riding list promise reopened false) → GoesBy honest story (Riding list promise reopened false) command (replies.Refused fault) (rides.Riding new)
+        → Step (Riding list promise reopened false) command (Fault fault) (Riding list promise reopened false) → TakesStepFrom honest story (Riding list promise reopened false) command (replies.Refused fault) (rides.Riding new)
     kept_goes list promise reopened command fault is other on step =
         record { after = Riding list promise reopened false; step = step; stands = subst (λ recorder. RidesOn honest story recorder list promise reopened) (sym (unchanged fault is other)) on }
 
@@ -148,10 +148,10 @@ module _ {D : Type 0} (honest : Bool) (story : D → Story) where
 
     module _ (entry : Entry) (other : is_stop (Added entry) ≡ false) (slots : journal_slots new ≡ journal_slots old)
         (answers : (list : List Recorded) → WasHanded old list → has_failed old ≡ false → HandAnswers list (data_len old) entry result)
-        (going : OnOk result (has_failed new ≡ false)) (ok : OnOk result (Took honest story entry old new))
+        (going : OnOk result (has_failed new ≡ false)) (ok : OnOk result (AddsEntry honest story entry old new))
         (moments : (list committed : List Recorded) → StandsAt honest story old list committed → Throughout (StandsFor committed) (story (disk_of old)) (story (disk_of new))) where
       hand_refused : (list : List Recorded) (promise : ℕ) (reopened : Bool) → RidesOn honest story old list promise reopened → (fault : RecFault) → result ≡ Err fault → HandAnswers list (data_len old) entry (Err fault)
-          → GoesBy honest story (Riding list promise reopened false) (commands.Entry entry) (replies.Refused fault) (rides.Riding new)
+          → TakesStepFrom honest story (Riding list promise reopened false) (commands.Entry entry) (replies.Refused fault) (rides.Riding new)
       hand_refused list promise reopened on (Refused refusal) is none =
           kept_goes list promise reopened (commands.Entry entry) (Refused refusal) is (λ device. absurd cc) on (entry_step (Riding list promise reopened false) (Riding list promise reopened false) entry (Fault (Refused refusal)) other (none, refl))
       hand_refused list promise reopened on Full is full =
@@ -173,9 +173,9 @@ module _ {D : Type 0} (honest : Bool) (story : D → Story) where
       hand_refused list promise reopened on Damaged is none = absurd none
 
       hand_on : (list : List Recorded) (promise : ℕ) (reopened : Bool) → RidesOn honest story old list promise reopened → (r : Result (Unit {0}) RecFault) → result ≡ r
-          → GoesBy honest story (Riding list promise reopened false) (commands.Entry entry) (reply_of r) (rides.Riding new)
+          → TakesStepFrom honest story (Riding list promise reopened false) (commands.Entry entry) (reply_of r) (rides.Riding new)
       hand_on list promise reopened on (Ok done) is =
-          let took : Took honest story entry old new = rw is at ok in
+          let took : AddsEntry honest story entry old new = rw is at ok in
           let now = took.stands list on.committed on.stands in
           let more : List Recorded = list ++ Added entry ∷ [] in
           record {
@@ -194,7 +194,7 @@ module _ {D : Type 0} (honest : Bool) (story : D → Story) where
           }
       hand_on list promise reopened on (Err fault) is = hand_refused list promise reopened on fault is (rw is at answers list on.stands.totals on.going)
 
-      pub hand_goes : (before : History) → StandsIn honest story (rides.Riding old) before → GoesBy honest story before (commands.Entry entry) (reply_of result) (rides.Riding new)
+      pub hand_goes : (before : History) → StandsIn honest story (rides.Riding old) before → TakesStepFrom honest story before (commands.Entry entry) (reply_of result) (rides.Riding new)
       hand_goes (Idle claims begun) none = absurd none
       hand_goes (Riding list promise reopened false) on = hand_on list promise reopened on result refl
       hand_goes (Riding list promise reopened true) broken =
@@ -204,10 +204,10 @@ module _ {D : Type 0} (honest : Bool) (story : D → Story) where
 
     module _ (answers : (list : List Recorded) → WasHanded old list → has_failed old ≡ false → CommitAnswers list (journal_slots old) result)
         (turns : slots_left (journal_slots old) ≡ None → OnOk result (slots_left (journal_slots new) ≡ None))
-        (going : OnOk result (has_failed new ≡ false)) (ok : OnOk result (CommittedAll honest story old new))
+        (going : OnOk result (has_failed new ≡ false)) (ok : OnOk result (CommitsAll honest story old new))
         (moments : (list committed : List Recorded) → StandsAt honest story old list committed → Throughout (λ c. StandsFor committed c ⊎ StandsFor list c) (story (disk_of old)) (story (disk_of new))) where
       commit_refused : (list : List Recorded) (promise : ℕ) (reopened : Bool) → RidesOn honest story old list promise reopened → (fault : RecFault) → result ≡ Err fault → CommitAnswers list (journal_slots old) (Err fault)
-          → GoesBy honest story (Riding list promise reopened false) commands.Commit (replies.Refused fault) (rides.Riding new)
+          → TakesStepFrom honest story (Riding list promise reopened false) commands.Commit (replies.Refused fault) (rides.Riding new)
       commit_refused list promise reopened on (Refused refusal) is stopped = absurd (true≢false (sym stopped.1 ∙ on.no_stop))
       commit_refused list promise true on JournalFull is full = kept_goes list promise true commands.Commit JournalFull is (λ device. absurd cc) on (refl, refl)
       commit_refused list promise false on JournalFull is full = never_full (journal_slots old) (on.turns refl) full.1
@@ -228,9 +228,9 @@ module _ {D : Type 0} (honest : Bool) (story : D → Story) where
       commit_refused list promise reopened on Damaged is none = absurd none
 
       commit_on : (list : List Recorded) (promise : ℕ) (reopened : Bool) → RidesOn honest story old list promise reopened → (r : Result (Unit {0}) RecFault) → result ≡ r
-          → GoesBy honest story (Riding list promise reopened false) commands.Commit (reply_of r) (rides.Riding new)
+          → TakesStepFrom honest story (Riding list promise reopened false) commands.Commit (reply_of r) (rides.Riding new)
       commit_on list promise reopened on (Ok done) is =
-          let all : CommittedAll honest story old new = rw is at ok in
+          let all : CommitsAll honest story old new = rw is at ok in
           record {
             after = Riding list (length list) reopened false;
             step = refl;
@@ -238,7 +238,7 @@ module _ {D : Type 0} (honest : Bool) (story : D → Story) where
           }
       commit_on list promise reopened on (Err fault) is = commit_refused list promise reopened on fault is (rw is at answers list on.stands.totals on.going)
 
-      pub commit_goes : (before : History) → StandsIn honest story (rides.Riding old) before → GoesBy honest story before commands.Commit (reply_of result) (rides.Riding new)
+      pub commit_goes : (before : History) → StandsIn honest story (rides.Riding old) before → TakesStepFrom honest story before commands.Commit (reply_of result) (rides.Riding new)
       commit_goes (Idle claims begun) none = absurd none
       commit_goes (Riding list promise reopened false) on = commit_on list promise reopened on result refl
       commit_goes (Riding list promise reopened true) broken = still_failed list promise reopened commands.Commit broken (λ after is. is)
@@ -251,7 +251,7 @@ module _ {D : Type 0} (honest : Bool) (story : D → Story) where
         (moments : (list committed : List Recorded) → StandsAt honest story old list committed
         → Throughout (λ c. StandsFor committed c ⊎ StandsFor (list ++ Added (Stop time) ∷ []) c) (story (disk_of old)) (story (disk_of new))) where
       stop_refused : (list : List Recorded) (promise : ℕ) (reopened : Bool) → RidesOn honest story old list promise reopened → (fault : RecFault) → result ≡ Err fault → StopAnswers list time (Err fault)
-          → GoesBy honest story (Riding list promise reopened false) (commands.Entry (Stop time)) (replies.Refused fault) (rides.Riding new)
+          → TakesStepFrom honest story (Riding list promise reopened false) (commands.Entry (Stop time)) (replies.Refused fault) (rides.Riding new)
       stop_refused list promise reopened on (Refused refusal) is none = kept_goes list promise reopened (commands.Entry (Stop time)) (Refused refusal) is (λ device. absurd cc) on (none, refl)
       stop_refused list promise reopened on Device is none =
           let more : List Recorded = list ++ Added (Stop time) ∷ [] in
@@ -274,7 +274,7 @@ module _ {D : Type 0} (honest : Bool) (story : D → Story) where
 
       -- the recorder still runs if the stop was not done
       pub stop_goes : (before : History) (fault : RecFault) → result ≡ Err fault → StandsIn honest story (rides.Riding old) before
-          → GoesBy honest story before (commands.Entry (Stop time)) (replies.Refused fault) (rides.Riding new)
+          → TakesStepFrom honest story before (commands.Entry (Stop time)) (replies.Refused fault) (rides.Riding new)
       stop_goes (Idle claims begun) fault is none = absurd none
       stop_goes (Riding list promise reopened false) fault is on = stop_refused list promise reopened on fault is (rw is at answers list on.stands.totals on.going)
       stop_goes (Riding list promise reopened true) fault is broken =
@@ -282,7 +282,7 @@ module _ {D : Type 0} (honest : Bool) (story : D → Story) where
 
       -- and none runs if it was done
       pub stop_done : (before : History) (disk : D) (done : Unit {0}) → result ≡ Ok done → disk ≡ disk_of new → StandsIn honest story (rides.Riding old) before
-          → GoesBy honest story before (commands.Entry (Stop time)) replies.Stopped (rides.Idle disk)
+          → TakesStepFrom honest story before (commands.Entry (Stop time)) replies.Stopped (rides.Idle disk)
       stop_done (Idle claims begun) disk done is same none = absurd none
       stop_done (Riding list promise reopened true) disk done is same broken = let clash : Ok done ≡ Err Failed = sym is ∙ failed broken.0 in absurd cc
       stop_done (Riding list promise reopened false) disk done is same on =

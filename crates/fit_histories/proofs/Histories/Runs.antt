@@ -22,7 +22,7 @@ use Rattle.fit_histories.specs.Histories.Runs.{NoneFull}
 use Rattle.fit_histories.specs.Histories.Table.{History, Outcome, Fault, at_first}
 use Rattle.fit_histories.specs.Rides.Ride.{disk_in}
 use Rattle.fit_histories.specs.Rides.NeverFull.{NeverFull, StaysNeverFull}
-use Rattle.fit_histories.specs.Rides.Standing.{StandsIn, GoesBy, Rests, content_of, outcome}
+use Rattle.fit_histories.specs.Rides.Standing.{StandsIn, TakesStepFrom, LeavesAllowed, content_of, outcome}
 use Rattle.fit_histories.specs.Simulation.Choices.{takes, IsLeftBy}
 use Rattle.fit_histories.specs.Simulation.Following.{Follows, FollowsChoices, Simulated, at_start}
 use Rattle.fit_histories.proofs.Simulation.Counts.{moved, unspent}
@@ -42,7 +42,7 @@ pub record Leads (all choices : List ℕ) (events left : List Event) (outcomes :
   pub none_full : (rest : List Outcome) → NoneFull rest → NoneFull (outcomes ++ rest)
   pub leads : (rest : List Outcome) → Follows history arranged (simulated (disk_in ride)) choices left rest → FollowsChoices all events (outcomes ++ rest)
 
-empty_rests : (story : Story) → story ≡ fresh → Rests at_first story
+empty_rests : (story : Story) → story ≡ fresh → LeavesAllowed at_first story
 empty_rests story is contents left =
     let none : contents.in_data ≡ [] = rest_left story.now.data_file [] contents.in_data (ap (λ (s : Story). s.now.data_file) is) left.data_left in
     record { keeps = inr (refl, inl none); empty = λ begun. none }
@@ -79,7 +79,7 @@ first_leads choices events disk story counts schedule = record {
 one_more : (all choices : List ℕ) (taken : ℕ) (events left : List Event) (event : Event) (outcomes : List Outcome) (ride next : Ride Memory)
     (reply : Reply) (file : List ℕ) → is_spent (disk_in ride) ≡ false → is_spent (disk_in next) ≡ false →
     Leads all choices events (event ∷ left) outcomes ride →
-    ((before : History) → StandsIn true memory_story ride before → GoesBy true memory_story before event.command reply next) → StaysNeverFull true memory_story ride reply next →
+    ((before : History) → StandsIn true memory_story ride before → TakesStepFrom true memory_story before event.command reply next) → StaysNeverFull true memory_story ride reply next →
     Moves event.command reply (memory_counts (disk_in ride)) (memory_schedule (disk_in ride)) (memory_counts (disk_in next)) (memory_schedule (disk_in next)) →
     file ≡ content_of memory_story next → taken ≡ takes event.command choices (memory_story (disk_in ride)).now →
     IsLeftBy event.command choices reply (memory_story (disk_in ride)) (memory_story (disk_in next)) →
@@ -120,7 +120,7 @@ one_more all choices taken events left event outcomes ride next reply file not_s
 pub leads_on : (all choices : List ℕ) (taken : ℕ) (events : List Event) (i : ℕ) (d : Event) (outcomes : List Outcome) (ride next : Ride Memory)
     (reply : Reply) (file : List ℕ) → i < length events → is_spent (disk_in ride) ≡ false → is_spent (disk_in next) ≡ false →
     Leads all choices events (drop i events) outcomes ride →
-    ((before : History) → StandsIn true memory_story ride before → GoesBy true memory_story before (get_or events i d).command reply next) → StaysNeverFull true memory_story ride reply next →
+    ((before : History) → StandsIn true memory_story ride before → TakesStepFrom true memory_story before (get_or events i d).command reply next) → StaysNeverFull true memory_story ride reply next →
     Moves (get_or events i d).command reply (memory_counts (disk_in ride)) (memory_schedule (disk_in ride)) (memory_counts (disk_in next)) (memory_schedule (disk_in next)) →
     file ≡ content_of memory_story next → taken ≡ takes (get_or events i d).command choices (memory_story (disk_in ride)).now →
     IsLeftBy (get_or events i d).command choices reply (memory_story (disk_in ride)) (memory_story (disk_in next)) →

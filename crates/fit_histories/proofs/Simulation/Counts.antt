@@ -3,7 +3,7 @@ use Rattle.std.proofs.Common.{◌≡◌, ◌⊎◌, inl, inr, ℕ, zero, suc, �
 use Rattle.std.proofs.lemmas.Bool.{or_parts, or_from, eq-eqb, ne_eqb, eqb-false, cases_lt}
 use Rattle.fit_disk.specs.declared.memory.Memory.{Memory}
 use Rattle.fit_disk.specs.Counts.{Counts, Schedule, FailedAsPlanned, failures, is_at, last_count, no_calls}
-use Rattle.fit_disk.specs.Memory.{memory_counts, memory_schedule, was_refused, is_spent}
+use Rattle.fit_disk.specs.Memory.{memory_counts, memory_schedule, growth_was_refused, is_spent}
 use Rattle.fit_recorder.specs.declared.fault.RecFault.TheVariants.{Device}
 use Rattle.fit_scripts.specs.declared.command.Command.{Command}
 use Rattle.fit_scripts.specs.declared.command.Command.TheVariants as commands
@@ -179,5 +179,5 @@ moved arranged command reply file old new old_unspent new_unspent moves is_arran
     (known.0, subst (λ s. IsArranged (broken_off arranged (outcome reply file)) (memory_counts new) s) (sym moves.1) known.1)
 
 -- before the first call nothing is spent
-pub unspent_first : (disk : Memory) → was_refused disk ≡ false → memory_counts disk ≡ no_calls → is_spent disk ≡ false
+pub unspent_first : (disk : Memory) → growth_was_refused disk ≡ false → memory_counts disk ≡ no_calls → is_spent disk ≡ false
 unspent_first disk refused counts = or_from _ _ refused (ap (λ (c : Counts). c.calls == last_count) counts)

@@ -18,9 +18,9 @@ use Rattle.fit_histories.specs.Histories.Arranged.{Arranged, nothing_arranged, a
 use Rattle.fit_histories.specs.Histories.Runs.{Runs, IsHistory}
 use Rattle.fit_histories.specs.Histories.Table.{History, Idle, Riding, Step, Outcome, Stopped, Recovered, at_first, ended}
 use Rattle.fit_histories.specs.Rides.Ride.{disk_in}
-use Rattle.fit_histories.specs.Rides.Standing.{StandsIn, Rests, content_of, outcome, reply_in}
+use Rattle.fit_histories.specs.Rides.Standing.{StandsIn, LeavesAllowed, content_of, outcome, reply_in}
 use Rattle.fit_histories.specs.Simulation.Choices.{takes}
-use Rattle.fit_histories.specs.Simulation.Following.{Follows, FollowsChoices, Reports, Simulated, at_start}
+use Rattle.fit_histories.specs.Simulation.Following.{Follows, FollowsChoices, ReportsOutcome, Simulated, at_start}
 use Rattle.fit_histories.proofs.Histories.Riding.{ended_rests}
 
 -- ---- no recorder runs after a file is reported
@@ -64,7 +64,7 @@ recovered_idle before command summary file after step = absurd cc
 
 -- if no recorder runs, what is reported of a ride is what reads give
 reports_idle : (ride : Ride Memory) (after : History) (reply : Reply) → IsIdle after → StandsIn true memory_story ride after →
-    Reports (outcome reply (content_of memory_story ride)) (memory_story (disk_in ride))
+    ReportsOutcome (outcome reply (content_of memory_story ride)) (memory_story (disk_in ride))
 reports_idle (rides.Idle disk) (Idle claims begun) replies.Stopped idle stands = refl
 reports_idle (rides.Idle disk) (Idle claims begun) (replies.Recovered summary) idle stands = refl
 reports_idle (rides.Idle disk) (Idle claims begun) reply idle stands = tt
@@ -74,7 +74,7 @@ reports_idle (rides.Riding recorder) (Riding list promise reopened failed) reply
 
 pub reports_seen : (before after : History) (command : Command) (reply : Reply) (ride : Ride Memory) →
     Step before command (outcome reply (content_of memory_story ride)) after → StandsIn true memory_story ride after →
-    Reports (outcome reply (content_of memory_story ride)) (memory_story (disk_in ride))
+    ReportsOutcome (outcome reply (content_of memory_story ride)) (memory_story (disk_in ride))
 reports_seen before after command replies.Stopped ride step stands =
     reports_idle ride after replies.Stopped (stopped_idle before command (content_of memory_story ride) after step) stands
 reports_seen before after command (replies.Recovered summary) ride step stands =
@@ -83,7 +83,7 @@ reports_seen before after command reply ride step stands = tt
 
 -- whatever a power cut leaves of a ride is as its history allows
 pub stands_rests : (ride : Ride Memory) (history : History) → StandsIn true memory_story ride history →
-    Rests (ended history) (memory_story (disk_in ride))
+    LeavesAllowed (ended history) (memory_story (disk_in ride))
 stands_rests (rides.Idle disk) (Idle claims begun) stands = stands
 stands_rests (rides.Idle disk) (Riding list promise reopened failed) stands = absurd stands
 stands_rests (rides.Riding recorder) history stands =

@@ -13,7 +13,7 @@ use Rattle.fit_recorder.specs.Calls.OnMemory.{StandsAsBefore}
 use Rattle.fit_histories.specs.declared.ride.Ride.TheVariants as rides
 use Rattle.fit_histories.specs.Histories.Table.{History, Idle, Riding}
 use Rattle.fit_histories.specs.Rides.NeverFull.{NeverFull}
-use Rattle.fit_histories.specs.Rides.Standing.{Rests, StandsIn}
+use Rattle.fit_histories.specs.Rides.Standing.{LeavesAllowed, StandsIn}
 use Rattle.fit_histories.proofs.Histories.Claims.{same_contents}
 
 -- no content and no promise changed, so the ride is in the same state
@@ -31,7 +31,7 @@ same_stands old new same (Riding list promise reopened false) stands = record {
   turns = λ anew. ap slots_left same.slots ∙ stands.turns anew;
 }
 same_stands old new same (Riding list promise reopened true) stands =
-    (same.failed ∙ stands.0, subst (λ story. Rests (Riding list promise reopened true) story) (sym same.story) stands.1)
+    (same.failed ∙ stands.0, subst (λ story. LeavesAllowed (Riding list promise reopened true) story) (sym same.story) stands.1)
 
 -- Both files are at rest after a power cut: a crash leaves of them what reads give, and that is what the cut left.
 pub cut_rests : (P : Contents → Type 0) (choices : List ℕ) (old new : State) → new ≡ cycled choices old →

@@ -17,14 +17,17 @@ abbrev pub IsRide : List Recorded → List Command → Type 0
 IsRide list [] = ⊥
 IsRide list (commands.Commit ∷ rest) = IsRide list rest
 IsRide list (commands.Entry (Stop time) ∷ rest) = (refusal_of list (Stop time) ≡ None) × (rest ≡ [])
-IsRide list (commands.Entry entry ∷ rest) = (refusal_of list entry ≡ None) × IsRide (list ++ Added entry ∷ []) rest
+IsRide list (commands.Entry entry ∷ rest) =
+    (refusal_of list entry ≡ None) × IsRide (list ++ Added entry ∷ []) rest
 IsRide list (command ∷ rest) = ⊥
 
 -- each of them was done, and the stop reports a valid file of the whole list and the messages that close it
 abbrev pub RodeWell : List Recorded → List Command → List Outcome → Type 0
 RodeWell list (commands.Commit ∷ rest) (Done ∷ outcomes) = RodeWell list rest outcomes
-RodeWell list (commands.Entry (Stop time) ∷ rest) (Stopped file ∷ outcomes) = IsFileOf file (list ++ Added (Stop time) ∷ []) × (outcomes ≡ [])
-RodeWell list (commands.Entry entry ∷ rest) (Done ∷ outcomes) = RodeWell (list ++ Added entry ∷ []) rest outcomes
+RodeWell list (commands.Entry (Stop time) ∷ rest) (Stopped file ∷ outcomes) =
+    IsFileOf file (list ++ Added (Stop time) ∷ []) × (outcomes ≡ [])
+RodeWell list (commands.Entry entry ∷ rest) (Done ∷ outcomes) =
+    RodeWell (list ++ Added entry ∷ []) rest outcomes
 RodeWell list _ _ = ⊥
 
 -- no room was left
@@ -35,12 +38,15 @@ is_full _ = false
 abbrev pub HadRoom : List Outcome → Type 0
 HadRoom outcomes = AllByRecursion (λ outcome. is_full outcome ≡ false) outcomes
 
-abbrev pub command_of : Event → Command
-command_of event = event.command
+abbrev pub event_command : Event → Command
+event_command event = event.command
 
 -- over two empty files, a ride goes well if no failure is arranged and there is room
 abbrev pub RidesGoWell : Type 0
 RidesGoWell =
-    (start : Start) (first : Event) (events : List Event) (all : List Outcome) → first.command ≡ commands.Start start → start_refusal start ≡ None
-    → IsRide (Started start ∷ []) (map command_of events) → IsHistory (first ∷ events) all → HadRoom all
-    → (outcomes : List Outcome) × (all ≡ Done ∷ outcomes) × RodeWell (Started start ∷ []) (map command_of events) outcomes
+    (start : Start) (first : Event) (events : List Event) (all : List Outcome)
+    → first.command ≡ commands.Start start → start_refusal start ≡ None
+    → IsRide (Started start ∷ []) (map event_command events) → IsHistory (first ∷ events) all
+    → HadRoom all
+    → (outcomes : List Outcome) × (all ≡ Done ∷ outcomes)
+    × RodeWell (Started start ∷ []) (map event_command events) outcomes

@@ -55,33 +55,43 @@ IsFileOf file list = File file (spoken list ++ closing list)
 
 abbrev pub StartStep : History → Start → Outcome → History → Type 0
 StartStep before start Done after =
-    IsTrue (has_none (claims_of before)) × (start_refusal start ≡ None) × (after ≡ Riding (Started start ∷ []) 1 false false)
-StartStep before start (Fault (Refused refusal)) after = (start_refusal start ≡ Some refusal) × (after ≡ ended before)
-StartStep before start (Fault NotEmpty) after = (start_refusal start ≡ None) × (was_begun before ≡ true) × (after ≡ ended before)
-StartStep before start (Fault Device) after = (start_refusal start ≡ None) × (after ≡ Idle (with_start start (claims_of before)) true)
+    IsTrue (has_none (claims_of before)) × (start_refusal start ≡ None)
+    × (after ≡ Riding (Started start ∷ []) 1 false false)
+StartStep before start (Fault (Refused refusal)) after =
+    (start_refusal start ≡ Some refusal) × (after ≡ ended before)
+StartStep before start (Fault NotEmpty) after =
+    (start_refusal start ≡ None) × (was_begun before ≡ true) × (after ≡ ended before)
+StartStep before start (Fault Device) after =
+    (start_refusal start ≡ None) × (after ≡ Idle (with_start start (claims_of before)) true)
 StartStep before start _ after = ⊥
 
 -- to an entry that is not a stop
 abbrev pub HandStep : History → Entry → Outcome → History → Type 0
 HandStep (Idle claims begun) entry NoRecorder after = after ≡ Idle claims begun
 HandStep (Riding list promise reopened false) entry Done after =
-    Allowed (list ++ Added entry ∷ []) × (after ≡ Riding (list ++ Added entry ∷ []) promise reopened false)
+    Allowed (list ++ Added entry ∷ [])
+    × (after ≡ Riding (list ++ Added entry ∷ []) promise reopened false)
 HandStep (Riding list promise reopened false) entry (Fault (Refused refusal)) after =
     (refusal_of list entry ≡ Some refusal) × (after ≡ Riding list promise reopened false)
 HandStep (Riding list promise reopened false) entry (Fault Full) after =
     (refusal_of list entry ≡ None) × (after ≡ Riding list promise reopened false)
 HandStep (Riding list promise reopened false) entry (Fault Device) after =
     (refusal_of list entry ≡ None) × (after ≡ Riding list promise reopened true)
-HandStep (Riding list promise reopened true) entry (Fault Failed) after = after ≡ Riding list promise reopened true
+HandStep (Riding list promise reopened true) entry (Fault Failed) after =
+    after ≡ Riding list promise reopened true
 HandStep before entry _ after = ⊥
 
 -- the journal can fill only in a ride that was reopened, because an older program may have begun it
 abbrev pub CommitStep : History → Outcome → History → Type 0
 CommitStep (Idle claims begun) NoRecorder after = after ≡ Idle claims begun
-CommitStep (Riding list promise reopened false) Done after = after ≡ Riding list (length list) reopened false
-CommitStep (Riding list promise reopened false) (Fault JournalFull) after = IsTrue reopened × (after ≡ Riding list promise reopened false)
-CommitStep (Riding list promise reopened false) (Fault Device) after = after ≡ Riding list promise reopened true
-CommitStep (Riding list promise reopened true) (Fault Failed) after = after ≡ Riding list promise reopened true
+CommitStep (Riding list promise reopened false) Done after =
+    after ≡ Riding list (length list) reopened false
+CommitStep (Riding list promise reopened false) (Fault JournalFull) after =
+    IsTrue reopened × (after ≡ Riding list promise reopened false)
+CommitStep (Riding list promise reopened false) (Fault Device) after =
+    after ≡ Riding list promise reopened true
+CommitStep (Riding list promise reopened true) (Fault Failed) after =
+    after ≡ Riding list promise reopened true
 CommitStep before _ after = ⊥
 
 abbrev pub StopStep : History → ℕ → Outcome → History → Type 0
@@ -92,12 +102,15 @@ StopStep (Riding list promise reopened false) time (Stopped file) after =
 StopStep (Riding list promise reopened false) time (Fault (Refused refusal)) after =
     (refusal_of list (Stop time) ≡ Some refusal) × (after ≡ Riding list promise reopened false)
 StopStep (Riding list promise reopened false) time (Fault Device) after =
-    (refusal_of list (Stop time) ≡ None) × (after ≡ Riding (list ++ Added (Stop time) ∷ []) promise reopened true)
-StopStep (Riding list promise reopened true) time (Fault Failed) after = after ≡ Riding list promise reopened true
+    (refusal_of list (Stop time) ≡ None)
+    × (after ≡ Riding (list ++ Added (Stop time) ∷ []) promise reopened true)
+StopStep (Riding list promise reopened true) time (Fault Failed) after =
+    after ≡ Riding list promise reopened true
 StopStep before time _ after = ⊥
 
 -- a recovery found this list; the summary and the file are those of the list
-pub record Recovers (before : History) (summary : Summary) (file : List ℕ) (after : History) : Type 0 where
+pub record Recovers (before : History) (summary : Summary) (file : List ℕ)
+    (after : History) : Type 0 where
   pub list : List Recorded
   pub may_be : MayBe (claims_of before) list
   pub some : list ≢ []
@@ -119,17 +132,22 @@ pub record Finds (before : History) (list : List Recorded) (stopped : Bool) : Ty
   pub stops : has_stopped list ≡ stopped
 
 abbrev pub ReopenStep : History → Outcome → History → Type 0
-ReopenStep before Done after = (list : List Recorded) × Finds before list false × (after ≡ Riding list (length list) true false)
-ReopenStep before (Fault (Refused refusals.Stopped)) after = (list : List Recorded) × Finds before list true × (after ≡ ended before)
+ReopenStep before Done after =
+    (list : List Recorded) × Finds before list false
+    × (after ≡ Riding list (length list) true false)
+ReopenStep before (Fault (Refused refusals.Stopped)) after =
+    (list : List Recorded) × Finds before list true × (after ≡ ended before)
 ReopenStep before (Fault NothingRecorded) after =
     IsTrue (has_none (claims_of before)) × (after ≡ Idle (no_claim ∷ []) (was_begun before))
-ReopenStep before (Fault JournalFull) after = (list : List Recorded) × Finds before list false × (after ≡ ended before)
+ReopenStep before (Fault JournalFull) after =
+    (list : List Recorded) × Finds before list false × (after ≡ ended before)
 ReopenStep before (Fault Device) after = after ≡ ended before
 ReopenStep before _ after = ⊥
 
 abbrev pub EraseStep : History → Outcome → History → Type 0
 EraseStep before Done after = after ≡ Idle (no_claim ∷ []) false
-EraseStep before (Fault Device) after = after ≡ Idle (no_claim ∷ claims_of before) (was_begun before)
+EraseStep before (Fault Device) after =
+    after ≡ Idle (no_claim ∷ claims_of before) (was_begun before)
 EraseStep before _ after = ⊥
 
 abbrev pub EntryStep : History → Entry → Outcome → History → Type 0

@@ -35,7 +35,8 @@ LeftByEntry stops reply old new =
 abbrev pub LeftByStart : Start → Reply → Story → Story → Type 0
 LeftByStart start replies.Done old new = (seen_of Data old ≡ []) × InStart start old new
 LeftByStart start (replies.Refused (Refused refusal)) old new = new ≡ old
-LeftByStart start (replies.Refused NotEmpty) old new = (seen_of Data old ≢ []) × (seen_in new.now ≡ seen_in old.now)
+LeftByStart start (replies.Refused NotEmpty) old new =
+    (seen_of Data old ≢ []) × (seen_in new.now ≡ seen_in old.now)
 LeftByStart start _ old new = InStart start old new
 
 -- both files are at rest with what reads gave before
@@ -60,7 +61,8 @@ pub record IsCutAfterBody (old new : Story) : Type 0 where
 
 -- the same for a reopening
 abbrev pub ReopensBy : Reply → Story → Story → Type 0
-ReopensBy (replies.Refused fault) old new = IsRefusedFor (seen_in old.now) fault × SettledUnlessDevice fault old new
+ReopensBy (replies.Refused fault) old new =
+    IsRefusedFor (seen_in old.now) fault × SettledUnlessDevice fault old new
 ReopensBy _ old new = IsCutAfterBody old new
 
 pub record LeftByReopening (reply : Reply) (old new : Story) : Type 0 where

@@ -29,4 +29,5 @@ module _ {D : Type 0} where
   -- a call in which that stays so
   abbrev pub StaysNeverFull : Bool → (D → Story) → Ride D → Reply → Ride D → Type 0
   StaysNeverFull honest story old reply new =
-      IsTrue honest → (before : History) → StandsIn honest story old before → NeverFull story old → NotFull story reply new
+      IsTrue honest → (before : History) → StandsIn honest story old before → NeverFull story old
+      → NotFull story reply new

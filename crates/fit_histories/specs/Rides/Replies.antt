@@ -84,7 +84,8 @@ outlives_stop riding _ = riding
 -- whether one runs after the reply to a command
 abbrev pub rides_on : Bool → Command → Reply → Bool
 rides_on riding (commands.Start start) reply = is_ok reply
-rides_on riding (commands.Entry entry) reply = if is_stop (Added entry) then outlives_stop riding reply else riding
+rides_on riding (commands.Entry entry) reply =
+    if is_stop (Added entry) then outlives_stop riding reply else riding
 rides_on riding commands.Commit reply = riding
 rides_on riding commands.Reopen reply = is_ok reply
 rides_on riding _ reply = false
@@ -93,7 +94,8 @@ rides_on riding _ reply = false
 abbrev pub MayReplyAll : Bool → List Event → List Reply → Type 0
 MayReplyAll riding [] [] = Unit {0}
 MayReplyAll riding (event ∷ events) (reply ∷ replies) =
-    MayReply riding event.command reply × MayReplyAll (rides_on riding event.command reply) events replies
+    MayReply riding event.command reply
+    × MayReplyAll (rides_on riding event.command reply) events replies
 MayReplyAll riding _ _ = ⊥
 
 -- the number of replies that were not ok

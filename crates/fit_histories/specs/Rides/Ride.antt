@@ -47,7 +47,8 @@ module _ {D : Type 0} where
 
   -- What holds after a call that only a recorder answers: the next call may be made, the reply is `NoRecorder` if and only if none runs,
   -- and after `Device` every reply is `Failed`.
-  pub record Answered (honest : Bool) (story : D → Story) (reply : Reply) (old new : Ride D) : Type 0 where
+  pub record Answered (honest : Bool) (story : D → Story) (reply : Reply)
+      (old new : Ride D) : Type 0 where
     pub goes_on : CanGoOn honest story new
     pub none : (reply ≡ NoRecorder) ↔ (is_riding old ≡ false)
     pub failed : is_broken old ≡ true → reply ≡ Refused Failed
@@ -83,8 +84,11 @@ module _ {D : Type 0} where
 
   -- after a reply that is ok: an entry is at the end of the list, and a commit took one slot more
   abbrev pub RidesOnWith : Ride D → List Recorded → Command → Ride D → Type 0
-  RidesOnWith ride list (commands.Entry entry) next = is_stop (Added entry) ≡ false → Handed next (list ++ Added entry ∷ [])
-  RidesOnWith ride list commands.Commit next = Handed next list × (slots_of next ≡ committed_slots (slots_of ride) (encoded_len ride) (encoded_checksum ride))
+  RidesOnWith ride list (commands.Entry entry) next =
+      is_stop (Added entry) ≡ false → Handed next (list ++ Added entry ∷ [])
+  RidesOnWith ride list commands.Commit next =
+      Handed next list
+      × (slots_of next ≡ committed_slots (slots_of ride) (encoded_len ride) (encoded_checksum ride))
   RidesOnWith ride list _ next = Unit {0}
 
   -- After a start that is ok the recorder was handed the start alone, in the first of two slots that take turns, with its checksum if the
@@ -92,12 +96,15 @@ module _ {D : Type 0} where
   abbrev pub HasBegun : Bool → Command → Ride D → Type 0
   HasBegun checked (commands.Start start) next =
       Handed next (Started start ∷ [])
-      × (slots_of next ≡ committed_slots (InTurns checked None None) (encoded_len next) (encoded_checksum next))
+      × (slots_of next
+      ≡ committed_slots (InTurns checked None None) (encoded_len next) (encoded_checksum next))
   HasBegun checked commands.Reopen next = (list : List Recorded) × Handed next list
   HasBegun checked _ next = Unit {0}
 
   -- what a command replies and leaves of the list that was handed in
-  pub record Rides (checked : Bool) (command : Command) (reply : Reply) (old new : Ride D) : Type 0 where
+  pub record Rides (checked : Bool) (command : Command) (reply : Reply)
+      (old new : Ride D) : Type 0 where
     pub after : (list : List Recorded) → Handed old list → MayReplyAfter old list command reply
-    pub handed : (list : List Recorded) → Handed old list → reply ≡ Done → RidesOnWith old list command new
+    pub handed : (list : List Recorded) → Handed old list → reply ≡ Done
+        → RidesOnWith old list command new
     pub begun : reply ≡ Done → HasBegun checked command new

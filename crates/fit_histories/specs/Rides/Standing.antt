@@ -37,19 +37,20 @@ reply_in (Fault fault) = replies.Refused fault
 reply_in NoRecorder = replies.NoRecorder
 
 -- the files stand for a list that may be recorded; or they hold nothing recorded, and the empty claim is present
-abbrev pub Keeps : List Claim → Contents → Type 0
-Keeps claims contents =
-    ((list : List Recorded) × MayBe claims list × StandsFor list contents) ⊎ (IsTrue (has_none claims) × IsNothing contents)
+abbrev pub KeepsClaim : List Claim → Contents → Type 0
+KeepsClaim claims contents =
+    ((list : List Recorded) × MayBe claims list × StandsFor list contents)
+    ⊎ (IsTrue (has_none claims) × IsNothing contents)
 
 -- The files are as the history allows: they keep one of its claims, and the data file is empty if no start was begun since the last
 -- erasing.
 pub record Fits (history : History) (contents : Contents) : Type 0 where
-  pub keeps : Keeps (claims_of history) contents
+  pub keeps : KeepsClaim (claims_of history) contents
   pub empty : was_begun history ≡ false → contents.in_data ≡ []
 
 -- whatever a power cut leaves is as the history allows
-abbrev pub Rests : History → Story → Type 0
-Rests history story = LeavesOnly (Fits history) story.now
+abbrev pub LeavesAllowed : History → Story → Type 0
+LeavesAllowed history story = LeavesOnly (Fits history) story.now
 
 -- `Device` is replied if and only if a call of the device failed in this command, and that call was the last
 pub record IsCounted (reply : Reply) (old new : Counts) : Type 0 where
@@ -64,7 +65,8 @@ module _ {D : Type 0} where
 
   -- The recorder was handed this list, which has no stop, and so many of its entries are committed. Unless it was reopened, its
   -- slots take turns.
-  pub record RidesOn (honest : Bool) (story : D → Story) (recorder : Recorder D) (list : List Recorded) (promise : ℕ) (reopened : Bool) : Type 0 where
+  pub record RidesOn (honest : Bool) (story : D → Story) (recorder : Recorder D)
+      (list : List Recorded) (promise : ℕ) (reopened : Bool) : Type 0 where
     pub committed : List Recorded
     pub rest : List Recorded
     pub begins : list ≡ committed ++ rest
@@ -75,15 +77,19 @@ module _ {D : Type 0} where
     pub turns : reopened ≡ false → slots_left (journal_slots recorder) ≡ None
 
   abbrev pub StandsIn : Bool → (D → Story) → Ride D → History → Type 0
-  StandsIn honest story (rides.Idle disk) (Idle claims begun) = Rests (Idle claims begun) (story disk)
-  StandsIn honest story (rides.Riding recorder) (Riding list promise reopened false) = RidesOn honest story recorder list promise reopened
+  StandsIn honest story (rides.Idle disk) (Idle claims begun) =
+      LeavesAllowed (Idle claims begun) (story disk)
+  StandsIn honest story (rides.Riding recorder) (Riding list promise reopened false) =
+      RidesOn honest story recorder list promise reopened
   StandsIn honest story (rides.Riding recorder) (Riding list promise reopened true) =
-      (has_failed recorder ≡ true) × Rests (Riding list promise reopened true) (story (disk_of recorder))
+      (has_failed recorder ≡ true)
+      × LeavesAllowed (Riding list promise reopened true) (story (disk_of recorder))
   StandsIn honest story (rides.Idle disk) (Riding list promise reopened failed) = ⊥
   StandsIn honest story (rides.Riding recorder) (Idle claims begun) = ⊥
 
   -- the reply may come to the command, and the ride is in the state of the history after it
-  pub record GoesBy (honest : Bool) (story : D → Story) (before : History) (command : Command) (reply : Reply) (ride : Ride D) : Type 0 where
+  pub record TakesStepFrom (honest : Bool) (story : D → Story) (before : History)
+      (command : Command) (reply : Reply) (ride : Ride D) : Type 0 where
     pub after : History
     pub step : Step before command (outcome reply (content_of story ride)) after
     pub stands : StandsIn honest story ride after

@@ -14,7 +14,7 @@ impl Ride<Memory> {
     ghost use Rattle.fit_histories.specs.Histories.Table.{History};
     ghost use Rattle.fit_histories.specs.Rides.Ride.{CanGoOn, disk_in, is_riding};
     ghost use Rattle.fit_histories.specs.Rides.NeverFull.{NeverFull, StaysNeverFull};
-    ghost use Rattle.fit_histories.specs.Rides.Standing.{StandsIn, GoesBy, content_of};
+    ghost use Rattle.fit_histories.specs.Rides.Standing.{StandsIn, TakesStepFrom, content_of};
 
     /// Makes the k-th call of the disk from now on fail, counted from 1. The ride stays as it is.
     pub(crate) fn fail_at(&mut self, k: u32)
@@ -57,14 +57,15 @@ impl Ride<Memory> {
     pub(crate) fn power(self, choices: &[u8]) -> (Ride<Memory>, usize)
         ensures ended { is_riding result.0 ≡ false }
         ensures step { (before : History) → StandsIn true memory_story self before
-            → GoesBy true memory_story before commands.Power replies.Done result.0 }
+            → TakesStepFrom true memory_story before commands.Power replies.Done result.0 }
         ensures never_full { StaysNeverFull true memory_story self replies.Done result.0 }
         ensures left { (memory_story (disk_in result.0)).now
             ≡ cycled choices.now (memory_story (disk_in self)).now }
         ensures taken { result.1
             ≡ min (taken_in choices.now (memory_story (disk_in self)).now) (length choices.now) }
         ensures counts { memory_counts (disk_in result.0) ≡ memory_counts (disk_in self) }
-        ensures schedule { memory_schedule (disk_in result.0) ≡ unplanned (memory_counts (disk_in self)) }
+        ensures schedule { memory_schedule (disk_in result.0)
+            ≡ unplanned (memory_counts (disk_in self)) }
     {
         let mut disk = self.into_disk();
         let taken = disk.cycle(choices);

@@ -8,7 +8,7 @@ ghost use Rattle.fit_scripts.specs.Scripts.Commands.{CanRun};
 ghost use Rattle.fit_histories.specs.Histories.Table.{History};
 ghost use Rattle.fit_histories.specs.Rides.Ride.{CanGoOn, disk_in};
 ghost use Rattle.fit_histories.specs.Rides.NeverFull.{StaysNeverFull};
-ghost use Rattle.fit_histories.specs.Rides.Standing.{StandsIn, GoesBy};
+ghost use Rattle.fit_histories.specs.Rides.Standing.{StandsIn, TakesStepFrom};
 
 use crate::reply::Reply;
 use crate::ride::Ride;
@@ -27,9 +27,10 @@ pub fn step(
     requires can { CanRun command.now }
     ensures goes_on { CanGoOn true memory_story result.0 }
     ensures step { (before : History) → StandsIn true memory_story ride before
-        → GoesBy true memory_story before command.now result.1 result.0 }
+        → TakesStepFrom true memory_story before command.now result.1 result.0 }
     ensures never_full { StaysNeverFull true memory_story ride result.1 result.0 }
-    ensures moves { Moves command.now result.1 (memory_counts (disk_in ride)) (memory_schedule (disk_in ride))
+    ensures moves { Moves command.now result.1 (memory_counts (disk_in ride))
+        (memory_schedule (disk_in ride))
         (memory_counts (disk_in result.0)) (memory_schedule (disk_in result.0)) }
     ensures taken { result.2 ≡ takes command.now choices.now (memory_story (disk_in ride)).now }
     ensures within { result.2 ≤ length choices.now }

@@ -14,11 +14,11 @@ use Rattle.fit_recorder.specs.declared.frozen.FrozenRecorder.{FrozenRecorder}
 use Rattle.fit_recorder.specs.Private.State.{RecorderState, IsAt}
 
 -- the bytes of a definition are the first so many
-abbrev pub definition_in : FrozenDefinition → ArrayVec ℕ
-definition_in f = record { items = take f.len f.bytes }
+abbrev pub definition_bytes_in : FrozenDefinition → ArrayVec ℕ
+definition_bytes_in f = record { items = take f.len f.bytes }
 
 abbrev pub definitions_in : List FrozenDefinition → List (ArrayVec ℕ)
-definitions_in frozen = map definition_in frozen
+definitions_in frozen = map definition_bytes_in frozen
 
 abbrev pub state_in : FrozenRecorder → RecorderState
 state_in f = record {
@@ -50,4 +50,6 @@ HasEndedAt state list = AreTotals state.totals list × (has_stopped list ≡ tru
 abbrev pub GoesOnAt : Bool → RecorderState → Bool → Story → Type 0
 GoesOnAt honest state failed story =
     (failed ≡ true)
-    ⊎ (((list : List Recorded) × HasEndedAt state list) ⊎ ((list : List Recorded) × (committed : List Recorded) × IsAt honest state story list committed))
+    ⊎ (((list : List Recorded) × HasEndedAt state list)
+    ⊎ ((list : List Recorded) × (committed : List Recorded)
+    × IsAt honest state story list committed))

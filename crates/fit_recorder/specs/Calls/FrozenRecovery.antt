@@ -16,13 +16,20 @@ use Rattle.fit_recorder.specs.Files.Limits.{most_records}
 use Rattle.fit_recorder.specs.Files.Settled.{IsSettled}
 use Rattle.fit_recorder.specs.Private.Length.{CommitsLength}
 use Rattle.fit_activity.specs.declared.replay.Replay.{Replay}
-use Rattle.fit_activity.specs.Messages.FrozenReplay.{replay_in, IsPossible as IsPossibleReplay}
+use Rattle.fit_activity.specs.Messages.FrozenReplay.{replay_in, IsPossibleReplay}
 use Rattle.fit_grammar.specs.Calls.FrozenTable.{table_in, ArePossible}
 use Rattle.fit_recorder.specs.Private.BodyRead.{Reading, AreRead}
 use Rattle.fit_recorder.specs.declared.recovery.frozen.FrozenRecovery.{FrozenRecovery}
 
 abbrev pub reading_in : FrozenRecovery → Reading
-reading_in f = record { table = table_in f.definitions; time = f.time; checksum = f.checksum; at = f.at; len = f.len }
+reading_in f =
+    record {
+      table = table_in f.definitions;
+      time = f.time;
+      checksum = f.checksum;
+      at = f.at;
+      len = f.len;
+    }
 
 abbrev pub replay_of : FrozenRecovery → Replay
 replay_of f = replay_in f.heard
@@ -48,4 +55,5 @@ pub record ReadsOnIn (f : FrozenRecovery) (story : Story) : Type 0 where
   pub committed : CommitsLength (seen_in story.now) f.len (checksum_in (journal_of f))
   pub adopted : Adopted (journal_of f) f.len story.now.journal_file.seen
   pub read : (body : List ℕ) → length body ≡ f.len → HasBody body (seen_of Data story)
-      → (items : List Item) × AreRead (reading_in f) body items × HasHeard (replay_of f) (messages_of items)
+      → (items : List Item) × AreRead (reading_in f) body items
+      × HasHeard (replay_of f) (messages_of items)

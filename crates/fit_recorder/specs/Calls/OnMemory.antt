@@ -9,7 +9,8 @@ use Rattle.fit_recorder.specs.Calls.Recorder.{StandsAt, WasHanded, GoesOn, disk_
 -- no content and no promise changed
 pub record StandsAsBefore (old new : Recorder Memory) : Type 0 where
   pub goes_on : GoesOn true memory_story old → GoesOn true memory_story new
-  pub stands : (list committed : List Recorded) → StandsAt true memory_story old list committed → StandsAt true memory_story new list committed
+  pub stands : (list committed : List Recorded) → StandsAt true memory_story old list committed
+      → StandsAt true memory_story new list committed
   pub handed : (list : List Recorded) → WasHanded old list → WasHanded new list
   pub slots : journal_slots new ≡ journal_slots old
   pub failed : has_failed new ≡ has_failed old

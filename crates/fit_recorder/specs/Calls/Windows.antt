@@ -20,14 +20,17 @@ use Rattle.fit_recorder.specs.declared.recovery.windows.Recovery.{Recovery}
 
 -- it has heard some messages, at most one for each byte
 abbrev pub CanReadOn : Recovery → Type 0
-CanReadOn recovery = HeardUpTo recovery.reader recovery.replay × (recovery.reader.len ≤ most_records)
+CanReadOn recovery =
+    HeardUpTo recovery.reader recovery.replay × (recovery.reader.len ≤ most_records)
 
 -- both files are at rest, so many bytes of the body are committed, the journal was adopted, and some items of the body were read
 pub record ReadsOn (story : Story) (recovery : Recovery) : Type 0 where
   pub settled : IsSettled (seen_in story.now) story
-  pub committed : CommitsLength (seen_in story.now) recovery.reader.len (checksum_in recovery.journal)
+  pub committed : CommitsLength (seen_in story.now) recovery.reader.len
+      (checksum_in recovery.journal)
   pub adopted : Adopted recovery.journal recovery.reader.len story.now.journal_file.seen
-  pub heard : (body : List ℕ) → length body ≡ recovery.reader.len → HasBody body (seen_of Data story)
+  pub heard : (body : List ℕ) → length body ≡ recovery.reader.len
+      → HasBody body (seen_of Data story)
       → HasHeardItems recovery.reader recovery.replay body
 
 -- where the next byte of the data file is that it has to read
@@ -54,7 +57,8 @@ FindsBody story recovery (Err fault) = RecoveryAnswers (seen_in story.now) story
 -- changes nothing unless it is `Device`.
 abbrev pub TakesUpOn : Story → Story → Recovery → Option (Result FoundRide RecFault) → Type 0
 TakesUpOn old new recovery (Some taken) =
-    TakesUp (seen_in old.now) new taken × IfErr taken (λ fault. (fault ≡ faults.Device) ⊎ (new ≡ old))
+    TakesUp (seen_in old.now) new taken
+    × IfErr taken (λ fault. (fault ≡ faults.Device) ⊎ (new ≡ old))
 TakesUpOn old new recovery None = (new ≡ old) × ReadsOn old recovery
 
 -- what is known of it over any disk

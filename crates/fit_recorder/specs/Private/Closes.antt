@@ -10,9 +10,15 @@ use Rattle.fit_recorder.specs.Files.Limits.{longest_closing}
 
 -- All entries are committed, and the data file is the finished file of the list. At each moment the files stand for what was committed
 -- before, or for the list.
-pub record Closes {D T E : Type 0} (honest : Bool) (story : D → Story) (result : Result T E) (old new : Recorder D) : Type 0 where
+pub record Closes {D T E : Type 0} (honest : Bool) (story : D → Story) (result : Result T E)
+    (old new : Recorder D) : Type 0 where
   pub totals : new.totals ≡ old.totals
-  pub finished : IsTrue honest → AtEach honest story old (λ list committed. OnOk result (IsFinished list (story (disk_of new))))
-  pub within : IsTrue honest → AtEach honest story old (λ list committed. OnOk result (HasAtMost (data_len old + longest_closing) (story (disk_of new))))
+  pub finished : IsTrue honest
+      → AtEach honest story old
+      (λ list committed. OnOk result (IsFinished list (story (disk_of new))))
+  pub within : IsTrue honest
+      → AtEach honest story old
+      (λ list committed. OnOk result
+      (HasAtMost (data_len old + longest_closing) (story (disk_of new))))
   pub any_moment : EachMoment honest story (λ list committed. EitherStands committed list) old new
   pub head : SameHead honest story old new

@@ -14,17 +14,17 @@ use Rattle.fit_runs.specs.declared.recording.session.Session.{Session}
 use Rattle.fit_files.specs.Printed.Shown.{IsOutputFault}
 use Rattle.fit_runs.specs.Rides.Listening.{CanHear, HasHeard, BreaksOffAt}
 use Rattle.fit_runs.specs.Rides.Played.{LeavesAfter}
-use Rattle.fit_runs.specs.Rides.Turns.{Turn, turns_text, events_in, replies_in, refused_in, rides_after, times_after, IsAnswer, AnswersLine, AnswersLines, AnswersAll, AnswersUpTo, AnswersSome, Commits, TakesLine, CutShort, Prints, Does, BrokenOff, Finishes, SoFar, LeavesByTurns}
-use Rattle.fit_runs.specs.Rides.Heard.{IsHeld, line_of, lines_in, last_line, heard_in}
+use Rattle.fit_runs.specs.Rides.Turns.{Turn, turns_text, events_in, replies_in, refused_in, rides_after, times_after, IsAnswer, AnswersLine, AnswersLines, AnswersAll, AnswersUpTo, AnswersSome, CommitsIfDue, TakesLine, PrintsPart, Prints, RepliesToAll, BrokenOff, Finishes, SoFar, LeavesByTurns}
+use Rattle.fit_runs.specs.Rides.Heard.{IsHeld, line_of, lines_in, last_line, lines_heard_in}
 use Rattle.fit_runs.proofs.Reported.Recorded.{answers_more, cut_after, newline_heard, other_heard, prints_then}
 
 -- ---- the lines of some bytes
 
-lines_are : (bytes : List ℕ) (ended : List (List ℕ)) (line : List ℕ) → heard_in bytes ≡ record { ended = ended; held = line } →
+lines_are : (bytes : List ℕ) (ended : List (List ℕ)) (line : List ℕ) → lines_heard_in bytes ≡ record { ended = ended; held = line } →
     lines_in bytes ≡ ended ++ last_line line
 lines_are bytes ended line is = ap (λ h. h.ended ++ last_line h.held) is
 
-no_last : (bytes : List ℕ) (ended : List (List ℕ)) (line : List ℕ) → heard_in bytes ≡ record { ended = ended; held = line } → line ≡ [] →
+no_last : (bytes : List ℕ) (ended : List (List ℕ)) (line : List ℕ) → lines_heard_in bytes ≡ record { ended = ended; held = line } → line ≡ [] →
     ended ≡ lines_in bytes
 no_last bytes ended line is none = sym (lines_are bytes ended line is ∙ ap (λ l. ended ++ last_line l) none ∙ append-nil ended)
 
@@ -32,26 +32,26 @@ last_is : (line : List ℕ) → line ≢ [] → last_line line ≡ line ∷ []
 last_is [] some = absurd (some refl)
 last_is (byte ∷ bytes) some = refl
 
-one_last : (bytes : List ℕ) (ended : List (List ℕ)) (line : List ℕ) → heard_in bytes ≡ record { ended = ended; held = line } → line ≢ [] →
+one_last : (bytes : List ℕ) (ended : List (List ℕ)) (line : List ℕ) → lines_heard_in bytes ≡ record { ended = ended; held = line } → line ≢ [] →
     ended ++ line ∷ [] ≡ lines_in bytes
 one_last bytes ended line is some = sym (lines_are bytes ended line is ∙ ap (λ l. ended ++ l) (last_is line some))
 
 -- ---- what was done
 
 abbrev all_with : (every : Option ℕ) (all lines : List (List ℕ)) (own end : List Turn) (at : ℕ) → lines ≡ all → AnswersLines every [] 1 lines own →
-    at ≡ length lines + 1 → Commits (rides_after false own) at end → AnswersAll every all (own ++ end)
+    at ≡ length lines + 1 → CommitsIfDue (rides_after false own) at end → AnswersAll every all (own ++ end)
 all_with every all lines own end at is answers counted ends = record {
   own = own;
   end = end;
   split = refl;
   answers = subst (λ lines. AnswersLines every [] 1 lines own) is answers;
-  ends = subst (λ n. Commits (rides_after false own) n end) (counted ∙ ap (λ lines. length lines + 1) is) ends;
+  ends = subst (λ n. CommitsIfDue (rides_after false own) n end) (counted ∙ ap (λ lines. length lines + 1) is) ends;
 }
 
 -- after the last line of all bytes
 pub finishes : (honest : Bool) (old new : Story) (every : Option ℕ) (bytes : List ℕ) (lines : List (List ℕ)) (own end : List Turn) (number : ℕ)
     (before middle after : Option (List ℕ)) (result : Result ℕ ReportFault) → lines ≡ lines_in bytes → AnswersLines every [] 1 lines own →
-    number ≡ length lines → Does honest old new (own ++ end) → Commits (rides_after false own) (number + 1) end →
+    number ≡ length lines → RepliesToAll honest old new (own ++ end) → CommitsIfDue (rides_after false own) (number + 1) end →
     IfOk result (λ refused. refused ≡ refused_in (own ++ end)) → IfErr result IsOutputFault → Appends before middle (turns_text own) →
     Prints middle after result end → Finishes honest old new every bytes before after result
 finishes honest old new every bytes lines own end number before middle after (Ok refused) is answers counted does ends count fault printed prints = (
@@ -240,7 +240,7 @@ module _ {D : Type 0} (honest : Bool) (story : D → Story) (every : Option ℕ)
   -- all bytes were heard, and the last is a newline
   pub finished_whole : (old new : Story) (bytes : List ℕ) (before middle after : Option (List ℕ)) (listener : Listener D) (end : List Turn)
       (result : Result ℕ ReportFault) → (known : HasHeard honest story every old bytes before listener middle) → known.line ≡ [] →
-      Does honest old new (known.turns ++ end) → Commits (rides_after false known.turns) (listener.session.line + 1) end →
+      RepliesToAll honest old new (known.turns ++ end) → CommitsIfDue (rides_after false known.turns) (listener.session.line + 1) end →
       IfOk result (λ refused. refused ≡ refused_in (known.turns ++ end)) → IfErr result IsOutputFault → Prints middle after result end →
       Finishes honest old new every bytes before after result
   finished_whole old new bytes before middle after listener end result known none does ends count fault prints =
@@ -251,8 +251,8 @@ module _ {D : Type 0} (honest : Bool) (story : D → Story) (every : Option ℕ)
   pub finished_last : (old new : Story) (bytes : List ℕ) (before middle last after : Option (List ℕ)) (listener : Listener D) (next : Session D)
       (own end : List Turn) (result : Result ℕ ReportFault) → (known : HasHeard honest story every old bytes before listener middle) → known.line ≢ [] →
       AnswersLine every (times_after [] known.turns) (listener.session.line + 1) known.line own → next.line ≡ listener.session.line + 1 →
-      Appends middle last (turns_text own) → Does honest old new ((known.turns ++ own) ++ end) →
-      Commits (rides_after false (known.turns ++ own)) (next.line + 1) end →
+      Appends middle last (turns_text own) → RepliesToAll honest old new ((known.turns ++ own) ++ end) →
+      CommitsIfDue (rides_after false (known.turns ++ own)) (next.line + 1) end →
       IfOk result (λ refused. refused ≡ refused_in ((known.turns ++ own) ++ end)) → IfErr result IsOutputFault → Prints last after result end →
       Finishes honest old new every bytes before after result
   finished_last old new bytes before middle last after listener next own end result known some answers number printed does ends count fault prints =
@@ -267,7 +267,7 @@ module _ {D : Type 0} (honest : Bool) (story : D → Story) (every : Option ℕ)
       (own : List Turn) (fault : ReportFault) → (known : HasHeard honest story every old bytes before listener middle) → known.line ≢ [] →
       TakesLine {X = Unit {0}} (Err fault) every (times_after [] known.turns) (listener.session.line + 1) known.line own →
       SoFar honest story every old (known.turns ++ own) next →
-      LeavesByTurns honest old new (known.turns ++ own) → IsOutputFault fault → CutShort middle after own →
+      LeavesByTurns honest old new (known.turns ++ own) → IsOutputFault fault → PrintsPart middle after own →
       Finishes honest old new every bytes before after (Err fault)
   failed_last old new bytes before middle after listener next own fault known some answers so_far leaves output cut =
       broken_finishes honest old new every bytes before after fault output (
@@ -284,26 +284,26 @@ module _ {D : Type 0} (honest : Bool) (story : D → Story) (every : Option ℕ)
   -- the lines that ended, and a commit if a recorder ran
   ended_all : (old : Story) (bytes : List ℕ) (before middle : Option (List ℕ)) (listener : Listener D) (all : List (List ℕ)) (end : List Turn) →
       (known : HasHeard honest story every old bytes before listener middle) → known.ended ≡ all →
-      Commits (rides_after false known.turns) (listener.session.line + 1) end → AnswersAll every all (known.turns ++ end)
+      CommitsIfDue (rides_after false known.turns) (listener.session.line + 1) end → AnswersAll every all (known.turns ++ end)
   ended_all old bytes before middle listener all end known is ends =
       all_with every all known.ended known.turns end (listener.session.line + 1) is known.answers (omega (arith, known.number)) ends
 
   -- reads failed, and a commit was made if a recorder ran
   pub reads_failed : (old new : Story) (bytes : List ℕ) (before middle after : Option (List ℕ)) (listener : Listener D) (end : List Turn) (why : ReadFault) →
-      (known : HasHeard honest story every old bytes before listener middle) → Does honest old new (known.turns ++ end) →
-      Commits (rides_after false known.turns) (listener.session.line + 1) end → Appends middle after (turns_text end) →
+      (known : HasHeard honest story every old bytes before listener middle) → RepliesToAll honest old new (known.turns ++ end) →
+      CommitsIfDue (rides_after false known.turns) (listener.session.line + 1) end → Appends middle after (turns_text end) →
       Finishes honest old new every bytes before after (Err (Input why))
   reads_failed old new bytes before middle after listener end why known does ends printed = (
     known.turns ++ end,
-    ended_all old bytes before middle listener (heard_in bytes).ended end known (sym (ap (λ h. h.ended) known.all)) ends,
+    ended_all old bytes before middle listener (lines_heard_in bytes).ended end known (sym (ap (λ h. h.ended) known.all)) ends,
     does,
     prints_then {X = Unit {0}} before middle after known.turns end (Ok (tt {0})) known.printed printed,
   )
 
   -- the output failed at that commit
   pub commit_failed : (old new : Story) (bytes : List ℕ) (before middle after : Option (List ℕ)) (listener : Listener D) (end : List Turn) (fault : ReportFault) →
-      (known : HasHeard honest story every old bytes before listener middle) → Does honest old new (known.turns ++ end) →
-      Commits (rides_after false known.turns) (listener.session.line + 1) end → IsOutputFault fault → CutShort middle after end →
+      (known : HasHeard honest story every old bytes before listener middle) → RepliesToAll honest old new (known.turns ++ end) →
+      CommitsIfDue (rides_after false known.turns) (listener.session.line + 1) end → IsOutputFault fault → PrintsPart middle after end →
       Finishes honest old new every bytes before after (Err fault)
   commit_failed old new bytes before middle after listener end fault known does ends output cut =
       broken_finishes honest old new every bytes before after fault output (

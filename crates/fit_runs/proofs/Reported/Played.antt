@@ -10,7 +10,7 @@ use Rattle.fit_histories.specs.declared.ride.Ride.TheVariants as rides
 use Rattle.fit_histories.specs.Histories.Claims.{Claim}
 use Rattle.fit_histories.specs.Histories.Table.{History, Idle, Step, ended}
 use Rattle.fit_runs.specs.Rides.Played.{GoesTo, LeavesAfter}
-use Rattle.fit_histories.specs.Rides.Standing.{StandsIn, GoesBy, Rests, content_of, outcome}
+use Rattle.fit_histories.specs.Rides.Standing.{StandsIn, TakesStepFrom, LeavesAllowed, content_of, outcome}
 
 -- one more step
 goes_on : (before middle after : History) (event : Event) (reply : Reply) (file : List ℕ) (events : List Event) (replies : List Reply) →
@@ -33,7 +33,7 @@ module _ {D : Type 0} (honest : Bool) (story : D → Story) where
   pub record Rode (old : Story) (events left : List Event) (stated : List Reply) (ride : Ride D) : Type 0 where
     pub played : List Event
     pub begins : events ≡ played ++ left
-    pub stood : IsTrue honest → (claims : List Claim) (begun : Bool) → Rests (Idle claims begun) old → Stood (Idle claims begun) played stated ride
+    pub stood : IsTrue honest → (claims : List Claim) (begun : Bool) → LeavesAllowed (Idle claims begun) old → Stood (Idle claims begun) played stated ride
 
   -- before the first event
   pub not_begun : (disk : D) (events : List Event) → Rode (story disk) events events [] (rides.Idle disk)
@@ -45,7 +45,7 @@ module _ {D : Type 0} (honest : Bool) (story : D → Story) where
 
   one_more : (old : Story) (events left : List Event) (event : Event) (stated : List Reply) (ride next : Ride D) (reply : Reply) →
       Rode old events (event ∷ left) stated ride →
-      (IsTrue honest → (before : History) → StandsIn honest story ride before → GoesBy honest story before event.command reply next) →
+      (IsTrue honest → (before : History) → StandsIn honest story ride before → TakesStepFrom honest story before event.command reply next) →
       Rode old events left (stated ++ reply ∷ []) next
   one_more old events left event stated ride next reply known step = record {
     played = known.played ++ event ∷ [];
@@ -63,7 +63,7 @@ module _ {D : Type 0} (honest : Bool) (story : D → Story) where
   -- one more event
   pub rode_on : (old : Story) (events : List Event) (i : ℕ) (d : Event) (stated : List Reply) (ride next : Ride D) (reply : Reply) →
       i < length events → Rode old events (drop i events) stated ride →
-      (IsTrue honest → (before : History) → StandsIn honest story ride before → GoesBy honest story before (get_or events i d).command reply next) →
+      (IsTrue honest → (before : History) → StandsIn honest story ride before → TakesStepFrom honest story before (get_or events i d).command reply next) →
       Rode old events (drop (i + 1) events) (stated ++ reply ∷ []) next
   rode_on old events i d stated ride next reply within known =
       one_more old events (drop (i + 1) events) (get_or events i d) stated ride next reply
@@ -71,7 +71,7 @@ module _ {D : Type 0} (honest : Bool) (story : D → Story) where
 
   -- what the events that were run leave if the ride is ended
   left_of : (old new : Story) (events left : List Event) (stated : List Reply) (ride : Ride D) → (known : Rode old events left stated ride) →
-      (IsTrue honest → (before : History) → StandsIn honest story ride before → Rests (ended before) new) →
+      (IsTrue honest → (before : History) → StandsIn honest story ride before → LeavesAllowed (ended before) new) →
       LeavesAfter honest old new known.played stated
   left_of old new events left stated ride known ends sound claims begun rests =
       let stood = known.stood sound claims begun rests in
@@ -79,7 +79,7 @@ module _ {D : Type 0} (honest : Bool) (story : D → Story) where
 
   -- after the last event
   pub all_left : (old new : Story) (events : List Event) (i : ℕ) (stated : List Reply) (ride : Ride D) → length events ≤ i →
-      Rode old events (drop i events) stated ride → (IsTrue honest → (before : History) → StandsIn honest story ride before → Rests (ended before) new) →
+      Rode old events (drop i events) stated ride → (IsTrue honest → (before : History) → StandsIn honest story ride before → LeavesAllowed (ended before) new) →
       LeavesAfter honest old new events stated
   all_left old new events i stated ride past known ends =
       let end = subst (λ left. Rode old events left stated ride) (drop_all i events past) known in
@@ -88,7 +88,7 @@ module _ {D : Type 0} (honest : Bool) (story : D → Story) where
 
   -- after any event, with the events that were run
   pub some_left : (old new : Story) (events left : List Event) (stated : List Reply) (ride : Ride D) → Rode old events left stated ride →
-      (IsTrue honest → (before : History) → StandsIn honest story ride before → Rests (ended before) new) →
+      (IsTrue honest → (before : History) → StandsIn honest story ride before → LeavesAllowed (ended before) new) →
       (played : List Event) → events ≡ played ++ left → LeavesAfter honest old new played stated
   some_left old new events left stated ride known ends played is =
       subst (λ run. LeavesAfter honest old new run stated) (append_cancel_right known.played played left (sym known.begins ∙ is))

@@ -21,9 +21,9 @@ use Rattle.fit_runs.specs.Rides.Dues.{Shows, times_on}
 use Rattle.fit_runs.specs.Rides.Played.{GoesTo, LeavesAfter}
 use Rattle.fit_histories.specs.Rides.Replies.{MayReply, MayReplyAll, is_ok, rides_on}
 use Rattle.fit_histories.specs.Rides.Ride.{is_riding, Handed}
-use Rattle.fit_histories.specs.Rides.Standing.{StandsIn, GoesBy, Rests, content_of, outcome}
-use Rattle.fit_runs.specs.Rides.Turns.{commit_at, Turn, Asked, Faulty, turn_text, turns_text, events_in, replies_in, count_of, refused_in, rides_after, times_after, AnswersLine, AnswersLines, Commits, CommitsUnlessCut, CutShort, Prints, SoFar, EndsAt, GoesByTurns, LeavesByTurns}
-use Rattle.fit_runs.specs.Rides.Heard.{Heard, after_byte, after_bytes, heard_in, line_of}
+use Rattle.fit_histories.specs.Rides.Standing.{StandsIn, TakesStepFrom, LeavesAllowed, content_of, outcome}
+use Rattle.fit_runs.specs.Rides.Turns.{commit_at, Turn, Asked, Faulty, turn_text, turns_text, events_in, replies_in, refused_count, refused_in, rides_after, times_after, AnswersLine, AnswersLines, CommitsIfDue, CommitsUnlessBroken, PrintsPart, Prints, SoFar, EndsAt, GoesByTurns, LeavesByTurns}
+use Rattle.fit_runs.specs.Rides.Heard.{Heard, after_byte, after_bytes, lines_heard_in, line_of}
 use Rattle.fit_histories.specs.declared.ride.Ride.{Ride}
 use Rattle.fit_histories.specs.declared.ride.Ride.TheVariants as rides
 
@@ -98,9 +98,9 @@ module _ {D : Type 0} (honest : Bool) (story : D → Story) (every : Option ℕ)
   -- an event was run
   pub so_far_asked : (old : Story) (turns : List Turn) (session next : Session D) (event : Event) (reply : Reply) (last : ℕ) →
       SoFar honest story every old turns session → MayReply (is_riding session.ride) event.command reply →
-      is_riding next.ride ≡ rides_on (is_riding session.ride) event.command reply → next.refused ≡ session.refused + count_of (Asked event reply last) →
+      is_riding next.ride ≡ rides_on (is_riding session.ride) event.command reply → next.refused ≡ session.refused + refused_count (Asked event reply last) →
       Shows every (times_on (times_after [] turns) event.command (is_ok reply) last) next.clock →
-      (IsTrue honest → (before : History) → StandsIn honest story session.ride before → GoesBy honest story before event.command reply next.ride) →
+      (IsTrue honest → (before : History) → StandsIn honest story session.ride before → TakesStepFrom honest story before event.command reply next.ride) →
       ((after : History) → StandsIn honest story next.ride after → EndsAt after last) →
       SoFar honest story every old (turns ++ Asked event reply last ∷ []) next
   so_far_asked old turns session next event reply last known may rides counts shows step ends = record {
@@ -147,28 +147,28 @@ module _ {D : Type 0} (honest : Bool) (story : D → Story) (every : Option ℕ)
 
   -- what is left if the ride is ended
   pub left_after : (old new : Story) (turns : List Turn) (session : Session D) → SoFar honest story every old turns session →
-      (IsTrue honest → (before : History) → StandsIn honest story session.ride before → Rests (ended before) new) →
+      (IsTrue honest → (before : History) → StandsIn honest story session.ride before → LeavesAllowed (ended before) new) →
       LeavesByTurns honest old new turns
   left_after old new turns session known ends sound claims begun rests =
       let stood = known.stood sound claims begun rests in
       record { after = stood.0; goes = stood.1; rests = ends sound stood.0 stood.2 }
 
-pub no_commit : (due : Bool) (number : ℕ) → due ≡ false → Commits due number []
+pub no_commit : (due : Bool) (number : ℕ) → due ≡ false → CommitsIfDue due number []
 no_commit true number none = cc
 no_commit false number none = refl
 
 pub one_commit : (due : Bool) (number : ℕ) (reply : Reply) (last : ℕ) → due ≡ true →
-    Commits due number (Asked (commit_at number) reply last ∷ [])
+    CommitsIfDue due number (Asked (commit_at number) reply last ∷ [])
 one_commit true number reply last one = (reply, last, refl)
 one_commit false number reply last one = cc
 
 pub none_unless : {X : Type 0} (result : Result X ReportFault) (due : Bool) (number : ℕ) → due ≡ false →
-    CommitsUnlessCut result due number []
+    CommitsUnlessBroken result due number []
 none_unless (Ok x) due number none = no_commit due number none
 none_unless (Err fault) due number none = inr refl
 
 pub one_unless : {X : Type 0} (result : Result X ReportFault) (due : Bool) (number : ℕ) (reply : Reply) (last : ℕ) → due ≡ true →
-    CommitsUnlessCut result due number (Asked (commit_at number) reply last ∷ [])
+    CommitsUnlessBroken result due number (Asked (commit_at number) reply last ∷ [])
 one_unless (Ok x) due number reply last one = one_commit due number reply last one
 one_unless (Err fault) due number reply last one = inl (one_commit due number reply last one)
 
@@ -193,8 +193,8 @@ prints_one old new (Err fault) turn writes = record {
 texts : (turns more : List Turn) → turns_text (turns ++ more) ≡ turns_text turns ++ turns_text more
 texts turns more = flat_map-append turn_text turns more
 
-pub cut_after : (old middle new : Option (List ℕ)) (turns more : List Turn) → Appends old middle (turns_text turns) → CutShort middle new more →
-    CutShort old new (turns ++ more)
+pub cut_after : (old middle new : Option (List ℕ)) (turns more : List Turn) → Appends old middle (turns_text turns) → PrintsPart middle new more →
+    PrintsPart old new (turns ++ more)
 cut_after old middle new turns more printed cut = record {
   before = turns ++ cut.before;
   last = cut.last;
@@ -220,15 +220,15 @@ after_more : (heard : Heard) (bytes : List ℕ) (byte : ℕ) → after_bytes hea
 after_more heard [] byte = refl
 after_more heard (first ∷ bytes) byte = after_more (after_byte heard first) bytes byte
 
-pub heard_more : (bytes : List ℕ) (byte : ℕ) (heard : Heard) → heard_in bytes ≡ heard → heard_in (bytes ++ byte ∷ []) ≡ after_byte heard byte
+pub heard_more : (bytes : List ℕ) (byte : ℕ) (heard : Heard) → lines_heard_in bytes ≡ heard → lines_heard_in (bytes ++ byte ∷ []) ≡ after_byte heard byte
 heard_more bytes byte heard is = after_more (record { ended = []; held = [] }) bytes byte ∙ ap (λ h. after_byte h byte) is
 
-pub newline_heard : (bytes : List ℕ) (byte : ℕ) (lines : List (List ℕ)) (line : List ℕ) → heard_in bytes ≡ record { ended = lines; held = line } → byte ≡ 10 →
-    heard_in (bytes ++ byte ∷ []) ≡ record { ended = lines ++ line_of true line ∷ []; held = [] }
+pub newline_heard : (bytes : List ℕ) (byte : ℕ) (lines : List (List ℕ)) (line : List ℕ) → lines_heard_in bytes ≡ record { ended = lines; held = line } → byte ≡ 10 →
+    lines_heard_in (bytes ++ byte ∷ []) ≡ record { ended = lines ++ line_of true line ∷ []; held = [] }
 newline_heard bytes byte lines line is newline = heard_more bytes byte _ is ∙ rw newline refl
 
-pub other_heard : (bytes : List ℕ) (byte : ℕ) (lines : List (List ℕ)) (line : List ℕ) → heard_in bytes ≡ record { ended = lines; held = line } → byte ≢ 10 →
-    heard_in (bytes ++ byte ∷ []) ≡ record { ended = lines; held = line ++ byte ∷ [] }
+pub other_heard : (bytes : List ℕ) (byte : ℕ) (lines : List (List ℕ)) (line : List ℕ) → lines_heard_in bytes ≡ record { ended = lines; held = line } → byte ≢ 10 →
+    lines_heard_in (bytes ++ byte ∷ []) ≡ record { ended = lines; held = line ++ byte ∷ [] }
 other_heard bytes byte lines line is other =
     let no : (byte == 10) ≡ false = search rules in heard_more bytes byte _ is ∙ rw no refl
 

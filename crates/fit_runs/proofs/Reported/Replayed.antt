@@ -6,7 +6,7 @@ use Rattle.std.proofs.lemmas.List.{drop_more, drop_all}
 use Rattle.fit_disk.specs.Story.{Story}
 use Rattle.fit_grammar.specs.Calls.Output.{AppendsBeginning}
 use Rattle.fit_text.proofs.PenLemmas.{continues_none, continues_then, puts_written}
-use Rattle.fit_text.specs.Pen.{Written, Continues, Took}
+use Rattle.fit_text.specs.Pen.{Written, Continues, AddsBytes}
 use Rattle.fit_scripts.specs.declared.event.Event.{Event}
 use Rattle.fit_histories.specs.declared.reply.Reply.{Reply}
 use Rattle.fit_histories.specs.Rides.Replies.{is_ok, MayReply, rides_on, MayReplyAll, refusals}
@@ -27,7 +27,7 @@ pub record LeadsTo (events : List Event) (riding : Bool) (left : List Event) (st
   pub each : length played ≡ length stated
   pub text : List ℕ
   pub lines : text ≡ lines_text played stated
-  pub put : Took old text new
+  pub put : AddsBytes old text new
   pub leads : (more : List Event) (rest : List Reply) → MayReplyAll riding more rest →
       Counted (played ++ more) (stated ++ rest) (refused + refusals rest) (text ++ lines_text more rest)
 
@@ -56,7 +56,7 @@ lines_more (first ∷ played) (before ∷ stated) event reply each =
 
 after : (events left : List Event) (riding next : Bool) (event : Event) (stated : List Reply) (reply : Reply) (refused now : ℕ) (o m n : Written) →
     LeadsTo events riding (event ∷ left) stated refused o m → MayReply riding event.command reply → next ≡ rides_on riding event.command reply →
-    ((rest : List Reply) → now + refusals rest ≡ refused + refusals (reply ∷ rest)) → Took m (line_text event reply ++ codes "\n") n →
+    ((rest : List Reply) → now + refusals rest ≡ refused + refusals (reply ∷ rest)) → AddsBytes m (line_text event reply ++ codes "\n") n →
     LeadsTo events next left (stated ++ reply ∷ []) now o n
 after events left riding next event stated reply refused now o m n known may is counts put =
     let line : List ℕ = line_text event reply ++ codes "\n" in
@@ -86,7 +86,7 @@ after events left riding next event stated reply refused now o m n known may is 
 pub one_ok : (events : List Event) (i : ℕ) (d : Event) (riding next : Bool) (stated : List Reply) (reply : Reply) (refused : ℕ) (o m n : Written) →
     i < length events → LeadsTo events riding (drop i events) stated refused o m → MayReply riding (get_or events i d).command reply →
     next ≡ rides_on riding (get_or events i d).command reply → is_ok reply ≡ true →
-    Took m (line_text (get_or events i d) reply ++ codes "\n") n → LeadsTo events next (drop (i + 1) events) (stated ++ reply ∷ []) refused o n
+    AddsBytes m (line_text (get_or events i d) reply ++ codes "\n") n → LeadsTo events next (drop (i + 1) events) (stated ++ reply ∷ []) refused o n
 one_ok events i d riding next stated reply refused o m n within known may is ok put =
     after events (drop (i + 1) events) riding next (get_or events i d) stated reply refused refused o m n
     (subst (λ left. LeadsTo events riding left stated refused o m) (drop_more events i d within) known) may is (λ rest. rw ok refl) put
@@ -94,7 +94,7 @@ one_ok events i d riding next stated reply refused o m n within known may is ok 
 pub one_refused : (events : List Event) (i : ℕ) (d : Event) (riding next : Bool) (stated : List Reply) (reply : Reply) (refused : ℕ) (o m n : Written) →
     i < length events → LeadsTo events riding (drop i events) stated refused o m → MayReply riding (get_or events i d).command reply →
     next ≡ rides_on riding (get_or events i d).command reply → is_ok reply ≡ false →
-    Took m (line_text (get_or events i d) reply ++ codes "\n") n → LeadsTo events next (drop (i + 1) events) (stated ++ reply ∷ []) (refused + 1) o n
+    AddsBytes m (line_text (get_or events i d) reply ++ codes "\n") n → LeadsTo events next (drop (i + 1) events) (stated ++ reply ∷ []) (refused + 1) o n
 one_refused events i d riding next stated reply refused o m n within known may is not_ok put =
     after events (drop (i + 1) events) riding next (get_or events i d) stated reply refused (refused + 1) o m n
     (subst (λ left. LeadsTo events riding left stated refused o m) (drop_more events i d within) known) may is (λ rest. rw not_ok (omega arith)) put

@@ -18,17 +18,20 @@ reply_text NoRecorder = codes "NoRecorder"
 
 -- the number of the event's line, its word, and the reply
 abbrev pub line_text : Event → Reply → List ℕ
-line_text event reply = decimal event.line ++ codes " " ++ word_of event.command ++ codes ": " ++ reply_text reply
+line_text event reply =
+    decimal event.line ++ codes " " ++ word_of event.command ++ codes ": " ++ reply_text reply
 
 -- a line for each event, with its end
 abbrev pub lines_text : List Event → List Reply → List ℕ
 lines_text [] replies = []
 lines_text (event ∷ events) [] = []
-lines_text (event ∷ events) (reply ∷ replies) = (line_text event reply ++ codes "\n") ++ lines_text events replies
+lines_text (event ∷ events) (reply ∷ replies) =
+    (line_text event reply ++ codes "\n") ++ lines_text events replies
 
 -- Replies that may come to these events if no recorder runs before them, and for which `Known` holds, were printed, a line for each
 -- event. So many of them are refusals.
-pub record AreReported (events : List Event) (Known : List Reply → Type 0) (refused : ℕ) (old new : Option (List ℕ)) : Type 0 where
+pub record AreReported (events : List Event) (Known : List Reply → Type 0) (refused : ℕ)
+    (old new : Option (List ℕ)) : Type 0 where
   pub replies : List Reply
   pub may : MayReplyAll false events replies
   pub known : Known replies

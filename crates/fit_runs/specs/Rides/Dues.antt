@@ -28,7 +28,8 @@ is_passed (Some seconds) passed = nat_le seconds passed
 -- the command is an entry that was taken, and it is so many seconds or more after the oldest time
 abbrev pub is_due : Option ℕ → List ℕ → Command → Bool → Bool
 is_due every times (commands.Entry entry) done =
-    if done then (if is_stop (Added entry) then false else is_passed every (entry_time entry - oldest (entry_time entry) times)) else false
+    if done then (if is_stop (Added entry)
+    then false else is_passed every (entry_time entry - oldest (entry_time entry) times)) else false
 is_due every times _ done = false
 
 -- ---- for the calls

@@ -4,7 +4,8 @@ use Rattle.fit_runs.specs.declared.recording.held.Held.{Held}
 
 -- a line without the carriage return at its end
 abbrev pub without_return : List ℕ → List ℕ
-without_return line = if slice_index_or line (length line - 1) 0 == 13 then take (length line - 1) line else line
+without_return line =
+    if slice_index_or line (length line - 1) 0 == 13 then take (length line - 1) line else line
 
 -- a line that has ended loses its carriage return
 abbrev pub line_of : Bool → List ℕ → List ℕ
@@ -26,8 +27,8 @@ abbrev pub after_bytes : Heard → List ℕ → Heard
 after_bytes heard [] = heard
 after_bytes heard (byte ∷ bytes) = after_bytes (after_byte heard byte) bytes
 
-abbrev pub heard_in : List ℕ → Heard
-heard_in bytes = after_bytes (record { ended = []; held = [] }) bytes
+abbrev pub lines_heard_in : List ℕ → Heard
+lines_heard_in bytes = after_bytes (record { ended = []; held = [] }) bytes
 
 -- the last line may have no newline
 abbrev pub last_line : List ℕ → List (List ℕ)
@@ -36,7 +37,7 @@ last_line (byte ∷ bytes) = (byte ∷ bytes) ∷ []
 
 -- the lines of some bytes
 abbrev pub lines_in : List ℕ → List (List ℕ)
-lines_in bytes = (heard_in bytes).ended ++ last_line (heard_in bytes).held
+lines_in bytes = (lines_heard_in bytes).ended ++ last_line (lines_heard_in bytes).held
 
 -- these bytes of a line are kept; or it has more than are kept
 pub record IsHeld (line : List ℕ) (held : Held) : Type 0 where

@@ -8,31 +8,35 @@ use Rattle.fit_histories.specs.Histories.Claims.{Claim}
 use Rattle.fit_histories.specs.Histories.Table.{History, Idle, Step, ended}
 use Rattle.fit_runs.specs.Printed.ReplyLines.{line_text, lines_text}
 use Rattle.fit_histories.specs.Rides.Replies.{MayReplyAll}
-use Rattle.fit_histories.specs.Rides.Standing.{Rests, outcome}
+use Rattle.fit_histories.specs.Rides.Standing.{LeavesAllowed, outcome}
 
 -- From `before`, these replies may come to these events, one step after another, and `after` is the state then. A stop that is done
 -- and a recovery report some file.
 abbrev pub GoesTo : History → List Event → List Reply → History → Type 0
 GoesTo before [] [] after = after ≡ before
 GoesTo before (event ∷ events) (reply ∷ replies) after =
-    (file : List ℕ) × (next : History) × Step before event.command (outcome reply file) next × GoesTo next events replies after
+    (file : List ℕ) × (next : History) × Step before event.command (outcome reply file) next
+    × GoesTo next events replies after
 GoesTo before [] (reply ∷ replies) after = ⊥
 GoesTo before (event ∷ events) [] after = ⊥
 
 -- the replies came, and after the end of the recorder that runs the disk is as the history allows
-pub record Leaves (before : History) (story : Story) (events : List Event) (replies : List Reply) : Type 0 where
+pub record Leaves (before : History) (story : Story) (events : List Event)
+    (replies : List Reply) : Type 0 where
   pub after : History
   pub goes : GoesTo before events replies after
-  pub rests : Rests (ended after) story
+  pub rests : LeavesAllowed (ended after) story
 
 -- over an honest disk, from any state without a recorder that allows the disk as it was
 abbrev pub LeavesAfter : Bool → Story → Story → List Event → List Reply → Type 0
 LeavesAfter honest old new events replies =
-    IsTrue honest → (claims : List Claim) (begun : Bool) → Rests (Idle claims begun) old → Leaves (Idle claims begun) new events replies
+    IsTrue honest → (claims : List Claim) (begun : Bool) → LeavesAllowed (Idle claims begun) old
+    → Leaves (Idle claims begun) new events replies
 
 -- A prefix of the events was run, and these replies may come to it. A line was printed for each reply but the last, and a prefix of the
 -- last one's line.
-pub record BreaksOff (honest : Bool) (old new : Story) (events : List Event) (before after : Option (List ℕ)) : Type 0 where
+pub record BreaksOff (honest : Bool) (old new : Story) (events : List Event)
+    (before after : Option (List ℕ)) : Type 0 where
   pub played : List Event
   pub last : Event
   pub left : List Event

@@ -22,9 +22,9 @@ use Rattle.fit_runs.specs.Rides.Dues.{Shows, times_on, is_due}
 use Rattle.fit_runs.specs.Rides.Played.{GoesTo, LeavesAfter}
 use Rattle.fit_histories.specs.Rides.Replies.{MayReplyAll, is_ok, rides_on}
 use Rattle.fit_histories.specs.Rides.Ride.{is_riding}
-use Rattle.fit_histories.specs.Rides.Standing.{StandsIn, Rests, outcome}
+use Rattle.fit_histories.specs.Rides.Standing.{StandsIn, LeavesAllowed, outcome}
 use Rattle.fit_scripts.specs.Scripts.Faults.{IsWrong}
-use Rattle.fit_runs.specs.Rides.Heard.{heard_in, lines_in}
+use Rattle.fit_runs.specs.Rides.Heard.{lines_heard_in, lines_in}
 use Rattle.fit_scripts.specs.Scripts.Commands.{is_simulated}
 use Rattle.fit_scripts.specs.Scripts.Script.{meaning_of}
 use Rattle.fit_scripts.specs.Scripts.Replayed.{is_simulated}
@@ -54,24 +54,26 @@ replies_in (Asked event reply last ∷ turns) = reply ∷ replies_in turns
 replies_in (Faulty number fault ∷ turns) = replies_in turns
 
 -- an answer that is not ok counts
-abbrev pub count_of : Turn → ℕ
-count_of (Asked event reply last) = if is_ok reply then 0 else 1
-count_of (Faulty number fault) = 1
+abbrev pub refused_count : Turn → ℕ
+refused_count (Asked event reply last) = if is_ok reply then 0 else 1
+refused_count (Faulty number fault) = 1
 
 abbrev pub refused_in : List Turn → ℕ
 refused_in [] = 0
-refused_in (turn ∷ turns) = count_of turn + refused_in turns
+refused_in (turn ∷ turns) = refused_count turn + refused_in turns
 
 -- whether a recorder runs after these turns
 abbrev pub rides_after : Bool → List Turn → Bool
 rides_after riding [] = riding
-rides_after riding (Asked event reply last ∷ turns) = rides_after (rides_on riding event.command reply) turns
+rides_after riding (Asked event reply last ∷ turns) =
+    rides_after (rides_on riding event.command reply) turns
 rides_after riding (Faulty number fault ∷ turns) = rides_after riding turns
 
 -- the times since the last commit, after these turns
 abbrev pub times_after : List ℕ → List Turn → List ℕ
 times_after times [] = times
-times_after times (Asked event reply last ∷ turns) = times_after (times_on times event.command (is_ok reply) last) turns
+times_after times (Asked event reply last ∷ turns) =
+    times_after (times_on times event.command (is_ok reply) last) turns
 times_after times (Faulty number fault ∷ turns) = times_after times turns
 
 -- ---- the turns of lines
@@ -79,13 +81,15 @@ times_after times (Faulty number fault ∷ turns) = times_after times turns
 -- what is wrong with a line
 abbrev pub IsLineFault : List ℕ → LineFault → Type 0
 IsLineFault line (Script kind) = kind ≢ Memory → IsWrong line kind
-IsLineFault line OnlySimulate = (command : Command) × (meaning_of line ≡ Some (Some command)) × (is_simulated command ≡ true)
+IsLineFault line OnlySimulate =
+    (command : Command) × (meaning_of line ≡ Some (Some command)) × (is_simulated command ≡ true)
 IsLineFault line TooLong = 4096 < length line
 
 -- the command of the line with this number was run; or it cannot be done, and is answered with its fault
 abbrev pub IsAnswer : ℕ → List ℕ → Turn → Type 0
 IsAnswer number line (Asked event reply last) =
-    (event.line ≡ number) × (meaning_of line ≡ Some (Some event.command)) × (is_simulated event.command ≡ false)
+    (event.line ≡ number) × (meaning_of line ≡ Some (Some event.command))
+    × (is_simulated event.command ≡ false)
 IsAnswer number line (Faulty at fault) = (at ≡ number) × IsLineFault line fault
 
 -- a commit that no line states
@@ -93,9 +97,10 @@ abbrev pub commit_at : ℕ → Event
 commit_at number = record { line = number; command = Commit }
 
 -- such a commit, or no turn
-abbrev pub Commits : Bool → ℕ → List Turn → Type 0
-Commits true number turns = (reply : Reply) × (last : ℕ) × (turns ≡ Asked (commit_at number) reply last ∷ [])
-Commits false number turns = turns ≡ []
+abbrev pub CommitsIfDue : Bool → ℕ → List Turn → Type 0
+CommitsIfDue true number turns =
+    (reply : Reply) × (last : ℕ) × (turns ≡ Asked (commit_at number) reply last ∷ [])
+CommitsIfDue false number turns = turns ≡ []
 
 -- a commit is due after this turn
 abbrev pub is_due_after : Option ℕ → List ℕ → Turn → Bool
@@ -106,14 +111,16 @@ is_due_after every times (Faulty number fault) = false
 abbrev pub AnswersLine : Option ℕ → List ℕ → ℕ → List ℕ → List Turn → Type 0
 AnswersLine every times number line turns =
     ((meaning_of line ≡ Some None) × (turns ≡ []))
-    ⊎ ((answer : Turn) × (more : List Turn) × IsAnswer number line answer × Commits (is_due_after every times answer) number more
+    ⊎ ((answer : Turn) × (more : List Turn) × IsAnswer number line answer
+    × CommitsIfDue (is_due_after every times answer) number more
     × (turns ≡ answer ∷ more))
 
 -- lines that are numbered from here on, each with its turns
 abbrev pub AnswersLines : Option ℕ → List ℕ → ℕ → List (List ℕ) → List Turn → Type 0
 AnswersLines every times number [] turns = turns ≡ []
 AnswersLines every times number (line ∷ lines) turns =
-    (own : List Turn) × (rest : List Turn) × (turns ≡ own ++ rest) × AnswersLine every times number line own
+    (own : List Turn) × (rest : List Turn) × (turns ≡ own ++ rest)
+    × AnswersLine every times number line own
     × AnswersLines every (times_after times own) (number + 1) lines rest
 
 -- all these lines, and a commit after the last if a recorder runs then
@@ -122,7 +129,7 @@ pub record AnswersAll (every : Option ℕ) (lines : List (List ℕ)) (turns : Li
   pub end : List Turn
   pub split : turns ≡ own ++ end
   pub answers : AnswersLines every [] 1 lines own
-  pub ends : Commits (rides_after false own) (length lines + 1) end
+  pub ends : CommitsIfDue (rides_after false own) (length lines + 1) end
 
 -- the lines before the last, and the answer to the last
 pub record AnswersUpTo (every : Option ℕ) (lines : List (List ℕ)) (turns : List Turn) : Type 0 where
@@ -137,12 +144,14 @@ pub record AnswersUpTo (every : Option ℕ) (lines : List (List ℕ)) (turns : L
 
 -- These lines, if the output failed: at the answer to the last, at a commit that was due after it, or at the commit at the end.
 abbrev pub AnswersSome : Option ℕ → List (List ℕ) → List Turn → Type 0
-AnswersSome every lines turns = AnswersUpTo every lines turns ⊎ AnswersLines every [] 1 lines turns ⊎ AnswersAll every lines turns
+AnswersSome every lines turns =
+    AnswersUpTo every lines turns ⊎ AnswersLines every [] 1 lines turns
+    ⊎ AnswersAll every lines turns
 
 -- ---- what is printed
 
 -- the text of all turns but the last was printed, and a part of that of the last
-pub record CutShort (old new : Option (List ℕ)) (turns : List Turn) : Type 0 where
+pub record PrintsPart (old new : Option (List ℕ)) (turns : List Turn) : Type 0 where
   pub before : List Turn
   pub last : Turn
   pub all : turns ≡ before ++ last ∷ []
@@ -152,9 +161,10 @@ pub record CutShort (old new : Option (List ℕ)) (turns : List Turn) : Type 0 w
   pub printed : Appends old new (turns_text before ++ part)
 
 -- the text of the turns was printed, or cut short
-abbrev pub Prints : {X : Type 0} → Option (List ℕ) → Option (List ℕ) → Result X ReportFault → List Turn → Type 0
+abbrev pub Prints : {X : Type 0} → Option (List ℕ) → Option (List ℕ) → Result X ReportFault
+    → List Turn → Type 0
 Prints old new (Ok done) turns = Appends old new (turns_text turns)
-Prints old new (Err fault) turns = CutShort old new turns
+Prints old new (Err fault) turns = PrintsPart old new turns
 
 -- ---- a whole recording
 
@@ -168,66 +178,81 @@ EndsAt _ last = Unit {0}
 abbrev pub GoesByTurns : History → List Turn → History → Type 0
 GoesByTurns before [] after = after ≡ before
 GoesByTurns before (Asked event reply last ∷ turns) after =
-    (file : List ℕ) × (next : History) × Step before event.command (outcome reply file) next × EndsAt next last × GoesByTurns next turns after
+    (file : List ℕ) × (next : History) × Step before event.command (outcome reply file) next
+    × EndsAt next last × GoesByTurns next turns after
 GoesByTurns before (Faulty number fault ∷ turns) after = GoesByTurns before turns after
 
 -- the turns came, and after the end of the recorder that runs the disk is as the history allows
 pub record LeftByTurns (before : History) (story : Story) (turns : List Turn) : Type 0 where
   pub after : History
   pub goes : GoesByTurns before turns after
-  pub rests : Rests (ended after) story
+  pub rests : LeavesAllowed (ended after) story
 
 -- over an honest disk, from any state without a recorder that allows the disk as it was
 abbrev pub LeavesByTurns : Bool → Story → Story → List Turn → Type 0
 LeavesByTurns honest old new turns =
-    IsTrue honest → (claims : List Claim) (begun : Bool) → Rests (Idle claims begun) old → LeftByTurns (Idle claims begun) new turns
+    IsTrue honest → (claims : List Claim) (begun : Bool) → LeavesAllowed (Idle claims begun) old
+    → LeftByTurns (Idle claims begun) new turns
 
 -- The replies of these turns may come. Over an honest disk they are steps of a history, and the disk is as it allows.
-pub record Does (honest : Bool) (old new : Story) (turns : List Turn) : Type 0 where
+pub record RepliesToAll (honest : Bool) (old new : Story) (turns : List Turn) : Type 0 where
   pub may : MayReplyAll false (events_in turns) (replies_in turns)
   pub leaves : LeavesByTurns honest old new turns
 
 -- the output failed: of these bytes the first were done, and the text of the turns was cut short
-abbrev pub BrokenOff : Bool → Story → Story → Option ℕ → List ℕ → Option (List ℕ) → Option (List ℕ) → Type 0
+abbrev pub BrokenOff : Bool → Story → Story → Option ℕ → List ℕ → Option (List ℕ) → Option (List ℕ)
+    → Type 0
 BrokenOff honest old new every bytes before after =
-    (heard : List ℕ) × (rest : List ℕ) × (bytes ≡ heard ++ rest) × (turns : List Turn) × AnswersSome every (lines_in heard) turns
-    × Does honest old new turns × CutShort before after turns
+    (heard : List ℕ) × (rest : List ℕ) × (bytes ≡ heard ++ rest) × (turns : List Turn)
+    × AnswersSome every (lines_in heard) turns
+    × RepliesToAll honest old new turns × PrintsPart before after turns
 
 -- All these bytes were done, with a commit at the end if a recorder ran, and so many answers are not ok. If reads failed, the bytes of a
 -- line that had not ended were not done.
-abbrev pub Finishes : Bool → Story → Story → Option ℕ → List ℕ → Option (List ℕ) → Option (List ℕ) → Result ℕ ReportFault → Type 0
+abbrev pub Finishes : Bool → Story → Story → Option ℕ → List ℕ → Option (List ℕ) → Option (List ℕ)
+    → Result ℕ ReportFault → Type 0
 Finishes honest old new every bytes before after (Ok refused) =
-    (turns : List Turn) × AnswersAll every (lines_in bytes) turns × Does honest old new turns × (refused ≡ refused_in turns)
+    (turns : List Turn) × AnswersAll every (lines_in bytes) turns
+    × RepliesToAll honest old new turns × (refused ≡ refused_in turns)
     × Appends before after (turns_text turns)
 Finishes honest old new every bytes before after (Err (Input why)) =
-    (turns : List Turn) × AnswersAll every (heard_in bytes).ended turns × Does honest old new turns × Appends before after (turns_text turns)
-Finishes honest old new every bytes before after (Err fault) = BrokenOff honest old new every bytes before after
+    (turns : List Turn) × AnswersAll every (lines_heard_in bytes).ended turns
+    × RepliesToAll honest old new turns × Appends before after (turns_text turns)
+Finishes honest old new every bytes before after (Err fault) =
+    BrokenOff honest old new every bytes before after
 
 -- so it went with all bytes that were read
-abbrev pub Records : Bool → Story → Story → Option ℕ → Option (List ℕ) → Option (List ℕ) → Option (List ℕ) → Option (List ℕ) → Result ℕ ReportFault → Type 0
-Records honest old new every from left before after result =
-    (bytes : List ℕ) × Consumes from left bytes × OnOk result (IsAtEnd left) × Finishes honest old new every bytes before after result
+abbrev pub RecordsBytes : Bool → Story → Story → Option ℕ → Option (List ℕ) → Option (List ℕ)
+    → Option (List ℕ) → Option (List ℕ) → Result ℕ ReportFault → Type 0
+RecordsBytes honest old new every from left before after result =
+    (bytes : List ℕ) × Consumes from left bytes × OnOk result (IsAtEnd left)
+    × Finishes honest old new every bytes before after result
 
 -- ---- for the calls
 
 -- a commit, if one is due; if the output failed, maybe none
-abbrev pub CommitsUnlessCut : {X : Type 0} → Result X ReportFault → Bool → ℕ → List Turn → Type 0
-CommitsUnlessCut (Ok done) due number turns = Commits due number turns
-CommitsUnlessCut (Err fault) due number turns = Commits due number turns ⊎ (turns ≡ [])
+abbrev pub CommitsUnlessBroken : {X : Type 0} → Result X ReportFault → Bool → ℕ → List Turn → Type 0
+CommitsUnlessBroken (Ok done) due number turns = CommitsIfDue due number turns
+CommitsUnlessBroken (Err fault) due number turns = CommitsIfDue due number turns ⊎ (turns ≡ [])
 
 -- the turns of a line; if the output failed, maybe without the commit
-abbrev pub TakesLine : {X : Type 0} → Result X ReportFault → Option ℕ → List ℕ → ℕ → List ℕ → List Turn → Type 0
+abbrev pub TakesLine : {X : Type 0} → Result X ReportFault → Option ℕ → List ℕ → ℕ → List ℕ
+    → List Turn → Type 0
 TakesLine result every times number line turns =
     ((meaning_of line ≡ Some None) × (turns ≡ []))
     ⊎ ((answer : Turn) × (more : List Turn) × IsAnswer number line answer
-    × CommitsUnlessCut result (is_due_after every times answer) number more × (turns ≡ answer ∷ more))
+    × CommitsUnlessBroken result (is_due_after every times answer) number more
+    × (turns ≡ answer ∷ more))
 
 module _ {D : Type 0} where
   -- The state after these turns, from an idle disk with this story.
-  pub record SoFar (honest : Bool) (story : D → Story) (every : Option ℕ) (old : Story) (turns : List Turn) (session : Session D) : Type 0 where
+  pub record SoFar (honest : Bool) (story : D → Story) (every : Option ℕ) (old : Story)
+      (turns : List Turn) (session : Session D) : Type 0 where
     pub may : MayReplyAll false (events_in turns) (replies_in turns)
     pub riding : is_riding session.ride ≡ rides_after false turns
     pub counted : session.refused ≡ refused_in turns
     pub clock : Shows every (times_after [] turns) session.clock
-    pub stood : IsTrue honest → (claims : List Claim) (begun : Bool) → Rests (Idle claims begun) old →
-        (after : History) × GoesByTurns (Idle claims begun) turns after × StandsIn honest story session.ride after
+    pub stood : IsTrue honest → (claims : List Claim) (begun : Bool)
+        → LeavesAllowed (Idle claims begun) old →
+        (after : History) × GoesByTurns (Idle claims begun) turns after
+        × StandsIn honest story session.ride after

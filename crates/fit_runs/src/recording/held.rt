@@ -51,8 +51,10 @@ impl Held {
 
     /// The line, without the carriage return at its end if it has ended. `None` if it is too long.
     pub fn line(&self, is_ended: bool) -> Option<&[u8]>
-        ensures line { (line : List ℕ) → IsHeld line self.now → IfSome result (λ found. found.now ≡ line_of is_ended line) }
-        ensures long { (line : List ℕ) → IsHeld line self.now → result ≡ None → 4096 < length (line_of is_ended line) }
+        ensures line { (line : List ℕ) → IsHeld line self.now
+            → IfSome result (λ found. found.now ≡ line_of is_ended line) }
+        ensures long { (line : List ℕ) → IsHeld line self.now → result ≡ None
+            → 4096 < length (line_of is_ended line) }
     {
         if self.is_long {
             return None;

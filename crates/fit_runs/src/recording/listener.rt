@@ -42,8 +42,10 @@ impl<D: Disk> Listener<D> {
         pen: &mut Pen<'_, O>,
     ) -> (Listener<D>, Result<(), ReportFault>)
         requires waits { pen.old.waiting ≡ [] }
-        requires able { (count : ℕ) × CanHear D.honest D.story count self × (count + length piece.now < 2 ^ 60) }
-        ensures able { (count : ℕ) → CanHear D.honest D.story count self → CanHear D.honest D.story (count + length piece.now) result.0 }
+        requires able { (count : ℕ) × CanHear D.honest D.story count self
+            × (count + length piece.now < 2 ^ 60) }
+        ensures able { (count : ℕ) → CanHear D.honest D.story count self
+            → CanHear D.honest D.story (count + length piece.now) result.0 }
         ensures same { pen.new.name ≡ pen.old.name }
         ensures waits { OnOk result.1 (pen.new.waiting ≡ []) }
         ensures fault { IfErr result.1 IsOutputFault }
@@ -52,7 +54,8 @@ impl<D: Disk> Listener<D> {
             → OnOk result.1
             (HasHeard D.honest D.story every old (bytes ++ piece.now) before result.0 pen.new.held)
             × OnErr result.1
-            (BreaksOffAt D.honest D.story every old (bytes ++ piece.now) before result.0 pen.new.held) }
+            (BreaksOffAt D.honest D.story every old (bytes
+            ++ piece.now) before result.0 pen.new.held) }
     {
         let mut listener = self;
         for byte in piece {
@@ -75,7 +78,8 @@ impl<D: Disk> Listener<D> {
     ) -> (Listener<D>, Result<(), ReportFault>)
         requires waits { pen.old.waiting ≡ [] }
         requires able { (count : ℕ) × CanHear D.honest D.story count self × (count < 2 ^ 60) }
-        ensures able { (count : ℕ) → CanHear D.honest D.story count self → CanHear D.honest D.story (count + 1) result.0 }
+        ensures able { (count : ℕ) → CanHear D.honest D.story count self
+            → CanHear D.honest D.story (count + 1) result.0 }
         ensures same { pen.new.name ≡ pen.old.name }
         ensures waits { OnOk result.1 (pen.new.waiting ≡ []) }
         ensures fault { IfErr result.1 IsOutputFault }
@@ -84,7 +88,8 @@ impl<D: Disk> Listener<D> {
             → OnOk result.1
             (HasHeard D.honest D.story every old (bytes ++ byte ∷ []) before result.0 pen.new.held)
             × OnErr result.1
-            (BreaksOffAt D.honest D.story every old (bytes ++ byte ∷ []) before result.0 pen.new.held) }
+            (BreaksOffAt D.honest D.story every old (bytes
+            ++ byte ∷ []) before result.0 pen.new.held) }
     {
         let Listener { session, mut held } = self;
         if byte != b'\n' {
@@ -111,7 +116,8 @@ impl<D: Disk> Listener<D> {
         requires waits { pen.old.waiting ≡ [] }
         requires able { (count : ℕ) × CanHear D.honest D.story count self × (count < 2 ^ 60) }
         ensures same { pen.new.name ≡ pen.old.name }
-        ensures outcome { (every : Option ℕ) (old : Story) (bytes : List ℕ) (before : Option (List ℕ))
+        ensures outcome { (every : Option ℕ) (old : Story) (bytes : List ℕ)
+            (before : Option (List ℕ))
             → HasHeard D.honest D.story every old bytes before self pen.old.held
             → Finishes D.honest old (D.story result.0) every bytes before pen.new.held result.1 }
     {
@@ -131,7 +137,8 @@ impl<D: Disk> Listener<D> {
         requires waits { pen.old.waiting ≡ [] }
         requires able { (count : ℕ) × CanHear D.honest D.story count self × (count < 2 ^ 60) }
         ensures same { pen.new.name ≡ pen.old.name }
-        ensures outcome { (every : Option ℕ) (old : Story) (bytes : List ℕ) (before : Option (List ℕ))
+        ensures outcome { (every : Option ℕ) (old : Story) (bytes : List ℕ)
+            (before : Option (List ℕ))
             → HasHeard D.honest D.story every old bytes before self pen.old.held
             → Finishes D.honest old (D.story result.0) every bytes before pen.new.held result.1 }
         ensures broken { OnOk result.1 ⊥ }

@@ -7,7 +7,7 @@ ghost use Rattle.fit_histories.specs.declared.reply.Reply.{Reply as AReply};
 ghost use Rattle.fit_files.specs.Printed.Shown.{IsOutputFault};
 ghost use Rattle.fit_histories.specs.Rides.Ride.{CanGoOn, is_riding};
 ghost use Rattle.fit_runs.specs.Rides.Played.{LeavesAfter};
-ghost use Rattle.fit_runs.specs.Rides.Turns.{Turn, Asked, Faulty, Does, count_of, refused_in, TakesLine, Commits, CommitsUnlessCut, IsLineFault, Prints, SoFar, commit_at, is_due_after, rides_after, times_after, events_in, replies_in, LeavesByTurns};
+ghost use Rattle.fit_runs.specs.Rides.Turns.{Turn, Asked, Faulty, RepliesToAll, refused_count, refused_in, TakesLine, CommitsIfDue, CommitsUnlessBroken, IsLineFault, Prints, SoFar, commit_at, is_due_after, rides_after, times_after, events_in, replies_in, LeavesByTurns};
 ghost use Rattle.fit_scripts.specs.Scripts.Commands.{is_simulated};
 ghost use Rattle.fit_scripts.specs.Scripts.Replayed.{IsReplayed, is_simulated};
 ghost use Rattle.fit_scripts.specs.Scripts.Script.{meaning_of};
@@ -68,9 +68,11 @@ impl<D: Disk> Session<D> {
         ensures number { result.0.line ≡ self.line + 1 }
         ensures few { result.0.refused ≤ 2 * (self.line + 1) }
         ensures outcome { (bytes : List ℕ) (every : Option ℕ) (old : Story) (turns : List Turn)
-            → IfSome line.entry (λ line. line.now ≡ bytes) → (line.entry ≡ None → 4096 < length bytes)
+            → IfSome line.entry (λ line. line.now ≡ bytes)
+            → (line.entry ≡ None → 4096 < length bytes)
             → SoFar D.honest D.story every old turns self
-            → (own : List Turn) × TakesLine result.1 every (times_after [] turns) (self.line + 1) bytes own
+            → (own : List Turn)
+            × TakesLine result.1 every (times_after [] turns) (self.line + 1) bytes own
             × SoFar D.honest D.story every old (turns ++ own) result.0
             × Prints pen.old.held pen.new.held result.1 own }
     {
@@ -170,7 +172,8 @@ impl<D: Disk> Session<D> {
         ensures ran { (every : Option ℕ) (old : Story) (turns : List Turn)
             → SoFar D.honest D.story every old turns self
             → (reply : AReply) × (last : ℕ) × (more : List Turn)
-            × CommitsUnlessCut result.1 (is_due_after every (times_after [] turns) (Asked event.now reply last))
+            × CommitsUnlessBroken result.1
+            (is_due_after every (times_after [] turns) (Asked event.now reply last))
             event.now.line more
             × SoFar D.honest D.story every old (turns ++ Asked event.now reply last ∷ more) result.0
             × Prints pen.old.held pen.new.held result.1 (Asked event.now reply last ∷ more) }
@@ -206,7 +209,8 @@ impl<D: Disk> Session<D> {
             → SoFar D.honest D.story every old turns self
             → (reply : AReply) × (last : ℕ)
             × SoFar D.honest D.story every old (turns ++ Asked event.now reply last ∷ []) result.0
-            × (result.0.clock.is_due ≡ is_due_after every (times_after [] turns) (Asked event.now reply last))
+            × (result.0.clock.is_due
+            ≡ is_due_after every (times_after [] turns) (Asked event.now reply last))
             × Prints pen.old.held pen.new.held result.1 (Asked event.now reply last ∷ []) }
     {
         let Session {
@@ -240,8 +244,8 @@ impl<D: Disk> Session<D> {
         ensures fault { IfErr result.1 IsOutputFault }
         ensures ended { (every : Option ℕ) (old : Story) (turns : List Turn)
             → SoFar D.honest D.story every old turns self
-            → (end : List Turn) × Does D.honest old (D.story result.0) (turns ++ end)
-            × Commits (rides_after false turns) (self.line + 1) end
+            → (end : List Turn) × RepliesToAll D.honest old (D.story result.0) (turns ++ end)
+            × CommitsIfDue (rides_after false turns) (self.line + 1) end
             × IfOk result.1 (λ refused. refused ≡ refused_in (turns ++ end))
             × Prints pen.old.held pen.new.held result.1 end }
     {
@@ -287,7 +291,7 @@ fn commit_at(line: usize) -> Event
 
 // How many refusals a reply is.
 fn refusals(reply: Reply) -> usize
-    ensures count { (event : AnEvent) (last : ℕ) → result ≡ count_of (Asked event reply last) }
+    ensures count { (event : AnEvent) (last : ℕ) → result ≡ refused_count (Asked event reply last) }
     ensures few { result ≤ 1 }
 {
     if reply.is_ok() { 0 } else { 1 }
@@ -295,10 +299,13 @@ fn refusals(reply: Reply) -> usize
 
 // The command of a line, if it states one. A line that is `None` is too long.
 fn command_in(alloc: Global, line: Option<&[u8]>) -> Result<Option<Command>, LineFault>
-    ensures meaning { IfOk result (λ found. IfSome line.entry (λ line. meaning_of line.now ≡ Some found)) }
+    ensures meaning { IfOk result (λ found. IfSome line.entry (λ line. meaning_of line.now
+        ≡ Some found)) }
     ensures short { IfOk result (λ found. IsSome line.entry) }
-    ensures replayed { IfOk result (λ found. IfSome found (λ command. is_simulated command ≡ false)) }
-    ensures fault { IfErr result (λ fault. (bytes : List ℕ) → IfSome line.entry (λ line. line.now ≡ bytes)
+    ensures replayed { IfOk result (λ found. IfSome found (λ command. is_simulated command
+        ≡ false)) }
+    ensures fault { IfErr result (λ fault. (bytes : List ℕ)
+        → IfSome line.entry (λ line. line.now ≡ bytes)
         → (line.entry ≡ None → 4096 < length bytes) → IsLineFault bytes fault) }
 {
     let Some(line) = line else {

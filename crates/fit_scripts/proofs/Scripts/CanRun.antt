@@ -10,7 +10,7 @@ use Rattle.fit_scripts.specs.declared.command.Command.{Command}
 use Rattle.fit_scripts.specs.declared.command.Command.TheVariants as commands
 use Rattle.fit_scripts.specs.declared.event.Event.{Event}
 use Rattle.fit_scripts.specs.Scripts.Commands.{CanRun}
-use Rattle.fit_scripts.specs.Scripts.Script.{number32, count, alone, only, start_of, sample_of, command_of, is_silent, event_of, events_of}
+use Rattle.fit_scripts.specs.Scripts.Script.{number32, count, alone, only, start_line, sample_line, command_of, is_silent, event_of, events_of}
 use Rattle.fit_scripts.specs.Scripts.Words.{words}
 
 abbrev CanRunEvent : Event → Type 0
@@ -48,8 +48,8 @@ counted f (Some k) can from_one = can k from_one
 command_can : (words : List (List ℕ)) → IfSome (command_of words) CanRun
 command_can [] = tt
 command_can (name ∷ arguments) =
-    either (bytes_eq name (codes "start")) _ _ (mapped (λ start. commands.Start start) (start_of arguments) (λ start. tt))
-    (either (bytes_eq name (codes "sample")) _ _ (mapped (λ entry. commands.Entry entry) (sample_of arguments) (λ entry. tt))
+    either (bytes_eq name (codes "start")) _ _ (mapped (λ start. commands.Start start) (start_line arguments) (λ start. tt))
+    (either (bytes_eq name (codes "sample")) _ _ (mapped (λ entry. commands.Entry entry) (sample_line arguments) (λ entry. tt))
     (either (bytes_eq name (codes "lap")) _ _ (mapped (λ time. commands.Entry (entries.Lap time)) (only number32 arguments) (λ time. tt))
     (either (bytes_eq name (codes "pause")) _ _ (mapped (λ time. commands.Entry (entries.Pause time)) (only number32 arguments) (λ time. tt))
     (either (bytes_eq name (codes "resume")) _ _ (mapped (λ time. commands.Entry (entries.Resume time)) (only number32 arguments) (λ time. tt))

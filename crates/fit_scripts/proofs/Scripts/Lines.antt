@@ -9,7 +9,7 @@ use Rattle.std.specs.Option.{option_or}
 use Rattle.std.specs.Str.{bytes_eq}
 use Rattle.fit_activity.specs.Rides.Table.{FieldRow}
 use Rattle.fit_scripts.specs.Scripts.Script.{event_of, events_of}
-use Rattle.fit_scripts.specs.Scripts.Sample.{key_in, value_in, is_setting, is_new_setting, has_no_repeat, are_settings, stated, stated_by, number_by, stands_in, with_setting}
+use Rattle.fit_scripts.specs.Scripts.Sample.{key_in, setting_value, is_setting, is_new_setting, has_no_repeat, are_settings, stated_value, values_stated, number_by, stands_in, with_setting}
 
 -- ---- references
 
@@ -87,21 +87,21 @@ or_assoc None b c = refl
 or_assoc (Some x) b c = refl
 
 stated_more : {X : Type 0} (of : List ℕ → List ℕ → Option X) (words : List (List ℕ)) (word : List ℕ) →
-    stated of (words ++ word ∷ []) ≡ option_or (of (key_in word) (value_in word)) (stated of words)
+    stated_value of (words ++ word ∷ []) ≡ option_or (of (key_in word) (setting_value word)) (stated_value of words)
 stated_more of [] word = or_none _
 stated_more of (other ∷ words) word =
-    ap (λ o. option_or o (of (key_in other) (value_in other))) (stated_more of words word)
-    ∙ or_assoc (of (key_in word) (value_in word)) (stated of words) (of (key_in other) (value_in other))
+    ap (λ o. option_or o (of (key_in other) (setting_value other))) (stated_more of words word)
+    ∙ or_assoc (of (key_in word) (setting_value word)) (stated_value of words) (of (key_in other) (setting_value other))
 
 -- the numbers of words with one more word
 stated_by_more : (rows : List FieldRow) (words : List (List ℕ)) (word : List ℕ) →
-    stated_by rows (words ++ word ∷ []) ≡ with_setting rows (stated_by rows words) (key_in word) (value_in word)
+    values_stated rows (words ++ word ∷ []) ≡ with_setting rows (values_stated rows words) (key_in word) (setting_value word)
 stated_by_more [] words word = refl
 stated_by_more (row ∷ rows) words word =
     rw (stated_more (number_by row) words word, stated_by_more rows words word) refl
 
 pub stated_next : (rows : List FieldRow) (words : List (List ℕ)) (i : ℕ) → i < length words →
-    stated_by rows (take (i + 1) words) ≡ with_setting rows (stated_by rows (take i words)) (key_in (get_or words i [])) (value_in (get_or words i []))
+    values_stated rows (take (i + 1) words) ≡ with_setting rows (values_stated rows (take i words)) (key_in (get_or words i [])) (setting_value (get_or words i []))
 stated_next rows words i within = rw (take_more words i [] within) (stated_by_more rows (take i words) (get_or words i []))
 
 -- ---- events

@@ -1,4 +1,4 @@
--- A number of a setting fits into the bytes of its row: for `script/sample`.
+-- A decimal_number of a setting fits into the bytes of its row: for `script/sample`.
 use Rattle.std.proofs.Common.{◌≡◌, zero, suc, ◌≤◌, ◌<◌, ℕ, ℤ, List, [], ◌∷◌, Option, Some, None, Bool, true, false, refl, arith, tests, if◌then◌else◌}
 use Rattle.std.specs.Prelude.{IfSome, option_map, ◌^◌, ◌+◌, ◌*◌, ◌||◌, nat_le, ◌&&◌, neg_ℤ, pos, ◌==◌}
 use Rattle.std.specs.Option.{option_or, is_some}
@@ -10,7 +10,7 @@ use Rattle.fit_base.specs.Number.{as_unsigned}
 use Rattle.fit_base.specs.declared.base.BaseType.{BaseType}
 use Rattle.fit_base.specs.declared.base.BaseType.TheVariants.{Enum, Sint8, Uint8, Sint16, Uint16, Sint32, Uint32, String, Float32, Float64, Uint8z, Uint16z, Uint32z, Byte, Sint64, Uint64, Uint64z}
 use Rattle.fit_activity.specs.Rides.Table.{FieldRow, ValuesFit}
-use Rattle.fit_scripts.specs.Scripts.Words.{number, signed_number, number_as, is_numeral}
+use Rattle.fit_scripts.specs.Scripts.Words.{decimal_number, signed_number, number_as, is_numeral}
 use Rattle.fit_scripts.specs.Scripts.Sample.{number_by, with_setting}
 
 at_most : (b : Bool) (n most : ℕ) → (b && nat_le n most) ≡ true → n ≤ most
@@ -21,8 +21,8 @@ some_at_most : (b : Bool) (n most bound : ℕ) → (b ≡ true → n ≤ most) �
 some_at_most true n most bound is below = omega (arith, is refl, below)
 some_at_most false n most bound is below = tt
 
-number-fits : (most bound : ℕ) (word : List ℕ) → most < bound → IfSome (number most word) (λ k. k < bound)
-number-fits most bound word below =
+decimal_number-fits : (most bound : ℕ) (word : List ℕ) → most < bound → IfSome (decimal_number most word) (λ k. k < bound)
+decimal_number-fits most bound word below =
     some_at_most (is_numeral word && nat_le (digits_value 10 word) most) (digits_value 10 word) most bound (at_most (is_numeral word) (digits_value 10 word) most) below
 
 negated : (size n : ℕ) → n < 2 ^ (8 * size) → as_unsigned size (neg_ℤ (pos n)) < 2 ^ (8 * size)
@@ -45,16 +45,16 @@ either false size bound o p f g = g
 signed-fits : (size most : ℕ) (word : List ℕ) → most + 1 < 2 ^ (8 * size) → IfSome (option_map (as_unsigned size) (signed_number most word)) (λ k. k < 2 ^ (8 * size))
 signed-fits size most [] below = tt
 signed-fits size most (byte ∷ bytes) below =
-    either (byte == 45) size (2 ^ (8 * size)) (option_map (λ n. neg_ℤ (pos n)) (number (most + 1) bytes)) (option_map pos (number most (byte ∷ bytes)))
-    (negated-fits size _ (number-fits (most + 1) _ bytes below)) (plain-fits size _ _ (number-fits most _ (byte ∷ bytes) (omega (arith, below))))
+    either (byte == 45) size (2 ^ (8 * size)) (option_map (λ n. neg_ℤ (pos n)) (decimal_number (most + 1) bytes)) (option_map pos (decimal_number most (byte ∷ bytes)))
+    (negated-fits size _ (decimal_number-fits (most + 1) _ bytes below)) (plain-fits size _ _ (decimal_number-fits most _ (byte ∷ bytes) (omega (arith, below))))
 
 pub as-fits : (base : BaseType) (word : List ℕ) → IfSome (number_as base word) (λ k. k < 256 ^ (row_of base).size)
 as-fits Sint8 word = signed-fits 1 127 word (omega arith)
 as-fits Sint16 word = signed-fits 2 32767 word (omega arith)
 as-fits Sint32 word = signed-fits 4 2147483647 word (omega arith)
-as-fits Uint8 word = number-fits 255 _ word (omega arith)
-as-fits Uint16 word = number-fits 65535 _ word (omega arith)
-as-fits Uint32 word = number-fits 4294967295 _ word (omega arith)
+as-fits Uint8 word = decimal_number-fits 255 _ word (omega arith)
+as-fits Uint16 word = decimal_number-fits 65535 _ word (omega arith)
+as-fits Uint32 word = decimal_number-fits 4294967295 _ word (omega arith)
 as-fits Enum word = tt
 as-fits String word = tt
 as-fits Float32 word = tt
@@ -78,7 +78,7 @@ setting-fits (row ∷ rows) [] key word fits = tt
 setting-fits (row ∷ rows) (value ∷ values) key word fits =
     (or-fits (bytes_eq key row.3) (number_as row.1 word) value _ (as-fits row.1 word) fits.0, setting-fits rows values key word fits.1)
 
--- an empty word is no number
+-- an empty word is no decimal_number
 none-as : (base : BaseType) → number_as base [] ≡ None
 none-as Enum = refl
 none-as Sint8 = refl

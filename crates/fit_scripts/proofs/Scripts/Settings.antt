@@ -14,7 +14,7 @@ use Rattle.fit_scripts.specs.Scripts.Words.{number_as}
 use Rattle.fit_scripts.specs.declared.script.fault.ScriptFaultKind.{ScriptFaultKind}
 use Rattle.fit_scripts.specs.declared.script.fault.ScriptFaultKind.TheVariants.{UnknownKey, RepeatedKey, BadNumber}
 use Rattle.fit_scripts.specs.Scripts.Faults.{has_equals, is_key, setting_fault}
-use Rattle.fit_scripts.specs.Scripts.Sample.{key_in, value_in, is_setting, are_settings, is_new_setting, stands_in, stated, stated_by, has_no_repeat, has_number, with_setting, number_by}
+use Rattle.fit_scripts.specs.Scripts.Sample.{key_in, setting_value, is_setting, are_settings, is_new_setting, stands_in, stated_value, values_stated, has_no_repeat, has_number, with_setting, number_by}
 
 -- ---- keys
 
@@ -92,12 +92,12 @@ unknown [] key all none = refl
 unknown (word ∷ words) key all none =
     let parts = and_parts _ _ all in
     rw (unknown words key parts.1 none) (by (bytes_eq (key_in word) key) refl)
-    where
-      by : (b : Bool) → bytes_eq (key_in word) key ≡ b → (bytes_eq (key_in word) key || false) ≡ false
-      by false e = rw e refl
-      by true e =
-          let same : key_in word ≡ key = (bytes_eq-Decides (key_in word) key).0 e in
-          absurd (cc (sym (and_parts _ _ all).0 ∙ no_setting (key_in word) (value_in word) (rw same none)))
+  where
+    by : (b : Bool) → bytes_eq (key_in word) key ≡ b → (bytes_eq (key_in word) key || false) ≡ false
+    by false e = rw e refl
+    by true e =
+        let same : key_in word ≡ key = (bytes_eq-Decides (key_in word) key).0 e in
+        absurd (cc (sym (and_parts _ _ all).0 ∙ no_setting (key_in word) (setting_value word) (rw same none)))
 
 some_or : (a b : Option ℕ) → is_some (option_or a b) ≡ (is_some b || is_some a)
 some_or None None = refl
@@ -117,32 +117,32 @@ row_holds values key word at d same row = holds SAMPLE_FIELDS values key word at
 
 -- a setting has a number for the row of a key if and only if that is its key
 own_number : (key : List ℕ) (at : ℕ) (d : SourceRow) (word : List ℕ) → IsRowOf key at d → is_setting word ≡ true →
-    is_some (number_by (row_in (get_or SAMPLE_FIELDS at d)) (key_in word) (value_in word)) ≡ bytes_eq (key_in word) key
+    is_some (number_by (row_in (get_or SAMPLE_FIELDS at d)) (key_in word) (setting_value word)) ≡ bytes_eq (key_in word) key
 own_number key at d word row setting = by (bytes_eq (key_in word) key) refl
-    where
-      by : (b : Bool) → bytes_eq (key_in word) key ≡ b →
-          is_some (number_by (row_in (get_or SAMPLE_FIELDS at d)) (key_in word) (value_in word)) ≡ bytes_eq (key_in word) key
-      by true e =
-          let same : key_in word ≡ key = (bytes_eq-Decides (key_in word) key).0 e in
-          let found : IsRowOf (key_in word) at d = rw same row in
-          rw (e, found.is) (sym (row_holds (stated_by sample_rows []) (key_in word) (value_in word) at d refl found).has ∙ setting)
-      by false e =
-          let key_is : key ≡ (get_or SAMPLE_FIELDS at d).3.now = (bytes_eq-Decides key _).0 row.is in
-          let other : bytes_eq (key_in word) (get_or SAMPLE_FIELDS at d).3.now ≡ false = ap (bytes_eq (key_in word)) (sym key_is) ∙ e in
-          rw (other, e) refl
+  where
+    by : (b : Bool) → bytes_eq (key_in word) key ≡ b →
+        is_some (number_by (row_in (get_or SAMPLE_FIELDS at d)) (key_in word) (setting_value word)) ≡ bytes_eq (key_in word) key
+    by true e =
+        let same : key_in word ≡ key = (bytes_eq-Decides (key_in word) key).0 e in
+        let found : IsRowOf (key_in word) at d = rw same row in
+        rw (e, found.is) (sym (row_holds (values_stated sample_rows []) (key_in word) (setting_value word) at d refl found).has ∙ setting)
+    by false e =
+        let key_is : key ≡ (get_or SAMPLE_FIELDS at d).3.now = (bytes_eq-Decides key _).0 row.is in
+        let other : bytes_eq (key_in word) (get_or SAMPLE_FIELDS at d).3.now ≡ false = ap (bytes_eq (key_in word)) (sym key_is) ∙ e in
+        rw (other, e) refl
 
 stated_there : (key : List ℕ) (at : ℕ) (d : SourceRow) (words : List (List ℕ)) → IsRowOf key at d → list_all is_setting words ≡ true →
-    is_some (stated (number_by (row_in (get_or SAMPLE_FIELDS at d))) words) ≡ stands_in key words
+    is_some (stated_value (number_by (row_in (get_or SAMPLE_FIELDS at d))) words) ≡ stands_in key words
 stated_there key at d [] row all = refl
 stated_there key at d (word ∷ words) row all =
     some_or _ _ ∙ rw (own_number key at d word row (and_parts _ _ all).0, stated_there key at d words row (and_parts _ _ all).1) refl
 
 -- a row has a value if and only if one of the words has its key
 pub value_stands : (key : List ℕ) (at : ℕ) (d : SourceRow) (words : List (List ℕ)) → IsRowOf key at d → are_settings words ≡ true →
-    is_some (get_or (stated_by sample_rows words) at None) ≡ stands_in key words
+    is_some (get_or (values_stated sample_rows words) at None) ≡ stands_in key words
 value_stands key at d words row are =
-    ap is_some (get_or-map (λ row. stated (number_by row) words) sample_rows at (row_in d) None row.within
-    ∙ ap (λ row. stated (number_by row) words) (get_or-map row_in SAMPLE_FIELDS at d (row_in d) row.within))
+    ap is_some (get_or-map (λ row. stated_value (number_by row) words) sample_rows at (row_in d) None row.within
+    ∙ ap (λ row. stated_value (number_by row) words) (get_or-map row_in SAMPLE_FIELDS at d (row_in d) row.within))
     ∙ stated_there key at d words row (and_parts _ _ are).0
 
 -- ---- what is said of a setting, by its key
@@ -151,22 +151,22 @@ module _ (words : List (List ℕ)) (setting key : List ℕ) (key_is : key ≡ ke
   pub unknown_key : are_settings words ≡ true → is_key key ≡ false → (is_new_setting words setting ≡ false) × (UnknownKey ≡ setting_fault words setting)
   unknown_key are none =
       let own : is_key (key_in setting) ≡ false = ap is_key (sym key_is) ∙ none in
-      (and_left _ _ (no_setting (key_in setting) (value_in setting) own), rw (parts, unknown words (key_in setting) (and_parts _ _ are).0 own, own) refl)
+      (and_left _ _ (no_setting (key_in setting) (setting_value setting) own), rw (parts, unknown words (key_in setting) (and_parts _ _ are).0 own, own) refl)
 
   pub repeated_key : stands_in key words ≡ true → (is_new_setting words setting ≡ false) × (RepeatedKey ≡ setting_fault words setting)
   repeated_key stands =
       let own : stands_in (key_in setting) words ≡ true = ap (λ k. stands_in k words) (sym key_is) ∙ stands in
       (and_right _ _ (ap not own), rw (parts, own) refl)
 
-  module _ (value : List ℕ) (value_is : value ≡ value_in setting) (new : stands_in key words ≡ false) where
+  module _ (value : List ℕ) (value_is : value ≡ setting_value setting) (new : stands_in key words ≡ false) where
     pub bad_number : is_key key ≡ true → has_number key value ≡ false → (is_new_setting words setting ≡ false) × (BadNumber ≡ setting_fault words setting)
     bad_number known none =
         let own : stands_in (key_in setting) words ≡ false = ap (λ k. stands_in k words) (sym key_is) ∙ new in
         let there : is_key (key_in setting) ≡ true = ap is_key (sym key_is) ∙ known in
-        let bad : is_setting setting ≡ false = ap (λ k. has_number k (value_in setting)) (sym key_is) ∙ ap (has_number key) (sym value_is) ∙ none in
+        let bad : is_setting setting ≡ false = ap (λ k. has_number k (setting_value setting)) (sym key_is) ∙ ap (has_number key) (sym value_is) ∙ none in
         (and_left _ _ bad, rw (parts, own, there) refl)
 
     pub new_setting : has_number key value ≡ true → is_new_setting words setting ≡ true
     new_setting has =
         let own : stands_in (key_in setting) words ≡ false = ap (λ k. stands_in k words) (sym key_is) ∙ new in
-        and_from _ _ (ap (λ k. has_number k (value_in setting)) (sym key_is) ∙ ap (has_number key) (sym value_is) ∙ has) (ap not own)
+        and_from _ _ (ap (λ k. has_number k (setting_value setting)) (sym key_is) ∙ ap (has_number key) (sym value_is) ∙ has) (ap not own)

@@ -8,7 +8,8 @@ byte_before (Some high) (Some low) (Some bytes) = Some ((high * 16 + low) ∷ by
 byte_before high low bytes = None
 
 -- hexadecimal digits of either case, two for each byte
-abbrev pub bytes_of : List ℕ → Option (List ℕ)
-bytes_of [] = Some []
-bytes_of (digit ∷ []) = None
-bytes_of (high ∷ low ∷ digits) = byte_before (hex_digit_value high) (hex_digit_value low) (bytes_of digits)
+abbrev pub hex_bytes : List ℕ → Option (List ℕ)
+hex_bytes [] = Some []
+hex_bytes (digit ∷ []) = None
+hex_bytes (high ∷ low ∷ digits) =
+    byte_before (hex_digit_value high) (hex_digit_value low) (hex_bytes digits)

@@ -12,8 +12,8 @@ use Rattle.fit_scripts.specs.Scripts.Words.{number_as}
 abbrev pub key_in : List ℕ → List ℕ
 key_in word = before_first (λ byte. byte == 61) word
 
-abbrev pub value_in : List ℕ → List ℕ
-value_in word = after_first (λ byte. byte == 61) word
+abbrev pub setting_value : List ℕ → List ℕ
+setting_value word = after_first (λ byte. byte == 61) word
 
 -- the number that a value states for a row, if the key is that of the row
 abbrev pub number_for : BaseType → List ℕ → List ℕ → List ℕ → Option ℕ
@@ -27,7 +27,7 @@ abbrev pub has_number : List ℕ → List ℕ → Bool
 has_number key value = list_any (λ row. is_some (number_by row key value)) sample_rows
 
 abbrev pub is_setting : List ℕ → Bool
-is_setting word = has_number (key_in word) (value_in word)
+is_setting word = has_number (key_in word) (setting_value word)
 
 abbrev pub has_no_repeat : List (List ℕ) → Bool
 has_no_repeat [] = true
@@ -38,17 +38,18 @@ abbrev pub are_settings : List (List ℕ) → Bool
 are_settings words = list_all is_setting words && has_no_repeat (map key_in words)
 
 -- the number that the words state, or none; the last word that states one counts
-abbrev pub stated : {X : Type 0} → (List ℕ → List ℕ → Option X) → List (List ℕ) → Option X
-stated of [] = None
-stated of (word ∷ words) = option_or (stated of words) (of (key_in word) (value_in word))
+abbrev pub stated_value : {X : Type 0} → (List ℕ → List ℕ → Option X) → List (List ℕ) → Option X
+stated_value of [] = None
+stated_value of (word ∷ words) =
+    option_or (stated_value of words) (of (key_in word) (setting_value word))
 
 -- the number that the words state for each row
-abbrev pub stated_by : List FieldRow → List (List ℕ) → List (Option ℕ)
-stated_by rows words = map (λ row. stated (number_by row) words) rows
+abbrev pub values_stated : List FieldRow → List (List ℕ) → List (Option ℕ)
+values_stated rows words = map (λ row. stated_value (number_by row) words) rows
 
 -- the sample that the words are settings of
 abbrev pub sample_at : ℕ → List (List ℕ) → Sample
-sample_at time words = of_raw time (stated_by sample_rows words)
+sample_at time words = of_raw time (values_stated sample_rows words)
 
 -- ---- for the calls
 
@@ -64,4 +65,5 @@ is_new_setting words word = is_setting word && not (stands_in (key_in word) word
 abbrev pub with_setting : List FieldRow → List (Option ℕ) → List ℕ → List ℕ → List (Option ℕ)
 with_setting [] values key value = []
 with_setting (row ∷ rows) [] key value = []
-with_setting (row ∷ rows) (old ∷ values) key value = option_or (number_by row key value) old ∷ with_setting rows values key value
+with_setting (row ∷ rows) (old ∷ values) key value =
+    option_or (number_by row key value) old ∷ with_setting rows values key value

@@ -11,14 +11,14 @@ use Rattle.fit_activity.specs.declared.recording.entry.Entry.TheVariants as entr
 use Rattle.fit_scripts.specs.declared.command.Command.{Command}
 use Rattle.fit_scripts.specs.declared.command.Command.TheVariants as commands
 use Rattle.fit_scripts.specs.declared.event.Event.{Event}
-use Rattle.fit_scripts.specs.Scripts.Words.{words, number}
+use Rattle.fit_scripts.specs.Scripts.Words.{words, decimal_number}
 use Rattle.fit_scripts.specs.Scripts.Sample.{are_settings, sample_at}
 
 -- ---- a line
 
--- a number of 32 bits
+-- a decimal_number of 32 bits
 abbrev pub number32 : List ℕ → Option ℕ
-number32 word = number 4294967295 word
+number32 word = decimal_number 4294967295 word
 
 -- one of 1 or more
 abbrev pub count : List ℕ → Option ℕ
@@ -42,21 +42,28 @@ only read (word ∷ []) = read word
 only read _ = None
 
 -- TIME SERIAL SPORT
-abbrev pub start_of : List (List ℕ) → Option Start
-start_of (time ∷ serial ∷ sport ∷ []) =
-    option_and_then (λ t. option_and_then (λ s. option_map (λ p. record { time = t; serial = s; sport = p }) (sport_named sport))
+abbrev pub start_line : List (List ℕ) → Option Start
+start_line (time ∷ serial ∷ sport ∷ []) =
+    option_and_then (λ t. option_and_then (λ s. option_map (λ p. record {
+      time =
+          t;
+      serial = s;
+      sport = p;
+    }) (sport_named sport))
     (number32 serial)) (number32 time)
-start_of _ = None
+start_line _ = None
 
 -- TIME KEY=NUMBER ..
-abbrev pub sample_of : List (List ℕ) → Option Entry
-sample_of [] = None
-sample_of (time ∷ settings) =
-    if are_settings settings then option_map (λ t. entries.Sample (sample_at t settings)) (number32 time) else None
+abbrev pub sample_line : List (List ℕ) → Option Entry
+sample_line [] = None
+sample_line (time ∷ settings) =
+    if are_settings settings
+    then option_map (λ t. entries.Sample (sample_at t settings)) (number32 time) else None
 
 -- TIME
 abbrev pub entry_of : (ℕ → Entry) → List (List ℕ) → Option Command
-entry_of entry arguments = option_map (λ time. commands.Entry (entry time)) (only number32 arguments)
+entry_of entry arguments =
+    option_map (λ time. commands.Entry (entry time)) (only number32 arguments)
 
 -- a call that is to fail, or a power cut
 abbrev pub arranged_of : List ℕ → List (List ℕ) → Option Command
@@ -89,8 +96,10 @@ timed_of name arguments =
 abbrev pub command_of : List (List ℕ) → Option Command
 command_of [] = None
 command_of (name ∷ arguments) =
-    if bytes_eq name (codes "start") then option_map (λ start. commands.Start start) (start_of arguments)
-    else if bytes_eq name (codes "sample") then option_map (λ sample. commands.Entry sample) (sample_of arguments)
+    if bytes_eq name (codes "start")
+    then option_map (λ start. commands.Start start) (start_line arguments)
+    else if bytes_eq name (codes "sample")
+    then option_map (λ sample. commands.Entry sample) (sample_line arguments)
     else timed_of name arguments
 
 -- ---- all lines
@@ -103,16 +112,20 @@ is_silent (word ∷ words) = slice_index word 0 == 35
 -- what a line states: nothing or a command; None if it is not a line of a script
 abbrev pub meaning_of : List ℕ → Option (Option Command)
 meaning_of line =
-    if is_silent (words line) then Some None else option_map (λ command. Some command) (command_of (words line))
+    if is_silent (words line)
+    then Some None else option_map (λ command. Some command) (command_of (words line))
 
 abbrev pub IsLine : List ℕ → Type 0
 IsLine line = IsSome (meaning_of line)
 
--- the event of the line with this number, if it states one
+-- the event of the line with this decimal_number, if it states one
 abbrev pub event_of : ℕ → List ℕ → Option Event
-event_of number line = option_map (λ command. record { line = number; command = command }) (option_flatten (meaning_of line))
+event_of decimal_number line =
+    option_map (λ command. record { line = decimal_number; command = command })
+    (option_flatten (meaning_of line))
 
 -- the events of lines that are numbered from here on
 abbrev pub events_of : ℕ → List (List ℕ) → List Event
-events_of number [] = []
-events_of number (line ∷ lines) = cons_option (event_of number line) (events_of (number + 1) lines)
+events_of decimal_number [] = []
+events_of decimal_number (line ∷ lines) =
+    cons_option (event_of decimal_number line) (events_of (decimal_number + 1) lines)

@@ -2,7 +2,7 @@
 
 ghost use Rattle.std.specs.Prelude.{◌≡◌, ◌≤◌, ◌<◌, ◌+◌, ◌^◌, ◌≤ℤ◌, pos, neg_ℤ, IfOk, IfErr};
 ghost use Rattle.std.specs.Result.{result_ok};
-ghost use Rattle.fit_scripts.specs.Scripts.Words.{number, signed_number, number_as};
+ghost use Rattle.fit_scripts.specs.Scripts.Words.{decimal_number, signed_number, number_as};
 ghost use Rattle.fit_scripts.specs.declared.script.fault.ScriptFaultKind.TheVariants as kinds;
 
 use crate::script::fault::ScriptFaultKind;
@@ -10,7 +10,7 @@ use fit_base::BaseType;
 
 /// An unsigned decimal number of at most `most`.
 pub fn number(word: &[u8], most: u32) -> Result<u32, ScriptFaultKind>
-    ensures value { result_ok result ≡ number most word.now }
+    ensures value { result_ok result ≡ decimal_number most word.now }
     ensures fault { IfErr result (λ kind. kind ≡ kinds.BadNumber) }
     ensures most { IfOk result (λ n. n ≤ most) }
 {

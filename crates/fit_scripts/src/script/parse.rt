@@ -3,7 +3,7 @@
 ghost use Rattle.std.specs.Prelude.{◌≡◌, ◌≢◌, ◌++◌, [], Some, All, map, IfOk, OnOk, IfErr};
 ghost use Rattle.std.specs.List.{cons_option};
 ghost use Rattle.std.specs.Str.Lines.{lines};
-ghost use Rattle.fit_scripts.specs.Scripts.Faults.{IsFaultOf, IsWrong};
+ghost use Rattle.fit_scripts.specs.Scripts.Faults.{IsScriptFaultOf, IsWrong};
 ghost use Rattle.fit_scripts.specs.Scripts.Script.{IsLine, is_silent, meaning_of, event_of, events_of};
 ghost use Rattle.fit_scripts.specs.Scripts.Commands.{CanRun};
 ghost use Rattle.fit_scripts.specs.declared.script.fault.ScriptFaultKind.TheVariants as kinds;
@@ -22,7 +22,7 @@ pub fn parse_script(alloc: Global, text: &str) -> Result<Vec<Event>, ScriptFault
     ensures lines { IfOk result (λ _. All IsLine (lines text.now)) }
     ensures events { IfOk result (λ events. events.items ≡ events_of 1 (lines text.now)) }
     ensures counts { IfOk result (λ events. All (λ event. CanRun event.command) events.items) }
-    ensures fault { IfErr result (IsFaultOf (lines text.now)) }
+    ensures fault { IfErr result (IsScriptFaultOf (lines text.now)) }
 {
     let Ok(lines) = lines_of(alloc, text) else {
         return Err(out_of_memory(1));
@@ -45,7 +45,8 @@ fn add_event(
     ensures events { OnOk result
         (events.new.items ≡ events.old.items ++ cons_option (event_of number line.now) []) }
     ensures number { IfErr result (λ fault. fault.line ≡ number) }
-    ensures fault { IfErr result (λ fault. fault.kind ≢ kinds.Memory → IsWrong line.now fault.kind) }
+    ensures fault { IfErr result (λ fault. fault.kind ≢ kinds.Memory
+        → IsWrong line.now fault.kind) }
 {
     match event_at(alloc, number, line) {
         Ok(Some(event)) => match events.push(event) {
@@ -62,7 +63,8 @@ fn event_at(alloc: Global, number: usize, line: &str) -> Result<Option<Event>, S
     ensures line { IfOk result (λ _. IsLine line.now) }
     ensures event { IfOk result (λ event. event ≡ event_of number line.now) }
     ensures number { IfErr result (λ fault. fault.line ≡ number) }
-    ensures fault { IfErr result (λ fault. fault.kind ≢ kinds.Memory → IsWrong line.now fault.kind) }
+    ensures fault { IfErr result (λ fault. fault.kind ≢ kinds.Memory
+        → IsWrong line.now fault.kind) }
 {
     match command_at(alloc, line.as_bytes()) {
         Ok(Some(command)) => Ok(Some(Event {

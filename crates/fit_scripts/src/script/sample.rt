@@ -6,7 +6,7 @@ ghost use Rattle.std.specs.Result.{result_ok};
 ghost use Rattle.std.specs.Str.{bytes_eq};
 ghost use Rattle.fit_activity.specs.Rides.Table.{SourceRow, sample_rows};
 ghost use Rattle.fit_scripts.specs.Scripts.Faults.{has_equals, setting_fault, settings_fault};
-ghost use Rattle.fit_scripts.specs.Scripts.Sample.{key_in, value_in, is_new_setting, are_settings, sample_at, stated_by, with_setting};
+ghost use Rattle.fit_scripts.specs.Scripts.Sample.{key_in, setting_value, is_new_setting, are_settings, sample_at, values_stated, with_setting};
 ghost use Rattle.fit_scripts.specs.Scripts.Words.{number_as};
 ghost use Rattle.fit_scripts.specs.declared.script.fault.ScriptFaultKind.TheVariants as kinds;
 
@@ -18,7 +18,8 @@ use fit_activity::{FIELDS, FieldRow, SAMPLE_FIELDS, Sample};
 pub fn sample_at(time: u32, settings: &[&[u8]]) -> Result<Sample, ScriptFaultKind>
     ensures value { result_ok result ≡ (if are_settings (map (λ word. word.now) settings.now)
         then Some (sample_at time (map (λ word. word.now) settings.now)) else None) }
-    ensures fault { IfErr result (λ kind. kind ≡ settings_fault [] (map (λ word. word.now) settings.now)) }
+    ensures fault { IfErr result (λ kind. kind
+        ≡ settings_fault [] (map (λ word. word.now) settings.now)) }
 {
     let mut values = [None; FIELDS];
     for setting in settings {
@@ -28,19 +29,16 @@ pub fn sample_at(time: u32, settings: &[&[u8]]) -> Result<Sample, ScriptFaultKin
 }
 
 // Adds the number of a setting to those of the settings before it.
-fn add_setting(
-    values: &mut [Option<u32>; FIELDS],
-    setting: &[u8],
-) -> Result<(), ScriptFaultKind>
+fn add_setting(values: &mut [Option<u32>; FIELDS], setting: &[u8]) -> Result<(), ScriptFaultKind>
     ensures new { (earlier : List (List ℕ)) → are_settings earlier ≡ true
-        → values.old ≡ stated_by sample_rows earlier
+        → values.old ≡ values_stated sample_rows earlier
         → OnOk result (is_new_setting earlier setting.now ≡ true) }
     ensures fault { (earlier : List (List ℕ)) → are_settings earlier ≡ true
-        → values.old ≡ stated_by sample_rows earlier
+        → values.old ≡ values_stated sample_rows earlier
         → IfErr result (λ kind. (is_new_setting earlier setting.now ≡ false)
         × (kind ≡ setting_fault earlier setting.now)) }
     ensures value { OnOk result (values.new
-        ≡ with_setting sample_rows values.old (key_in setting.now) (value_in setting.now)) }
+        ≡ with_setting sample_rows values.old (key_in setting.now) (setting_value setting.now)) }
 {
     let (key, value) = cut(setting)?;
     let Some(at) = row_of(&SAMPLE_FIELDS, key) else {
@@ -59,8 +57,8 @@ fn add_setting(
 // The key of a setting and its value.
 fn cut<'a>(setting: &'a [u8]) -> Result<(&'a [u8], &'a [u8]), ScriptFaultKind>
     ensures key { IfOk result (λ parts. parts.0.now ≡ key_in setting.now) }
-    ensures value { IfOk result (λ parts. parts.1.now ≡ value_in setting.now) }
-    ensures none { IfErr result (λ _. value_in setting.now ≡ []) }
+    ensures value { IfOk result (λ parts. parts.1.now ≡ setting_value setting.now) }
+    ensures none { IfErr result (λ _. setting_value setting.now ≡ []) }
     ensures parts { IfOk result (λ _. has_equals setting.now ≡ true) }
     ensures fault { IfErr result (λ kind. (kind ≡ kinds.UnknownKey)
         × (has_equals setting.now ≡ false)) }
@@ -100,7 +98,8 @@ fn row_of(rows: &[FieldRow], key: &[u8]) -> Option<usize>
 // The number that a value states for the row at this place.
 fn number_at(rows: &[FieldRow], at: usize, value: &[u8]) -> Option<u32>
     requires { at < length rows.now }
-    ensures { (none : SourceRow) → result ≡ number_as (slice_index_or rows.now at none).1 value.now }
+    ensures { (none : SourceRow)
+        → result ≡ number_as (slice_index_or rows.now at none).1 value.now }
 {
     number_as(rows[at].1, value)
 }

@@ -59,7 +59,8 @@ pub trait Form {
     ) -> Result<(), WriteFailed>
         requires { IsPlanOf message.now.definition plan.now columns.now developer.now }
         ensures { Puts pen.old pen.new result
-            (line plan.now.utc number (message_under message.now.definition time message.now.content.now)) };
+            (line plan.now.utc number
+            (message_under message.now.definition time message.now.content.now)) };
 
     fn put_count<W: Write>(pen: &mut Pen<'_, W>, messages: u64) -> Result<(), WriteFailed>
         ensures { Puts pen.old pen.new result (count messages) };
@@ -126,7 +127,8 @@ fn put_messages<F: Form, W: Write>(
     file: &LentFile<'_>,
 ) -> Result<u64, WriteFailed>
     requires { length (messages_of file.now.items) < 2 ^ 32 }
-    ensures text { Puts pen.old pen.new result (numbered (F.line utc) (messages_of file.now.items)) }
+    ensures text { Puts pen.old pen.new result
+        (numbered (F.line utc) (messages_of file.now.items)) }
     ensures count { IfOk result (λ count. count ≡ length (messages_of file.now.items)) }
 {
     let mut plans = Plans::new(utc);

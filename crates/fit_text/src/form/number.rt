@@ -38,7 +38,8 @@ fn put_next<N: Notation, W: Write>(
     requires known { base_type field.now.base ≡ Some base }
     requires index { i < count_of field.now }
     ensures { Puts pen.old pen.new result
-        ((if i == 0 then [] else codes ",") ++ number_as N.none N.written base (unsigned_at field.now i)) }
+        ((if i == 0 then [] else codes ",")
+        ++ number_as N.none N.written base (unsigned_at field.now i)) }
 {
     if i == 0 {
         return put_at::<N, W>(pen, base, field, i);
@@ -56,7 +57,8 @@ pub fn put_at<N: Notation, W: Write>(
 ) -> Result<(), WriteFailed>
     requires known { base_type field.now.base ≡ Some base }
     requires index { i < count_of field.now }
-    ensures { Puts pen.old pen.new result (number_as N.none N.written base (unsigned_at field.now i)) }
+    ensures { Puts pen.old pen.new result
+        (number_as N.none N.written base (unsigned_at field.now i)) }
 {
     let number = field.unsigned(i);
     if number == base.invalid() {

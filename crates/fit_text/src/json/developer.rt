@@ -45,7 +45,12 @@ fn put_next<W: Write>(
 ) -> Result<(), WriteFailed>
     ensures { Puts pen.old pen.new result
         (separator is_first
-        ++ developer_json (record { index = field.now.index; number = field.now.number; bytes = bytes.now })) }
+        ++ developer_json (record {
+          index =
+              field.now.index;
+          number = field.now.number;
+          bytes = bytes.now;
+        })) }
 {
     if is_first {
         return put_developer_field(pen, field, bytes);

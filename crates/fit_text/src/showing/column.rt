@@ -26,7 +26,8 @@ pub fn put_columns<'c, W: Write>(
 ) -> Result<&'c [u8], WriteFailed>
     requires kinds { HaveKinds dates.now columns.now }
     requires within { sum_by (λ column. column.size) columns.now ≤ length content.now }
-    ensures text { Puts pen.old pen.new result (columns_text dates.now arch columns.now content.now) }
+    ensures text { Puts pen.old pen.new result
+        (columns_text dates.now arch columns.now content.now) }
     ensures after { IfOk result
         (λ after. after.now ≡ drop (sum_by (λ column. column.size) columns.now) content.now) }
 {

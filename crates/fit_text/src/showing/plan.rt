@@ -3,7 +3,7 @@
 ghost use Rattle.std.specs.Prelude.{◌≡◌, ◌+◌, ◌≤◌, ◌++◌, List, length, codes};
 ghost use Rattle.fit_text.specs.declared.showing.plan.Column.{Column as AnyColumn};
 ghost use Rattle.fit_text.specs.declared.showing.plan.TheConstants.{COLUMNS};
-ghost use Rattle.fit_text.specs.Plan.{time_definition, IsKind, IsKindOf, IsColumn, AreColumns, IsPlanIn};
+ghost use Rattle.fit_text.specs.Plan.{time_field_definition, IsKind, IsKindOf, IsColumn, AreColumns, IsPlanIn};
 ghost use Rattle.fit_text.specs.Profile.{names_of_fields};
 ghost use Rattle.fit_text.specs.Text.{field_name, message_name};
 
@@ -89,10 +89,12 @@ impl Plan {
         developer: &mut ArrayVec<DeveloperFieldDefinition, COLUMNS>,
     ) -> Self
         requires columns { length columns.old.items + length definition.now.fields.items ≤ COLUMNS }
-        requires developer { length developer.old.items + length definition.now.developer.items ≤ COLUMNS }
+        requires developer { length developer.old.items
+            + length definition.now.developer.items ≤ COLUMNS }
         ensures plan { IsPlanIn columns.new.items developer.new.items utc definition.now result }
         ensures after { (own : List AnyColumn) × (columns.new.items ≡ columns.old.items ++ own) }
-        ensures developer { developer.new.items ≡ developer.old.items ++ definition.now.developer.items }
+        ensures developer { developer.new.items
+            ≡ developer.old.items ++ definition.now.developer.items }
     {
         let global = definition.global;
         let dates = dates_of(utc, global);
@@ -118,7 +120,7 @@ impl Plan {
 
 // The column for the time of a compressed timestamp in messages with this global number.
 fn time_column(global: u16, dates: &[u8]) -> Column
-    ensures { IsColumn (names_of_fields global) dates.now time_definition result }
+    ensures { IsColumn (names_of_fields global) dates.now time_field_definition result }
 {
     let time = FieldDefinition {
         number: TIMESTAMP,

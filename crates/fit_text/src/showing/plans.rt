@@ -28,7 +28,8 @@ impl Plans {
     /// No plans.
     pub fn new(utc: bool) -> Self
         ensures utc { result.utc ≡ utc }
-        ensures plans { (definition_for : ℕ → Option AnyDefinition) → ArePlansFor definition_for result }
+        ensures plans { (definition_for : ℕ → Option AnyDefinition)
+            → ArePlansFor definition_for result }
     {
         Plans {
             utc,
@@ -42,8 +43,10 @@ impl Plans {
     pub fn forget(&mut self, local: u8)
         requires { local < 16 }
         ensures utc { self.new.utc ≡ self.old.utc }
-        ensures plans { (definition_for : ℕ → Option AnyDefinition) (d : AnyDefinition) → d.local ≡ local
-            → ArePlansFor definition_for self.old → ArePlansFor (in_force_after (Defines d) definition_for) self.new }
+        ensures plans { (definition_for : ℕ → Option AnyDefinition) (d : AnyDefinition)
+            → d.local ≡ local
+            → ArePlansFor definition_for self.old
+            → ArePlansFor (in_force_after (Defines d) definition_for) self.new }
     {
         self.slots[usize::from(local)] = None;
     }
@@ -76,7 +79,12 @@ impl Plans {
     {
         let definition = definition.read();
         self.make_room(definition.fields.len(), definition.developer.len());
-        let plan = Plan::new(self.utc, &definition, &mut self.columns, &mut self.developer);
+        let plan = Plan::new(
+            self.utc,
+            &definition,
+            &mut self.columns,
+            &mut self.developer,
+        );
         self.slots[usize::from(local)] = Some(plan);
     }
 
@@ -87,7 +95,8 @@ impl Plans {
         ensures utc { self.new.utc ≡ self.old.utc }
         ensures room { length self.new.columns.items + columns ≤ COLUMNS }
         ensures developer_room { length self.new.developer.items + developer ≤ COLUMNS }
-        ensures plans { (definition_for : ℕ → Option AnyDefinition) → ArePlansFor definition_for self.old
+        ensures plans { (definition_for : ℕ → Option AnyDefinition)
+            → ArePlansFor definition_for self.old
             → ArePlansFor definition_for self.new }
     {
         if columns > self.columns.remaining_capacity()

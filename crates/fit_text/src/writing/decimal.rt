@@ -80,7 +80,8 @@ fn place_nine(bytes: &mut [u8], at: usize, number: u32) -> usize
 fn place_six(bytes: &mut [u8], at: usize, number: u32) -> usize
     requires short { number < 1000000 }
     requires room { at + 7 ≤ length bytes.old }
-    ensures { Places bytes.old bytes.new at (three (number / 1000) ++ three (number % 1000)) result }
+    ensures { Places bytes.old bytes.new at (three (number / 1000)
+        ++ three (number % 1000)) result }
 {
     let at = place_three(bytes, at, number / 1000);
     place_three(bytes, at, number % 1000)
@@ -128,7 +129,8 @@ fn place_three(bytes: &mut [u8], at: usize, number: u32) -> usize
 fn copy_digits(bytes: &mut [u8], at: usize, from: usize)
     requires digits { from + 4 ≤ 3003 }
     requires room { at + 4 ≤ length bytes.old }
-    ensures { (n : ℕ) → n ≤ 4 → take (at + n) bytes.new ≡ take at bytes.old ++ take n (drop from DIGITS) }
+    ensures { (n : ℕ) → n ≤ 4
+        → take (at + n) bytes.new ≡ take at bytes.old ++ take n (drop from DIGITS) }
 {
     let four = [
         DIGITS[from],

@@ -2,7 +2,7 @@
 
 ghost use Rattle.std.specs.Prelude.{◌≡◌, ℕ, Err, IfOk, IfErr, OnOk};
 ghost use Rattle.fit_disk.specs.declared.files.OpenFault.{OpenFault as WhyNotOpen};
-ghost use Rattle.fit_runs.specs.Rides.Turns.{Records};
+ghost use Rattle.fit_runs.specs.Rides.Turns.{RecordsBytes};
 ghost use Rattle.fit_commands.specs.declared.fault.Fault.TheVariants.{Refused};
 ghost use Rattle.fit_commands.specs.Faults.{fault_of_open};
 ghost use Rattle.fitrec.specs.Faults.{IsRecordReported};
@@ -50,8 +50,9 @@ pub fn record_files<'a, W: Witness, T: Read, O: Write>(
     out: &mut O,
 ) -> Result<(W, Result<usize, ReportFault>), Fault<'a>>
     ensures recorded { IfOk result (λ done.
-        Records W.honest (W.story witness) (W.story done.0) every
-        (T.remaining from.old) (T.remaining from.new) (O.contents out.old) (O.contents out.new) done.1) }
+        RecordsBytes W.honest (W.story witness) (W.story done.0) every
+        (T.remaining from.old) (T.remaining from.new) (O.contents out.old)
+        (O.contents out.new) done.1) }
     ensures reported { IfErr result
         (λ reported. (why : WhyNotOpen) × (reported ≡ fault_of_open folder.entry why)) }
     ensures quiet { IfErr result (λ _. O.contents out.new ≡ O.contents out.old) }

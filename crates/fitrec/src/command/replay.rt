@@ -56,7 +56,8 @@ pub fn replay_files<'a, W: Witness, O: Write>(
 ) -> Result<(W, Result<usize, ReportFault>), Fault<'a>>
     requires { All IsReplayed events.now }
     ensures printed { IfOk result (λ done. IfOk done.1 (λ refused.
-        AreReported events.now (LeavesAfter W.honest (W.story witness) (W.story done.0) events.now) refused
+        AreReported events.now
+        (LeavesAfter W.honest (W.story witness) (W.story done.0) events.now) refused
         (O.contents out.old) (O.contents out.new))) }
     ensures broken_off { IfOk result (λ done. IfErr done.1 (λ _.
         BreaksOff W.honest (W.story witness) (W.story done.0) events.now (O.contents out.old)

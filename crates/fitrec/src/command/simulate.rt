@@ -2,7 +2,7 @@
 
 ghost use Rattle.fit_runs.specs.Printed.Simulation.{Simulates};
 ghost use Rattle.fitrec.specs.Faults.{IsSimulateFault};
-ghost use Rattle.fit_commands.specs.Reported.{Reports};
+ghost use Rattle.fit_commands.specs.Reported.{ReportsRun};
 
 use fit_commands::{Fault, read_file};
 use fit_runs::{SimulateFault, simulate};
@@ -18,7 +18,8 @@ pub fn simulate_script<'a, R: Files + AllocGlobal, O: Write>(
     checked: bool,
     out: &mut O,
 ) -> Result<(), Fault<'a>>
-    ensures { Reports name.entry (O.contents out.old) (O.contents out.new) (IsSimulateFault name.entry)
+    ensures { ReportsRun name.entry (O.contents out.old) (O.contents out.new)
+        (IsSimulateFault name.entry)
         (Simulates choices.now (O.contents out.old) (O.contents out.new)) result }
 {
     let bytes = read_file(rt, name)?;

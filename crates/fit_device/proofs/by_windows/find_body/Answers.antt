@@ -11,7 +11,7 @@ use Rattle.fit_recorder.specs.Files.Settled.{IsSettled}
 use Rattle.fit_recorder.specs.declared.fault.RecFault.TheVariants.{Device}
 use Rattle.fit_device.proofs.ByWindows.{led, answers_for, journal_front, never_wants}
 use Rattle.fit_device.proofs.Stepping.{not_device}
-use Rattle.fit_device.specs.Windowed.{story_of}
+use Rattle.fit_device.specs.Windowed.{recovery_story}
 use Rattle.fit_device.proofs.by_windows.find_body.Goals as goal
 
 settled : (before earlier : Story) → before ≡ earlier → IsSettled (seen_in before.now) before → IsSettled (seen_in earlier.now) earlier
@@ -54,7 +54,7 @@ returns-in-Err c =
     let code = c.code_of_fault.ensures in
     let here = settled _ _ (sym (lent.story ∙ old.story)) (handle.settled c.requires.asks.0 c.requires.finds) in
     let found = subst (FindsBody _ c.begin-answer.new.self) c.in-Err.is (c.begin-answer.ensures.found refl here) in
-    let seen : List ℕ = seen_of Journal (story_of handle) in
+    let seen : List ℕ = seen_of Journal (recovery_story handle) in
     let front : AreAt 0 (take handle.filled handle.window) seen = journal_front handle handle _ c.requires.asks c.requires.finds refl refl refl in
     let within : handle.filled ≤ length seen = omega (arith, ap (λ (bytes : List ℕ). length bytes) front, length-take {A = ℕ}, c.requires.asks.1) in
     let whole : length seen ≤ handle.filled → fault ≡ Device → ⊥ =

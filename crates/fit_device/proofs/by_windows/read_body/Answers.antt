@@ -9,7 +9,7 @@ use Rattle.fit_disk.specs.State.{seen_in}
 use Rattle.fit_recorder.specs.Calls.Counts.{closing_bytes, rebuilding_calls}
 use Rattle.fit_recorder.specs.Calls.Recovery.{RecoveryAnswers}
 use Rattle.fit_recorder.specs.declared.fault.RecFault.TheVariants.{Device}
-use Rattle.fit_plan.specs.Plan.{story_in}
+use Rattle.fit_plan.specs.Plan.{plan_story}
 use Rattle.fit_device.proofs.ByWindows.{led, answers_for, rebuilds_for, counted_for, moved, has_room, never_wants, never_zero, refuses_quietly}
 use Rattle.fit_device.proofs.Stepping.{not_device}
 use Rattle.fit_device.proofs.by_windows.read_body.Goals as goal
@@ -20,7 +20,7 @@ returns-in-None c =
     let asked = c.ask_for_body.ensures in
     let left = c.after-files.ensures in
     let more = c.in-None.ensures.more in
-    let same = (asked.story ∙ left.story) ∙ ap story_in more.0 ∙ old.story in
+    let same = (asked.story ∙ left.story) ∙ ap plan_story more.0 ∙ old.story in
     record {
       planned = led c.args.handle.now c.ask_for_body.new.self c.after-files.new.plan c.take_reading-files.result c.go_on-answer.new.disk (old.since) c.go_on-answer.ensures.memory (asked.story ∙ left.story) left.planned;
       none = λ no. absurd (no c.requires.asks);
@@ -38,7 +38,7 @@ returns-in-Ok c =
     let old = c.take_reading-files.ensures in
     let put = c.put_files.ensures in
     let left = c.after-files.ensures in
-    let decided = subst (RecoveryAnswers (seen_in (story_in c.take_reading-files.result).now) (story_in c.go_on-answer.new.disk)) c.in-Ok.is (c.in-Some.ensures.decides refl) in
+    let decided = subst (RecoveryAnswers (seen_in (plan_story c.take_reading-files.result).now) (plan_story c.go_on-answer.new.disk)) c.in-Ok.is (c.in-Some.ensures.decides refl) in
     record {
       planned = led c.args.handle.now c.put_files.new.self c.after-files.new.plan c.take_reading-files.result c.go_on-answer.new.disk (old.since) c.go_on-answer.ensures.memory (put.story ∙ left.story) left.planned;
       none = λ no. absurd (no c.requires.asks);
@@ -47,7 +47,7 @@ returns-in-Ok c =
       same = λ no. absurd (no refl);
       answers = λ _. inr (Ok c.in-Ok.field-0, refl, answers_for (Ok c.in-Ok.field-0) _ _ _ _ (old.story) (sym (put.story ∙ left.story)) decided);
       device = λ device. absurd (omega (arith, device));
-      checked = λ _. counted_for _ _ _ _ old.story (sym (put.story ∙ left.story)) (subst (λ (answer : Result Summary RecFault). OnOk answer (HasCounted (seen_of Journal (story_in c.take_reading-files.result)) (seen_of Data (story_in c.go_on-answer.new.disk)))) c.in-Ok.is (c.in-Some.ensures.checked refl));
+      checked = λ _. counted_for _ _ _ _ old.story (sym (put.story ∙ left.story)) (subst (λ (answer : Result Summary RecFault). OnOk answer (HasCounted (seen_of Journal (plan_story c.take_reading-files.result)) (seen_of Data (plan_story c.go_on-answer.new.disk)))) c.in-Ok.is (c.in-Some.ensures.checked refl));
       any_moment = λ _. rebuilds_for _ _ _ _ (old.story) (sym (put.story ∙ left.story)) (c.go_on-answer.ensures.any_moment refl);
     }
 
@@ -57,7 +57,7 @@ returns-in-Err c =
     let put = c.put_files.ensures in
     let left = c.after-files.ensures in
     let room = has_room rebuilding_calls closing_bytes c.take_reading-files.result old.none.0 old.none.1 (omega arith) (omega arith) in
-    let decided = subst (RecoveryAnswers (seen_in (story_in c.take_reading-files.result).now) (story_in c.go_on-answer.new.disk)) c.in-Err.is (c.in-Some.ensures.decides refl) in
+    let decided = subst (RecoveryAnswers (seen_in (plan_story c.take_reading-files.result).now) (plan_story c.go_on-answer.new.disk)) c.in-Err.is (c.in-Some.ensures.decides refl) in
     let here = old.story in
     let never : c.in-Err.fault ≡ Device → ⊥ = λ device. c.in-Some.ensures.no_device room (c.in-Err.is ∙ ap Err device) in
     let quiet = refuses_quietly c.in-Err.fault _ _ _ decided never (c.go_on-answer.ensures.any_moment refl) in

@@ -2,7 +2,7 @@ use Rattle.std.proofs.Common.{⊎_elim, ◌≡◌, inl, inr, refl, sym, ap, ◌�
 use Rattle.std.specs.Prelude.{OnOk, Some}
 use Rattle.fit_disk.specs.declared.disk.Which.TheVariants.{Data, Journal}
 use Rattle.fit_recorder.specs.Files.Committed.{HasCounted}
-use Rattle.fit_plan.specs.Plan.{story_in}
+use Rattle.fit_plan.specs.Plan.{plan_story}
 use Rattle.fit_recorder.specs.Calls.Recovery.{unchanged}
 use Rattle.fit_recorder.specs.Calls.Windows.{TakesUpOn, MayTakeUpOn}
 use Rattle.fit_recorder.specs.declared.fault.RecFault.{RecFault}
@@ -13,7 +13,7 @@ use Rattle.fit_disk.specs.State.{seen_in}
 use Rattle.fit_disk.specs.Story.{Story, seen_of}
 use Rattle.fit_recorder.specs.Calls.Ride.{TakesUp}
 use Rattle.fit_device.proofs.Leading.{leads_since}
-use Rattle.fit_device.specs.Windowed.{story_of}
+use Rattle.fit_device.specs.Windowed.{recovery_story}
 use Rattle.fit_device.proofs.Stepping.{not_device}
 use Rattle.fit_device.proofs.by_windows.read_ride.Goals as goal
 
@@ -42,13 +42,13 @@ returns-in-Ok c =
     let old = c.take_reading-files.ensures in
     let left = c.after-files.ensures in
     let here = old.story in
-    let did = subst (λ (answer : Result FoundRide RecFault). TakesUpOn (story_in c.take_reading-files.result) (story_in c.take_up_on-answer.new.disk) c.take_up_on-answer.new.self (Some answer)) c.in-Ok.is (c.in-Some.ensures.decides refl) in
+    let did = subst (λ (answer : Result FoundRide RecFault). TakesUpOn (plan_story c.take_reading-files.result) (plan_story c.take_up_on-answer.new.disk) c.take_up_on-answer.new.self (Some answer)) c.in-Ok.is (c.in-Some.ensures.decides refl) in
     record {
       goes_on = subst (λ (answer : Result FoundRide RecFault). MayTakeUpOn c.take_up_on-answer.new.self (Some answer)) c.in-Ok.is c.in-Some.ensures.anywhere;
       planned = leads_since c.after-files.new.plan c.take_reading-files.result c.take_up_on-answer.new.disk _ _ _ (old.since) c.take_up_on-answer.ensures.memory (sym left.story) left.planned;
       ended = old.ended;
-      taken = subst (λ (story : Story). TakesUp (seen_in (story_of c.args.handle.now).now) story (Ok c.in-Ok.ride)) (sym left.story) (taken_for c.in-Ok.ride _ _ (story_in c.take_up_on-answer.new.disk) here did.0);
-      checked = counted_for _ _ _ _ here (sym left.story) (subst (λ (answer : Result FoundRide RecFault). OnOk answer (HasCounted (seen_of Journal (story_in c.take_reading-files.result)) (seen_of Data (story_in c.take_up_on-answer.new.disk)))) c.in-Ok.is (c.in-Some.ensures.checked refl));
+      taken = subst (λ (story : Story). TakesUp (seen_in (recovery_story c.args.handle.now).now) story (Ok c.in-Ok.ride)) (sym left.story) (taken_for c.in-Ok.ride _ _ (plan_story c.take_up_on-answer.new.disk) here did.0);
+      checked = counted_for _ _ _ _ here (sym left.story) (subst (λ (answer : Result FoundRide RecFault). OnOk answer (HasCounted (seen_of Journal (plan_story c.take_reading-files.result)) (seen_of Data (plan_story c.take_up_on-answer.new.disk)))) c.in-Ok.is (c.in-Some.ensures.checked refl));
       any_moment = rebuilds_for _ _ _ _ here (sym left.story) (c.take_up_on-answer.ensures.any_moment refl);
     }
 
@@ -62,7 +62,7 @@ returns-in-Err c handle =
     let code = c.code_of_fault.ensures in
     let room = has_room 2 0 c.take_reading-files.result old.none.0 old.none.1 (omega arith) (omega arith) in
     let never : fault ≡ Device → ⊥ = λ device. c.in-Some.ensures.no_device room (c.in-Err.is ∙ ap Err device) in
-    let did = subst (λ (answer : Result FoundRide RecFault). TakesUpOn (story_in c.take_reading-files.result) (story_in c.take_up_on-answer.new.disk) c.take_up_on-answer.new.self (Some answer)) c.in-Err.is (c.in-Some.ensures.decides refl) in
+    let did = subst (λ (answer : Result FoundRide RecFault). TakesUpOn (plan_story c.take_reading-files.result) (plan_story c.take_up_on-answer.new.disk) c.take_up_on-answer.new.self (Some answer)) c.in-Err.is (c.in-Some.ensures.decides refl) in
     let planned = led c.args.handle.now c.put_files.new.self c.after-files.new.plan c.take_reading-files.result c.take_up_on-answer.new.disk (old.since) c.take_up_on-answer.ensures.memory (put.story ∙ left.story) left.planned in
     record {
       planned = (λ zero. absurd (never_zero fault c.code_of_fault.result code zero), λ _. planned);

@@ -2,7 +2,7 @@ use Rattle.std.proofs.Common.{◌≡◌, ◌∙◌, refl, sym, ap, subst, arith,
 use Rattle.fit_disk.specs.State.{seen_in}
 use Rattle.fit_disk.specs.Story.{Story, seen_of}
 use Rattle.fit_disk.specs.declared.disk.Which.TheVariants.{Data, Journal}
-use Rattle.fit_plan.specs.Plan.{story_in}
+use Rattle.fit_plan.specs.Plan.{plan_story}
 use Rattle.fit_recorder.specs.Calls.Recovery.{RecoveryAnswers}
 use Rattle.fit_recorder.specs.declared.fault.RecFault.TheVariants.{Device}
 use Rattle.fit_device.proofs.ByWindows.{answers_for, counted_for, never_zero}
@@ -50,7 +50,7 @@ returns-in-Err g c lent =
       well_formed = leads.well_formed;
       answer = Err fault;
       code_is = is;
-      decides = refusal_for fault _ _ (story_in c.recover.new.files) (carried_out c.clear.new.self g.before.story) (ap (λ (story : Story). seen_in story.now) here) c.in-Err.ensures.decides;
+      decides = refusal_for fault _ _ (plan_story c.recover.new.files) (carried_out c.clear.new.self g.before.story) (ap (λ (story : Story). seen_in story.now) here) c.in-Err.ensures.decides;
       checked = λ zero. absurd (never_zero fault c.code_of_fault.result is zero);
       refused = λ _. (c.clear.ensures.none, sym leads.ends);
       no_device = not_device fault c.code_of_fault.result is (λ (device : fault ≡ Device). c.recover.ensures.no_device (c.in-Err.is ∙ ap Err device));

@@ -2,7 +2,7 @@ use Rattle.std.proofs.Common.{◌≡◌, ◌∙◌, refl, sym, ap, subst, arith,
 use Rattle.fit_disk.specs.State.{seen_in}
 use Rattle.fit_disk.specs.Story.{Story, seen_of}
 use Rattle.fit_disk.specs.declared.disk.Which.TheVariants.{Data, Journal}
-use Rattle.fit_plan.specs.Plan.{story_in}
+use Rattle.fit_plan.specs.Plan.{plan_story}
 use Rattle.fit_recorder.specs.Calls.Resume.{IsRefusedFor}
 use Rattle.fit_recorder.specs.Calls.Ride.{TakesUp}
 use Rattle.fit_recorder.specs.declared.fault.RecFault.TheVariants.{Device}
@@ -27,7 +27,7 @@ take_up-requires-clause-lent g c =
 
 pub put_ride-requires-clause-taken : goal.put_ride-requires-clause-taken
 put_ride-requires-clause-taken g c =
-    let before = seen_in (story_in c.lent-files.result).now in
+    let before = seen_in (plan_story c.lent-files.result).now in
     (before, subst (λ (story : Story). TakesUp before story (Ok c.in-Ok.ride)) (sym c.after.ensures.story) c.in-Ok.ensures.taken)
 
 pub returns-in-Ok : goal.returns-in-Ok
@@ -42,7 +42,7 @@ returns-in-Ok g c lent =
       well_formed = leads.well_formed;
       ok = λ _. (
         leads.ends,
-        subst (λ (story : Story). GoesOnWith (seen_in story.now) c.put_ride.new.self) here (put.goes_on _ (subst (λ (story : Story). TakesUp (seen_in (story_in c.lent-files.result).now) story (Ok c.in-Ok.ride)) (sym left.story) did.taken)),
+        subst (λ (story : Story). GoesOnWith (seen_in story.now) c.put_ride.new.self) here (put.goes_on _ (subst (λ (story : Story). TakesUp (seen_in (plan_story c.lent-files.result).now) story (Ok c.in-Ok.ride)) (sym left.story) did.taken)),
       );
       checked = λ _. counted_for _ _ _ _ here after did.checked;
       refused = λ no. absurd (no refl);

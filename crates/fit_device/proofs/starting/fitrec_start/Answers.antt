@@ -10,7 +10,7 @@ use Rattle.fit_journal.specs.Turn.{are_checked}
 use Rattle.fit_recorder.specs.Calls.Counts.{start_bytes, start_calls}
 use Rattle.fit_recorder.specs.Calls.Frozen.{state_in}
 use Rattle.fit_recorder.specs.Private.State.{RecorderState}
-use Rattle.fit_plan.specs.Plan.{story_in, since_in, counts_in, room_in, log_in}
+use Rattle.fit_plan.specs.Plan.{plan_story, plan_since, plan_counts, room_in, plan_log}
 use Rattle.fit_plan.specs.declared.plan.Plan.{Plan}
 use Rattle.fit_recorder.specs.Calls.Answers.{StartAnswers}
 use Rattle.fit_recorder.specs.Calls.FaultCode.{fault_code}
@@ -22,7 +22,7 @@ use Rattle.fit_device.specs.Answer.{code_of_fault}
 use Rattle.fit_device.proofs.Leading.{leads_for, leads_since}
 use Rattle.fit_journal.specs.Turn.{slots_left}
 use Rattle.fit_recorder.specs.Private.State.{RecorderState}
-use Rattle.fit_device.specs.Handle.{story_of}
+use Rattle.fit_device.specs.Handle.{handle_story}
 use Rattle.fit_device.specs.Starts.{Starts}
 use Rattle.fit_device.proofs.Stepping.{not_device, stands, on_ok}
 use Rattle.fit_device.proofs.starting.fitrec_start.Goals as goal
@@ -55,9 +55,9 @@ returns-in-Ok-clause-starts c = λ _.
     let start : Start = record { time = c.args.time; serial = c.args.serial; sport = c.in-Some.sport } in
     let put = c.put.ensures in
     let did = c.in-Ok.ensures in
-    let here = ap story_in c.idle-recorder.ensures.disk ∙ c.take_files.ensures.story in
+    let here = ap plan_story c.idle-recorder.ensures.disk ∙ c.take_files.ensures.story in
     let starts : Starts start old new plan 0 = record {
-      planned = leads_since plan c.idle-recorder.result.files.disk c.begin.new.self.files.disk _ _ _ (ap since_in c.idle-recorder.ensures.disk ∙ c.take_files.ensures.since) did.ran.ran.memory (sym put.story) put.planned;
+      planned = leads_since plan c.idle-recorder.result.files.disk c.begin.new.self.files.disk _ _ _ (ap plan_since c.idle-recorder.ensures.disk ∙ c.take_files.ensures.since) did.ran.ran.memory (sym put.story) put.planned;
       no_device = λ device. omega (arith, device);
       ok = λ _. (
         stands new plan recorder put (Started start ∷ []) (Started start ∷ []) did.ok.0 did.ok.1,
@@ -80,14 +80,14 @@ returns-in-Err-clause-starts c = λ _.
     let start : Start = record { time = c.args.time; serial = c.args.serial; sport = c.in-Some.sport } in
     let did = c.in-Err.ensures in
     let code = c.code_of_fault.result in
-    let here = ap story_in c.idle-recorder.ensures.disk ∙ c.take_files.ensures.story in
+    let here = ap plan_story c.idle-recorder.ensures.disk ∙ c.take_files.ensures.story in
     let same = c.put_files.ensures.story ∙ c.of-before.ensures in
     let fault = c.in-Err.fault in
     let is = c.code_of_fault.ensures in
     let never : fault ≡ Device → ⊥ =
-    λ device. has_room start_calls start_bytes _ c.idle-recorder.result.files.disk c.begin.new.self.files.disk (ap counts_in c.idle-recorder.ensures.disk ∙ c.take_files.ensures.none.0) (ap room_in c.idle-recorder.ensures.disk ∙ c.take_files.ensures.none.1) (omega arith) (omega arith) did.ran.room (ap Err device) in
+    λ device. has_room start_calls start_bytes _ c.idle-recorder.result.files.disk c.begin.new.self.files.disk (ap plan_counts c.idle-recorder.ensures.disk ∙ c.take_files.ensures.none.0) (ap room_in c.idle-recorder.ensures.disk ∙ c.take_files.ensures.none.1) (omega arith) (omega arith) did.ran.room (ap Err device) in
     let starts : Starts start old new plan code = record {
-      planned = leads_for plan _ _ _ _ refl (sym same) (c.clear-in-Err.ensures.leads (story_of old));
+      planned = leads_for plan _ _ _ _ refl (sym same) (c.clear-in-Err.ensures.leads (handle_story old));
       no_device = not_device fault code is never;
       ok = λ zero. absurd (on_ok {P = ⊥} (Err fault) code is zero tt);
       was_empty = λ zero. absurd (on_ok {P = ⊥} (Err fault) code is zero tt);

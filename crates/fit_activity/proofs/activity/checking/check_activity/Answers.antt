@@ -1,6 +1,6 @@
 use Rattle.std.proofs.Common.{◌++◌, ◌∷◌, [], ◌<◌, ◌^◌, length, refl, ap, sym, ◌∙◌, arith, append-nil, append_assoc}
 use Rattle.fit_activity.specs.Files.Activity.{activity_in}
-use Rattle.fit_activity.specs.Private.Seen.{seen_with, judged}
+use Rattle.fit_activity.specs.Private.Seen.{seen_with, activity_seen}
 use Rattle.fit_activity.proofs.FinishedActivity.Counted.{few_messages}
 use Rattle.fit_activity.proofs.FinishedActivity.Passed.{seen-push, count-room}
 use Rattle.fit_activity.proofs.activity.checking.check_activity.Goals as goal
@@ -58,4 +58,4 @@ returns c =
     let seen = c.loop-message.invariant in
     let all = sym c.messages-message-items.ensures ∙ sym c.into_iter-message-iterator.ensures.into_iter_gives ∙ seen.1
     ∙ ap (λ xs. seen.0 ++ xs) c.in-None.ensures.steps.0 ∙ append-nil seen.0 in
-    c.verdict.ensures ∙ ap judged seen.2 ∙ ap activity_in (sym all)
+    c.verdict.ensures ∙ ap activity_seen seen.2 ∙ ap activity_in (sym all)

@@ -1,7 +1,7 @@
 use Rattle.std.proofs.Common.{◌++◌, length, map, sym, ap, ◌∙◌, arith, append-nil}
 use Rattle.std.proofs.lemmas.Option.{none-some}
 use Rattle.std.proofs.lemmas.Bool.{eqb-true}
-use Rattle.fit_activity.specs.Messages.ProfileField.{message_field, IsShort}
+use Rattle.fit_activity.specs.Messages.ProfileField.{message_field, IsShortField}
 use Rattle.fit_activity.proofs.OneList.Recognised.{map-same, profile_field-next, profile_field-many}
 use Rattle.fit_activity.proofs.hearing.profile_fields_in.all_of.Goals as goal
 
@@ -18,7 +18,7 @@ returns-in_err-profile_field_of-clause-only c = λ all short few is.
     let done = c.loop-field.profile_fields.items in
     let parts = is ∙ sym c.into_iter-field-iterator.ensures.into_iter_gives ∙ sym c.loop-field.invariant.0
     ∙ ap (λ xs. map message_field done ++ xs) c.in-Some.ensures.steps in
-    let next = profile_field-next IsShort all done _ c.next.new.self parts short in
+    let next = profile_field-next IsShortField all done _ c.next.new.self parts short in
     absurd (none-some next.0 (sym c.in_err-profile_field_of.was ∙ c.profile_field_of.ensures.only next.0 next.1 next.2))
 
 pub returns-clause-only : goal.returns-clause-only

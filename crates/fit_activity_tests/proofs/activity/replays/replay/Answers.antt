@@ -5,8 +5,8 @@ use Rattle.fit_activity_tests.proofs.activity.replays.replay.Goals as goal
 pub loop-message-init : goal.loop-message-init
 loop-message-init c = ([], refl, c.new-replay.ensures)
 
-pub hear-requires : goal.hear-requires
-hear-requires c =
+pub apply-requires : goal.apply-requires
+apply-requires c =
     let heard = c.loop-message.invariant in
     let all = c.into_iter-message-iterator.ensures.into_iter_gives ∙ c.messages-message-items.ensures in (
       heard.0,

@@ -3,7 +3,7 @@ use Rattle.fit_journal.specs.Adopting.{Adopted}
 use Rattle.fit_journal.specs.declared.slots.Slots.{Slots}
 use Rattle.fit_recorder.specs.Private.State.{RecorderState}
 use Rattle.fit_disk.specs.Story.{Story}
-use Rattle.fit_plan.specs.Plan.{story_in}
+use Rattle.fit_plan.specs.Plan.{plan_story}
 use Rattle.fit_recorder.specs.Calls.Frozen.{state_in, has_failed_in}
 use Rattle.fit_recorder.specs.Calls.Ride.{TakesUp}
 use Rattle.fit_device.proofs.Stepping.{goes_on_at, is_at}
@@ -12,14 +12,14 @@ use Rattle.fit_device.proofs.handle.Handle.put_ride.Goals as goal
 pub continue_with-requires-clause-taken : goal.continue_with-requires-clause-taken
 continue_with-requires-clause-taken c honest =
     let took = c.requires.taken in
-    let here = ap story_in c.idle-recorder.ensures.disk ∙ c.over-disk.ensures.story ∙ c.same.ensures.0 in
+    let here = ap plan_story c.idle-recorder.ensures.disk ∙ c.over-disk.ensures.story ∙ c.same.ensures.0 in
     (took.0, subst (λ (story : Story). TakesUp took.0 story (Ok c.args.ride)) (sym here) took.1)
 
 pub seal_with-requires : goal.seal_with-requires
 seal_with-requires c =
     let frozen = c.freeze.ensures in
     let did = c.continue_with.ensures in
-    let here = ap story_in (did.disk ∙ c.idle-recorder.ensures.disk) ∙ c.over-disk.ensures.story ∙ c.same.ensures.0 in
+    let here = ap plan_story (did.disk ∙ c.idle-recorder.ensures.disk) ∙ c.over-disk.ensures.story ∙ c.same.ensures.0 in
     record {
       possible = frozen.possible;
       going = frozen.failed ∙ did.under_way.going;
@@ -34,7 +34,7 @@ returns-clause-goes_on c contents took =
     let frozen = c.freeze.ensures in
     let did = c.continue_with.ensures in
     let put = c.seal_with.ensures in
-    let before = ap story_in c.idle-recorder.ensures.disk ∙ c.over-disk.ensures.story ∙ c.same.ensures.0 in
+    let before = ap plan_story c.idle-recorder.ensures.disk ∙ c.over-disk.ensures.story ∙ c.same.ensures.0 in
     let resumed = did.resumed refl contents (subst (λ (story : Story). TakesUp contents story (Ok c.args.ride)) (sym before) took) in
     let same = ap state_in put.same ∙ frozen.state in
     record {
@@ -44,6 +44,6 @@ returns-clause-goes_on c contents took =
       stands = record {
         recorder = put.recorder;
         going = ap has_failed_in put.same ∙ frozen.failed ∙ resumed.going;
-        at = is_at resumed.list resumed.list _ _ _ _ (sym same) (ap story_in did.disk ∙ before ∙ sym put.story) resumed.stands;
+        at = is_at resumed.list resumed.list _ _ _ _ (sym same) (ap plan_story did.disk ∙ before ∙ sym put.story) resumed.stands;
       };
     }

@@ -2,7 +2,7 @@ use Rattle.std.proofs.Common.{sym, ap, ◌∙◌, refl}
 use Rattle.std.proofs.Math.Logic.{∥∥₁_map}
 use Rattle.fit_device.specs.Handle.{IsRecorder}
 use Rattle.fit_device.specs.Sealed.{GoesOnIn}
-use Rattle.fit_plan.specs.Plan.{story_in}
+use Rattle.fit_plan.specs.Plan.{plan_story}
 use Rattle.fit_recorder.specs.Calls.Frozen.{state_in, has_failed_in}
 use Rattle.fit_device.proofs.Stepping.{goes_on_at}
 use Rattle.fit_device.proofs.handle.Handle.take.Goals as goal
@@ -18,7 +18,7 @@ invariant_of-reveal c =
         goes_on_at _ _ _ _ _ _
             (sym (thawed.state refl ∙ ap state_in same))
             (sym (thawed.failed refl ∙ ap has_failed_in same))
-            (sym (ap story_in (thawed.disk ∙ c.swap_disk.ensures.disk) ∙ c.take_files-files.ensures.story))
+            (sym (ap plan_story (thawed.disk ∙ c.swap_disk.ensures.disk) ∙ c.take_files-files.ensures.story))
             believed.goes_on,
         thawed.failed refl ∙ ap has_failed_in same ∙ believed.going,
       ));

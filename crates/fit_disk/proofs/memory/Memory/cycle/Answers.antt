@@ -2,7 +2,7 @@ use Rattle.std.proofs.Common.{sym, subst, arith}
 use Rattle.fit_disk.specs.Content.{IsBytes}
 use Rattle.fit_disk.specs.Cycle.{taken_by, cycled}
 use Rattle.fit_disk.specs.State.{State, BothLeft, seen_in}
-use Rattle.fit_disk.specs.Store.{story_in}
+use Rattle.fit_disk.specs.Store.{store_story}
 use Rattle.fit_disk.proofs.Leaving.{drop_bytes}
 use Rattle.fit_disk.proofs.Cycling.{cycle_leaves}
 use Rattle.fit_disk.proofs.memory.Memory.cycle.Goals as goal
@@ -10,7 +10,7 @@ use Rattle.fit_disk.proofs.memory.Memory.cycle.Goals as goal
 pub returns-clause-left : goal.returns-clause-left
 returns-clause-left c =
     let store = c.args.self.now.store in
-    let state = (story_in store).now in
+    let state = (store_story store).now in
     let choices = c.args.choices.now in
     let bytes : IsBytes choices = λ i. omega (arith, c.type_inv.choices i) in
     let left : BothLeft state (seen_in (cycled choices state)) = record {

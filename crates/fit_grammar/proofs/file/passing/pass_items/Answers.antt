@@ -1,7 +1,7 @@
 use Rattle.std.proofs.Common.{take, drop, refl, arith}
 use Rattle.std.proofs.lemmas.List.{length-take-le, take_rest}
 use Rattle.fit_grammar.specs.Calls.Table.{definition_in}
-use Rattle.fit_grammar.specs.Private.Passing.{file_of, end_of}
+use Rattle.fit_grammar.specs.Private.Passing.{framed_items, end_of}
 use Rattle.fit_grammar.proofs.Decoding.Reached.{reached_fits, spelled_size}
 use Rattle.fit_grammar.proofs.LentRow.Passed.{passes_first, passes_more, passing_refused, passes_all}
 use Rattle.fit_grammar.proofs.file.passing.pass_items.Goals as goal
@@ -17,7 +17,7 @@ pub overflow_add-size : goal.overflow_add-size
 overflow_add-size c =
     let p = c.loop-at.invariant.passed in
     let t = rw take_rest at c.in-Ok.ensures.passed in
-    let fits = reached_fits c.args.bytes.now (file_of c.args.header.frame p.items) c.loop-at.at (end_of c.args.header) p.reached in
+    let fits = reached_fits c.args.bytes.now (framed_items c.args.header.frame p.items) c.loop-at.at (end_of c.args.header) p.reached in
     let own = spelled_size t.item (take c.in-Ok.used (drop c.loop-at.at c.args.bytes.now)) t.at_front.spelled in
     record {
       fits = omega (
@@ -47,7 +47,7 @@ returns-in-Err-clause-refused c =
 pub overflow_cast-result : goal.overflow_cast-result
 overflow_cast-result c =
     let p = c.loop-at.invariant.passed in
-    let fits = reached_fits c.args.bytes.now (file_of c.args.header.frame p.items) c.loop-at.at (end_of c.args.header) p.reached in
+    let fits = reached_fits c.args.bytes.now (framed_items c.args.header.frame p.items) c.loop-at.at (end_of c.args.header) p.reached in
     record { fits = omega (arith, fits, p.size_is) }
 
 pub returns-clause-passed : goal.returns-clause-passed

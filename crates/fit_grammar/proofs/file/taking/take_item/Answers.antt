@@ -5,7 +5,7 @@ use Rattle.std.proofs.lemmas.Grind.{common_steps}
 use Rattle.fit_grammar.specs.Format.Item.{Defines, Data, SpellsDefinition}
 use Rattle.fit_grammar.specs.Format.Records.{in_force}
 use Rattle.fit_grammar.specs.Calls.Step.{ItemAtFront}
-use Rattle.fit_grammar.specs.Private.Feeding.{noted}
+use Rattle.fit_grammar.specs.Private.Feeding.{with_place}
 use Rattle.fit_grammar.proofs.OneItem.Least.{definition_whole}
 use Rattle.fit_grammar.proofs.Decoding.Reached.{spelled_size}
 use Rattle.fit_grammar.proofs.file.taking.take_item.Goals as goal
@@ -50,11 +50,11 @@ returns-in_ok-push_definition-in-Definition-clause-taken c =
         added = c.in_ok-push_definition-in-Definition.ensures.ok;
       };
       noted_is = c.in_ok-note-in-Definition.ensures
-          ∙ ap (λ (n : ℕ). noted c.args.places.now c.args.at n c.in_ok-used.used) c.size.ensures.size;
+          ∙ ap (λ (n : ℕ). with_place c.args.places.now c.args.at n c.in_ok-used.used) c.size.ensures.size;
     }
 
 -- a data message had as many bytes as it is written in
-not_noted : (places : List ℕ) (at written used : ℕ) → used ≡ written → places ≡ noted places at written used
+not_noted : (places : List ℕ) (at written used : ℕ) → used ≡ written → places ≡ with_place places at written used
 not_noted places at written used same = rw (eq-eqb used written same) refl
 
 data_there : (c : goal.In_ok-push_data-in-Data) → ItemAtFront (in_force c.args.file.now.items) c.args.window.now

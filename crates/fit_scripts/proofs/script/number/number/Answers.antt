@@ -9,20 +9,20 @@ use Rattle.std.proofs.lemmas.Str.Parse.{digits_value-take-le}
 use Rattle.std.specs.Char.{is_ascii_digit, digit_value}
 use Rattle.std.specs.List.{list_all}
 use Rattle.std.specs.Str.Parse.{digits_value}
-use Rattle.fit_scripts.specs.Scripts.Words.{is_numeral, number}
+use Rattle.fit_scripts.specs.Scripts.Words.{is_numeral, decimal_number}
 use Rattle.fit_scripts.proofs.script.number.number.Goals as goal
 
 none_at : (b : Bool) (n : ℕ) → (b ≡ true → ⊥) → None ≡ (if b then Some n else None)
 none_at true n bad = absurd (bad refl)
 none_at false n bad = refl
 
--- a word whose number is too great
-no_number : (most : ℕ) (word : List ℕ) → (digits_value 10 word ≤ most → ⊥) → None ≡ number most word
+-- a word whose decimal_number is too great
+no_number : (most : ℕ) (word : List ℕ) → (digits_value 10 word ≤ most → ⊥) → None ≡ decimal_number most word
 no_number most word bad =
     none_at _ (digits_value 10 word) (λ e. bad (leb-true _ _ (and_parts (is_numeral word) _ e).1))
 
 a_number : (most : ℕ) (word : List ℕ) (n : ℕ) → 0 < length word → list_all is_ascii_digit word ≡ true →
-    n ≡ digits_value 10 word → n ≤ most → Some n ≡ number most word
+    n ≡ digits_value 10 word → n ≤ most → Some n ≡ decimal_number most word
 a_number most word n some digits is small =
     rw (lt-ltb 0 (length word) some, digits, ← is, le-leb n most small) refl
 

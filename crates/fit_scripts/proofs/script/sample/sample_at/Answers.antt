@@ -6,7 +6,7 @@ use Rattle.std.specs.Result.{result_ok}
 use Rattle.fit_activity.specs.Rides.Table.{sample_rows}
 use Rattle.fit_scripts.specs.Scripts.Faults.{setting_fault, settings_fault}
 use Rattle.fit_scripts.specs.declared.script.fault.ScriptFaultKind.{ScriptFaultKind}
-use Rattle.fit_scripts.specs.Scripts.Sample.{key_in, value_in, are_settings, is_new_setting, stated_by, with_setting}
+use Rattle.fit_scripts.specs.Scripts.Sample.{key_in, setting_value, are_settings, is_new_setting, values_stated, with_setting}
 use Rattle.fit_scripts.proofs.Scripts.Lines.{now_at, within_now, no_settings, settings_more, stated_next}
 use Rattle.fit_scripts.proofs.script.sample.sample_at.Goals as goal
 
@@ -40,13 +40,13 @@ stopped settings i d next within e =
     (as_words settings i d false within (none_by (is_new_setting (words_of (take i settings)) (get_or settings i d).now) next e))
 
 went_on : (settings : List (Bor (List ℕ))) (i : ℕ) (d : Bor (List ℕ)) (sample next : List (Option ℕ)) → i < length settings →
-    are_settings (take i (words_of settings)) ≡ true → sample ≡ stated_by sample_rows (take i (words_of settings)) →
+    are_settings (take i (words_of settings)) ≡ true → sample ≡ values_stated sample_rows (take i (words_of settings)) →
     Some next ≡ (if is_new_setting (words_of (take i settings)) (get_or settings i d).now
-    then Some (with_setting sample_rows sample (key_in (get_or settings i d).now) (value_in (get_or settings i d).now)) else None) →
-    (are_settings (take (i + 1) (words_of settings)) ≡ true) × (next ≡ stated_by sample_rows (take (i + 1) (words_of settings)))
+    then Some (with_setting sample_rows sample (key_in (get_or settings i d).now) (setting_value (get_or settings i d).now)) else None) →
+    (are_settings (take (i + 1) (words_of settings)) ≡ true) × (next ≡ values_stated sample_rows (take (i + 1) (words_of settings)))
 went_on settings i d sample next within all is e =
     let parts = some_by (is_new_setting (words_of (take i settings)) (get_or settings i d).now) next
-    (with_setting sample_rows sample (key_in (get_or settings i d).now) (value_in (get_or settings i d).now)) e in
+    (with_setting sample_rows sample (key_in (get_or settings i d).now) (setting_value (get_or settings i d).now)) e in
     let short = within_now settings i within in (
       settings_more (words_of settings) i short all (as_words settings i d true within parts.0),
       parts.1 ∙ rw (stated_next sample_rows (words_of settings) i short, now_at settings i d within, is) refl,

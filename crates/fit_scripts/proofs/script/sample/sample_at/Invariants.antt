@@ -1,7 +1,7 @@
 use Rattle.std.proofs.Common.{◌≡◌, true, [], take, drop, map}
 use Rattle.fit_scripts.specs.Scripts.Faults.{settings_fault}
 use Rattle.fit_activity.specs.Rides.Table.{sample_rows, ValuesFit}
-use Rattle.fit_scripts.specs.Scripts.Sample.{are_settings, stated_by}
+use Rattle.fit_scripts.specs.Scripts.Sample.{are_settings, values_stated}
 use Rattle.fit_scripts.proofs.script.sample.sample_at.Given as goal
 
 abbrev pub invariant-loop-index : goal.invariant-loop-index
@@ -10,7 +10,7 @@ invariant-loop-index l =
     let words = take l.index all in
     record {
       settings : are_settings words ≡ true;
-      values : l.values ≡ stated_by sample_rows words;
+      values : l.values ≡ values_stated sample_rows words;
       fit : ValuesFit sample_rows l.values;
       fault : settings_fault [] all ≡ settings_fault words (drop l.index all);
     }

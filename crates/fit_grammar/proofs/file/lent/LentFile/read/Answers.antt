@@ -1,4 +1,4 @@
-use Rattle.fit_grammar.specs.Private.Passing.{file_of}
+use Rattle.fit_grammar.specs.Private.Passing.{framed_items}
 use Rattle.fit_grammar.proofs.Decoding.Refused.{file_not_refused}
 use Rattle.fit_grammar.proofs.file.lent.LentFile.read.Goals as goal
 
@@ -17,4 +17,4 @@ returns-in_err-close-clause-taken c = λ v file.
 pub returns-clause-file : goal.returns-clause-file
 returns-clause-file c =
     let p = c.in_ok-size.ensures.passed in
-    rw (c.of_passed.ensures p) (c.in_ok-close.ensures.file (file_of c.in_ok-header.header.frame p.items) p.reached)
+    rw (c.of_passed.ensures p) (c.in_ok-close.ensures.file (framed_items c.in_ok-header.header.frame p.items) p.reached)

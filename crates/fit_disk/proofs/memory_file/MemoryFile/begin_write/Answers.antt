@@ -2,8 +2,8 @@ use Rattle.std.proofs.Common.{◌≤◌, length, refl, sym, ap, arith}
 use Rattle.fit_disk.specs.Content.{over}
 use Rattle.fit_disk.proofs.Leaving.{left_more}
 use Rattle.fit_disk.proofs.Sound.{write_sound}
-use Rattle.fit_disk.proofs.Halves.{half_begun}
-use Rattle.fit_disk.proofs.half.Half.begin_write.Goals as goal
+use Rattle.fit_disk.proofs.MemoryFiles.{half_begun}
+use Rattle.fit_disk.proofs.memory_file.MemoryFile.begin_write.Goals as goal
 
 pub returns-then-is_done-clause-begun : goal.returns-then-is_done-clause-begun
 returns-then-is_done-clause-begun c = λ file is.

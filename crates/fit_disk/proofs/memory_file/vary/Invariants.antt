@@ -1,7 +1,7 @@
 use Rattle.std.proofs.Common.{◌≡◌, ℕ, ◌+◌, ◌<◌, ◌≤◌, get_or}
 use Rattle.std.specs.Prelude.{vec_len, vec_capacity}
 use Rattle.fit_disk.specs.Cycle.{free_below, byte_by}
-use Rattle.fit_disk.proofs.half.vary.Given as goal
+use Rattle.fit_disk.proofs.memory_file.vary.Given as goal
 
 abbrev pub invariant-loop-place : goal.invariant-loop-place
 invariant-loop-place l = record {

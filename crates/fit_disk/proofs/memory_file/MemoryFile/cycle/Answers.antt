@@ -1,16 +1,16 @@
 use Rattle.std.proofs.Common.{◌≡◌, ℕ, ◌<◌, length, sym, ap, ◌∙◌, arith}
 use Rattle.std.specs.Prelude.{vec_len, Vec}
 use Rattle.std.specs.declared.alloc.Global.{Global}
-use Rattle.fit_disk.specs.Cycle.{length_by, taken_by}
-use Rattle.fit_disk.proofs.Halves.{half_cycled, half_taken}
-use Rattle.fit_disk.proofs.half.Half.cycle.Goals as goal
+use Rattle.fit_disk.specs.Cycle.{length_chosen, taken_by}
+use Rattle.fit_disk.proofs.MemoryFiles.{half_cycled, half_taken}
+use Rattle.fit_disk.proofs.memory_file.MemoryFile.cycle.Goals as goal
 
 pub returns-clause-left : goal.returns-clause-left
 returns-clause-left c = λ file is.
     let old = c.args.self.now in
     let new = c.rest.new.self in
     let items : new.seen.items ≡ c.vary-taken.new.seen.items = ap (λ (v : Vec ℕ Global). v.items) c.rest.ensures.seen in
-    let long : vec_len c.vary-taken.new.seen ≡ length_by old.least old.greatest c.args.choices.now =
+    let long : vec_len c.vary-taken.new.seen ≡ length_chosen old.least old.greatest c.args.choices.now =
     c.vary-taken.ensures.long ∙ c.set_length.ensures.long ∙ c.chosen_length-len.ensures.length in
     half_cycled old new file c.set_length.new.seen.items c.args.choices.now is (λ i. omega (arith, c.type_inv.choices i))
     (λ place low.

@@ -1,7 +1,7 @@
 use Rattle.std.proofs.Common.{refl, arith}
 use Rattle.fit_device.specs.Windowed.{IsRecovery}
 use Rattle.fit_device.proofs.ByWindows.{reopens_on, reopened}
-use Rattle.fit_device.proofs.by_windows.fitrec_reopen_on.Goals as goal
+use Rattle.fit_device.proofs.by_windows.fitrec_reopen_next.Goals as goal
 
 pub returns-then-recovery-eq-FINDS : goal.returns-then-recovery-eq-FINDS
 returns-then-recovery-eq-FINDS c = reopens_on _ _ _ _ (c.if-not-is_recovery.ensures.0 refl) c.if-recovery-eq-FINDS.true c.find_body.ensures c.args.handle.now

@@ -3,14 +3,14 @@
 ghost use Rattle.std.specs.Prelude.{◌≡◌, ℕ, ◌+◌, ◌^◌, ◌<◌, ◌≤◌, max, min, [], length, take, slice_index, vec_len, vec_capacity, if◌then◌else◌, OnOk};
 ghost use Rattle.fit_disk.specs.Content.{over};
 ghost use Rattle.fit_disk.specs.Stored.{Stored, at_rest, write_begun, cut_begun};
-ghost use Rattle.fit_disk.specs.Cycle.{is_outside, is_kept, free_below, length_by, byte_by, left_by, taken_by};
+ghost use Rattle.fit_disk.specs.Cycle.{is_outside, is_kept, free_below, length_chosen, byte_by, left_by, taken_by};
 
 use crate::ranges::add_range;
 use std::alloc::{AllocError, Global};
 
 // What reads give, and since the last sync the least and the greatest length and the written ranges, each a place and a number of bytes.
 #[derive(Drop)]
-pub(crate) struct Half {
+pub(crate) struct MemoryFile {
     seen: Vec<u8>,
     least: usize,
     pub(crate) greatest: usize,
@@ -20,13 +20,13 @@ pub(crate) struct Half {
     ghost room: { greatest ≤ vec_capacity seen },
 }
 
-impl Half {
-    ghost use Rattle.fit_disk.specs.Half.{IsHalf, HasRoom};
+impl MemoryFile {
+    ghost use Rattle.fit_disk.specs.MemoryFile.{IsHalf, HasRoom};
 
-    pub(crate) fn new(alloc: Global) -> Half
+    pub(crate) fn new(alloc: Global) -> MemoryFile
         ensures { IsHalf result (at_rest []) }
     {
-        Half {
+        MemoryFile {
             seen: Vec::new(alloc),
             least: 0,
             greatest: 0,
@@ -154,7 +154,7 @@ fn choice(choices: &[u8], place: usize) -> u8
 fn chosen_length(least: usize, greatest: usize, choices: &[u8]) -> usize
     requires order { least ≤ greatest }
     requires fits { greatest < 2 ^ 63 }
-    ensures length { result ≡ length_by least greatest choices.now }
+    ensures length { result ≡ length_chosen least greatest choices.now }
     ensures least { least ≤ result }
     ensures greatest { result ≤ greatest }
 {
@@ -191,7 +191,8 @@ fn vary(seen: &mut Vec<u8>, least: usize, written: &[(usize, usize)], choices: &
     ensures long { vec_len seen.new ≡ vec_len seen.old }
     ensures room { vec_capacity seen.new ≡ vec_capacity seen.old }
     ensures each { (place : ℕ) → place < vec_len seen.old
-        → slice_index seen.new.items place ≡ byte_by least written.now seen.old.items choices.now place }
+        → slice_index seen.new.items place
+        ≡ byte_by least written.now seen.old.items choices.now place }
     ensures taken { result ≡ 4 + free_below least written.now (vec_len seen.old) }
 {
     let mut taken = 4;

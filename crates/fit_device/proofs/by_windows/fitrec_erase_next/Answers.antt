@@ -3,7 +3,7 @@ use Rattle.std.specs.Prelude.{◌-◌, is_err}
 use Rattle.fit_disk.specs.Stored.{at_rest}
 use Rattle.fit_disk.specs.Story.{Story, seen_of}
 use Rattle.fit_disk.specs.declared.disk.Which.TheVariants.{Journal}
-use Rattle.fit_plan.specs.Plan.{story_in}
+use Rattle.fit_plan.specs.Plan.{plan_story}
 use Rattle.fit_recorder.specs.Calls.Windows.{AreAt}
 use Rattle.fit_journal.specs.Calls.{forget_bytes}
 use Rattle.fit_plan.proofs.Room.{has_room}
@@ -11,7 +11,7 @@ use Rattle.fit_recorder.specs.Calls.Counts.{erase_calls}
 use Rattle.fit_device.proofs.ByWindows.{journal_front, front_shows}
 use Rattle.fit_device.proofs.Leading.{leads_since}
 use Rattle.fit_device.proofs.Lending.{moments, no_erasing}
-use Rattle.fit_device.proofs.by_windows.fitrec_erase_on.Goals as goal
+use Rattle.fit_device.proofs.by_windows.fitrec_erase_next.Goals as goal
 
 pub returns-then-not-asks_for_journal : goal.returns-then-not-asks_for_journal
 returns-then-not-asks_for_journal c = record {
@@ -50,7 +50,7 @@ erase_known-requires c honest =
     let old = c.take_files-files.ensures in
     let asks = c.if-not-asks_for_journal.ensures.0 refl in
     let front = journal_front handle c.take_files-files.new.self _ asks.0 asks.1 old.window.0 old.window.1 old.story in
-    front_shows c.given.result.now _ (subst (λ (bytes : List ℕ). AreAt 0 bytes (seen_of Journal (story_in c.take_files-files.result))) (sym c.given.ensures.bytes) front)
+    front_shows c.given.result.now _ (subst (λ (bytes : List ℕ). AreAt 0 bytes (seen_of Journal (plan_story c.take_files-files.result))) (sym c.given.ensures.bytes) front)
     (λ none.
     let empty : handle.filled ≡ 0 = omega (arith, none, c.given.ensures.long, old.window.0) in
     omega (arith, c.if-lacks_front.ensures.no refl empty, handle.journal_sized, ap (λ (story : Story). length (seen_of Journal story)) old.story))

@@ -2,15 +2,15 @@
 use Rattle.std.proofs.Common.{◌≡◌, ℕ, zero, suc, ◌+◌, ◌<◌, ◌≤◌, max, Bool, true, false, ◌&&◌, if◌then◌else◌, List, [], ◌∷◌, length, get_or, refl, sym, ◌∙◌, ap}
 use Rattle.std.proofs.lemmas.Bool.{and_parts, ltb-true}
 use Rattle.std.proofs.lemmas.List.FromFn.{fill_by_all}
-use Rattle.fit_disk.specs.declared.half.Half.{Half}
+use Rattle.fit_disk.specs.declared.memory_file.MemoryFile.{MemoryFile}
 use Rattle.fit_disk.specs.Content.{IsBytes}
 use Rattle.fit_disk.specs.Stored.{Stored, Left, at_rest, write_begun}
-use Rattle.fit_disk.specs.Cycle.{is_beside, is_outside, is_kept, free_below, length_by, byte_by, left_by, taken_by}
-use Rattle.fit_disk.specs.Half.{IsHalf}
+use Rattle.fit_disk.specs.Cycle.{is_beside, is_outside, is_kept, free_below, length_chosen, byte_by, left_by, taken_by}
+use Rattle.fit_disk.specs.MemoryFile.{IsHalf}
 use Rattle.fit_disk.proofs.Leaving.{left_rest}
 use Rattle.fit_disk.proofs.Cycling.{length-left_by, kept_same, cycle_leaves}
 
-pub half_begun : (old new : Half) (file : Stored) (at count : ℕ) (now : List ℕ) → IsHalf old file → Left (write_begun at count now file) now
+pub half_begun : (old new : MemoryFile) (file : Stored) (at count : ℕ) (now : List ℕ) → IsHalf old file → Left (write_begun at count now file) now
     → now ≡ new.seen.items → new.least ≡ old.least → new.greatest ≡ max old.greatest (at + count) → ((place : ℕ) → is_outside place new.written.items ≡ is_outside place ((at, count) ∷ old.written.items))
     → IsHalf new (write_begun at count now file)
 half_begun old new file at count now is left seen least greatest written = record {
@@ -37,21 +37,21 @@ module _ (least : ℕ) (xs ys : List (ℕ × ℕ)) (same : (place : ℕ) → is_
       by_test false is = refl
 
 -- the content after the loop over the places, which starts from the file at its chosen length
-pub half_cycled : (old new : Half) (file : Stored) (before choices : List ℕ) → IsHalf old file → IsBytes choices
+pub half_cycled : (old new : MemoryFile) (file : Stored) (before choices : List ℕ) → IsHalf old file → IsBytes choices
     → ((place : ℕ) → place < old.least → get_or before place 0 ≡ get_or old.seen.items place 0)
-    → length new.seen.items ≡ length_by old.least old.greatest choices
-    → ((place : ℕ) → place < length_by old.least old.greatest choices → get_or new.seen.items place 0 ≡ byte_by old.least old.written.items before choices place)
-    → new.least ≡ length_by old.least old.greatest choices → new.greatest ≡ length_by old.least old.greatest choices → new.written.items ≡ []
+    → length new.seen.items ≡ length_chosen old.least old.greatest choices
+    → ((place : ℕ) → place < length_chosen old.least old.greatest choices → get_or new.seen.items place 0 ≡ byte_by old.least old.written.items before choices place)
+    → new.least ≡ length_chosen old.least old.greatest choices → new.greatest ≡ length_chosen old.least old.greatest choices → new.written.items ≡ []
     → IsHalf new (at_rest (left_by file choices))
 half_cycled old new file before choices is bytes resized size each least greatest written =
     let order : file.least ≤ length file.seen = is.sound.no_shorter in
-    let long : length new.seen.items ≡ length_by file.least file.greatest choices = rw (is.least, is.greatest) size in
-    let same : (place : ℕ) → place < length_by file.least file.greatest choices → get_or new.seen.items place 0 ≡ byte_by file.least file.written file.synced choices place =
+    let long : length new.seen.items ≡ length_chosen file.least file.greatest choices = rw (is.least, is.greatest) size in
+    let same : (place : ℕ) → place < length_chosen file.least file.greatest choices → get_or new.seen.items place 0 ≡ byte_by file.least file.written file.synced choices place =
     λ place low.
     each place (rw (← is.least, ← is.greatest) low)
     ∙ byte_same old.least old.written.items file.written is.written before file.synced choices place (λ kept. kept_before place kept)
     ∙ rw is.least refl in
-    let left : left_by file choices ≡ new.seen.items = sym (fill_by_all (byte_by file.least file.written file.synced choices) new.seen.items (length_by file.least file.greatest choices) 0 long same) in
+    let left : left_by file choices ≡ new.seen.items = sym (fill_by_all (byte_by file.least file.written file.synced choices) new.seen.items (length_chosen file.least file.greatest choices) 0 long same) in
     record {
       seen = left;
       least = length-left_by file choices ∙ rw (is.least, is.greatest) (sym least);
@@ -65,6 +65,6 @@ half_cycled old new file before choices is bytes resized size each least greates
         let low : place < old.least = ltb-true place old.least (and_parts _ _ kept).0 in
         resized place low ∙ rw (← is.seen) (kept_same file place is.sound (rw is.least kept))
 
-pub half_taken : (half : Half) (file : Stored) (choices : List ℕ) → IsHalf half file
-    → 4 + free_below half.least half.written.items (length_by half.least half.greatest choices) ≡ taken_by file choices
-half_taken half file choices is = rw (is.least, is.greatest) (ap (λ n. 4 + n) (free_same half.least half.written.items file.written is.written (length_by half.least half.greatest choices)))
+pub half_taken : (half : MemoryFile) (file : Stored) (choices : List ℕ) → IsHalf half file
+    → 4 + free_below half.least half.written.items (length_chosen half.least half.greatest choices) ≡ taken_by file choices
+half_taken half file choices is = rw (is.least, is.greatest) (ap (λ n. 4 + n) (free_same half.least half.written.items file.written is.written (length_chosen half.least half.greatest choices)))
