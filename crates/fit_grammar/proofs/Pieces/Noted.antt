@@ -33,7 +33,7 @@ none_left before (item ∷ items) r =
       some_bytes item,
     ))
 
--- after the header no place is with_place
+-- after the header no place is noted
 pub none_noted : (b : List ℕ) (h : Header) → BeginsWith b h → length b ≡ h.frame.header_size → AreNoted b (h.frame.header_size + 0) []
 none_noted b h p whole = record {
   places = λ g rest q e.
@@ -47,7 +47,7 @@ none_noted b h p whole = record {
   all = λ place le. omega arith;
 }
 
--- ---- a place is with_place after the others
+-- ---- a place is noted after the others
 
 -- the number of places before this one, with one more place
 read_with : (places : List ℕ) (at place : ℕ)
@@ -240,7 +240,7 @@ noted_next b v w places after at end used r t n =
     ∙ ap (λ (n : ℕ). with_place places (front_end f) (item_size item) n) (sym long) in
     rw (bytes, written, is) (noted_more f own item places r.is_front t.taken.at_front.spelled defined here)
 
--- after the last item all places are with_place
+-- after the last item all places are noted
 pub all_noted : (b : List ℕ) (v : FileValue) (places : List ℕ) (at end written : ℕ) → Reached b v at end → end ≤ at
     → AreNoted (take at b) written places → ArePlaces b places
 all_noted b v places at end written r le n g rest q e =

@@ -29,7 +29,7 @@ open_quiet fed (states.Records reading) is was =
     ]
 open_quiet fed (states.Refused fault) is was = absurd is
 
--- fewer bytes are carried_length than the longest item has
+-- fewer bytes are carried than the longest item has
 pub carried_short : (fed : List ℕ) (state : State) → WasFed fed state → carried_length state < 130051
 carried_short fed (states.Header header) was = omega arith
 carried_short fed (states.Records reading) was = was.short

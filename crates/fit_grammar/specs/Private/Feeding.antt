@@ -27,7 +27,7 @@ pub record TakesNext (old new : FileValue) (before after window : List ℕ)
   pub taken : TakesItem old new window left used
   pub noted_is : after ≡ with_place before at (item_size taken.item) used
 
--- the places of the items in these bytes, which end at `written` as they are written; all with_place places are before that
+-- the places of the items in these bytes, which end at `written` as they are written; all noted places are before that
 pub record AreNoted (bytes : List ℕ) (written : ℕ) (longer : List ℕ) : Type 0 where
   pub places : ArePlaces bytes longer
   pub all : (place : ℕ) → written ≤ place → place_read longer place ≡ place + length longer
@@ -37,7 +37,7 @@ pub record StandsBefore (bytes : List ℕ) (r : Reading) (window : List ℕ) : T
   pub reached : Reached bytes r.file r.at r.end
   pub window_is : drop r.at bytes ≡ window
   pub checked : r.checksum ≡ crc (take r.end bytes)
-  pub with_place : AreNoted (take r.at bytes)
+  pub noted : AreNoted (take r.at bytes)
       (r.file.frame.header_size + data_size r.file.items) r.places
 
 -- the bytes end within an item that is not whole

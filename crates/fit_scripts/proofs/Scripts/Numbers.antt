@@ -1,4 +1,4 @@
--- A decimal_number of a setting fits into the bytes of its row: for `script/sample`.
+-- A number of a setting fits into the bytes of its row: for `script/sample`.
 use Rattle.std.proofs.Common.{◌≡◌, zero, suc, ◌≤◌, ◌<◌, ℕ, ℤ, List, [], ◌∷◌, Option, Some, None, Bool, true, false, refl, arith, tests, if◌then◌else◌}
 use Rattle.std.specs.Prelude.{IfSome, option_map, ◌^◌, ◌+◌, ◌*◌, ◌||◌, nat_le, ◌&&◌, neg_ℤ, pos, ◌==◌}
 use Rattle.std.specs.Option.{option_or, is_some}
@@ -78,7 +78,7 @@ setting-fits (row ∷ rows) [] key word fits = tt
 setting-fits (row ∷ rows) (value ∷ values) key word fits =
     (or-fits (bytes_eq key row.3) (number_as row.1 word) value _ (as-fits row.1 word) fits.0, setting-fits rows values key word fits.1)
 
--- an empty word is no decimal_number
+-- an empty word is no number
 none-as : (base : BaseType) → number_as base [] ≡ None
 none-as Enum = refl
 none-as Sint8 = refl

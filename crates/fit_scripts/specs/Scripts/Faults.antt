@@ -1,4 +1,4 @@
--- What is wrong with a line that is none of a script, and with a text that is no script. The words of a line are judged_word from left to
+-- What is wrong with a line that is none of a script, and with a text that is no script. The words of a line are judged from left to
 -- right, a word that is missing last, and the first fault counts.
 use Rattle.std.specs.Prelude.{◌≡◌, ◌≢◌, ◌<◌, ◌⊎◌, ℕ, ◌+◌, Bool, List, [], ◌∷◌, ◌++◌, length, take, codes, All, Option, Some, None, ◌||◌, ◌==◌, nat_lt, if◌then◌else◌, slice_index_or}
 use Rattle.std.specs.List.{list_any, position_or_len}

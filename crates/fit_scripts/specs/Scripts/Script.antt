@@ -16,7 +16,7 @@ use Rattle.fit_scripts.specs.Scripts.Sample.{are_settings, sample_at}
 
 -- ---- a line
 
--- a decimal_number of 32 bits
+-- a number of 32 bits
 abbrev pub number32 : List ℕ → Option ℕ
 number32 word = decimal_number 4294967295 word
 
@@ -118,7 +118,7 @@ meaning_of line =
 abbrev pub IsLine : List ℕ → Type 0
 IsLine line = IsSome (meaning_of line)
 
--- the event of the line with this decimal_number, if it states one
+-- the event of the line with this number, if it states one
 abbrev pub event_of : ℕ → List ℕ → Option Event
 event_of decimal_number line =
     option_map (λ command. record { line = decimal_number; command = command })

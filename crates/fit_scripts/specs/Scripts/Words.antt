@@ -19,13 +19,13 @@ words line = filter (λ word. not (length word == 0)) (slice_split is_blank line
 abbrev pub is_numeral : List ℕ → Bool
 is_numeral word = nat_lt 0 (length word) && list_all is_ascii_digit word
 
--- the decimal_number that a word is, if it is at most `most`
+-- the number that a word is, if it is at most `most`
 abbrev pub decimal_number : ℕ → List ℕ → Option ℕ
 decimal_number most word =
     if is_numeral word && nat_le (digits_value 10 word) most
     then Some (digits_value 10 word) else None
 
--- the same, or with a `-` in front a decimal_number down to -(`most` + 1)
+-- the same, or with a `-` in front a number down to -(`most` + 1)
 abbrev pub signed_number : ℕ → List ℕ → Option ℤ
 signed_number most [] = None
 signed_number most (byte ∷ bytes) =
@@ -33,7 +33,7 @@ signed_number most (byte ∷ bytes) =
     then option_map (λ n. neg_ℤ (pos n)) (decimal_number (most + 1) bytes)
     else option_map pos (decimal_number most (byte ∷ bytes))
 
--- the unsigned decimal_number of the bytes of a base type for a word, if the word is a decimal_number in its range
+-- the unsigned number of the bytes of a base type for a word, if the word is a number in its range
 abbrev pub number_as : BaseType → List ℕ → Option ℕ
 number_as Sint8 word = option_map (as_unsigned 1) (signed_number 127 word)
 number_as Uint8 word = decimal_number 255 word

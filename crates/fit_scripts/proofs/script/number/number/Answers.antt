@@ -16,7 +16,7 @@ none_at : (b : Bool) (n : ℕ) → (b ≡ true → ⊥) → None ≡ (if b then 
 none_at true n bad = absurd (bad refl)
 none_at false n bad = refl
 
--- a word whose decimal_number is too great
+-- a word whose number is too great
 no_number : (most : ℕ) (word : List ℕ) → (digits_value 10 word ≤ most → ⊥) → None ≡ decimal_number most word
 no_number most word bad =
     none_at _ (digits_value 10 word) (λ e. bad (leb-true _ _ (and_parts (is_numeral word) _ e).1))
