@@ -1,5 +1,5 @@
 -- What a lent journal shows as a disk.
-use Rattle.std.specs.Prelude.{◌≡◌, ℕ, Bool, true, false, List, ◌∷◌}
+use Rattle.std.specs.Prelude.{◌≡◌, ℕ, Bool, true, false, ◌∷◌}
 use Rattle.fit_disk.specs.CallSchedule.{counts_of}
 use Rattle.fit_disk.specs.Counts.{Counts, Log, no_calls, no_room, unplanned}
 use Rattle.fit_disk.specs.Story.{Story}

@@ -10,11 +10,9 @@ use Rattle.fit_journal.specs.Turn.{are_checked}
 use Rattle.fit_recorder.specs.Calls.Counts.{start_bytes, start_calls}
 use Rattle.fit_recorder.specs.Calls.Frozen.{state_in}
 use Rattle.fit_recorder.specs.Private.State.{RecorderState}
-use Rattle.fit_plan.specs.Plan.{plan_story, plan_since, plan_counts, room_in, plan_log}
-use Rattle.fit_plan.specs.declared.plan.Plan.{Plan}
-use Rattle.fit_recorder.specs.Calls.Answers.{StartAnswers}
+use Rattle.fit_plan.specs.Plan.{plan_story, plan_since, plan_counts, room_in}
 use Rattle.fit_recorder.specs.Calls.FaultCode.{fault_code}
-use Rattle.fit_recorder.specs.Calls.Start.{HandsBack, InStart}
+use Rattle.fit_recorder.specs.Calls.Start.{InStart}
 use Rattle.fit_recorder.specs.declared.fault.RecFault.{RecFault}
 use Rattle.fit_recorder.specs.declared.fault.RecFault.TheVariants.{NotEmpty, Refused, Full, JournalFull, Device, Failed, NothingRecorded, Damaged}
 use Rattle.fit_plan.proofs.Room.{has_room}
