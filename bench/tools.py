@@ -8,6 +8,9 @@ import sys
 import time
 
 ROOT = pathlib.Path(__file__).resolve().parent.parent
+sys.path.insert(0, str(ROOT))
+import kept
+
 FITREC = ROOT / "crates/fitrec/out/fitrec"
 # The first second of each ride.
 START = 1_000_000_000
@@ -21,42 +24,12 @@ def run(*words, **how):
     return done.stdout
 
 
-def lines_of_crates():
-    """The line of each crate of the tree."""
-    return {it.split()[0].rstrip(":"): it for it in (ROOT / "crates.txt").read_text().splitlines() if it.strip()}
-
-
-def all_below(names):
-    """These crates and all of the tree below them."""
-    lines, found = lines_of_crates(), []
-    for it in names:
-        below = [dep for dep in lines[it].partition(":")[2].split() if dep in lines]
-        found += [dep for dep in [*all_below(below), it] if dep not in found]
-    return found
-
-
-def tree_of(work, names, *more):
-    """A tree with these crates and all below them, with what is proved of them, and with more lines of crates."""
-    needed = all_below(names)
-    for it in needed:
-        left_out = shutil.ignore_patterns("must-fail", "wrong")
-        shutil.copytree(ROOT / "crates" / it, work / "tree/crates" / it, ignore=left_out, copy_function=link_or_copy)
-    (work / "tree/crates.txt").write_text("\n".join([*(lines_of_crates()[it] for it in needed), *more]) + "\n")
-    return work / "tree/crates"
-
-
-def link_or_copy(source, to):
-    """Gives what was proved a second name: `rt` replaces such files, and changes none."""
-    try:
-        (os.link if "/out/rlib/" in str(source) else shutil.copy2)(source, to)
-    except OSError:
-        shutil.copy2(source, to)
-
-
 def proved(work, name, *uses):
     """The Rattle program of bench/NAME over these crates, proved and built. The build ends with a run without words, which may fail."""
     own = "bench_" + name
-    crate = tree_of(work, [it for it in uses if it in lines_of_crates()], "%s: %s" % (own, " ".join(uses))) / own
+    crate = kept.tree_of(work / "tree", [it for it in uses if it in kept.crates()]) / own
+    with open(work / "tree/crates.txt", "a") as lines:
+        lines.write("%s: %s\n" % (own, " ".join(uses)))
     for path in (ROOT / "bench" / name).rglob("*.in"):
         place = path.relative_to(ROOT / "bench" / name).with_suffix("")
         to = crate / ("src" if place.suffix == ".rt" else "") / place

@@ -3,6 +3,7 @@
 import concurrent.futures
 import os
 import pathlib
+import traceback
 from dataclasses import dataclass
 from typing import NamedTuple
 
@@ -42,13 +43,18 @@ class Check(NamedTuple):
     number: int | None = None
 
 
+def ended_early(group):
+    """The check that failed because its function did, with the lines where it did."""
+    return Check(group, "it runs to its end", Difference("its end", traceback.format_exc()))
+
+
 @dataclass
 class Run:
     """What a part is given: the program, how many random files are made, and the seed. What is run alone, if anything is."""
 
     files: int = 3000
     seed: int = 1
-    group: str | None = None
+    groups: tuple = ()
     number: int | None = None
     fitrec: pathlib.Path = FITREC
 
@@ -59,11 +65,14 @@ class Run:
 
     def checks(self, function, *given, under=""):
         """The checks of a function, whose names may begin with the same words."""
-        if self.group not in (None, function.__name__):
+        if self.groups and function.__name__ not in self.groups:
             return
-        for it in function(*given):
-            it = it if isinstance(it, Check) else Check("", *it)
-            yield it._replace(group=function.__name__, name=under and "%s: %s" % (under, it.name) or it.name)
+        try:
+            for it in function(*given):
+                it = it if isinstance(it, Check) else Check("", *it)
+                yield it._replace(group=function.__name__, name=under and "%s: %s" % (under, it.name) or it.name)
+        except Exception:
+            yield ended_early(function.__name__)
 
     def judged(self, judge, inputs):
         """The checks of a function that is given a number and an input, and answers a name and a difference. They run side by side."""
