@@ -34,10 +34,11 @@ def fats_of(image):
     return "%d-%d" % (512 * reserved, 512 * (reserved + count * sectors))
 
 
-def look(it, mode, case, states, allowed, besides=None, **settings):
-    """None if a number of states is wrong that is allowed, besides those with this fault, or what was found, and the command that repeats it."""
+def look(it, mode, case, states, allowed, besides=(), **settings):
+    """None if a number of states is wrong that is allowed, besides those with one of these faults first, or what was found, and the command
+    that repeats it."""
     found = Outcome(it.run(mode, case, states=states, **settings))
-    found.wrong = [line for line in found.wrong if besides is None or besides not in line]
+    found.wrong = [line for line in found.wrong if not any(": %s" % fault in line for fault in besides)]
     words = ["--set %s=%s" % pair for pair in settings.items()]
     repeat = " ".join(["compare/filesystems.py --states %d --seed %d --keep FOLDER" % (states, it.seed), *words, mode, case])
     if found.failed or found.states < states // 2:
@@ -57,9 +58,10 @@ def check(fitrec, seed):
             yield "a ride on " + case, look(it, "ride", case, 150, none)
         # A replacement that is cut off in the middle may lose the old file and the new name. Its bytes are in the file beside it.
         yield "files that are saved on vfat", look(it, "saves", "vfat", 800, range(9))
-        # A repair may have to write where the table has no cluster. Then the ride is saved, or the card repaired.
+        # A repair may have to write where the table has no cluster, or on a card that is read only since a save met that place.
         tails = {"sector": 512, "still": 1, "torn": fats_of(it.image("vfat"))}
-        yield "tails that cannot be read", look(it, "ride", "vfat", 150, none, ': repair prints "fitrec: Device"', **tails)
+        repairs = 'repair prints "fitrec: Device"', 'repair prints "fitrec: cannot open'
+        yield "tails that cannot be read", look(it, "ride", "vfat", 150, none, repairs, **tails)
         yield "a disk that ignores flushes loses something", look(it, "rules", "vfat", 60, some, lie=120)
         yield "a mount without barriers loses something", look(it, "rules", "ext4-no-barrier", 60, some)
         yield "syncs that do nothing lose something", look(it, "rules", "ext4", 60, some, deaf=1)
