@@ -80,12 +80,24 @@ fn reports_a_failed_read_from_too_much(rt: HostRuntime) {
 fn keeps_what_was_read_before_a_failure(rt: HostRuntime) {
     for calls in 0..6 {
         let rest = TEXT.get(..9).unwrap_or(TEXT);
-        let read = read_front(rt.alloc(), &mut Pieces { rest, step: 3, calls }, 10);
+        let read = read_front(
+            rt.alloc(),
+            &mut Pieces {
+                rest,
+                step: 3,
+                calls,
+            },
+            10,
+        );
         assert!(rt; read.is_ok(), "{calls}");
         if let Ok(read) = read {
             let kept = TEXT.get(..3 * calls.min(3));
             assert!(rt; kept == Some(read.bytes.as_slice()), "{calls}");
-            assert_eq!(rt; read.unread_from(), if calls < 4 { Some(3 * calls) } else { None }, "{calls}");
+            assert_eq!(rt;
+                read.unread_from(),
+                if calls < 4 { Some(3 * calls) } else { None },
+                "{calls}"
+            );
         }
     }
 }

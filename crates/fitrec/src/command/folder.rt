@@ -45,10 +45,7 @@ pub fn open_recorded<'a, W: Witness>(
 
 /// Reads the journal of this folder, and what can be read of its data file. Nothing is written. If one of them is missing, the fault says
 /// which, and if both are, it is `NothingRecorded`.
-pub fn read_recorded<'a>(
-    rt: &HostRuntime,
-    name: &'a str,
-) -> Result<(FrontRead, Vec<u8>), Fault<'a>>
+pub fn read_recorded<'a>(rt: &HostRuntime, name: &'a str) -> Result<(FrontRead, Vec<u8>), Fault<'a>>
     ensures { IfErr result (IsLackReported name.entry) }
 {
     match open_files(rt, name)? {
