@@ -271,7 +271,7 @@ static uint8_t go_on(const char *word) {
     return fitrec_erase_on(&room.recovery, &room.plan);
 }
 
-/* A window of the data file that has too few bytes is read as far as it goes. One of the journal is not tried: too few bytes would be its end. */
+/* A window of the data file that has too few bytes is read as far as it goes. Those of the journal would be its end, and are not tried. */
 static void give_too_few(void) {
     static struct fitrec_recovery before;
     struct fitrec_recovery *it = &room.recovery;
