@@ -4,7 +4,7 @@ ghost use Rattle.std.specs.Prelude.{◌≡◌, ◌==◌, ◌<◌, ◌≤◌, ℕ
 ghost use Rattle.std.specs.List.{position, position_or_len};
 ghost use Rattle.std.specs.Result.{result_ok};
 ghost use Rattle.std.specs.Str.{bytes_eq};
-ghost use Rattle.fit_activity.specs.Rides.Table.{SourceRow, sample_rows};
+ghost use Rattle.fit_activity.specs.Rides.Table.{FieldRow as AnyRow, rows_of, sample_rows};
 ghost use Rattle.fit_world.specs.Scripts.Faults.{has_equals, setting_fault, settings_fault};
 ghost use Rattle.fit_world.specs.Scripts.Sample.{key_in, value_in, is_new_setting, are_settings, sample_at, stated_by, with_setting};
 ghost use Rattle.fit_world.specs.Scripts.Words.{number_as};
@@ -91,7 +91,15 @@ fn equals_at(setting: &[u8]) -> Option<usize>
 
 // The place of the row with this key.
 fn row_of(rows: &[FieldRow], key: &[u8]) -> Option<usize>
-    ensures place { result ≡ position (λ row. bytes_eq key row.3.now) rows.now }
+    ensures place { result ≡ position (λ row. bytes_eq key.now row.3) (rows_of rows.now) }
+    ensures within { IfSome result (λ at. at < length rows.now) }
+{
+    place_of(rows, key)
+}
+
+// The same, by what the rows borrow.
+fn place_of(rows: &[FieldRow], key: &[u8]) -> Option<usize>
+    ensures place { result ≡ position (λ row. bytes_eq key.now row.3.now) rows.now }
     ensures within { IfSome result (λ at. at < length rows.now) }
 {
     rows.iter().position(|row| key == row.3.as_bytes())
@@ -100,7 +108,8 @@ fn row_of(rows: &[FieldRow], key: &[u8]) -> Option<usize>
 // The number that a value states for the row at this place.
 fn number_at(rows: &[FieldRow], at: usize, value: &[u8]) -> Option<u32>
     requires { at < length rows.now }
-    ensures { (none : SourceRow) → result ≡ number_as (slice_index_or rows.now at none).1 value.now }
+    ensures { (none : AnyRow) → result
+        ≡ number_as (slice_index_or (rows_of rows.now) at none).1 value.now }
 {
     number_as(rows[at].1, value)
 }
