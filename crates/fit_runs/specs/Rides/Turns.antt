@@ -27,7 +27,6 @@ use Rattle.fit_scripts.specs.Scripts.Faults.{IsWrong}
 use Rattle.fit_runs.specs.Rides.Heard.{lines_heard_in, lines_in}
 use Rattle.fit_scripts.specs.Scripts.Commands.{is_simulated}
 use Rattle.fit_scripts.specs.Scripts.Script.{meaning_of}
-use Rattle.fit_scripts.specs.Scripts.Replayed.{is_simulated}
 
 -- an event was run, with this reply, and this is the last time of the ride then; or the line with this number cannot be done
 pub data Turn : Type 0 where

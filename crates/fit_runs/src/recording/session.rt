@@ -9,7 +9,7 @@ ghost use Rattle.fit_histories.specs.Rides.Ride.{CanGoOn, is_riding};
 ghost use Rattle.fit_runs.specs.Rides.Played.{LeavesAfter};
 ghost use Rattle.fit_runs.specs.Rides.Turns.{Turn, Asked, Faulty, RepliesToAll, refused_count, refused_in, TakesLine, CommitsIfDue, CommitsUnlessBroken, IsLineFault, Prints, SoFar, commit_at, is_due_after, rides_after, times_after, events_in, replies_in, LeavesByTurns};
 ghost use Rattle.fit_scripts.specs.Scripts.Commands.{is_simulated};
-ghost use Rattle.fit_scripts.specs.Scripts.Replayed.{IsReplayed, is_simulated};
+ghost use Rattle.fit_scripts.specs.Scripts.Replayed.{IsReplayed};
 ghost use Rattle.fit_scripts.specs.Scripts.Script.{meaning_of};
 
 use crate::recording::clock::Clock;
