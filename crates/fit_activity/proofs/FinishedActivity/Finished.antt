@@ -132,9 +132,9 @@ summary_from records laps session =
       distance_cm = session.distance_cm;
     }
 
-activity_seen-activity : (records laps : ℕ) (session : SessionValues)
+judged-activity : (records laps : ℕ) (session : SessionValues)
     → activity_seen (seen_from true true true records (laps + 1) 1 1 session) ≡ Ok (summary_from records (laps + 1) session)
-activity_seen-activity records laps session =
+judged-activity records laps session =
     ap (λ b. cond b (Err NoLap) (Ok (summary_from records (laps + 1) session))) (ne_eqb (laps + 1) 0 (λ e. omega (arith, e)))
 
 counted : (global : ℕ) (stated end : List Message) (a b : ℕ) → messages_counted global stated ≡ a → messages_counted global end ≡ b → messages_counted global (stated ++ end) ≡ a + b
@@ -164,4 +164,4 @@ finished (Started s ∷ list) allowed =
     ∙ ap (λ (n : ℕ). activity_seen (seen_from true true true (count_by is_sample whole) (count_by is_lap whole + 1) n (messages_counted 34 all) (first_session_values all))) sessions
     ∙ ap (λ (n : ℕ). activity_seen (seen_from true true true (count_by is_sample whole) (count_by is_lap whole + 1) 1 n (first_session_values all))) activities
     ∙ ap (λ v. activity_seen (seen_from true true true (count_by is_sample whole) (count_by is_lap whole + 1) 1 1 v)) values
-    ∙ activity_seen-activity _ _ _
+    ∙ judged-activity _ _ _

@@ -21,8 +21,8 @@ some_at_most : (b : Bool) (n most bound : ℕ) → (b ≡ true → n ≤ most) �
 some_at_most true n most bound is below = omega (arith, is refl, below)
 some_at_most false n most bound is below = tt
 
-decimal_number-fits : (most bound : ℕ) (word : List ℕ) → most < bound → IfSome (decimal_number most word) (λ k. k < bound)
-decimal_number-fits most bound word below =
+number-fits : (most bound : ℕ) (word : List ℕ) → most < bound → IfSome (decimal_number most word) (λ k. k < bound)
+number-fits most bound word below =
     some_at_most (is_numeral word && nat_le (digits_value 10 word) most) (digits_value 10 word) most bound (at_most (is_numeral word) (digits_value 10 word) most) below
 
 negated : (size n : ℕ) → n < 2 ^ (8 * size) → as_unsigned size (neg_ℤ (pos n)) < 2 ^ (8 * size)
@@ -46,15 +46,15 @@ signed-fits : (size most : ℕ) (word : List ℕ) → most + 1 < 2 ^ (8 * size) 
 signed-fits size most [] below = tt
 signed-fits size most (byte ∷ bytes) below =
     either (byte == 45) size (2 ^ (8 * size)) (option_map (λ n. neg_ℤ (pos n)) (decimal_number (most + 1) bytes)) (option_map pos (decimal_number most (byte ∷ bytes)))
-    (negated-fits size _ (decimal_number-fits (most + 1) _ bytes below)) (plain-fits size _ _ (decimal_number-fits most _ (byte ∷ bytes) (omega (arith, below))))
+    (negated-fits size _ (number-fits (most + 1) _ bytes below)) (plain-fits size _ _ (number-fits most _ (byte ∷ bytes) (omega (arith, below))))
 
 pub as-fits : (base : BaseType) (word : List ℕ) → IfSome (number_as base word) (λ k. k < 256 ^ (row_of base).size)
 as-fits Sint8 word = signed-fits 1 127 word (omega arith)
 as-fits Sint16 word = signed-fits 2 32767 word (omega arith)
 as-fits Sint32 word = signed-fits 4 2147483647 word (omega arith)
-as-fits Uint8 word = decimal_number-fits 255 _ word (omega arith)
-as-fits Uint16 word = decimal_number-fits 65535 _ word (omega arith)
-as-fits Uint32 word = decimal_number-fits 4294967295 _ word (omega arith)
+as-fits Uint8 word = number-fits 255 _ word (omega arith)
+as-fits Uint16 word = number-fits 65535 _ word (omega arith)
+as-fits Uint32 word = number-fits 4294967295 _ word (omega arith)
 as-fits Enum word = tt
 as-fits String word = tt
 as-fits Float32 word = tt

@@ -1,14 +1,15 @@
 -- The row of a key, and what a setting with it changes: for `script/sample`.
-use Rattle.std.proofs.Common.{◌≡◌, ℕ, zero, suc, ◌<◌, ◌&&◌, ◌||◌, Bool, true, false, not, List, [], ◌∷◌, length, map, Option, None, Some, refl, sym, ap, ◌∙◌, arith, get_or, set, if◌then◌else◌}
+use Rattle.std.proofs.Common.{◌≡◌, ℕ, zero, suc, ◌+◌, ◌<◌, ltb, ◌&&◌, ◌||◌, Bool, true, false, not, List, [], ◌∷◌, length, map, Option, None, Some, refl, sym, ap, ◌∙◌, arith, get_or, set, if◌then◌else◌}
 use Rattle.std.proofs.lemmas.Bool.{ltb-false, not-true, and_parts, and_from, and_left, and_right}
-use Rattle.std.proofs.lemmas.List.{get_or-map}
+use Rattle.std.proofs.lemmas.List.{get_or-map, length-map}
+use Rattle.std.proofs.lemmas.List.Quantifiers.{position-Some}
 use Rattle.std.proofs.lemmas.List.Sums.{prefix_len_passes}
 use Rattle.std.proofs.lemmas.Slice.Eq.{bytes_eq-Decides}
 use Rattle.std.specs.List.{list_any, list_all, position, position_or_len}
 use Rattle.std.specs.Option.{option_or, is_some}
 use Rattle.std.specs.Str.{bytes_eq}
-use Rattle.fit_activity.specs.declared.recording.table.TheConstants.{SAMPLE_FIELDS}
-use Rattle.fit_activity.specs.Rides.Table.{SourceRow, FieldRow, rows_of, row_in, sample_rows}
+use Rattle.fit_base.specs.declared.base.BaseType.TheVariants.{Sint8}
+use Rattle.fit_activity.specs.Rides.Table.{FieldRow, sample_rows}
 use Rattle.fit_scripts.proofs.Scripts.Lines.{any_map}
 use Rattle.fit_scripts.specs.Scripts.Words.{number_as}
 use Rattle.fit_scripts.specs.declared.script.fault.ScriptFaultKind.{ScriptFaultKind}
@@ -26,6 +27,10 @@ right_false : (a b : Bool) → (a || b) ≡ false → b ≡ false
 right_false true b e = absurd (cc e)
 right_false false b e = e
 
+or_no : (a : Bool) → (a || false) ≡ a
+or_no true = refl
+or_no false = refl
+
 -- rows of other keys keep their values, and have no number
 others_keep : (rows : List FieldRow) (values : List (Option ℕ)) (key word : List ℕ) → length values ≡ length rows →
     list_any (bytes_eq key) (map (λ row. row.3) rows) ≡ false → with_setting rows values key word ≡ values
@@ -33,12 +38,16 @@ others_keep [] [] key word same none = refl
 others_keep [] (value ∷ values) key word same none = absurd (omega (arith, same))
 others_keep (row ∷ rows) [] key word same none = absurd (omega (arith, same))
 others_keep (row ∷ rows) (value ∷ values) key word same none =
-    rw (left_false _ _ none, others_keep rows values key word (omega (arith, same)) (right_false _ _ none)) refl
+    let first : bytes_eq key row.3 ≡ false = left_false _ _ none in
+    let rest : with_setting rows values key word ≡ values = others_keep rows values key word (omega (arith, same)) (right_false _ _ none) in
+    rw (first, rest) refl
 
 others_none : (rows : List FieldRow) (key word : List ℕ) → list_any (bytes_eq key) (map (λ row. row.3) rows) ≡ false →
     list_any (λ row. is_some (number_by row key word)) rows ≡ false
 others_none [] key word none = refl
-others_none (row ∷ rows) key word none = rw (left_false _ _ none) (others_none rows key word (right_false _ _ none))
+others_none (row ∷ rows) key word none =
+    let first : bytes_eq key row.3 ≡ false = left_false _ _ none in
+    rw first (others_none rows key word (right_false _ _ none))
 
 -- what the row of a key has to do with a setting
 pub record Holds (rows : List FieldRow) (values : List (Option ℕ)) (key word : List ℕ) (at : ℕ) (number : Option ℕ) : Type 0 where
@@ -46,22 +55,19 @@ pub record Holds (rows : List FieldRow) (values : List (Option ℕ)) (key word :
   pub has : list_any (λ row. is_some (number_by row key word)) rows ≡ is_some number
   pub known : list_any (λ row. bytes_eq key row.3) rows ≡ true
 
-pub holds : (rows : List SourceRow) (values : List (Option ℕ)) (key word : List ℕ) (at : ℕ) (d : SourceRow) → length values ≡ length rows →
-    has_no_repeat (map (λ row. row.3) (rows_of rows)) ≡ true → at < length rows → bytes_eq key (get_or rows at d).3.now ≡ true →
-    ((k : ℕ) → k < at → bytes_eq key (get_or rows k d).3.now ≡ false) →
-    Holds (rows_of rows) values key word at (number_as (get_or rows at d).1 word)
+pub holds : (rows : List FieldRow) (values : List (Option ℕ)) (key word : List ℕ) (at : ℕ) (d : FieldRow) → length values ≡ length rows →
+    has_no_repeat (map (λ row. row.3) rows) ≡ true → at < length rows → bytes_eq key (get_or rows at d).3 ≡ true →
+    ((k : ℕ) → k < at → bytes_eq key (get_or rows k d).3 ≡ false) → Holds rows values key word at (number_as (get_or rows at d).1 word)
 holds [] values key word at d same once within is before = absurd (omega (arith, within))
 holds (row ∷ rows) [] key word at d same once within is before = absurd (omega (arith, same))
 holds (row ∷ rows) (value ∷ values) key word zero d same once within is before =
-    let key_is : key ≡ row.3.now = (bytes_eq-Decides key row.3.now).0 is in
-    let none : list_any (bytes_eq key) (map (λ row. row.3) (rows_of rows)) ≡ false = rw key_is (not-true _ (and_parts _ _ once).0) in
-    record {
-      set_so = rw (is, others_keep (rows_of rows) values key word _ none) refl;
-      has = rw (is, others_none (rows_of rows) key word none) _;
-      known = rw is refl;
-    }
+    let key_is : key ≡ row.3 = (bytes_eq-Decides key row.3).0 is in
+    let none : list_any (bytes_eq key) (map (λ row. row.3) rows) ≡ false = rw key_is (not-true _ (and_parts _ _ once).0) in
+    let keep : with_setting rows values key word ≡ values = others_keep rows values key word (omega (arith, same)) none in
+    let rest : list_any (λ row. is_some (number_by row key word)) rows ≡ false = others_none rows key word none in
+    record { set_so = rw (is, keep) refl; has = rw (is, rest) (or_no (is_some (number_as row.1 word))); known = rw is refl }
 holds (row ∷ rows) (value ∷ values) key word (suc at) d same once within is before =
-    let other : bytes_eq key row.3.now ≡ false = before 0 (omega arith) in
+    let other : bytes_eq key row.3 ≡ false = before 0 (omega arith) in
     let rest = holds rows values key word at d (omega (arith, same)) (and_parts _ _ once).1 (omega (arith, within)) is (λ k below. before (suc k) (omega (arith, below))) in
     record { set_so = rw (other, rest.set_so) refl; has = rw other rest.has; known = rw other rest.known }
 
@@ -75,10 +81,11 @@ none_in : {X : Type 0} (p : X → Bool) (xs : List X) (d : X) → ((k : ℕ) →
 none_in p [] d all = refl
 none_in p (x ∷ xs) d all = rw (all 0 (omega arith)) (none_in p xs d (λ k below. all (suc k) (omega (arith, below))))
 
-pub absent : {X : Type 0} (p : X → Bool) (xs : List X) (d : X) → position p xs ≡ None → list_any p xs ≡ false
-absent p xs d e =
-    let past = ltb-false _ _ (none_found _ (position_or_len p xs) e) in
-    none_in p xs d (λ k below. not-true _ (prefix_len_passes (λ x. not (p x)) xs k d (omega (arith, past, below))))
+absent : {X : Type 0} (p : X → Bool) (xs : List X) → position p xs ≡ None → list_any p xs ≡ false
+absent p [] e = refl
+absent p (x ∷ xs) e =
+    let past = ltb-false _ _ (none_found _ (position_or_len p (x ∷ xs)) e) in
+    none_in p (x ∷ xs) x (λ k below. not-true _ (prefix_len_passes (λ x. not (p x)) (x ∷ xs) k x (omega (arith, past, below))))
 
 -- ---- the settings before
 
@@ -92,12 +99,12 @@ unknown [] key all none = refl
 unknown (word ∷ words) key all none =
     let parts = and_parts _ _ all in
     rw (unknown words key parts.1 none) (by (bytes_eq (key_in word) key) refl)
-  where
-    by : (b : Bool) → bytes_eq (key_in word) key ≡ b → (bytes_eq (key_in word) key || false) ≡ false
-    by false e = rw e refl
-    by true e =
-        let same : key_in word ≡ key = (bytes_eq-Decides (key_in word) key).0 e in
-        absurd (cc (sym (and_parts _ _ all).0 ∙ no_setting (key_in word) (setting_value word) (rw same none)))
+    where
+      by : (b : Bool) → bytes_eq (key_in word) key ≡ b → (bytes_eq (key_in word) key || false) ≡ false
+      by false e = rw e refl
+      by true e =
+          let same : key_in word ≡ key = (bytes_eq-Decides (key_in word) key).0 e in
+          absurd (cc (sym (and_parts _ _ all).0 ∙ no_setting (key_in word) (setting_value word) (rw same none)))
 
 some_or : (a b : Option ℕ) → is_some (option_or a b) ≡ (is_some b || is_some a)
 some_or None None = refl
@@ -106,44 +113,71 @@ some_or (Some m) None = refl
 some_or (Some m) (Some n) = refl
 
 -- the row of a key: the first that has it
-pub record IsRowOf (key : List ℕ) (at : ℕ) (d : SourceRow) : Type 0 where
-  pub within : at < length SAMPLE_FIELDS
-  pub is : bytes_eq key (get_or SAMPLE_FIELDS at d).3.now ≡ true
-  pub before : (k : ℕ) → k < at → bytes_eq key (get_or SAMPLE_FIELDS k d).3.now ≡ false
+pub record IsRowOf (key : List ℕ) (at : ℕ) (d : FieldRow) : Type 0 where
+  pub within : at < length sample_rows
+  pub is : bytes_eq key (get_or sample_rows at d).3 ≡ true
+  pub before : (k : ℕ) → k < at → bytes_eq key (get_or sample_rows k d).3 ≡ false
 
-pub row_holds : (values : List (Option ℕ)) (key word : List ℕ) (at : ℕ) (d : SourceRow) → length values ≡ 11 → IsRowOf key at d →
-    Holds sample_rows values key word at (number_as (get_or SAMPLE_FIELDS at d).1 word)
-row_holds values key word at d same row = holds SAMPLE_FIELDS values key word at d same refl row.within row.is row.before
+pub row_holds : (values : List (Option ℕ)) (key word : List ℕ) (at : ℕ) (d : FieldRow) → length values ≡ 11 → IsRowOf key at d →
+    Holds sample_rows values key word at (number_as (get_or sample_rows at d).1 word)
+row_holds values key word at d same row = holds sample_rows values key word at d same refl row.within row.is row.before
 
 -- a setting has a number for the row of a key if and only if that is its key
-own_number : (key : List ℕ) (at : ℕ) (d : SourceRow) (word : List ℕ) → IsRowOf key at d → is_setting word ≡ true →
-    is_some (number_by (row_in (get_or SAMPLE_FIELDS at d)) (key_in word) (setting_value word)) ≡ bytes_eq (key_in word) key
+own_number : (key : List ℕ) (at : ℕ) (d : FieldRow) (word : List ℕ) → IsRowOf key at d → is_setting word ≡ true →
+    is_some (number_by (get_or sample_rows at d) (key_in word) (setting_value word)) ≡ bytes_eq (key_in word) key
 own_number key at d word row setting = by (bytes_eq (key_in word) key) refl
-  where
-    by : (b : Bool) → bytes_eq (key_in word) key ≡ b →
-        is_some (number_by (row_in (get_or SAMPLE_FIELDS at d)) (key_in word) (setting_value word)) ≡ bytes_eq (key_in word) key
-    by true e =
-        let same : key_in word ≡ key = (bytes_eq-Decides (key_in word) key).0 e in
-        let found : IsRowOf (key_in word) at d = rw same row in
-        rw (e, found.is) (sym (row_holds (values_stated sample_rows []) (key_in word) (setting_value word) at d refl found).has ∙ setting)
-    by false e =
-        let key_is : key ≡ (get_or SAMPLE_FIELDS at d).3.now = (bytes_eq-Decides key _).0 row.is in
-        let other : bytes_eq (key_in word) (get_or SAMPLE_FIELDS at d).3.now ≡ false = ap (bytes_eq (key_in word)) (sym key_is) ∙ e in
-        rw (other, e) refl
+    where
+      by : (b : Bool) → bytes_eq (key_in word) key ≡ b →
+          is_some (number_by (get_or sample_rows at d) (key_in word) (setting_value word)) ≡ bytes_eq (key_in word) key
+      by true e =
+          let same : key_in word ≡ key = (bytes_eq-Decides (key_in word) key).0 e in
+          let found : IsRowOf (key_in word) at d = rw same row in
+          rw (e, found.is) (sym (row_holds (values_stated sample_rows []) (key_in word) (setting_value word) at d refl found).has ∙ setting)
+      by false e =
+          let key_is : key ≡ (get_or sample_rows at d).3 = (bytes_eq-Decides key _).0 row.is in
+          let other : bytes_eq (key_in word) (get_or sample_rows at d).3 ≡ false = ap (bytes_eq (key_in word)) (sym key_is) ∙ e in
+          rw (other, e) refl
 
-stated_there : (key : List ℕ) (at : ℕ) (d : SourceRow) (words : List (List ℕ)) → IsRowOf key at d → list_all is_setting words ≡ true →
-    is_some (stated_value (number_by (row_in (get_or SAMPLE_FIELDS at d))) words) ≡ stands_in key words
+stated_there : (key : List ℕ) (at : ℕ) (d : FieldRow) (words : List (List ℕ)) → IsRowOf key at d → list_all is_setting words ≡ true →
+    is_some (stated_value (number_by (get_or sample_rows at d)) words) ≡ stands_in key words
 stated_there key at d [] row all = refl
 stated_there key at d (word ∷ words) row all =
-    some_or _ _ ∙ rw (own_number key at d word row (and_parts _ _ all).0, stated_there key at d words row (and_parts _ _ all).1) refl
+    let own = own_number key at d word row (and_parts _ _ all).0 in
+    let rest = stated_there key at d words row (and_parts _ _ all).1 in
+    some_or _ _ ∙ ap (λ b. b || is_some (stated_value (number_by (get_or sample_rows at d)) words)) own ∙ ap (λ b. bytes_eq (key_in word) key || b) rest
 
 -- a row has a value if and only if one of the words has its key
-pub value_stands : (key : List ℕ) (at : ℕ) (d : SourceRow) (words : List (List ℕ)) → IsRowOf key at d → are_settings words ≡ true →
+pub value_stands : (key : List ℕ) (at : ℕ) (d : FieldRow) (words : List (List ℕ)) → IsRowOf key at d → are_settings words ≡ true →
     is_some (get_or (values_stated sample_rows words) at None) ≡ stands_in key words
 value_stands key at d words row are =
-    ap is_some (get_or-map (λ row. stated_value (number_by row) words) sample_rows at (row_in d) None row.within
-    ∙ ap (λ row. stated_value (number_by row) words) (get_or-map row_in SAMPLE_FIELDS at d (row_in d) row.within))
-    ∙ stated_there key at d words row (and_parts _ _ are).0
+    ap is_some (get_or-map (λ row. stated_value (number_by row) words) sample_rows at d None row.within) ∙ stated_there key at d words row (and_parts _ _ are).0
+
+-- ---- the row that is found
+
+pub some_row : FieldRow
+some_row = (0, Sint8, [], [])
+
+pub row_found : (key : List ℕ) (at : ℕ) → position (λ row. bytes_eq key row.3) sample_rows ≡ Some at → IsRowOf key at some_row
+row_found key at e =
+    let found = position-Some (λ (row : FieldRow). bytes_eq key row.3) sample_rows at some_row e in
+    record { within = found.0; is = found.1; before = found.2 }
+
+pub row_absent : (key : List ℕ) → position (λ row. bytes_eq key row.3) sample_rows ≡ None → is_key key ≡ false
+row_absent key e = absent (λ (row : FieldRow). bytes_eq key row.3) sample_rows e
+
+-- a place among the values of the items
+length_map : {X Y : Type 0} (p : Y → Bool) (f : X → Y) (xs : List X) → position_or_len p (map f xs) ≡ position_or_len (λ x. p (f x)) xs
+length_map p f [] = refl
+length_map p f (x ∷ xs) = ap (λ n. if not (p (f x)) then 1 + n else 0) (length_map p f xs)
+
+pub position_map : {X Y : Type 0} (p : Y → Bool) (f : X → Y) (xs : List X) → position p (map f xs) ≡ position (λ x. p (f x)) xs
+position_map p f xs =
+    ap (λ n. if ltb n (length (map f xs)) then Some n else None) (length_map p f xs)
+    ∙ ap (λ l. if ltb (position_or_len (λ x. p (f x)) xs) l then Some (position_or_len (λ x. p (f x)) xs) else None) (length-map xs f)
+
+pub none_of : {X : Type 0} (o : Option X) → ((x : X) → o ≡ Some x → ⊥) → o ≡ None
+none_of None not = refl
+none_of (Some x) not = absurd (not x refl)
 
 -- ---- what is said of a setting, by its key
 

@@ -4,7 +4,7 @@ ghost use Rattle.std.specs.Prelude.{◌≡◌, ◌==◌, ◌<◌, ◌≤◌, ℕ
 ghost use Rattle.std.specs.List.{position, position_or_len};
 ghost use Rattle.std.specs.Result.{result_ok};
 ghost use Rattle.std.specs.Str.{bytes_eq};
-ghost use Rattle.fit_activity.specs.Rides.Table.{SourceRow, sample_rows};
+ghost use Rattle.fit_activity.specs.Rides.Table.{FieldRow as AnyRow, rows_of, sample_rows};
 ghost use Rattle.fit_scripts.specs.Scripts.Faults.{has_equals, setting_fault, settings_fault};
 ghost use Rattle.fit_scripts.specs.Scripts.Sample.{key_in, setting_value, is_new_setting, are_settings, sample_at, values_stated, with_setting};
 ghost use Rattle.fit_scripts.specs.Scripts.Words.{number_as};
@@ -18,8 +18,7 @@ use fit_activity::{FIELDS, FieldRow, SAMPLE_FIELDS, Sample};
 pub fn sample_at(time: u32, settings: &[&[u8]]) -> Result<Sample, ScriptFaultKind>
     ensures value { result_ok result ≡ (if are_settings (map (λ word. word.now) settings.now)
         then Some (sample_at time (map (λ word. word.now) settings.now)) else None) }
-    ensures fault { IfErr result (λ kind. kind
-        ≡ settings_fault [] (map (λ word. word.now) settings.now)) }
+    ensures fault { IfErr result (λ kind. kind ≡ settings_fault [] (map (λ word. word.now) settings.now)) }
 {
     let mut values = [None; FIELDS];
     for setting in settings {
@@ -29,7 +28,10 @@ pub fn sample_at(time: u32, settings: &[&[u8]]) -> Result<Sample, ScriptFaultKin
 }
 
 // Adds the number of a setting to those of the settings before it.
-fn add_setting(values: &mut [Option<u32>; FIELDS], setting: &[u8]) -> Result<(), ScriptFaultKind>
+fn add_setting(
+    values: &mut [Option<u32>; FIELDS],
+    setting: &[u8],
+) -> Result<(), ScriptFaultKind>
     ensures new { (earlier : List (List ℕ)) → are_settings earlier ≡ true
         → values.old ≡ values_stated sample_rows earlier
         → OnOk result (is_new_setting earlier setting.now ≡ true) }
@@ -89,7 +91,15 @@ fn equals_at(setting: &[u8]) -> Option<usize>
 
 // The place of the row with this key.
 fn row_of(rows: &[FieldRow], key: &[u8]) -> Option<usize>
-    ensures place { result ≡ position (λ row. bytes_eq key row.3.now) rows.now }
+    ensures place { result ≡ position (λ row. bytes_eq key.now row.3) (rows_of rows.now) }
+    ensures within { IfSome result (λ at. at < length rows.now) }
+{
+    place_of(rows, key)
+}
+
+// The same, by what the rows borrow.
+fn place_of(rows: &[FieldRow], key: &[u8]) -> Option<usize>
+    ensures place { result ≡ position (λ row. bytes_eq key.now row.3.now) rows.now }
     ensures within { IfSome result (λ at. at < length rows.now) }
 {
     rows.iter().position(|row| key == row.3.as_bytes())
@@ -98,8 +108,8 @@ fn row_of(rows: &[FieldRow], key: &[u8]) -> Option<usize>
 // The number that a value states for the row at this place.
 fn number_at(rows: &[FieldRow], at: usize, value: &[u8]) -> Option<u32>
     requires { at < length rows.now }
-    ensures { (none : SourceRow)
-        → result ≡ number_as (slice_index_or rows.now at none).1 value.now }
+    ensures { (none : AnyRow) → result
+        ≡ number_as (slice_index_or (rows_of rows.now) at none).1 value.now }
 {
     number_as(rows[at].1, value)
 }

@@ -4,13 +4,13 @@ use Rattle.fit_activity.specs.Rides.Table.{sample_rows, ValuesFit}
 use Rattle.fit_scripts.specs.Scripts.Sample.{are_settings, values_stated}
 use Rattle.fit_scripts.proofs.script.sample.sample_at.Given as goal
 
-abbrev pub invariant-loop-index : goal.invariant-loop-index
-invariant-loop-index l =
+abbrev pub invariant-loop-setting : goal.invariant-loop-setting
+invariant-loop-setting l =
     let all = map (λ word. word.now) l.settings in
-    let words = take l.index all in
+    let words = take l.setting-index all in
     record {
       settings : are_settings words ≡ true;
       values : l.values ≡ values_stated sample_rows words;
       fit : ValuesFit sample_rows l.values;
-      fault : settings_fault [] all ≡ settings_fault words (drop l.index all);
+      fault : settings_fault [] all ≡ settings_fault words (drop l.setting-index all);
     }
