@@ -3,10 +3,11 @@ system calls, requests for memory, and the most bytes that were held at once. va
 
 import pathlib
 import re
+import struct
 import tempfile
 
 from tools.checks import differs, unless
-from tools.fit_files import long_content, many_messages
+from tools.fit_files import framed, long_content, many_messages
 from tools.program import room
 from tools.reader import wanted
 from tools.rides import START, script_of
@@ -19,6 +20,11 @@ SMALL = 1 << 16
 # How many bytes are read at once.
 CHUNK = 65536
 
+# The fields of a record: number, size, base type.
+FIELDS = [(0, 4, 0x85), (1, 4, 0x85), (2, 2, 0x84), (3, 1, 2), (4, 1, 2), (5, 4, 0x86), (6, 2, 0x84), (7, 2, 0x84), (13, 1, 1)]
+# Instructions for each byte of a file of records, and for each sample of a script. Who changes one by more than a fiftieth states it here.
+INSTRUCTIONS = {"show": 45.6, "show --json": 58.4, "check": 12.5, "plain": 23.3, "replay": 7800}
+
 
 def peak(traced, *words, **how):
     """What a run prints, and the most bytes that it held."""
@@ -27,10 +33,11 @@ def peak(traced, *words, **how):
 
 
 def instructions(traced, *words, **how):
-    """How many instructions a run takes."""
+    """How many instructions a run takes. The C library copies by those that each processor has."""
     with tempfile.NamedTemporaryFile("r") as log:
         counting = ["--tool=cachegrind", "--cache-sim=no", "--cachegrind-out-file=/dev/null", "--log-file=" + log.name]
-        Traced("valgrind", traced.library).run(*counting, traced.fitrec, *words, **how)
+        same = "GLIBC_TUNABLES=glibc.cpu.hwcaps=-AVX2,-AVX_Fast_Unaligned_Load,-ERMS,-FSRM"
+        Traced("env", traced.library).run(same, "valgrind", *counting, traced.fitrec, *words, **how)
         return int(re.search(r"I +refs: +([\d,]+)", log.read())[1].replace(",", ""))
 
 
@@ -114,8 +121,54 @@ def answers_of_a_simulation(traced):
     yield "memory for each recovery", unless(held[1] - held[0] <= 190 * 8192, held, "8192 bytes more for each at most")
 
 
+def values_of(at):
+    """The values of a record, in the order of its fields."""
+    return (600000000 + at * 37, -100000000 - at * 53, 2500 + at % 1000, 100 + at % 80, 80 + at % 20, at * 700, 5000 + at % 4000,
+            200 + at % 200, at % 40 - 10)
+
+
+def records(count):
+    """A file of so many records. Every other one has a compressed timestamp, the others a whole one."""
+    items = []
+    for local, fields in enumerate(([(253, 4, 0x86)] + FIELDS, FIELDS)):
+        items.append(bytes([0x40 | local, 0, 0, 20, 0, len(fields)]) + b"".join(map(bytes, fields)))
+    for at in range(count):
+        time = 1000000000 + at
+        items.append(bytes([0xA0 | time % 32]) if at % 2 else b"\0" + struct.pack("<I", time))
+        items.append(struct.pack("<iiHBBIHHb", *values_of(at)))
+    return framed(b"".join(items))
+
+
+def samples(count):
+    """A script of so many samples."""
+    keys = "lat={} long={} alt={} hr={} cad={} dist={} speed={} power={} temp={}"
+    lines = ["sample %d " % (1000000000 + at) + keys.format(*values_of(at)) for at in range(count)]
+    return ["start 1000000000 7 cycling", *lines, "commit"]
+
+
+def instructions_of_records(traced):
+    """What each byte of a file of records costs, and each sample of a script: by two of them, without what a run costs in any case."""
+    # Without the library, whose reports of calls would count too.
+    alone = Traced(traced.fitrec, "")
+    with room(*samples(2000)) as (few, new), room(*samples(8000)) as (many, _):
+        source, out = pathlib.Path(new()) / "in.fit", pathlib.Path(new()) / "out.fit"
+        taken = {"replay": [(count, instructions(alone, "replay", script, new())) for count, script in ((2000, few), (8000, many))]}
+        for count in (2000, 8000):
+            data = records(count)
+            source.write_bytes(data)
+            for command in ("show", "show --json", "check", "plain"):
+                words = [*command.split(), source, *[out] * (command == "plain")]
+                taken.setdefault(command, []).append((len(data), instructions(alone, *words)))
+        for command, (first, second) in taken.items():
+            each, stated = (second[1] - first[1]) / (second[0] - first[0]), INSTRUCTIONS[command]
+            yield "instructions of " + command, unless(abs(each - stated) <= stated / 50, each, "%s, and a fiftieth more or less" % stated)
+        json, text = (taken[command][1][1] - taken[command][0][1] for command in ("show --json", "show"))
+        yield "instructions of JSON by those of the text", unless(json <= 1.3 * text, json / text, "1.3 at most")
+
+
 def check(given):
-    groups = a_file_byte_by_byte, what_a_header_promises, reads_of_a_file, calls_of_a_ride, long_simulations, answers_of_a_simulation
+    groups = (a_file_byte_by_byte, what_a_header_promises, reads_of_a_file, calls_of_a_ride, long_simulations, answers_of_a_simulation,
+              instructions_of_records)
     with tracing(given.fitrec) as traced:
         for group in groups:
             yield from given.checks(group, traced)

@@ -9,6 +9,7 @@ import tempfile
 
 from tools.checks import differs, unless
 from tools.program import ROOT, bytes_of, holds, run
+from tools.rides import LEFT_OUT, uncommitted
 
 NEEDS = ("fitrec",)
 
@@ -23,6 +24,8 @@ FAULTS = {"fit_grammar/src/file/fault.rt": "FaultKind", "fit_grammar/src/plain/f
           "fit_recorder/src/fault.rt": "RecFault", "fit_scripts/src/script/fault.rt": "ScriptFaultKind"}
 # What else it reports: for the command line, for a replay, and for a script that can only be simulated.
 OTHERS = {"the command line is not UTF-8", "NoRecorder", "OnlySimulate"}
+# Lines on standard error with status 0.
+LINES = "fit_files/src/salvage.rt", "fit_commands/src/save.rt", "fit_commands/src/input.rt"
 # Constants, and the pages that give their values.
 SIZES = {("fit_recorder/src/limits.rt", "MOST_RECORDS"): ["RECORDING", "JOURNAL-FORMAT"],
          ("fit_recorder/src/limits.rt", "MOST_BEFORE_STOP"): ["RECORDING", "JOURNAL-FORMAT"],
@@ -82,14 +85,17 @@ class Scratch:
         return self.program(["replay", *options, "script", "new"]), holds(self.folder / "new")
 
     def recovered(self, data, journal):
-        """What a repair of these files prints, the data file that it leaves, and whether a save makes the plain form of that file."""
+        """What a repair of these files prints, the data file that it leaves, and whether a save makes the plain form of that file, and says
+        what it leaves out."""
         (self.folder / "pair").mkdir()
         (self.folder / "pair/activity.fit").write_bytes(data)
         (self.folder / "pair/activity.frj").write_bytes(journal)
         saved = self.program(["save", "pair", "saved"])
         said = self.program(["repair", "pair"])
         self.program(["plain", "pair/activity.fit", "plain"])
-        is_saved = saved == said and bytes_of(self.folder / "saved") == bytes_of(self.folder / "plain")
+        count = uncommitted(data, journal)
+        is_told = saved == (*said[:2], said[2] + LEFT_OUT % count * bool(count))
+        is_saved = is_told and bytes_of(self.folder / "saved") == bytes_of(self.folder / "plain")
         return said, holds(self.folder / "pair")[0], is_saved
 
 
@@ -111,10 +117,14 @@ def shown_commands(fitrec, name, text):
             if not all(map(COMMAND.match, lines)) or any(map(KIT.match, lines)):
                 continue
             status, out, fault = scratch(fitrec, lambda here: here.shell(lines))
+            shown = [] if not printed or all(map(COMMAND.match, printed)) else shape("\n".join(printed)).splitlines()
+            # A line on what is left out is shown, and may be missing.
+            noted = [it for it in shown if it.startswith("fitrec: ")]
+            is_noted = set(shape(fault).splitlines()) <= set(noted)
             # Help has status 2.
-            yield "%s: %s" % (name, lines[0]), differs((status, not fault), (2, False) if "--help" in lines[0] else (0, True))
-            if printed and not all(map(COMMAND.match, printed)):
-                yield "%s: what is printed" % name, differs(shape(out).splitlines(), shape("\n".join(printed)).splitlines())
+            yield "%s: %s" % (name, lines[0]), differs((status, is_noted), (2, False) if "--help" in lines[0] else (0, True), fault)
+            if shown:
+                yield "%s: what is printed" % name, differs(shape(out).splitlines(), [it for it in shown if it not in noted])
 
 
 def forms(command):
@@ -198,8 +208,8 @@ def messages():
     texts = re.findall(r'#\[error\("(.*?)"', page("crates/fit_commands/src/fault.rt"))
     texts = [it.replace("{}", "NAME").replace("{0}", "N") for it in texts if "fitrec: " not in it]
     wanted = {it for it in texts if "{" not in it and "line" not in it} | {"cannot write -", "cannot read -"} | OTHERS
-    left = re.search(r'"fitrec: \{count\} (.*?)"', page("crates/fit_files/src/salvage.rt"))[1]
-    wanted |= {"N " + left}
+    for file in LINES:
+        wanted |= {re.sub(r"\{\w+\}", "N", it.replace("{}", "NAME")) for it in re.findall(r'"fitrec: (\{.*?)"', page("crates/" + file))}
     for file, enum in FAULTS.items():
         names = names_of(file, enum)
         wanted |= {"Refused(%s)" % it for it in names} if enum == "Refusal" else set(names) - {"Refused"}

@@ -1,5 +1,5 @@
-"""Checks how the built program reads a file or a script: as many bytes as allowed, from a file or a pipe, in any pieces, and if a
-system call fails or is interrupted."""
+"""Checks how the built program reads a file or a script: as many bytes as allowed, from a file or a pipe, in any pieces, if a system
+call fails or is interrupted, and where a tail cannot be read."""
 
 import errno
 import os
@@ -10,15 +10,19 @@ import threading
 
 from tools.checks import differs
 from tools.fit_files import MOST, damaged, long_beginning, made
-from tools.program import room, run
-from tools.reader import wanted
-from tools.rides import START
+from tools.program import NAMES, bytes_of, holds, room, run
+from tools.reader import plained, wanted, wanted_salvage
+from tools.rides import LEFT_OUT, START, counted, uncommitted
 from tools.traced import ERRORS, tracing
 
 NEEDS = ("fitrec", "cc")
 # Each command that reads a file or a script, and what it reports for many zeros.
 READERS = [(words, "HeaderSize at 0") for words in ("show large", "check large", "salvage large out.fit", "plain large out.fit")]
 READERS += [(words, "line 1: UnknownWord") for words in ("replay large .", "simulate large")]
+# From which byte on a file could not be read; and what a save says after that, where the journal counts more.
+NOT_READ = "fitrec: %s could not be read from byte %d on\n"
+BODY_NOT_READ = (", and the journal counts bytes after that; repair the file system, such as by fsck.vfat -a, or let salvage copy what is "
+                 "readable of activity.fit\n")
 
 
 def feed(path, count):
@@ -90,6 +94,52 @@ def calls_that_go_wrong(traced, small):
                     yield "%s: a %s that failed" % (command, kind), differs((said, left), wanted_so)
 
 
+def tails_that_cannot_be_read(traced):
+    """A file that cannot be read from a place on, as where a FAT lacks its last cluster. `save` takes the ride if all that the journal
+    counts is before that place, and `salvage` the whole messages before it. `repair` succeeds where `save` does. The others refuse it."""
+    later = ["sample %d hr=%d" % (1000000002 + at, at % 99) for at in range(600)]
+    with room(START, "sample 1000000001 hr=100", "commit", *later) as (script, new):
+        ride, whole = pathlib.Path(new()), pathlib.Path(new(), "out.fit")
+        traced.run("replay", "--checked", script, ride)
+        (data, journal), (_, line, _) = holds(ride), traced.run("save", ride, whole)[0]
+        counts = 14 + counted(journal)
+        for end in (0, 1, 13, 14, 15, 40, counts - 1, counts, counts + 1, counts + 40, 512, len(data) - 1):
+            out = pathlib.Path(new(), "out.fit")
+            said, _ = traced.run("save", ride, out, end=end)
+            if end < counts:
+                refused = "fitrec: cannot read activity.fit\n" + NOT_READ[:-1] % ("activity.fit", end) + BODY_NOT_READ
+                yield "a body that cannot be read: save", differs((said, bytes_of(out)), ((1, "", refused), None), end)
+            else:
+                count = uncommitted(data[:end], journal)
+                want = (0, line, NOT_READ % ("activity.fit", end) + LEFT_OUT % count * bool(count)), whole.read_bytes()
+                yield "a tail that cannot be read: save", differs((said, bytes_of(out)), want, end)
+            copy = pathlib.Path(new())
+            for name, content in zip(NAMES, (data, journal)):
+                (copy / name).write_bytes(content)
+            said, _ = traced.run("repair", copy, end=end)
+            want = (0, line, "") if end >= counts else (1, "", "fitrec: Device\n")
+            yield "a tail that cannot be read: repair", differs(said, want, end)
+            file = copy / "in.fit"
+            file.write_bytes(data)
+            for words in ((), ("--all",), ("--plain",)):
+                said, _ = traced.run("salvage", *words, file, out, end=end)
+                if end < 14:
+                    yield "a header that cannot be read: salvage", differs(said, (1, "", "fitrec: cannot read %s\n" % file), end)
+                else:
+                    (_, kept, fault), content = wanted_salvage(data[:end], "--all" in words)
+                    content = plained(content)[1] if words == ("--plain",) else content
+                    want = (0, kept, NOT_READ % (file, end) + fault), content
+                    yield "a tail that cannot be read: salvage", differs((said, bytes_of(out)), want, end)
+            for command in ("show", "check", "plain"):
+                said, _ = traced.run(command, file, *[out] * (command == "plain"), end=end)
+                yield "a tail that cannot be read: " + command, differs((said[0], said[2]), (1, "fitrec: cannot read %s\n" % file), end)
+        # Nothing was committed, and nothing can be read.
+        (ride / NAMES[1]).write_bytes(journal[:8] + bytes(16))
+        said, _ = traced.run("save", ride, out, end=0)
+        no_commit = "fitrec: NothingRecorded\nfitrec: activity.frj states no commit; salvage copies what is readable of activity.fit\n"
+        yield "a tail that cannot be read: nothing recorded", differs(said, (1, "", no_commit))
+
+
 def files_byte_by_byte(traced, seed):
     """Whatever a file is refused for, it is refused for the same if it is read byte by byte."""
     pick, kinds = random.Random(seed), set()
@@ -110,4 +160,5 @@ def check(given):
     yield from given.checks(limits, given.fitrec)
     with tracing(given.fitrec) as traced:
         yield from given.checks(calls_that_go_wrong, traced, given.small)
+        yield from given.checks(tails_that_cannot_be_read, traced)
         yield from given.checks(files_byte_by_byte, traced, given.seed)

@@ -5,6 +5,7 @@ import os
 import pathlib
 import random
 import re
+import signal
 import subprocess
 import sys
 import tempfile
@@ -182,6 +183,25 @@ def killed(fitrec):
                 started and found and kept <= int(found[1]) <= handed, (line, err, answers), "%d to %d records" % (kept, handed))
 
 
+def left_out(fitrec):
+    """What was answered and not committed when a recording is interrupted is left out, and a save says so; --all salvages it."""
+    with tempfile.TemporaryDirectory() as folder:
+        with subprocess.Popen([fitrec, "record", *AT_THE_END, folder], stdin=subprocess.PIPE, stdout=subprocess.PIPE) as running:
+            running.stdin.write(b"start 1000000000 7 running\n")
+            running.stdin.write(b"".join(b"sample %d hr=%d\n" % (1000000001 + at, 90 + at % 60) for at in range(600)))
+            running.stdin.flush()
+            answers = [running.stdout.readline() for _ in range(601)]
+            running.send_signal(signal.SIGINT)
+        yield "interrupted", differs((answers[-1], running.returncode), (b"601 sample: ok\n", -signal.SIGINT))
+        data, journal = holds(folder)
+        count = rides.uncommitted(data, journal)
+        said = run(fitrec, "save", folder, folder + "/saved.fit")
+        came = said[0], said[1][:13], said[2], count > 500
+        yield "interrupted, and saved", differs(came, (0, "ok records=0 ", rides.LEFT_OUT % count, True))
+        said = run(fitrec, "salvage", "--all", folder + "/activity.fit", folder + "/kept.fit")
+        yield "interrupted, and salvaged", differs(said[1].split(" of ")[0], "kept %d" % (rides.counted(journal) + count))
+
+
 def unread(fitrec):
     """If nobody reads the answers, it ends, and what was committed is kept; so it does if its input cannot be read."""
     with tempfile.TemporaryDirectory() as folder:
@@ -257,5 +277,5 @@ def of_the_example(fitrec):
 
 
 def check(given):
-    for group in (as_replays, as_they_come, of_odd_bytes, by_itself, killed, unread, of_long_rides, of_the_example):
+    for group in (as_replays, as_they_come, of_odd_bytes, by_itself, killed, left_out, unread, of_long_rides, of_the_example):
         yield from given.checks(group, given.fitrec)

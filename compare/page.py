@@ -18,7 +18,8 @@ from tools import release
 from tools.checks import differs, unless
 from tools.library_calls import of_files, of_recordings, of_shown_and_checked
 from tools.needs import missing
-from tools.program import FITREC, NAMES, ROOT, bytes_of, run
+from tools.program import FITREC, NAMES, ROOT, bytes_of, holds, run
+from tools.rides import uncommitted
 
 NEEDS = ("fitrec", "rt", "node", "wasm-opt", "chromium")
 WEB, MODULE = ROOT / "web", ROOT / "compare/module.mjs"
@@ -33,7 +34,8 @@ NOTHING = "Nothing could be saved"
 
 
 def inputs(fitrec, folder):
-    """Chosen files of each kind, each with what the page has to show: its heading, words of its reason, and the file that it offers."""
+    """Chosen files of each kind, each with what the page has to show: its heading, words of its reason, and the file that it offers; and,
+    if activity.fit cannot be read to its end, the first byte that cannot."""
     torn, script = folder / "torn", folder / "script"
     torn.mkdir()
     script.write_text("\n".join(RIDE))
@@ -54,6 +56,28 @@ def inputs(fitrec, folder):
     wrong = bytes([*whole[:-1], whole[-1] ^ 1])
     run(fitrec, "salvage", "--plain", *made("wrong.fit", wrong), folder / "mended.fit")
     yield "a recording", [ride, journal], "The ride is saved", "confirmed", (folder / "ride.fit").read_bytes()
+    more = folder / "more"
+    more.mkdir()
+    script.write_text("\n".join([*RIDE, *("sample %d hr=100 power=200 dist=%d" % (1000000300 + at, 240000 + at) for at in range(120))]))
+    run(fitrec, "replay", script, more)
+    script.write_text("\n".join([*RIDE, "sample 1000000300 hr=100", "commit"]))
+    changed = folder / "changed"
+    changed.mkdir()
+    run(fitrec, "replay", "--checked", script, changed)
+    bytes_there = bytearray((changed / "activity.fit").read_bytes())
+    bytes_there[-1] ^= 1
+    (changed / "activity.fit").write_bytes(bytes_there)
+    both = lambda where: [where / name for name in NAMES]
+    count, left_out = uncommitted(*holds(more)), len(bytes_there) - ride.stat().st_size
+    saved = (folder / "ride.fit").read_bytes()
+    yield "a recording and more messages", both(more), "The ride is saved", "%s bytes of whole messages" % f"{count:,}", saved
+    yield "a recording with a changed byte", both(changed), "An earlier part", "the last %d bytes" % left_out, saved
+    bytes_there[100] ^= 1
+    all_over = [*made("activity.fit", bytes(bytes_there)), changed / "activity.frj"]
+    yield "a recording changed all over", all_over, NOTHING, "have changed", None
+    end = ride.stat().st_size
+    yield "a tail that cannot be read", both(more), "The ride is saved", "from byte %s on" % f"{end:,}", saved, end
+    yield "a body that cannot be read", both(more), NOTHING, "from byte 4,096 on", None, 4096
     yield "a whole file", made("whole.fit", whole), "The file is whole", "checksum is right", None
     yield "a file that was cut off", made("cut.fit", whole[:3000]), "The readable part is saved", "ends too soon", cut
     yield "a ride without its journal", [ride], "The readable part is saved", "checksum of the file is wrong", salvaged
@@ -69,11 +93,11 @@ def inputs(fitrec, folder):
 
 def visits(cases, shots):
     """Each input by the file input on a wide window, and by a drop on a narrow and dark one; the first one by keys too."""
-    for name, files, *wanted in cases:
+    for name, files, heading, reason, content, *unread in cases:
         for drop in (False, True):
             shot = shots and str(shots / ("%s-%s.png" % (name.replace(" ", "-"), "narrow" if drop else "wide")))
-            yield (name, drop), wanted, {"files": [str(it) for it in files], "drop": drop, "width": 360 if drop else 900, "dark": drop,
-                                         "keyboard": not drop, "screenshot": shot}
+            how = {"drop": drop, "width": 360 if drop else 900, "dark": drop, "keyboard": not drop, "unread": sum(unread)}
+            yield (name, drop), (heading, reason, content), {"files": [str(it) for it in files], "screenshot": shot, **how}
 
 
 def of_page(fitrec, folder, shots=None):

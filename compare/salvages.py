@@ -8,23 +8,13 @@ from tools.checks import differs
 from tools.fit_files import MOST, damaged, framed, kind_of, made, many_messages, too_long_at_792
 from tools.places import OLD, Place
 from tools.program import bytes_of, room, run
-from tools.reader import Refused, plained, salvaged, wanted
+from tools.reader import Refused, plained, wanted, wanted_salvage
 
 NEEDS = ("fitrec",)
-NOT_READ = "fitrec: %d bytes after the end that the header gives were not read; salvage --all reads them\n"
-
-
-def said_of(data, everything):
-    """The status, the lines and the file that a salvage of these bytes has to give."""
-    try:
-        kept, looked_at, not_read, file = salvaged(data, everything)
-        return (0, "kept %d of %d\n" % (kept, looked_at), NOT_READ % not_read if not_read else ""), file
-    except Refused as refused:
-        return (1, "", "fitrec: %s\n" % refused), None
 
 
 def plain_of(said, file):
-    """The same for a plain salvage."""
+    """What a plain salvage has to give, where one without --plain gives this."""
     try:
         return said, plained(file)[1] if file is not None else None
     except Refused as refused:
@@ -35,7 +25,7 @@ def judge(fitrec, folder, number, data, everything):
     """How a salvage ends, and how it differs from the second reader. The new file is valid, and its own salvage."""
     source, out, plain, again = (folder / ("%d.%s" % (number, name)) for name in ("in", "out", "plain", "again"))
     source.write_bytes(data)
-    (status, line, fault), file = said_of(data, everything)
+    (status, line, fault), file = wanted_salvage(data, everything)
     words = ["salvage", *["--all"] * everything, source]
     is_, want = [(run(fitrec, *words, out), bytes_of(out))], [((status, line, fault), file)]
     is_.append((run(fitrec, *words, "--plain", plain), bytes_of(plain)))

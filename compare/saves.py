@@ -14,7 +14,7 @@ import tempfile
 
 from tools.checks import Skipped, differs
 from tools.program import NAMES, NOBODY, bytes_of, for_everyone, room, run
-from tools.rides import damaged_pair, recording, script_of
+from tools.rides import LEFT_OUT, damaged_pair, recording, script_of, uncommitted
 from tools.traced import tracing
 
 NEEDS = ("fitrec", "cc")
@@ -81,6 +81,8 @@ def want(fitrec, folder):
         if said[0] == 0:
             run(fitrec, "plain", copy + "/activity.fit", plain)
         more = lack(folder) if said[2] == "fitrec: NothingRecorded\n" else ""
+        count = uncommitted(*(bytes_of(pathlib.Path(folder, name)) for name in NAMES)) if said[0] == 0 else 0
+        more += LEFT_OUT % count * bool(count)
         return (said[0], said[1], said[2].replace(copy, str(folder)) + more), bytes_of(plain)
 
 

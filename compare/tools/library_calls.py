@@ -10,7 +10,7 @@ import tempfile
 from tools.checks import differs
 from tools.fit_files import damaged, made
 from tools.program import NAMES, bytes_of, holds, room, run
-from tools.rides import damaged_pair, script_of
+from tools.rides import damaged_pair, script_of, uncommitted
 
 # The most bytes that a repair and a salvage may add.
 CLOSING, FRAME = 254, 16
@@ -47,6 +47,22 @@ def saved(fitrec, program, folder):
         return differs((mine, bytes_of(out)), ((0, "%d\n%s" % (answer_of(said), said[1]), ""), bytes_of(its)))
 
 
+def left_out(fitrec, program, folder):
+    """What differs between the library and the program in what they leave out: whole messages after the last commit, and, if what it counts
+    has changed, the commit itself."""
+    with tempfile.TemporaryDirectory() as scratch:
+        out, its = pathlib.Path(scratch, "out.fit"), pathlib.Path(scratch, "its.fit")
+        files = [pathlib.Path(folder, name) for name in NAMES]
+        more = run(program, "uncommitted", *files)
+        said = run(fitrec, "save", "--earlier", folder, its)
+        found = re.search(r"(\d+) bytes of the last commit", said[2])
+        left = "0\nleft out %s\n" % found[1] if found else "17\n"
+        mine = run(program, "earlier", *files, out)
+        mine = mine if found or said[0] == 0 else (mine[0], re.sub(r"^0\nleft out \d+\n", "17\n", mine[1]), mine[2])
+        counts, saves = (0, "%d\n" % uncommitted(*holds(folder)), ""), (0, "%s%d\n%s" % (left, answer_of(said), said[1]), "")
+        return differs((more, mine, bytes_of(out)), (counts, saves, bytes_of(its)))
+
+
 def of_recordings(fitrec, program, count, seed):
     """A ride after each of its lines, stopped, repaired and resumed; and pairs of files that are damaged at random."""
     pick = random.Random(seed)
@@ -58,12 +74,14 @@ def of_recordings(fitrec, program, count, seed):
             run(fitrec, "replay", script, folder)
             yield "a ride", repaired(fitrec, program, folder)
             yield "a ride that is saved", saved(fitrec, program, folder)
+            yield "what a ride leaves out", left_out(fitrec, program, folder)
         whole = holds(folder)
         for _ in range(count):
             for name, content in zip(NAMES, damaged_pair(pick, whole)):
                 pathlib.Path(folder, name).write_bytes(content)
             yield "a damaged pair", repaired(fitrec, program, folder)
             yield "a damaged pair that is saved", saved(fitrec, program, folder)
+            yield "what a damaged pair leaves out", left_out(fitrec, program, folder)
         for name, content in zip(NAMES, whole):
             pathlib.Path(folder, name).write_bytes(content)
         said = run(program, "repair", CLOSING - 1, *[pathlib.Path(folder, name) for name in NAMES], pathlib.Path(folder, "out.fit"))
@@ -74,6 +92,14 @@ def of_recordings(fitrec, program, count, seed):
         changed[100] ^= 1
         pathlib.Path(folder, NAMES[0]).write_bytes(changed)
         yield "a changed body that is saved", saved(fitrec, program, folder)
+        yield "what a changed body leaves out", left_out(fitrec, program, folder)
+        changed[100] ^= 1
+        changed[-1] ^= 1
+        pathlib.Path(folder, NAMES[0]).write_bytes(changed)
+        yield "what a changed end leaves out", left_out(fitrec, program, folder)
+        changed[-1] ^= 1
+        changed[100] ^= 1
+        pathlib.Path(folder, NAMES[0]).write_bytes(changed)
         said = run(program, "repair", CLOSING, *[pathlib.Path(folder, name) for name in NAMES], pathlib.Path(folder, "out.fit"))
         yield "a changed body", differs((said, bytes_of(pathlib.Path(folder, "out.fit"))), ((0, "16\n", ""), bytes(changed)))
         said = run(program, "lengths", *[pathlib.Path(folder, name) for name in NAMES])

@@ -302,6 +302,18 @@ def salvaged(data, everything=False):
     return front, len(records), not_read, kept + checksum(kept).to_bytes(2, "little")
 
 
+NOT_READ = "fitrec: %d bytes after the end that the header gives were not read; salvage --all reads them\n"
+
+
+def wanted_salvage(data, everything=False):
+    """The status of `fitrec salvage`, its standard output and its standard error, over a file of these bytes; and the new file, or None."""
+    try:
+        kept, looked_at, not_read, file = salvaged(data, everything)
+        return (0, "kept %d of %d\n" % (kept, looked_at), NOT_READ % not_read if not_read else ""), file
+    except Refused as refused:
+        return (1, "", "fitrec: %s\n" % refused), None
+
+
 def plained(data):
     """What `fitrec plain` has to make of these bytes: how many messages, and the file."""
     times = [line.partition(" timestamp=")[2].split(" ")[0] for line in show(data).splitlines()[1:-1]]
