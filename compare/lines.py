@@ -186,7 +186,9 @@ def killed(fitrec):
 def left_out(fitrec):
     """What was answered and not committed when a recording is interrupted is left out, and a save says so; --all salvages it."""
     with tempfile.TemporaryDirectory() as folder:
-        with subprocess.Popen([fitrec, "record", *AT_THE_END, folder], stdin=subprocess.PIPE, stdout=subprocess.PIPE) as running:
+        # A shell lets what it runs in the background ignore the signal.
+        heeds = {"preexec_fn": lambda: signal.signal(signal.SIGINT, signal.SIG_DFL)}
+        with subprocess.Popen([fitrec, "record", *AT_THE_END, folder], stdin=subprocess.PIPE, stdout=subprocess.PIPE, **heeds) as running:
             running.stdin.write(b"start 1000000000 7 running\n")
             running.stdin.write(b"".join(b"sample %d hr=%d\n" % (1000000001 + at, 90 + at % 60) for at in range(600)))
             running.stdin.flush()
