@@ -11,18 +11,14 @@ import threading
 from tools.checks import differs
 from tools.fit_files import MOST, damaged, long_beginning, made
 from tools.program import NAMES, bytes_of, holds, room, run
-from tools.reader import plained, wanted, wanted_salvage
-from tools.rides import LEFT_OUT, START, counted, uncommitted
+from tools.reader import UNREAD_FROM, plained, wanted, wanted_salvage
+from tools.rides import LEFT_OUT, START, body_unread, counted, uncommitted
 from tools.traced import ERRORS, tracing
 
 NEEDS = ("fitrec", "cc")
 # Each command that reads a file or a script, and what it reports for many zeros.
 READERS = [(words, "HeaderSize at 0") for words in ("show large", "check large", "salvage large out.fit", "plain large out.fit")]
 READERS += [(words, "line 1: UnknownWord") for words in ("replay large .", "simulate large")]
-# From which byte on a file could not be read; and what a save says after that, where the journal counts more.
-NOT_READ = "fitrec: %s could not be read from byte %d on\n"
-BODY_NOT_READ = (", and the journal counts bytes after that; repair the file system, such as by fsck.vfat -a, or let salvage copy what is "
-                 "readable of activity.fit\n")
 
 
 def feed(path, count):
@@ -107,11 +103,11 @@ def tails_that_cannot_be_read(traced):
             out = pathlib.Path(new(), "out.fit")
             said, _ = traced.run("save", ride, out, end=end)
             if end < counts:
-                refused = "fitrec: cannot read activity.fit\n" + NOT_READ[:-1] % ("activity.fit", end) + BODY_NOT_READ
-                yield "a body that cannot be read: save", differs((said, bytes_of(out)), ((1, "", refused), None), end)
+                want = (1, "", "fitrec: %s\n" % body_unread(end)), None
+                yield "a body that cannot be read: save", differs((said, bytes_of(out)), want, end)
             else:
                 count = uncommitted(data[:end], journal)
-                want = (0, line, NOT_READ % ("activity.fit", end) + LEFT_OUT % count * bool(count)), whole.read_bytes()
+                want = (0, line, UNREAD_FROM % ("activity.fit", end) + LEFT_OUT % count * bool(count)), whole.read_bytes()
                 yield "a tail that cannot be read: save", differs((said, bytes_of(out)), want, end)
             copy = pathlib.Path(new())
             for name, content in zip(NAMES, (data, journal)):
@@ -128,7 +124,7 @@ def tails_that_cannot_be_read(traced):
                 else:
                     (_, kept, fault), content = wanted_salvage(data[:end], "--all" in words)
                     content = plained(content)[1] if words == ("--plain",) else content
-                    want = (0, kept, NOT_READ % (file, end) + fault), content
+                    want = (0, kept, UNREAD_FROM % (file, end) + fault), content
                     yield "a tail that cannot be read: salvage", differs((said, bytes_of(out)), want, end)
             for command in ("show", "check", "plain"):
                 said, _ = traced.run(command, file, *[out] * (command == "plain"), end=end)

@@ -15,8 +15,8 @@ from tools.checks import Skipped, differs, unless
 from tools.fit_files import MOST, many_messages
 from tools.places import OLD, Place, lay, laid, place_of
 from tools.program import NOBODY, as_nobody, bytes_of, for_everyone, may_not_grow, room, run, small_disk
-from tools.reader import plained
-from tools.rides import recording, script_of
+from tools.reader import UNREAD_FROM, plained
+from tools.rides import body_unread, recording, script_of
 from tools.traced import ERRORS, tracing
 
 NEEDS = ("fitrec", "cc")
@@ -49,6 +49,10 @@ class Command:
     def said_of(self, call, about, source, error):
         """What it reports if this call on IN fails."""
         return "cannot %s %s" % (call, source)
+
+    def unread_end(self, source):
+        """What it reports if nothing can be read after the last byte of IN. Then it takes IN, or, if this is None, refuses it."""
+        return UNREAD_FROM % (source, len(self.given)) if self.words[0] == "salvage" else None
 
     def sources_in(self, folder):
         """The files of this recording that can be IN."""
@@ -87,8 +91,11 @@ class Save(Command):
 
     def said_of(self, call, about, source, error):
         if call == "read":
-            return "cannot read activity.%s" % {"data": "fit", "journal": "frj"}[about]
+            return body_unread(0) if about == "data" else "cannot read activity.frj"
         return "NoMemory" if error == errno.ENOMEM else "cannot open %s" % source
+
+    def unread_end(self, source):
+        return UNREAD_FROM % ("activity.fit", len(self.given["activity.fit"]))
 
     def sources_in(self, folder):
         return [folder]
@@ -142,16 +149,19 @@ def its_calls(command):
                 yield "the lock is held until after the move", unless(is_held, log, "the lock is closed after the move")
 
 
-def ends(command, place, old, line, error, is_moved):
-    """How a run may end if this call fails: what it prints, and what is then in the place of OUT."""
+def ends(command, place, old, line, error, before):
+    """How a run may end if this call fails after those before it: what it prints, and what is then in the place of OUT."""
     kind, about = line.split()[:2]
     names, is_there = ["in.fit"], [] if old is None else ["out.fit"]
     done, is_as_it_was = (command.made, names + ["out.fit"]), (old, names + is_there)
     if error == errno.EINTR and kind in ("open", "lock", "sync", "read", "mode") or line == "size in":
         return [(command.done, done)]
+    # The first read of a file takes all its bytes, and the next one finds its end.
+    if kind == "read" and about != "journal" and line in before and command.unread_end(place.source):
+        return [((*command.done[:2], command.unread_end(place.source)), done)]
     if about in ("in", "data", "journal"):
         return [((1, "", "fitrec: %s\n" % command.said_of(kind, about, place.source, error)), is_as_it_was)]
-    found = [(not_written(place.out), done if is_moved else is_as_it_was)]
+    found = [(not_written(place.out), done if "move beside" in before else is_as_it_was)]
     if error == errno.ENOMEM:
         found.append(((1, "", "fitrec: NoMemory\n"), found[0][1]))
     if error == errno.EINTR and kind in ("stream", "move"):
@@ -171,7 +181,7 @@ def failing_calls(command):
             for error in errors if kind != "close" else ():
                 with place_of(command.given, old) as place:
                     said, _ = command.tell(place.source, place.out, call=kind, number=number, errno=error)
-                    may_be = ends(command, place, old, line, error, "move beside" in log[:at])
+                    may_be = ends(command, place, old, line, error, log[:at])
                     is_ = said, place.left()
                     well = is_ in may_be and laid(place.source) == command.given
                     yield "a %s that failed" % kind, unless(well, (line, errno.errorcode[error], is_), may_be)

@@ -303,6 +303,7 @@ def salvaged(data, everything=False):
 
 
 NOT_READ = "fitrec: %d bytes after the end that the header gives were not read; salvage --all reads them\n"
+UNREAD_FROM = "fitrec: %s could not be read from byte %d on\n"
 
 
 def wanted_salvage(data, everything=False):
