@@ -10,7 +10,7 @@ use fit_recorder::Recovery;
 pub(crate) struct Believed<'a, 'b> {
     pub(crate) recovery: &'a Recovery,
     pub(crate) files: &'b Plan,
-    pub(crate) ghost reads_on: { ∥ CanReadOn recovery.now × ReadsOn (story_in files.now) recovery.now ∥₁ },
+    pub(crate) ghost reads_on: { ∥ CanReadOn recovery.now × ReadsOn (plan_story files.now) recovery.now ∥₁ },
 }
 
 impl Believed<'_, '_> {

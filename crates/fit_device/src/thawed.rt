@@ -10,7 +10,7 @@ use fit_recorder::Recorder;
 #[derive(Drop)]
 pub(crate) struct Thawed<'a> {
     pub(crate) recorder: &'a Recorder<Plan>,
-    pub(crate) ghost goes_on: { ∥ GoesOn true story_in recorder.now × (has_failed recorder.now ≡ false) ∥₁ },
+    pub(crate) ghost goes_on: { ∥ GoesOn true plan_story recorder.now × (has_failed recorder.now ≡ false) ∥₁ },
 }
 
 impl Thawed<'_> {
