@@ -99,12 +99,12 @@ unknown [] key all none = refl
 unknown (word ∷ words) key all none =
     let parts = and_parts _ _ all in
     rw (unknown words key parts.1 none) (by (bytes_eq (key_in word) key) refl)
-    where
-      by : (b : Bool) → bytes_eq (key_in word) key ≡ b → (bytes_eq (key_in word) key || false) ≡ false
-      by false e = rw e refl
-      by true e =
-          let same : key_in word ≡ key = (bytes_eq-Decides (key_in word) key).0 e in
-          absurd (cc (sym (and_parts _ _ all).0 ∙ no_setting (key_in word) (setting_value word) (rw same none)))
+  where
+    by : (b : Bool) → bytes_eq (key_in word) key ≡ b → (bytes_eq (key_in word) key || false) ≡ false
+    by false e = rw e refl
+    by true e =
+        let same : key_in word ≡ key = (bytes_eq-Decides (key_in word) key).0 e in
+        absurd (cc (sym (and_parts _ _ all).0 ∙ no_setting (key_in word) (setting_value word) (rw same none)))
 
 some_or : (a b : Option ℕ) → is_some (option_or a b) ≡ (is_some b || is_some a)
 some_or None None = refl
@@ -126,17 +126,17 @@ row_holds values key word at d same row = holds sample_rows values key word at d
 own_number : (key : List ℕ) (at : ℕ) (d : FieldRow) (word : List ℕ) → IsRowOf key at d → is_setting word ≡ true →
     is_some (number_by (get_or sample_rows at d) (key_in word) (setting_value word)) ≡ bytes_eq (key_in word) key
 own_number key at d word row setting = by (bytes_eq (key_in word) key) refl
-    where
-      by : (b : Bool) → bytes_eq (key_in word) key ≡ b →
-          is_some (number_by (get_or sample_rows at d) (key_in word) (setting_value word)) ≡ bytes_eq (key_in word) key
-      by true e =
-          let same : key_in word ≡ key = (bytes_eq-Decides (key_in word) key).0 e in
-          let found : IsRowOf (key_in word) at d = rw same row in
-          rw (e, found.is) (sym (row_holds (values_stated sample_rows []) (key_in word) (setting_value word) at d refl found).has ∙ setting)
-      by false e =
-          let key_is : key ≡ (get_or sample_rows at d).3 = (bytes_eq-Decides key _).0 row.is in
-          let other : bytes_eq (key_in word) (get_or sample_rows at d).3 ≡ false = ap (bytes_eq (key_in word)) (sym key_is) ∙ e in
-          rw (other, e) refl
+  where
+    by : (b : Bool) → bytes_eq (key_in word) key ≡ b →
+        is_some (number_by (get_or sample_rows at d) (key_in word) (setting_value word)) ≡ bytes_eq (key_in word) key
+    by true e =
+        let same : key_in word ≡ key = (bytes_eq-Decides (key_in word) key).0 e in
+        let found : IsRowOf (key_in word) at d = rw same row in
+        rw (e, found.is) (sym (row_holds (values_stated sample_rows []) (key_in word) (setting_value word) at d refl found).has ∙ setting)
+    by false e =
+        let key_is : key ≡ (get_or sample_rows at d).3 = (bytes_eq-Decides key _).0 row.is in
+        let other : bytes_eq (key_in word) (get_or sample_rows at d).3 ≡ false = ap (bytes_eq (key_in word)) (sym key_is) ∙ e in
+        rw (other, e) refl
 
 stated_there : (key : List ℕ) (at : ℕ) (d : FieldRow) (words : List (List ℕ)) → IsRowOf key at d → list_all is_setting words ≡ true →
     is_some (stated_value (number_by (get_or sample_rows at d)) words) ≡ stands_in key words

@@ -28,10 +28,7 @@ pub fn sample_at(time: u32, settings: &[&[u8]]) -> Result<Sample, ScriptFaultKin
 }
 
 // Adds the number of a setting to those of the settings before it.
-fn add_setting(
-    values: &mut [Option<u32>; FIELDS],
-    setting: &[u8],
-) -> Result<(), ScriptFaultKind>
+fn add_setting(values: &mut [Option<u32>; FIELDS], setting: &[u8]) -> Result<(), ScriptFaultKind>
     ensures new { (earlier : List (List ℕ)) → are_settings earlier ≡ true
         → values.old ≡ values_stated sample_rows earlier
         → OnOk result (is_new_setting earlier setting.now ≡ true) }
