@@ -71,7 +71,7 @@ usual_fields message =
     if message == 0 then 0 ∷ 1 ∷ 2 ∷ 3 ∷ 4 ∷ []
     else if message == 12 then 0 ∷ 1 ∷ []
     else if message == 18 then
-        254 ∷ 253 ∷ 0 ∷ 1 ∷ 2 ∷ 5 ∷ 6 ∷ 7 ∷ 8 ∷ 9 ∷ 14 ∷ 15 ∷ 16 ∷ 17 ∷ 20 ∷ 21 ∷ 25 ∷ 26 ∷ 28 ∷ []
+    254 ∷ 253 ∷ 0 ∷ 1 ∷ 2 ∷ 5 ∷ 6 ∷ 7 ∷ 8 ∷ 9 ∷ 14 ∷ 15 ∷ 16 ∷ 17 ∷ 20 ∷ 21 ∷ 25 ∷ 26 ∷ 28 ∷ []
     else if message == 19 then 254 ∷ 253 ∷ 0 ∷ 1 ∷ 2 ∷ 7 ∷ 8 ∷ 9 ∷ 13 ∷ 14 ∷ 15 ∷ 16 ∷ 19 ∷ 20 ∷ 24 ∷ []
     else if message == 20 then 253 ∷ 0 ∷ 1 ∷ 2 ∷ 3 ∷ 4 ∷ 5 ∷ 6 ∷ 7 ∷ 13 ∷ 73 ∷ 78 ∷ []
     else if message == 21 then 253 ∷ 0 ∷ 1 ∷ []

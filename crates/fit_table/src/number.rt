@@ -57,21 +57,13 @@ fn put_value<W: Write>(
         Unit::Metres => put_fixed(pen, 2, 100, value),
         Unit::Seconds | Unit::Speed => put_fixed(pen, 3, 1000, value),
         Unit::Date => put_date_or(pen, empty, value),
-        Unit::Whole
-        | Unit::Time
-        | Unit::Beats
-        | Unit::Turns
-        | Unit::Watts
-        | Unit::Celsius => pen.put_signed(value),
+        Unit::Whole | Unit::Time | Unit::Beats | Unit::Turns | Unit::Watts | Unit::Celsius =>
+            pen.put_signed(value),
     }
 }
 
 // A time as a date, or else an empty cell.
-fn put_date_or<W: Write>(
-    pen: &mut Pen<'_, W>,
-    empty: &[u8],
-    value: i64,
-) -> Result<(), WriteFailed>
+fn put_date_or<W: Write>(pen: &mut Pen<'_, W>, empty: &[u8], value: i64) -> Result<(), WriteFailed>
     ensures { Puts pen.old pen.new result (date_or empty.now value) }
 {
     if value >= FIRST_DATE && value <= 0xFFFF_FFFF {

@@ -4,6 +4,8 @@ ghost use Rattle.std.specs.Prelude.{◌≡◌, ◌≤◌, ◌++◌, [], length, 
 ghost use Rattle.fit_grammar.specs.Calls.Output.{WritesText};
 ghost use Rattle.fit_grammar.specs.Format.Message.{messages_of};
 ghost use Rattle.fit_text.specs.Pen.{Puts};
+ghost use Rattle.fit_text.specs.Profile.{names_of_fields};
+ghost use Rattle.fit_text.specs.Text.{field_name as name_of_field};
 ghost use Rattle.fit_columns.specs.declared.plans.TheConstants.{MOST_COLUMNS};
 ghost use Rattle.fit_columns.specs.Places.{ArePlacesIn};
 ghost use Rattle.fit_table.specs.Table.{line_end, column_name, names_from, head_of, cells_at, lines_of, table_of};
@@ -141,11 +143,21 @@ fn put_name<W: Write>(
 ) -> Result<(), WriteFailed>
     ensures { Puts pen.old pen.new result (column_name layout.now number) }
 {
-    match field_name(layout.message, number) {
-        Some(name) => pen.put(name.as_bytes())?,
-        None => put_number_name(pen, number)?,
-    }
+    put_field_name(pen, layout.message, number)?;
     pen.put(suffix_of(unit_in(layout, number)))
+}
+
+fn put_field_name<W: Write>(
+    pen: &mut Pen<'_, W>,
+    message: u16,
+    number: u8,
+) -> Result<(), WriteFailed>
+    ensures { Puts pen.old pen.new result (name_of_field (names_of_fields message) number) }
+{
+    match field_name(message, number) {
+        Some(name) => pen.put(name.as_bytes()),
+        None => put_number_name(pen, number),
+    }
 }
 
 fn put_number_name<W: Write>(pen: &mut Pen<'_, W>, number: u8) -> Result<(), WriteFailed>
@@ -177,8 +189,15 @@ fn put_lines<W: Write>(
                 }
                 plans.settle(found.local, &found.definition, layout.fields);
                 let plan = plans.get(found.local);
-                pen.put(front)?;
-                put_line(pen, layout, plan.places.as_slice(), plan.arch, time, found.content)?;
+                put_line(
+                    pen,
+                    layout,
+                    front,
+                    plan.places.as_slice(),
+                    plan.arch,
+                    time,
+                    found.content,
+                )?;
             }
         }
     }
@@ -188,14 +207,17 @@ fn put_lines<W: Write>(
 fn put_line<W: Write>(
     pen: &mut Pen<'_, W>,
     layout: &Layout<'_>,
+    front: &[u8],
     places: &[Place],
     arch: Arch,
     time: Option<u32>,
     content: &[u8],
 ) -> Result<(), WriteFailed>
     requires { ArePlacesIn (length content.now) places.now }
-    ensures { Puts pen.old pen.new result (cells_at layout.now arch time content.now [] places.now ++ line_end) }
+    ensures { Puts pen.old pen.new result
+        (front.now ++ (cells_at layout.now arch time content.now [] places.now ++ line_end)) }
 {
+    pen.put(front)?;
     put_cells(pen, layout, places, arch, time, content)?;
     pen.put(b"\r\n")
 }

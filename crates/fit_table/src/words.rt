@@ -12,12 +12,14 @@ pub fn message_of_word(word: &str) -> Option<u16>
     ensures named { IfSome result (λ number. message_name number ≡ word.now) }
     ensures none { result ≡ None → (number : ℕ) → number ≤ 65535 → message_name number ≡ word.now → ⊥ }
 {
-    for number in 0..=u16::MAX {
-        if is_message(number, word) {
-            return Some(number);
+    let mut number = 0;
+    while !is_message(number, word) {
+        if number == u16::MAX {
+            return None;
         }
+        number += 1;
     }
-    None
+    Some(number)
 }
 
 /// The number of the field that this word names in messages with this global number, such as `heart_rate`, or `field_39` for one that
@@ -27,12 +29,14 @@ pub fn field_of_word(message: u16, word: &str) -> Option<u8>
     ensures none { result ≡ None
         → (number : ℕ) → number ≤ 255 → field_name (names_of_fields message) number ≡ word.now → ⊥ }
 {
-    for number in 0..=u8::MAX {
-        if is_field(message, number, word) {
-            return Some(number);
+    let mut number = 0;
+    while !is_field(message, number, word) {
+        if number == u8::MAX {
+            return None;
         }
+        number += 1;
     }
-    None
+    Some(number)
 }
 
 fn is_message(number: u16, word: &str) -> bool
