@@ -11,3 +11,4 @@ pub mod PlainFile
 pub mod Saved
 pub mod FaultyLines
 pub mod Lacking
+pub mod Tabled

@@ -1,7 +1,7 @@
 //! What the program does with an open file: it shows, checks, salvages or saves its content, and records what a script states.
 //!
 //! `show_input`, `show_json_input` and `check_input` print the text, the JSON or the summary of a file read from an input; `show_bytes`
-//! and `check_bytes` take its bytes. `plain_input` makes the plain form of a file. `read_all` reads a whole input. `salvage_bytes` finds
+//! and `check_bytes` take its bytes. `table_input` prints a table, and `sum_up_input` gives the summary without printing it. `plain_input` makes the plain form of a file. `read_all` reads a whole input. `salvage_bytes` finds
 //! the readable part of a file that has no journal. `save_ride` makes a file from the two files of a recording, `Lack` says what they lack if
 //! nothing is recorded, and `repair` finishes the recording itself. `read_script` reads the events of a script. `play` runs them over any `Disk`, by a `Ride`, which replies to each
 //! `Command`; `record` does the same with lines that come one by one.
@@ -55,6 +55,7 @@ mod script;
 mod showing;
 mod simulating;
 mod summary;
+mod tabling;
 pub mod world;
 
 pub use answer::Answer;
@@ -80,3 +81,4 @@ pub use script::{ReplayFault, ScriptFault, ScriptFaultKind, parse_script, read_s
 pub use showing::{show_bytes, show_input};
 pub use simulating::{SimulateFault, simulate};
 pub use summary::SummaryLine;
+pub use tabling::{sum_up_input, table_head, table_input};
