@@ -168,14 +168,25 @@ def of_files(fitrec, program, count, seed):
 
 
 def looked_at(fitrec, program, source, mine):
-    """What differs between looking at a file by the library and by the program: its text, with dates and without, and its check."""
-    for words, part in (((), "show"), (("--utc",), "show"), ((), "check")):
-        wanted = run(fitrec, part, *words, source)
-        said = run(program, "check", source) if part == "check" else run(program, "show", source, len(words), mine)
+    """What differs between looking at a file by the library and by the program: its text and its JSON, with dates and without, and its
+    check."""
+    for words, part in (((), "show"), (("--utc",), "show"), (("--json",), "json"), (("--json", "--utc"), "json"), ((), "check")):
+        wanted = run(fitrec, "check" if part == "check" else "show", *words, source)
+        said = run(program, "check", source) if part == "check" else run(program, part, source, int("--utc" in words), mine)
         place = re.match(r"fitrec: \w+(?:\(\d+\))? at (\d+)$", wanted[2].strip())
         lines = "%d\n%s" % (answer_of(wanted), "at %s\n" % place[1] if place else wanted[1] if part == "check" else "")
-        yield part, differs((said, bytes_of(mine)), ((0, lines, ""), wanted[1].encode() if part == "show" and not wanted[0] else None))
+        yield part, differs((said, bytes_of(mine)), ((0, lines, ""), wanted[1].encode() if part != "check" and not wanted[0] else None))
         mine.unlink(missing_ok=True)
+
+
+def in_columns(fitrec, program, source, message, fields):
+    """What differs between the columns of a file by the library and its table by the program."""
+    names = ["timestamp" if it == 253 else FIELDS.get(it, "field_%d" % it) for it in fields]
+    wanted = run(fitrec, "table", "--raw", "--message", MESSAGES.get(message, "message_%d" % message), "--fields", ",".join(names), source)
+    said = run(program, "columns", source, message, ",".join(map(str, fields)))
+    place = re.match(r"fitrec: \w+(?:\(\d+\))? at (\d+)$", wanted[2].strip())
+    lines = "at %s\n" % place[1] if place else wanted[1].replace("\r\n", "\n").partition("\n")[2]
+    return differs(said, (0, "%d\n%s" % (answer_of(wanted), lines), ""))
 
 
 def plainly(fitrec, program, source, mine, its):

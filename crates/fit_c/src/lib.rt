@@ -1,4 +1,4 @@
-//! Recovers rides of a dead device, and shows and checks files, in the memory of a C program or of a page in a browser.
+//! Recovers rides of a dead device, and shows and checks files and reads their columns, in the memory of a C program or of a page in a browser.
 //! `include/fitrec.h` documents the same calls for C.
 //!
 //! Nothing here takes memory, keeps state, or makes a system call. A call reads and writes only the buffers that it is given,
@@ -8,6 +8,8 @@
 ghost use Rattle.std.specs.Prelude.{◌≡◌};
 
 mod checking;
+mod columns;
+mod json;
 mod plain;
 mod repairing;
 mod room;
@@ -17,6 +19,8 @@ mod showing;
 mod tape;
 
 pub use checking::fitrec_check;
+pub use columns::fitrec_columns;
+pub use json::fitrec_json;
 pub use plain::fitrec_plain;
 pub use repairing::{RideSummary, fitrec_repair};
 pub use salvaging::fitrec_salvage;

@@ -1,6 +1,6 @@
 // Prints the table of a file, and sums a file up for a list of many.
 
-ghost use Rattle.std.specs.Prelude.{◌≡◌, ◌≤◌, length, Err, option_map, IfErr};
+ghost use Rattle.std.specs.Prelude.{◌≡◌, ◌≤◌, ℕ, List, length, Option, Err, option_map, IfErr};
 ghost use Rattle.fit_grammar.specs.Calls.Output.{WritesText};
 ghost use Rattle.fit_columns.specs.declared.plans.TheConstants.{MOST_COLUMNS};
 ghost use Rattle.fit_table.specs.Table.{head_of};
@@ -90,7 +90,18 @@ fn table_flushed<O: Write>(
         (tabled layout.now (option_map (λ text. text.now) front.entry) file.now) }
     ensures fault { IfErr result IsOutputFault }
 {
-    let Ok(()) = write_chosen(&file.lend(), layout, front, out) else {
+    let written = write_chosen(&file.lend(), layout, front, out);
+    flush_written(out, written)
+}
+
+// Flushes the output, to which a text was written.
+fn flush_written<O: Write>(out: &mut O, written: Result<(), WriteFailed>) -> Result<(), ReportFault>
+    ensures text { (before : Option (List ℕ)) (text : List ℕ)
+        → WritesText before (O.contents out.old) written text
+        → WritesText before (O.contents out.new) result text }
+    ensures fault { IfErr result IsOutputFault }
+{
+    let Ok(()) = written else {
         return Err(ReportFault::Output);
     };
     match out.flush() {

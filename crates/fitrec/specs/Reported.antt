@@ -19,12 +19,14 @@ use Rattle.fit_world.specs.Printed.ReplyLines.{AreReported}
 use Rattle.fit_world.specs.Printed.Salvaged.{IsSalvage, saved_file, kept_text}
 use Rattle.fit_world.specs.Printed.Saved.{SavesRide}
 use Rattle.fit_world.specs.Printed.Summary.{summary_text}
+use Rattle.fit_world.specs.Printed.Tabled.{SumsUp}
+use Rattle.fit_world.specs.declared.fault.ReportFault.{ReportFault}
 use Rattle.fit_world.specs.Rides.Turns.{Finishes}
 use Rattle.fit_world.specs.Scripts.Script.{events_of}
 use Rattle.fit_world.specs.declared.repairing.FileSums.{FileSums}
 use Rattle.fit_world.specs.declared.repairing.RepairFault.{RepairFault}
 use Rattle.fit_world.specs.declared.repairing.RepairFault.TheVariants as repairs
-use Rattle.fitrec.specs.Faults.{IsRecordingReported, IsRepairReported}
+use Rattle.fitrec.specs.Faults.{IsRecordingReported, IsRepairReported, IsReportFault}
 use Rattle.fitrec.specs.Reading.{IsFileFault}
 use Rattle.fitrec.specs.declared.fault.Fault.{Fault}
 use Rattle.fitrec.specs.declared.fault.Fault.TheVariants as faults
@@ -37,6 +39,13 @@ Reports {F} name old new IsReported IsResult (Ok done) = (bytes : List ℕ) × (
 Reports {F} name old new IsReported IsResult (Err reported) =
     (IsFileFault name reported × (new ≡ old))
     ⊎ ((why : F) × IsReported why reported × (bytes : List ℕ) × (length bytes ≤ 268435456) × IsResult bytes (Err why))
+
+-- the summary of a file of this name; or why it is no activity, or was not opened or not read
+abbrev pub SumsUpNamed : Bor (List ℕ) → Result Summary Fault → Type 0
+SumsUpNamed name (Ok summary) = (bytes : List ℕ) × (length bytes ≤ 268435456) × SumsUp bytes (Ok summary)
+SumsUpNamed name (Err reported) =
+    IsFileFault name reported
+    ⊎ ((why : ReportFault) × IsReportFault name why reported × (bytes : List ℕ) × (length bytes ≤ 268435456) × SumsUp bytes (Err why))
 
 -- the output failed; its name is `-`
 abbrev pub IsOutputReported : Fault → Type 0
