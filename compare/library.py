@@ -13,6 +13,7 @@ import released
 import told
 from files import damaged as damaged_file, made
 from kit import load_rt
+from reader import names_of
 from replacing import bytes_of
 from rides import differs, script_of
 from saves import NAMES, damaged
@@ -181,8 +182,9 @@ def looked_at(fitrec, program, source, mine):
 
 def in_columns(fitrec, program, source, message, fields):
     """What differs between the columns of a file by the library and its table by the program."""
-    names = ["timestamp" if it == 253 else FIELDS.get(it, "field_%d" % it) for it in fields]
-    wanted = run(fitrec, "table", "--raw", "--message", MESSAGES.get(message, "message_%d" % message), "--fields", ",".join(names), source)
+    name, names = names_of(message)
+    names = ",".join(names.get(it, "field_%d" % it) for it in fields)
+    wanted = run(fitrec, "table", "--raw", "--message", name or "message_%d" % message, "--fields", names, source)
     said = run(program, "columns", source, message, ",".join(map(str, fields)))
     place = re.match(r"fitrec: \w+(?:\(\d+\))? at (\d+)$", wanted[2].strip())
     lines = "at %s\n" % place[1] if place else wanted[1].replace("\r\n", "\n").partition("\n")[2]
@@ -217,6 +219,7 @@ def of_looks(fitrec, program, count, seed):
             source.write_bytes(content)
             for part, difference in looked_at(fitrec, program, source, mine):
                 yield "a file that is looked at by " + part, difference
+            yield "columns of records", in_columns(fitrec, program, source, 20, [253, 3, 0, 13])
             yield "a plain form", plainly(fitrec, program, source, mine, folder / "its.fit")
         yield "its version", differs(run(program, "version"), (0, "1\n", ""))
 

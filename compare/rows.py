@@ -13,7 +13,7 @@ below it that are indented by four blanks belong to it. Lines that begin with `#
 What is run:
 
     run WORDS       the program with these words, which are quoted as in a shell; it prints exactly these lines, or, if
-                    the first is `...`, the others at the end
+                    the first is `...`, the others at the end; the lines of a table end with CR and LF
     status N        its exit status, 0 if none is given
     error LINE      what it prints on standard error, nothing if no line is given
     named TEXT      what it prints on standard error contains this
@@ -83,6 +83,8 @@ def run(program, folder, step):
     words = shlex.split(step.about)
     ran = subprocess.run([program, *words], stdin=subprocess.DEVNULL, capture_output=True, cwd=folder, timeout=100)
     out, err, text = ran.stdout.decode(), ran.stderr.decode(), step.text()
+    if words[0] == "table":
+        text = text.replace("\n", "\r\n")
     printed = out == text
     if step.lines[:1] == ["..."]:
         printed = ("\n" + out).endswith(text[3:])
