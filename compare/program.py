@@ -51,7 +51,8 @@ class Program:
     def run(self, *words, **how):
         """The status, the output and the errors of a run."""
         how = {"stdout": subprocess.PIPE, "stderr": subprocess.PIPE} | how
-        ran = subprocess.run([self.program, *words], stdin=subprocess.DEVNULL, cwd=self.folder, timeout=100, **how)
+        how = how if "input" in how else {"stdin": subprocess.DEVNULL} | how
+        ran = subprocess.run([self.program, *words], cwd=self.folder, timeout=100, **how)
         return ran.returncode, (ran.stdout or b"").decode(), (ran.stderr or b"").decode()
 
     def write(self, name, data):
@@ -87,7 +88,7 @@ def names(fitrec, small):
     (fitrec.folder / "ride").mkdir()
     fitrec.run("replay", fitrec.write("start", b"start 1000000000 7 running\n"), "ride")
     for name, shown in NAMES.items():
-        for words in (["show"], ["show", "--json"], ["check"], ["plain", name, "out"], ["salvage", name, "out"], ["replay", name, "ride"], ["simulate"],
+        for words in (["show"], ["show", "--json"], ["table"], ["check"], ["plain", name, "out"], ["salvage", name, "out"], ["replay", name, "ride"], ["simulate"],
                       ["replay", "script"], ["record"], ["repair"], ["repair", "--verify"], ["save", name, "out"]):
             said = fitrec.run(*words, *[name] * (name not in words))
             yield "a name that is not opened: " + words[0], said, (1, "", "fitrec: cannot open %s\n" % shown)
@@ -99,7 +100,7 @@ def names(fitrec, small):
             said = fitrec.run(*words, *[name] * (name not in words))
             yield "a name that is not read: " + words[0], said, (1, "", "fitrec: cannot read %s\n" % shown)
         (fitrec.folder / name).rmdir()
-        for words in (["check", "small.fit", name], [name], ["show", "--" + name], ["simulate", "--choices", name, "script"],
+        for words in (["show", "small.fit", name], [name], ["show", "--" + name], ["simulate", "--choices", name, "script"],
                       ["record", "--commit", name, "ride"]):
             status, out, fault = fitrec.run(*words)
             yield "a word that is wrong", (status, out, shown in fault, name in fault), (2, "", True, name == shown)
@@ -150,6 +151,33 @@ def choices(fitrec):
         yield "%d choice bytes" % (before + 9), (status, out.splitlines()[-1:], fault), (0, ["68 recover: " + line], "")
 
 
+def many(fitrec):
+    """Files and names of files that standard input holds, and names as a list of files shows them."""
+    ride = framed(bytes.fromhex("40 00 00 14 00 01 03 01 02 00 64"))
+    table = "heart_rate_bpm\r\n100\r\n"
+    words = "table", "--fields", "heart_rate"
+    yield "a table of standard input", fitrec.run(*words, "-", input=ride), (0, table, "")
+    yield "a table of a part of a file", fitrec.run(*words, "-", input=ride[:-1]), (1, "", "fitrec: Truncated at %d\n" % (len(ride) - 1))
+    fitrec.write("-", ride)
+    yield "a file that is named - by its folder", fitrec.run(*words, "./-"), (0, table, "")
+    for name in ("a.fit", "b\n.fit", "c\x1b.fit"):
+        fitrec.write(name, ride)
+    every = "a.fit: NoFileId\nc\\x1B.fit: NoFileId\nnone: cannot open none\n"
+    for given in ("a.fit\nc\x1b.fit\nnone\n", "\na.fit\nc\x1b.fit\n\nnone"):
+        yield "names by lines", fitrec.run("check", "--each", "-", input=given.encode()), (1, every, "fitrec: 3 refused\n")
+    for options in (["--each", "-0"], ["-0", "--each"], ["--each", "--null"]):
+        said = fitrec.run("check", *options, "a.fit", "-", input=b"b\n.fit\0a.fit\0")
+        yield "names by zero bytes", said, (1, "a.fit: NoFileId\nb\\x0A.fit: NoFileId\na.fit: NoFileId\n", "fitrec: 3 refused\n")
+    yield "names that are no text", fitrec.run("check", "--each", "-", input=b"a.fit\n\xff\n"), (1, "", "fitrec: cannot read -\n")
+    yield "no names", fitrec.run("check", "--each", "-", input=b""), (0, "", "")
+    said = fitrec.run(*words, "--each", "-", input=b"a.fit\nnone\nc\x1b.fit")
+    lines = 'file,heart_rate_bpm\r\n"a.fit",100\r\n"c\x1b.fit",100\r\n'
+    yield "a table of names by lines", said, (1, lines, "fitrec: none: cannot open none\nfitrec: 1 refused\n")
+    with open("/dev/full", "wb") as full:
+        for word in ("check", "table"):
+            yield "output that is full, of " + word + " --each", fitrec.run(word, "--each", "a.fit", stdout=full), (1, "", "fitrec: cannot write -\n")
+
+
 def outputs(fitrec, small):
     """Output that takes nothing, or that nobody reads."""
     name, line = fitrec.write("small.fit", small), "fitrec: cannot write -\n"
@@ -192,7 +220,7 @@ def check(program, small):
     with tempfile.TemporaryDirectory() as folder:
         fitrec = Program(program, folder)
         runs = (answers(fitrec, small), names(fitrec, small), beginnings(fitrec, small), sizes(fitrec), developer_fields(fitrec), choices(fitrec),
-                outputs(fitrec, small), memory(fitrec))
+                many(fitrec), outputs(fitrec, small), memory(fitrec))
         for rows in runs:
             for name, said, want in rows:
                 yield name, None if said == want else (want, said)
