@@ -57,7 +57,8 @@ class OfARide(unittest.TestCase):
 
     def test_laps(self):
         laps = fitrec.read(RIDE, message="lap", fields=["start_time", "total_elapsed_time", "avg_heart_rate"])
-        self.assertEqual((str(laps["start_time"][0]), laps["total_elapsed_time"][0], laps["avg_heart_rate"][0]), ("2021-09-08T01:46:40", 599.0, 92.0))
+        found = str(laps["start_time"][0]), laps["total_elapsed_time"][0], laps["avg_heart_rate"][0]
+        self.assertEqual(found, ("2021-09-08T01:46:40", 599.0, 92.0))
         self.assertEqual(len(fitrec.read(RIDE, message=4711, fields=[1])["field_1"]), 0)
 
     def test_more_rows_than_the_first_guess(self):
