@@ -17,7 +17,8 @@ from tools.traced import ERRORS, tracing
 
 NEEDS = ("fitrec", "cc")
 # Each command that reads a file or a script, and what it reports for many zeros.
-READERS = [(words, "HeaderSize at 0") for words in ("show large", "check large", "salvage large out.fit", "plain large out.fit")]
+READERS = [(words, "HeaderSize at 0") for words in (
+    "show large", "table large", "check large", "salvage large out.fit", "plain large out.fit")]
 READERS += [(words, "line 1: UnknownWord") for words in ("replay large .", "simulate large")]
 
 

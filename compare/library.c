@@ -8,6 +8,8 @@
      library plain IN OUT
      library check IN
      library show IN UTC OUT                 the text goes to OUT; its buffer has just as many bytes, and too few at first
+     library json IN UTC OUT                 the same as JSON
+     library columns IN MESSAGE FIELDS       the values, a line for each message; its buffer has just as many, and too few at first
      library lengths DATA JOURNAL            lengths that are greater than their buffers, and buffers of no bytes
 
    It prints the answer and, if that is 0, a line on what was found. Each buffer is between two rows of known bytes, which no call
@@ -244,34 +246,95 @@ static void check(char **words) {
     look_at_guards(in);
 }
 
+typedef uint8_t shower(const uint8_t *, size_t, bool, uint8_t *, size_t, uint64_t *, uint64_t *);
+
 /* Shows into a buffer of so many bytes, and says whether that had room. */
-static unsigned show_in(struct buffer in, bool utc, size_t size, struct buffer *out, uint64_t *place) {
+static unsigned show_in(shower *call, struct buffer in, bool utc, size_t size, struct buffer *out, uint64_t *place) {
     *out = room(size);
     fill(place, sizeof *place);
     fill(&out->len, sizeof out->len);
-    unsigned answer = fitrec_show(in.bytes, in.size, utc, out->bytes, out->size, &out->len, place);
+    unsigned answer = call(in.bytes, in.size, utc, out->bytes, out->size, &out->len, place);
     bool is_refused = answer && answer <= FITREC_TRAILING_BYTES;
     look_at(place, sizeof *place, !is_refused);
     look_at(&out->len, sizeof out->len, is_refused);
     return answer;
 }
 
-static void show(char **words) {
+static void show_by(shower *call, char **words) {
     struct buffer in = file_at(words[0], 0), out;
     bool utc = words[1][0] == '1';
     uint64_t place;
-    unsigned answer = show_in(in, utc, 0, &out, &place);
+    unsigned answer = show_in(call, in, utc, 0, &out, &place);
     look_at_guards(out);
     if (answer == FITREC_SHOW_NO_ROOM) {
         uint64_t needed = out.len;
-        if (show_in(in, utc, needed - 1, &out, &place) != FITREC_SHOW_NO_ROOM || out.len != needed)
+        if (show_in(call, in, utc, needed - 1, &out, &place) != FITREC_SHOW_NO_ROOM || out.len != needed)
             fail("another answer to a buffer that lacks one byte");
         look_at_guards(out);
-        answer = show_in(in, utc, needed, &out, &place);
+        answer = show_in(call, in, utc, needed, &out, &place);
         keep(out, words[2]);
         look_at_guards(out);
     }
     printf("%u\n", answer);
+    if (answer)
+        printf("at %llu\n", (unsigned long long)place);
+    look_at_guards(in);
+}
+
+static void show(char **words) {
+    show_by(fitrec_show, words);
+}
+
+static void json(char **words) {
+    show_by(fitrec_json, words);
+}
+
+/* Fills columns with this room, in a buffer of so many values. */
+static unsigned columns_in(struct buffer in, char **words, size_t room_for, size_t values, struct buffer *out, uint64_t *rows,
+                           uint64_t *place) {
+    uint8_t fields[FITREC_MOST_COLUMNS];
+    size_t count = 0;
+    for (char *at = words[2]; *at; at += *at == ',')
+        fields[count++] = (uint8_t)strtol(at, &at, 10);
+    *out = room(values * sizeof(int64_t));
+    fill(rows, sizeof *rows);
+    fill(place, sizeof *place);
+    unsigned answer = fitrec_columns(in.bytes, in.size, (uint16_t)atoi(words[1]), fields, count, room_for, (int64_t *)out->bytes, values,
+                                     rows, place);
+    bool is_refused = answer && answer <= FITREC_TRAILING_BYTES;
+    look_at(place, sizeof *place, !is_refused);
+    look_at(rows, sizeof *rows, answer != FITREC_COLUMNS && answer != FITREC_COLUMNS_NO_ROOM);
+    if (is_refused || answer == FITREC_COLUMNS_SHORT)
+        look_at(out->bytes, out->size, true);
+    out->len = count;
+    return answer;
+}
+
+static void columns(char **words) {
+    struct buffer in = file_at(words[0], 0), out;
+    uint64_t rows, place;
+    unsigned answer = columns_in(in, words, 0, 0, &out, &rows, &place);
+    look_at_guards(out);
+    if (answer == FITREC_COLUMNS_NO_ROOM) {
+        uint64_t needed = rows;
+        if (columns_in(in, words, needed - 1, out.len * (needed - 1), &out, &rows, &place) != FITREC_COLUMNS_NO_ROOM || rows != needed)
+            fail("another answer to a buffer that lacks one row");
+        look_at_guards(out);
+        if (columns_in(in, words, needed, out.len * needed - 1, &out, &rows, &place) != FITREC_COLUMNS_SHORT)
+            fail("another answer to a buffer that lacks one value");
+        look_at_guards(out);
+        answer = columns_in(in, words, needed, out.len * needed, &out, &rows, &place);
+        printf("%u\n", answer);
+        for (uint64_t row = 0; row < rows; row++)
+            for (size_t k = 0; k < out.len; k++) {
+                int64_t value = ((int64_t *)out.bytes)[k * needed + row];
+                if (value != FITREC_NO_VALUE)
+                    printf("%lld", (long long)value);
+                printf(k + 1 < out.len ? "," : "\n");
+            }
+        look_at_guards(out);
+    } else
+        printf("%u\n", answer);
     if (answer)
         printf("at %llu\n", (unsigned long long)place);
     look_at_guards(in);
@@ -335,6 +398,10 @@ int main(int count, char **words) {
         check(words + 2);
     else if (count == 5 && !strcmp(words[1], "show"))
         show(words + 2);
+    else if (count == 5 && !strcmp(words[1], "json"))
+        json(words + 2);
+    else if (count == 5 && !strcmp(words[1], "columns"))
+        columns(words + 2);
     else if (count == 2 && !strcmp(words[1], "version"))
         printf("%u\n", fitrec_version() == FITREC_VERSION);
     else if (count == 4 && !strcmp(words[1], "lengths"))

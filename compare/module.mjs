@@ -33,7 +33,8 @@ function place(...buffers) {
       at = to + size;
     }
   };
-  const call = (name, ...numbers) => exports[name](...numbers.map(n => typeof n === 'boolean' ? Number(n) : BigInt.asUintN(64, BigInt(n))));
+  const given = n => typeof n === 'boolean' ? Number(n) : n.short ?? BigInt.asUintN(64, BigInt(n));
+  const call = (name, ...numbers) => exports[name](...numbers.map(given));
   const long = i => Number(view.getBigUint64(places[i], true));
   const result = (i, length) => bytes.slice(places[i], places[i] + length);
   const summary = i => {
@@ -138,11 +139,13 @@ function check([path]) {
   it.lookAtGuards();
 }
 
-function show([path, utc, out]) {
+const show = words => showBy('fitrec_show', words), json = words => showBy('fitrec_json', words);
+
+function showBy(name, [path, utc, out]) {
   const source = file(path);
   const shown = size => {
     const it = place(source, { size }, number(), number()), at = it.places;
-    const answer = it.call('fitrec_show', at[0], source.size, utc === '1', at[1], size, at[2], at[3]);
+    const answer = it.call(name, at[0], source.size, utc === '1', at[1], size, at[2], at[3]);
     it.lookAtGuards();
     return { answer, length: it.long(2), place: it.long(3), text: it.result(1, size) };
   };
@@ -155,6 +158,30 @@ function show([path, utc, out]) {
   }
   print(String(it.answer));
   if (it.answer) print('at ' + it.place);
+}
+
+function columns([path, message, numbers]) {
+  const source = file(path), fields = { content: Uint8Array.from(numbers.split(',').map(Number)), size: numbers.split(',').length };
+  const filled = (room, values = fields.size * room) => {
+    const it = place(source, fields, { size: 8 * values }, number(), number()), at = it.places;
+    const answer = it.call('fitrec_columns', at[0], source.size, { short: Number(message) }, at[1], fields.size, room,
+      at[2], values, at[3], at[4]);
+    it.lookAtGuards();
+    return { answer, rows: it.long(3), place: it.long(4), values: it.result(2, 8 * values) };
+  };
+  let it = filled(0);
+  const needed = it.rows;
+  if (it.answer === 20) {
+    const less = filled(needed - 1);
+    if (less.answer !== 20 || less.rows !== needed) throw new Error('another answer to a buffer that lacks one row');
+    if (filled(needed, fields.size * needed - 1).answer !== 24) throw new Error('another answer to a buffer that lacks one value');
+    it = filled(needed);
+  }
+  print(String(it.answer));
+  if (it.answer) print('at ' + it.place);
+  const values = new BigInt64Array(it.values.buffer);
+  for (let row = 0; it.answer === 0 && row < needed; row++)
+    print(Array.from(fields.content, (_, k) => values[k * needed + row]).map(value => value === -(2n ** 63n) ? '' : value).join(','));
 }
 
 function lengths([dataPath, journalPath]) {
@@ -172,5 +199,5 @@ function lengths([dataPath, journalPath]) {
 }
 
 const version = () => print(String(Number(place().call('fitrec_version') === 1)));
-const calls = { repair, save, uncommitted, earlier, salvage, plain, check, show, lengths, version };
+const calls = { repair, save, uncommitted, earlier, salvage, plain, check, show, json, columns, lengths, version };
 calls[word](words);

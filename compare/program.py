@@ -56,8 +56,9 @@ def names(fitrec, small):
     (fitrec.folder / "ride").mkdir()
     fitrec.run("replay", fitrec.write("start", b"start 1000000000 7 running\n"), "ride")
     for name, shown in NAMES.items():
-        for words in (["show"], ["show", "--json"], ["check"], ["plain", name, "out"], ["salvage", name, "out"], ["replay", name, "ride"], ["simulate"],
-                      ["replay", "script"], ["record"], ["repair"], ["repair", "--verify"], ["save", name, "out"]):
+        for words in (["show"], ["show", "--json"], ["table"], ["check"], ["plain", name, "out"], ["salvage", name, "out"],
+                      ["replay", name, "ride"], ["simulate"], ["replay", "script"], ["record"], ["repair"], ["repair", "--verify"],
+                      ["save", name, "out"]):
             said = fitrec.run(*words, *[name] * (name not in words))
             yield "a name that is not opened: " + words[0], differs(said, (1, "", "fitrec: cannot open %s\n" % shown))
         for words in (["plain", "small.fit"], ["salvage", "small.fit"], ["save", "ride"]):
@@ -68,7 +69,7 @@ def names(fitrec, small):
             said = fitrec.run(*words, *[name] * (name not in words))
             yield "a name that is not read: " + words[0], differs(said, (1, "", "fitrec: cannot read %s\n" % shown))
         (fitrec.folder / name).rmdir()
-        for words in (["check", "small.fit", name], [name], ["show", "--" + name], ["simulate", "--choices", name, "script"],
+        for words in (["show", "small.fit", name], [name], ["show", "--" + name], ["simulate", "--choices", name, "script"],
                       ["record", "--commit", name, "ride"]):
             status, out, fault = fitrec.run(*words)
             yield "a word that is wrong", differs((status, out, shown in fault, name in fault), (2, "", True, name == shown))
@@ -120,6 +121,35 @@ def choices(fitrec):
         yield "%d choice bytes" % (before + 9), differs((status, out.splitlines()[-1:], fault), (0, ["68 recover: " + line], ""))
 
 
+def many(fitrec):
+    """Files and names of files that standard input holds, and names as a list of files shows them."""
+    ride = framed(bytes.fromhex("40 00 00 14 00 01 03 01 02 00 64"))
+    table = "heart_rate_bpm\r\n100\r\n"
+    words = "table", "--fields", "heart_rate"
+    yield "a table of standard input", differs(fitrec.run(*words, "-", input=ride), (0, table, ""))
+    said = fitrec.run(*words, "-", input=ride[:-1])
+    yield "a table of a part of a file", differs(said, (1, "", "fitrec: Truncated at %d\n" % (len(ride) - 1)))
+    fitrec.write("-", ride)
+    yield "a file that is named - by its folder", differs(fitrec.run(*words, "./-"), (0, table, ""))
+    for name in ("a.fit", "b\n.fit", "c\x1b.fit"):
+        fitrec.write(name, ride)
+    every = "a.fit: NoFileId\nc\\x1B.fit: NoFileId\nnone: cannot open none\n"
+    for given in ("a.fit\nc\x1b.fit\nnone\n", "\na.fit\nc\x1b.fit\n\nnone"):
+        yield "names by lines", differs(fitrec.run("check", "--each", "-", input=given.encode()), (1, every, "fitrec: 3 refused\n"))
+    for options in (["--each", "-0"], ["-0", "--each"], ["--each", "--null"]):
+        said = fitrec.run("check", *options, "a.fit", "-", input=b"b\n.fit\0a.fit\0")
+        yield "names by zero bytes", differs(said, (1, "a.fit: NoFileId\nb\\x0A.fit: NoFileId\na.fit: NoFileId\n", "fitrec: 3 refused\n"))
+    yield "names that are no text", differs(fitrec.run("check", "--each", "-", input=b"a.fit\n\xff\n"), (1, "", "fitrec: cannot read -\n"))
+    yield "no names", differs(fitrec.run("check", "--each", "-", input=b""), (0, "", ""))
+    said = fitrec.run(*words, "--each", "-", input=b"a.fit\nnone\nc\x1b.fit")
+    lines = 'file,heart_rate_bpm\r\n"a.fit",100\r\n"c\x1b.fit",100\r\n'
+    yield "a table of names by lines", differs(said, (1, lines, "fitrec: none: cannot open none\nfitrec: 1 refused\n"))
+    with open("/dev/full", "wb") as full:
+        for word in ("check", "table"):
+            said = fitrec.run(word, "--each", "a.fit", stdout=full)
+            yield "output that is full, of " + word + " --each", differs(said, (1, "", "fitrec: cannot write -\n"))
+
+
 def outputs(fitrec, small):
     """Output that takes nothing, or that nobody reads."""
     name, line = fitrec.write("small.fit", small), "fitrec: cannot write -\n"
@@ -162,5 +192,5 @@ def check(given):
         fitrec = Program(given.fitrec, folder)
         for group in (answers, names, beginnings, outputs):
             yield from given.checks(group, fitrec, given.small)
-        for group in (sizes, developer_fields, choices, memory):
+        for group in (sizes, developer_fields, choices, many, memory):
             yield from given.checks(group, fitrec)

@@ -14,8 +14,11 @@ NEEDS = ("fitrec",)
 
 def run(fitrec, folder, step):
     """None if the program does what a step expects."""
-    status, out, err = program.run(fitrec, *shlex.split(step.about), cwd=folder)
+    words = shlex.split(step.about)
+    status, out, err = program.run(fitrec, *words, cwd=folder)
     text, printed, reported = step.text(), out, step.named or step.error
+    if words[0] == "table":
+        text = text.replace("\n", "\r\n")
     if step.lines[:1] == ["..."] and ("\n" + out).endswith(text[3:]):
         printed = text
     if not step.named or not all(part in err for part in step.named):

@@ -202,6 +202,45 @@ enum {
 uint8_t fitrec_show(const uint8_t *bytes, size_t size, bool utc, uint8_t *out, size_t out_size, uint64_t *out_len,
                     uint64_t *fault_place);
 
+/* Writes a FIT file as JSON, an object on each line, as docs/PROGRAM.md ("show and check") describes it. The text is UTF-8, lines end with
+   a line feed, and no zero byte follows. Arguments and answers are those of fitrec_show. */
+enum {
+    FITREC_JSON = 0,
+    FITREC_JSON_NO_ROOM = 20 /* the text has no room in out */
+};
+uint8_t fitrec_json(const uint8_t *bytes, size_t size, bool utc, uint8_t *out, size_t out_size, uint64_t *out_len,
+                    uint64_t *fault_place);
+
+/* A value that is not there. No value is this number. */
+#define FITREC_NO_VALUE INT64_MIN
+
+/* The most columns of one call. */
+#define FITREC_MOST_COLUMNS 128
+
+/* Fills columns with the values of some fields: for each message with one global number, in the order of the file, the value of its
+   first field of the column's number. It is the whole number that the file has, without scale or offset: of an enum, a byte, or a sint or
+   uint of 8, 16 or 32 bits, also of the kinds with a z. It is FITREC_NO_VALUE if the message has no such field, or the field has another
+   type or not just one value, or its value is the invalid one. The time of a compressed timestamp is the first field 253.
+
+   bytes, size   the file
+   message       the global number, such as 20 for records
+   fields, field_count   the numbers of the fields
+   room          how many values a column has room for
+   out           column k begins at out[k * room] and has *rows values
+   out_size      how many values (not bytes) the buffer has, at least field_count * room
+   rows          how many messages have the number, after 0 and FITREC_COLUMNS_NO_ROOM
+   fault_place   the place of the fault, after 1 to 9
+
+   Answers 0, one of 1 to 9 above, or one of these. After FITREC_COLUMNS_NO_ROOM the values of out may have changed. */
+enum {
+    FITREC_COLUMNS = 0,
+    FITREC_COLUMNS_NO_ROOM = 20,  /* there are more messages than room */
+    FITREC_COLUMNS_TOO_MANY = 23, /* field_count exceeds FITREC_MOST_COLUMNS */
+    FITREC_COLUMNS_SHORT = 24     /* out_size is below field_count * room */
+};
+uint8_t fitrec_columns(const uint8_t *bytes, size_t size, uint16_t message, const uint8_t *fields, size_t field_count, size_t room,
+                       int64_t *out, size_t out_size, uint64_t *rows, uint64_t *fault_place);
+
 /* A recorder in a device.
 
    The library is crates/fit_device of fitrec; docs/PROOFS.md says what is proved of it. The device keeps the recorder as plain numbers and carries out the calls of its two files,

@@ -10,6 +10,7 @@ import tempfile
 from tools.checks import differs
 from tools.fit_files import damaged, made
 from tools.program import NAMES, bytes_of, holds, room, run
+from tools.reader import names_of
 from tools.rides import damaged_pair, script_of, uncommitted
 
 # The most bytes that a repair and a salvage may add.
@@ -130,14 +131,26 @@ def of_files(fitrec, program, count, seed):
 
 
 def looked_at(fitrec, program, source, mine):
-    """What differs between looking at a file by the library and by the program: its text, with dates and without, and its check."""
-    for words, part in (((), "show"), (("--utc",), "show"), ((), "check")):
-        wanted = run(fitrec, part, *words, source)
-        said = run(program, "check", source) if part == "check" else run(program, "show", source, len(words), mine)
+    """What differs between looking at a file by the library and by the program: its text and its JSON, with dates and without, and its
+    check."""
+    for words, part in (((), "show"), (("--utc",), "show"), (("--json",), "json"), (("--json", "--utc"), "json"), ((), "check")):
+        wanted = run(fitrec, "check" if part == "check" else "show", *words, source)
+        said = run(program, "check", source) if part == "check" else run(program, part, source, int("--utc" in words), mine)
         place = re.match(r"fitrec: \w+(?:\(\d+\))? at (\d+)$", wanted[2].strip())
         lines = "%d\n%s" % (answer_of(wanted), "at %s\n" % place[1] if place else wanted[1] if part == "check" else "")
-        yield part, differs((said, bytes_of(mine)), ((0, lines, ""), wanted[1].encode() if part == "show" and not wanted[0] else None))
+        yield part, differs((said, bytes_of(mine)), ((0, lines, ""), wanted[1].encode() if part != "check" and not wanted[0] else None))
         mine.unlink(missing_ok=True)
+
+
+def in_columns(fitrec, program, source, message, fields):
+    """What differs between the columns of a file by the library and its table by the program."""
+    name, names = names_of(message)
+    names = ",".join(names.get(it, "field_%d" % it) for it in fields)
+    wanted = run(fitrec, "table", "--raw", "--message", name or "message_%d" % message, "--fields", names, source)
+    said = run(program, "columns", source, message, ",".join(map(str, fields)))
+    place = re.match(r"fitrec: \w+(?:\(\d+\))? at (\d+)$", wanted[2].strip())
+    lines = "at %s\n" % place[1] if place else wanted[1].replace("\r\n", "\n").partition("\n")[2]
+    return differs(said, (0, "%d\n%s" % (answer_of(wanted), lines), ""))
 
 
 def plainly(fitrec, program, source, mine, its):
@@ -168,5 +181,6 @@ def of_shown_and_checked(fitrec, program, count, seed):
             source.write_bytes(content)
             for part, difference in looked_at(fitrec, program, source, mine):
                 yield "a file that is looked at by " + part, difference
+            yield "columns of records", in_columns(fitrec, program, source, 20, [253, 3, 0, 13])
             yield "a plain form", plainly(fitrec, program, source, mine, folder / "its.fit")
         yield "its version", differs(run(program, "version"), (0, "1\n", ""))

@@ -13,7 +13,7 @@ below it that are indented by four blanks belong to it. Lines that begin with `#
 What is run:
 
     run WORDS       the program with these words, which are quoted as in a shell; it prints exactly these lines, or, if
-                    the first is `...`, the others at the end
+                    the first is `...`, the others at the end; the lines of a table end with CR and LF
     status N        its exit status, 0 if none is given
     error LINE      what it prints on standard error, nothing if no line is given
     named TEXT      what it prints on standard error contains this

@@ -1,5 +1,5 @@
 -- What the calls over the bytes of a file answer.
-use Rattle.std.specs.Prelude.{◌≡◌, ℕ, ◌+◌, ◌<◌, Bool, List, length, Ok, Err}
+use Rattle.std.specs.Prelude.{◌≡◌, ℕ, ◌+◌, ◌<◌, ◌≤◌, ℤ, Bool, List, length, Ok, Err}
 use Rattle.fit_activity.specs.declared.activity.Summary.{Summary}
 use Rattle.fit_activity.specs.declared.activity.ActivityFault.{ActivityFault}
 use Rattle.fit_activity.specs.Files.Activity.{activity_in, activity_fault_code}
@@ -10,7 +10,9 @@ use Rattle.fit_grammar.specs.declared.file.fault.FileFault.{FileFault}
 use Rattle.fit_grammar.specs.Format.File.{FileValue, FileOf}
 use Rattle.fit_grammar.specs.Format.Message.{messages_of}
 use Rattle.fit_grammar.specs.Format.Refusal.{Refusal}
+use Rattle.fit_text.specs.Json.{json_of}
 use Rattle.fit_text.specs.Text.{text_of}
+use Rattle.fit_columns.specs.Columns.{messages_numbered, AreColumns}
 use Rattle.fit_c.specs.Repaired.{ride_summary_of}
 use Rattle.fit_c.specs.declared.repairing.RideSummary.{RideSummary}
 
@@ -32,6 +34,19 @@ pub record NeedsRoomToShow (utc : Bool) (bytes : List ℕ) (room needed : ℕ) :
   pub file : FileValue
   pub is : FileOf bytes file
   pub needed_is : needed ≡ length (text_of utc file)
+  pub short : room < needed
+
+-- the bytes are a file, and the text is its JSON
+pub record ShowsJson (utc : Bool) (bytes text : List ℕ) : Type 0 where
+  pub file : FileValue
+  pub is : FileOf bytes file
+  pub text_is : text ≡ json_of utc file
+
+-- the bytes are a file, whose JSON has so many bytes, more than there is room for
+pub record NeedsRoomForJson (utc : Bool) (bytes : List ℕ) (room needed : ℕ) : Type 0 where
+  pub file : FileValue
+  pub is : FileOf bytes file
+  pub needed_is : needed ≡ length (json_of utc file)
   pub short : room < needed
 
 -- the bytes are a file, and these are its plain form
@@ -62,3 +77,18 @@ pub record IsNoActivity (bytes : List ℕ) (code : ℕ) : Type 0 where
   pub fault : ActivityFault
   pub reason : activity_in (messages_of file.items) ≡ Err fault
   pub code_is : code ≡ 10 + activity_fault_code fault
+
+-- the bytes are a file, and each column has the values of its field in the messages of this number, of which there are so many
+pub record HasColumns (bytes : List ℕ) (message : ℕ) (fields : List ℕ) (room rows : ℕ) (out : List ℤ) : Type 0 where
+  pub file : FileValue
+  pub is : FileOf bytes file
+  pub rows_are : rows ≡ length (messages_numbered message (messages_of file.items))
+  pub fit : rows ≤ room
+  pub columns : AreColumns fields room (messages_numbered message (messages_of file.items)) out
+
+-- the bytes are a file, with so many messages of this number, more than there is room for
+pub record NeedsRows (bytes : List ℕ) (message room rows : ℕ) : Type 0 where
+  pub file : FileValue
+  pub is : FileOf bytes file
+  pub rows_are : rows ≡ length (messages_numbered message (messages_of file.items))
+  pub short : room < rows

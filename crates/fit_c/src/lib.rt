@@ -1,5 +1,5 @@
-//! Recovers rides of a dead device, and shows and checks files, in the memory of a C program or of a page in a browser.
-//! `include/fitrec.h` documents the same calls for C.
+//! Recovers rides of a dead device, and shows and checks files and reads their columns, in the memory of a C program or of a page in a
+//! browser. `include/fitrec.h` documents the same calls for C.
 //!
 //! Nothing here takes memory, keeps state, or makes a system call. A call reads and writes only the buffers that it is given,
 //! so calls on different buffers may run at the same time.
@@ -8,7 +8,9 @@
 ghost use Rattle.std.specs.Prelude.{◌≡◌};
 
 mod checking;
+mod columns;
 mod committing;
+mod json;
 mod plain;
 mod repairing;
 mod room;
@@ -18,7 +20,9 @@ mod showing;
 mod tape;
 
 pub use checking::fitrec_check;
+pub use columns::fitrec_columns;
 pub use committing::{fitrec_leave_changed, fitrec_uncommitted};
+pub use json::fitrec_json;
 pub use plain::fitrec_plain;
 pub use repairing::{RideSummary, fitrec_repair};
 pub use salvaging::fitrec_salvage;

@@ -16,10 +16,12 @@ use Rattle.fit_files.specs.Printed.Repaired.{Repairs}
 use Rattle.fit_files.specs.Printed.Salvaged.{IsSalvage, saved_file, kept_text}
 use Rattle.fit_files.specs.Printed.Saved.{SavesRide}
 use Rattle.fit_files.specs.Printed.Summary.{summary_text}
+use Rattle.fit_files.specs.Printed.Tabled.{SumsUp}
+use Rattle.fit_files.specs.declared.fault.ReportFault.{ReportFault}
 use Rattle.fit_files.specs.declared.repairing.FileSums.{FileSums}
 use Rattle.fit_files.specs.declared.repairing.RepairFault.{RepairFault}
 use Rattle.fit_files.specs.declared.repairing.RepairFault.TheVariants as repairs
-use Rattle.fit_commands.specs.Faults.{IsRecordingReported, IsRepairReported}
+use Rattle.fit_commands.specs.Faults.{IsRecordingReported, IsRepairReported, IsReportFault}
 use Rattle.fit_commands.specs.Reading.{IsFileFault}
 use Rattle.fit_commands.specs.declared.fault.Fault.{Fault}
 use Rattle.fit_commands.specs.declared.fault.Fault.TheVariants as faults
@@ -35,6 +37,15 @@ ReportsRun {F} name old new IsReported IsResult (Err reported) =
     (IsFileFault name reported × (new ≡ old))
     ⊎ ((why : F) × IsReported why reported × (bytes : List ℕ) × (length bytes ≤ 268435456)
     × IsResult bytes (Err why))
+
+-- the summary of a file of this name; or why it is no activity, or was not opened or not read
+abbrev pub SumsUpNamed : Bor (List ℕ) → Result Summary Fault → Type 0
+SumsUpNamed name (Ok summary) =
+    (bytes : List ℕ) × (length bytes ≤ 268435456) × SumsUp bytes (Ok summary)
+SumsUpNamed name (Err reported) =
+    IsFileFault name reported
+    ⊎ ((why : ReportFault) × IsReportFault name why reported × (bytes : List ℕ)
+    × (length bytes ≤ 268435456) × SumsUp bytes (Err why))
 
 -- the output failed; its name is `-`
 abbrev pub IsOutputReported : Fault → Type 0

@@ -1,8 +1,8 @@
 //! What the subcommands of the program do with files and folders.
 //!
 //! Each has a file, which opens what it needs and leaves the bytes to `fit_files`. They share `input`, which opens and reads a file,
-//! `folder`, which opens the files of a recording, and `beside`, which writes a file whole or not at all. `fault` has the line that
-//! reports an error.
+//! `folder`, which opens the files of a recording, and `beside`, which writes a file whole or not at all. `chosen` has what words
+//! choose for a table, `each` what is done with several files, and `fault` the line that reports an error.
 //!
 //! Contracts use the definitions of `specs/`: `Reading` has the faults of a file that is not read, `Faults` has those of each library
 //! call and subcommand, `Reported` has what a subcommand prints, and `Places` has the names of a recording's files.
@@ -10,7 +10,9 @@
 
 mod beside;
 mod check;
+mod chosen;
 mod content;
+mod each;
 mod fault;
 mod folder;
 mod input;
@@ -20,8 +22,11 @@ mod repair;
 mod salvage;
 mod save;
 mod show;
+mod table;
 
 pub use check::check_file;
+pub use chosen::{Chosen, NotChosen};
+pub use each::{check_each, table_each};
 pub use fault::Fault;
 pub use folder::open_folder;
 pub use input::{fault_of_report, read_file};
@@ -31,3 +36,4 @@ pub use repair::{repair_files, repair_folder, repair_holding, verify_folder, ver
 pub use salvage::salvage_file;
 pub use save::save_folder;
 pub use show::show_file;
+pub use table::table_file;

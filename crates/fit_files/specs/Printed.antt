@@ -7,3 +7,4 @@ pub mod Salvaged
 pub mod PlainFile
 pub mod Saved
 pub mod Lacking
+pub mod Tabled

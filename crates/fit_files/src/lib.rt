@@ -1,7 +1,8 @@
-//! What is done with a file: it is shown, checked, made plain, salvaged or saved.
+//! What is done with a file: it is shown, written as a table, checked, made plain, salvaged or saved.
 //!
 //! `show_input`, `show_json_input` and `check_input` print the text, the JSON or the summary of a file read from an input; `show_bytes`
-//! and `check_bytes` take its bytes. `plain_input` makes the plain form of a file. `read_all` reads a whole input, and `read_front` what
+//! and `check_bytes` take its bytes. `table_input` prints its table, and `sum_up_input` gives the summary without printing it.
+//! `plain_input` makes the plain form of a file. `read_all` reads a whole input, and `read_front` what
 //! can be read of it. `salvage_bytes` finds the readable part of a file that has no journal. `save_ride` makes a file from the two files
 //! of a recording, `Lack` says what they lack if nothing is recorded, and `repair` finishes the recording itself.
 //!
@@ -23,6 +24,7 @@ mod salvaging;
 mod saving;
 mod showing;
 mod summary;
+mod tabling;
 
 pub use checking::{check_bytes, check_input};
 pub use fault::ReportFault;
@@ -37,3 +39,4 @@ pub use salvaging::salvage_bytes;
 pub use saving::{SaveFault, SavedRide, save_ride};
 pub use showing::{show_bytes, show_input};
 pub use summary::SummaryLine;
+pub use tabling::{sum_up_input, table_head, table_input};

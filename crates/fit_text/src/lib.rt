@@ -27,5 +27,7 @@ mod writing;
 
 pub use form::file::ShowFault;
 pub use json::show_json;
+pub use profile::{field_name, message_name};
+pub use showing::date::put_date;
 pub use showing::show;
 pub use writing::Pen;

@@ -1,6 +1,6 @@
 // The words of a subcommand, with their help.
 
-use clap::{Arg, ArgAction};
+use clap::{Arg, ArgAction, Error};
 use std::alloc::Global;
 
 pub(crate) fn utc_option<'a>(alloc: Global) -> Arg<'a> {
@@ -72,8 +72,71 @@ pub(crate) fn choices_option<'a>(alloc: Global) -> Arg<'a> {
         .action(ArgAction::Set)
 }
 
+pub(crate) fn raw_option<'a>(alloc: Global) -> Arg<'a> {
+    Arg::new(alloc, "raw")
+        .long("raw")
+        .help("Writes the whole numbers of the file, without units")
+        .action(ArgAction::SetTrue)
+}
+
+pub(crate) fn message_option<'a>(alloc: Global) -> Arg<'a> {
+    Arg::new(alloc, "message")
+        .long("message")
+        .value_name("NAME")
+        .help("Takes messages of this name, such as lap or message_23, and not records")
+        .action(ArgAction::Set)
+}
+
+pub(crate) fn fields_option<'a>(alloc: Global) -> Arg<'a> {
+    Arg::new(alloc, "fields")
+        .long("fields")
+        .value_name("NAMES")
+        .help(
+            "Takes these fields, with commas between their names, such as timestamp,heart_rate,field_39",
+        )
+        .action(ArgAction::Set)
+}
+
+pub(crate) fn each_option<'a>(alloc: Global) -> Arg<'a> {
+    Arg::new(alloc, "each")
+        .long("each")
+        .help(
+            "Takes several files, and goes on after one that is refused; the name - stands for names on standard input, a line each",
+        )
+        .action(ArgAction::SetTrue)
+}
+
+pub(crate) fn null_option<'a>(alloc: Global) -> Result<Arg<'a>, Error> {
+    Ok(
+        Arg::new(alloc, "null")
+            .short('0')
+            .long("null")
+            .help("The names on standard input end with zero bytes, as find -print0 writes them")
+            .action(ArgAction::SetTrue)
+            .requires_arg("each")?,
+    )
+}
+
+pub(crate) fn more_argument<'a>(alloc: Global) -> Result<Arg<'a>, Error> {
+    Ok(
+        Arg::new(alloc, "MORE")
+            .num_args(0..)
+            .help("More files, with --each")
+            .action(ArgAction::Set)
+            .requires_arg("each")?,
+    )
+}
+
 pub(crate) fn file_argument<'a>(alloc: Global) -> Arg<'a> {
     argument(alloc, "FILE", "The path of a FIT file")
+}
+
+pub(crate) fn table_argument<'a>(alloc: Global) -> Arg<'a> {
+    argument(
+        alloc,
+        "FILE",
+        "The path of a FIT file, or - for standard input",
+    )
 }
 
 pub(crate) fn script_argument<'a>(alloc: Global) -> Arg<'a> {

@@ -14,8 +14,8 @@ mod subcommands;
 
 use clap::error::ErrorKind;
 use clap::{ArgMatches, Command, Error};
-pub use request::Request;
 use request::request_in;
+pub use request::{Names, Request, TableForm};
 pub use shown::ShownWord;
 use std::alloc::{AllocError, Global};
 use std::convert::AsStr;
@@ -33,14 +33,15 @@ pub fn read_words<'a, S: AsStr>(alloc: Global, words: &'a [S]) -> Result<Request
 fn request_of_words<'a, S: AsStr>(alloc: Global, words: &'a [S]) -> Result<Request<'a>, Error> {
     let mut fitrec = fitrec_command(alloc)?;
     let matches = fitrec.try_get_matches_from_mut(words)?;
-    request_or_refusal(&mut fitrec, &matches)
+    request_or_refusal(alloc, &mut fitrec, &matches)
 }
 
 fn request_or_refusal<'a>(
+    alloc: Global,
     fitrec: &mut Command<'a>,
     matches: &ArgMatches<'a>,
 ) -> Result<Request<'a>, Error> {
-    match request_in(matches) {
+    match request_in(alloc, matches)? {
         Some(request) => Ok(request),
         None => Err(fitrec.error(ErrorKind::MissingSubcommand, "no command")?),
     }
@@ -71,6 +72,23 @@ pub fn no_choices(alloc: Global, word: &str) -> Result<Error, Error> {
         ShownWord(word)
     )?;
     value_error(alloc, why.as_str())
+}
+
+/// The error for a word of `--message`, or for one of the names in `--fields`, that names nothing.
+pub fn no_name(alloc: Global, option: &str, word: &str) -> Result<Error, Error> {
+    let why = format!(in alloc;
+        "invalid value '{}' for '{option}': show names messages and fields",
+        ShownWord(word)
+    )?;
+    value_error(alloc, why.as_str())
+}
+
+/// The error for a word of `--fields` with more names than a table has columns.
+pub fn too_many_fields(alloc: Global) -> Result<Error, Error> {
+    value_error(
+        alloc,
+        "invalid value for '--fields <NAMES>': a table has at most 128 columns",
+    )
 }
 
 /// The error for a word of `--commit` that is not a number of seconds.

@@ -1,10 +1,11 @@
 // What a command line requests.
 
-ghost use Rattle.std.specs.Prelude.{IfSome, codes};
+ghost use Rattle.std.specs.Prelude.{◌≡◌, ◌∷◌, map, codes, IfOk, IfSome};
 ghost use Rattle.clap.specs.Words.{found_of};
-ghost use Rattle.fit_words.specs.Requests.{IsAskedBy};
+ghost use Rattle.fit_words.specs.Requests.{IsAskedBy, IsEachAskedBy, IsForm, names_in};
 
 use clap::ArgMatches;
+use std::alloc::{AllocError, Global};
 
 /// What a command line requests: a subcommand with its words.
 #[derive(Drop)]
@@ -16,6 +17,17 @@ pub enum Request<'a> {
     },
     Check {
         file: &'a str,
+    },
+    CheckEach {
+        names: Names<'a>,
+    },
+    Table {
+        file: &'a str,
+        form: TableForm<'a>,
+    },
+    TableEach {
+        names: Names<'a>,
+        form: TableForm<'a>,
     },
     Replay {
         script: &'a str,
@@ -54,10 +66,89 @@ pub enum Request<'a> {
     Version,
 }
 
+/// The names of several files.
+#[derive(Drop)]
+pub struct Names<'a> {
+    pub all: Vec<&'a str>,
+    /// Whether names on standard input end with zero bytes.
+    pub null: bool,
+}
+
+/// How a table is written.
+#[derive(Clone, Copy)]
+pub struct TableForm<'a> {
+    pub utc: bool,
+    pub raw: bool,
+    /// The word of `--message`, if it is there.
+    pub message: Option<&'a str>,
+    /// The word of `--fields`, if it is there.
+    pub fields: Option<&'a str>,
+}
+
 // The request that the words after the program's name make.
-pub(crate) fn request_in<'a>(matches: &ArgMatches<'a>) -> Option<Request<'a>> {
-    let (name, of_name) = matches.subcommand()?;
-    request_of(name, of_name)
+pub(crate) fn request_in<'a>(
+    alloc: Global,
+    matches: &ArgMatches<'a>,
+) -> Result<Option<Request<'a>>, AllocError> {
+    match matches.subcommand() {
+        Some((name, of_name)) if of_name.get_flag("each") => each_of(alloc, name, of_name),
+        Some((name, of_name)) => Ok(request_of(name, of_name)),
+        None => Ok(None),
+    }
+}
+
+// The request that the words of the subcommand with this name make, which takes several files.
+fn each_of<'a>(
+    alloc: Global,
+    name: &str,
+    matches: &ArgMatches<'a>,
+) -> Result<Option<Request<'a>>, AllocError>
+    ensures { IfOk result (λ request. IfSome request (IsEachAskedBy name.now (found_of matches.now))) }
+{
+    let Some(first) = matches.get_str("FILE") else {
+        return Ok(None);
+    };
+    let names = Names {
+        all: names_of(alloc, first, matches.get_strs("MORE"))?,
+        null: matches.get_flag("null"),
+    };
+    match name {
+        "check" => Ok(Some(Request::CheckEach { names })),
+        "table" => Ok(Some(Request::TableEach {
+            names,
+            form: form_of(matches),
+        })),
+        _ => Ok(None),
+    }
+}
+
+// The names of several files.
+fn names_of<'a>(
+    alloc: Global,
+    first: &'a str,
+    more: Option<&[&'a str]>,
+) -> Result<Vec<&'a str>, AllocError>
+    ensures { IfOk result
+        (λ names. map (λ name. name.now) names.items ≡ first.now ∷ names_in more.entry) }
+{
+    let mut names = Vec::new(alloc);
+    names.push(first)?;
+    if let Some(more) = more {
+        names.extend_from_slice(more)?;
+    }
+    Ok(names)
+}
+
+// How a table is written.
+fn form_of<'a>(matches: &ArgMatches<'a>) -> TableForm<'a>
+    ensures { IsForm (found_of matches.now) result }
+{
+    TableForm {
+        utc: matches.get_flag("utc"),
+        raw: matches.get_flag("raw"),
+        message: matches.get_str("message"),
+        fields: matches.get_str("fields"),
+    }
 }
 
 // The request that the words of the subcommand with this name make.
@@ -67,6 +158,7 @@ fn request_of<'a>(name: &str, matches: &ArgMatches<'a>) -> Option<Request<'a>>
     match name {
         "show" => show_of(matches),
         "check" => check_of(matches),
+        "table" => table_of(matches),
         "replay" => replay_of(matches),
         "record" => record_of(matches),
         "save" => save_of(matches),
@@ -94,6 +186,15 @@ fn check_of<'a>(matches: &ArgMatches<'a>) -> Option<Request<'a>>
 {
     Some(Request::Check {
         file: matches.get_str("FILE")?,
+    })
+}
+
+fn table_of<'a>(matches: &ArgMatches<'a>) -> Option<Request<'a>>
+    ensures { IfSome result (IsAskedBy (codes "table") (found_of matches.now)) }
+{
+    Some(Request::Table {
+        file: matches.get_str("FILE")?,
+        form: form_of(matches),
     })
 }
 

@@ -1,9 +1,10 @@
 // The subcommands, and the words that each takes.
 
 use crate::arguments::{
-    all_option, checked_option, choices_option, commit_option, earlier_option, file_argument,
-    folder_argument, in_argument, json_option, out_argument, plain_option, script_argument,
-    utc_option, verify_option,
+    all_option, checked_option, choices_option, commit_option, each_option, earlier_option,
+    fields_option, file_argument, folder_argument, in_argument, json_option, message_option,
+    more_argument, null_option, out_argument, plain_option, raw_option, script_argument,
+    table_argument, utc_option, verify_option,
 };
 use clap::{Command, Error};
 use std::alloc::Global;
@@ -26,6 +27,7 @@ pub(crate) fn fitrec_command<'a>(alloc: Global) -> Result<Command<'a>, Error> {
 // Adds the subcommands that read a file.
 fn with_reading<'a>(alloc: Global, fitrec: Command<'a>) -> Result<Command<'a>, Error> {
     let fitrec = with(fitrec, show_command(alloc))?;
+    let fitrec = with(fitrec, table_command(alloc))?;
     with(fitrec, check_command(alloc))
 }
 
@@ -62,11 +64,31 @@ fn show_command<'a>(alloc: Global) -> Result<Command<'a>, Error> {
     )
 }
 
+fn table_command<'a>(alloc: Global) -> Result<Command<'a>, Error> {
+    Ok(
+        Command::new(alloc, "table")
+            .about(
+                "Writes the values of a FIT file as a table (CSV): a line for each record, in units",
+            )
+            .arg(utc_option(alloc))?
+            .arg(raw_option(alloc))?
+            .arg(message_option(alloc))?
+            .arg(fields_option(alloc))?
+            .arg(each_option(alloc))?
+            .arg(null_option(alloc)?)?
+            .arg(table_argument(alloc))?
+            .arg(more_argument(alloc)?)?,
+    )
+}
+
 fn check_command<'a>(alloc: Global) -> Result<Command<'a>, Error> {
     Ok(
         Command::new(alloc, "check")
             .about("Says whether a FIT file is an activity, and sums it up in one line")
-            .arg(file_argument(alloc))?,
+            .arg(each_option(alloc))?
+            .arg(null_option(alloc)?)?
+            .arg(file_argument(alloc))?
+            .arg(more_argument(alloc)?)?,
     )
 }
 

@@ -12,11 +12,13 @@ mod version;
 
 use clap::error::ErrorKind;
 use fit_commands::{
-    Fault, check_file, make_plain, repair_folder, salvage_file, save_folder, show_as_json,
-    show_file, verify_folder,
+    Chosen, Fault, NotChosen, check_each, check_file, make_plain, repair_folder, salvage_file,
+    save_folder, show_as_json, show_file, table_each, table_file, verify_folder,
 };
 use fit_scripts::read_choices;
-use fit_words::{Request, no_choices, no_seconds, read_words};
+use fit_words::{
+    Names, Request, TableForm, no_choices, no_name, no_seconds, read_words, too_many_fields,
+};
 use record::record_folder;
 use replay::replay_script;
 use simulate::simulate_script;
@@ -50,6 +52,9 @@ pub fn command<S: AsStr, O: Write, E: Write>(
             },
         ) => status(show_as_json(rt, file, utc, out), err),
         Ok(Request::Check { file }) => status(check_file(rt, file, out), err),
+        Ok(Request::CheckEach { names }) => status(check_each(rt, &names, out), err),
+        Ok(Request::Table { file, form }) => table_chosen(rt, file, &form, out, err),
+        Ok(Request::TableEach { names, form }) => table_each_chosen(rt, &names, &form, out, err),
         Ok(
             Request::Replay {
                 script,
@@ -129,6 +134,56 @@ fn record_chosen<O: Write, E: Write>(
             Ok(refusal) => refused(refusal, err),
             Err(refusal) => refused(refusal, err),
         },
+    }
+}
+
+// Prints the table of a file. It is read only if the words name messages and fields.
+fn table_chosen<O: Write, E: Write>(
+    rt: &HostRuntime,
+    file: &str,
+    form: &TableForm<'_>,
+    out: &mut O,
+    err: &mut E,
+) -> u8
+    ensures { result ≤ 2 }
+{
+    match Chosen::of(form) {
+        Ok(chosen) => status(table_file(rt, file, &chosen.layout(form), out), err),
+        Err(why) => not_chosen(rt, why, err),
+    }
+}
+
+// Prints one table of several files. They are read only if the words name messages and fields.
+fn table_each_chosen<O: Write, E: Write>(
+    rt: &HostRuntime,
+    names: &Names<'_>,
+    form: &TableForm<'_>,
+    out: &mut O,
+    err: &mut E,
+) -> u8
+    ensures { result ≤ 2 }
+{
+    match Chosen::of(form) {
+        Ok(chosen) => {
+            let done = table_each(rt, names, &chosen.layout(form), out, err);
+            status(done, err)
+        }
+        Err(why) => not_chosen(rt, why, err),
+    }
+}
+
+// Prints the text on words that name no messages or fields.
+fn not_chosen<E: Write>(rt: &HostRuntime, why: NotChosen<'_>, err: &mut E) -> u8
+    ensures { result ≤ 2 }
+{
+    let text = match why {
+        NotChosen::Message(word) => no_name(rt.alloc(), "--message <NAME>", word),
+        NotChosen::Field(word) => no_name(rt.alloc(), "--fields <NAMES>", word),
+        NotChosen::TooMany => too_many_fields(rt.alloc()),
+    };
+    match text {
+        Ok(refusal) => refused(refusal, err),
+        Err(refusal) => refused(refusal, err),
     }
 }
 

@@ -1,0 +1,207 @@
+"""Compares the columns of the shared library, and the tables of the program, with the second reader, cell by cell: over random files, whole
+and damaged, with every base type and size, both byte orders, compressed timestamps, fields that are there twice, and developer fields."""
+
+import csv
+import ctypes
+import datetime
+import fractions
+import os
+import pathlib
+import random
+import re
+import shutil
+import tempfile
+
+from tools import reader
+from tools.checks import Skipped, differs
+from tools.fit_files import damaged, made
+from tools.libraries import build
+from tools.library_calls import ANSWERS
+from tools.program import ROOT, run
+
+NEEDS = ("fitrec", "rt", "cc")
+NO_VALUE = -2**63
+WHOLE = {"enum", "uint8", "uint16", "uint32", "uint8z", "uint16z", "uint32z", "byte", "sint8", "sint16", "sint32"}
+
+# The units of fields by message: what the name of a column ends with, how many parts are one, how many decimals, and what is added.
+METRES, SECONDS, SPEED, BEATS, WATTS = ("m", 100, 2, 0), ("s", 1000, 3, 0), ("m_s", 1000, 3, 0), ("bpm", 1, 0, 0), ("w", 1, 0, 0)
+DEGREES, HEIGHT, TIME = ("deg", fractions.Fraction(2**31, 180), 8, 0), ("m", 5, 1, -500), ("s", 1, 0, 0)
+UNITS = {
+    0: {4: TIME}, 34: {0: SECONDS},
+    18: {2: TIME, 7: SECONDS, 8: SECONDS, 9: METRES, 14: SPEED, 15: SPEED, 16: BEATS, 17: BEATS, 20: WATTS, 21: WATTS},
+    19: {2: TIME, 7: SECONDS, 8: SECONDS, 9: METRES, 13: SPEED, 14: SPEED, 15: BEATS, 16: BEATS, 19: WATTS, 20: WATTS},
+    20: {0: DEGREES, 1: DEGREES, 2: HEIGHT, 3: BEATS, 4: ("rpm", 1, 0, 0), 5: METRES, 6: SPEED, 7: WATTS, 13: ("c", 1, 0, 0), 73: SPEED,
+         78: HEIGHT}}
+
+
+def value_of(base, big, data):
+    """The one whole number of a field, or None. The second reader leaves fields out whose value is empty, and so not this one."""
+    name, size, invalid = reader.BASE_TYPES.get(base, ("raw", 1, None))
+    if name not in WHOLE or len(data) != size or reader.number(data, big) == invalid:
+        return (None,)
+    return (int.from_bytes(data, "big" if big else "little", signed=name.startswith("sint")),)
+
+
+def rows_of(data, message):
+    """For each message of this number, the value of the first field of each number."""
+    found = []
+    for number, fields, _ in reader.messages(data, False, value_of)[3]:
+        if number == message:
+            row = {}
+            for field, value in fields:
+                row.setdefault(field, value[0])
+            found.append(row)
+    return found
+
+
+def refusal_of(data):
+    """The kind of the fault and its place; None for a file."""
+    try:
+        reader.messages(data, False, value_of)
+    except reader.Refused as refused:
+        return re.sub(r"\(\d+\)", "", str(refused))
+    return None
+
+
+class Library:
+    """The shared library, called as C calls it."""
+
+    def __init__(self, path):
+        self.call = ctypes.CDLL(str(path)).fitrec_columns
+        self.call.restype = ctypes.c_uint8
+
+    def columns(self, data, message, fields, room, short=0):
+        """The answer, the number of rows, the place of a fault, and the columns."""
+        size = len(fields) * room - short
+        out, rows, place = (ctypes.c_int64 * max(size, 1))(), ctypes.c_uint64(), ctypes.c_uint64()
+        answer = self.call(data, ctypes.c_size_t(len(data)), ctypes.c_uint16(message), bytes(fields), ctypes.c_size_t(len(fields)),
+                           ctypes.c_size_t(room), out, ctypes.c_size_t(size), ctypes.byref(rows), ctypes.byref(place))
+        columns = [list(out[k * room:k * room + rows.value]) for k in range(len(fields))]
+        return answer, rows.value, place.value, columns if answer == 0 else None
+
+
+def by_library(calls, data, message, fields):
+    """What differs between the columns by the library and by the second reader."""
+    refusal = refusal_of(data)
+    if refusal:
+        kind, place = refusal.split(" at ")
+        said = calls.columns(data, message, fields, 1)
+        return differs((said[0], said[2]), (ANSWERS[kind], int(place)))
+    rows = rows_of(data, message)
+    wanted = [[NO_VALUE if row.get(field) is None else row[field] for row in rows] for field in fields]
+    said = calls.columns(data, message, fields, len(rows))
+    difference = differs((said[0], said[1], said[3]), (0, len(rows), wanted), data)
+    if rows and not difference:
+        difference = differs(calls.columns(data, message, fields, len(rows) - 1)[:2], (20, len(rows)), "a row too few")
+    if rows and fields and not difference:
+        difference = differs(calls.columns(data, message, fields, len(rows), 1)[0], 24, "a value too few")
+    return difference
+
+
+def cell_text(message, field, value, form, alone):
+    """A cell, exactly."""
+    none = '""' if alone else ""
+    unit = TIME if field == 253 else UNITS.get(message, {}).get(field)
+    if value is None:
+        return none
+    if unit == TIME and "--utc" in form:
+        is_date = 0x10000000 <= value < 2**32
+        return (reader.EPOCH + datetime.timedelta(seconds=value)).strftime("%Y-%m-%dT%H:%M:%SZ") if is_date else none
+    if unit is None or "--raw" in form:
+        return str(value)
+    _, parts, places, more = unit
+    exact = (value / fractions.Fraction(parts) + more) * 10**places
+    # The nearest; no value is half between two.
+    whole = (2 * abs(exact.numerator) + exact.denominator) // (2 * exact.denominator)
+    text = "%0*d" % (places + 1, whole)
+    return ("-" if value / fractions.Fraction(parts) + more < 0 else "") + (text[:-places] + "." + text[-places:] if places else text)
+
+
+def name_of(message, field, form):
+    known, names = reader.names_of(message)
+    name = reader.COMMON.get(field) or names.get(field) or "field_%d" % field
+    unit = TIME if field == 253 else UNITS.get(message, {}).get(field)
+    return name, name + ("_" + unit[0] if unit and "--raw" not in form and not (unit == TIME and "--utc" in form) else "")
+
+
+def by_program(fitrec, source, message, fields, form):
+    """What differs between the table by the program and the one by the second reader."""
+    data = source.read_bytes()
+    names = [name_of(message, field, form) for field in fields]
+    words = ["--message", reader.names_of(message)[0] or "message_%d" % message, "--fields", ",".join(name for name, _ in names)]
+    said = run(fitrec, "table", *form, *words, source)
+    try:
+        rows = rows_of(data, message)
+    except reader.Refused as refused:
+        return differs(said, (1, "", "fitrec: %s\n" % refused), data)
+    lines = [",".join(head for _, head in names)]
+    lines += [",".join(cell_text(message, field, row.get(field), form, len(fields) == 1) for field in fields) for row in rows]
+    difference = differs(said, (0, "".join(line + "\r\n" for line in lines), ""), data)
+    return difference or differs(len(list(csv.reader(said[1].splitlines()))), len(rows) + 1, "the number of lines")
+
+
+def python_package(archive):
+    """The tests of the package, as pip installs it from its folder, if Debian's packages are there."""
+    python = "/usr/bin/python3"
+    for word in ("numpy", "pandas", "setuptools", "pip"):
+        if run(python, "-c", "import " + word)[0]:
+            yield "the Python package", Skipped("python3-" + word)
+            return
+    with tempfile.TemporaryDirectory() as folder:
+        tree, to = pathlib.Path(folder, "tree"), folder + "/to"
+        shutil.copytree(ROOT / "python", tree / "python")
+        shutil.copy(ROOT / "build-shared", tree)
+        (tree / "crates/fit_c/out").mkdir(parents=True)
+        shutil.copy(archive, tree / "crates/fit_c/out")
+        pip = "-m", "pip", "install", "--quiet", "--no-build-isolation", "--no-deps", "--no-index", "--target", to
+        status, _, errors = run(python, *pip, tree / "python")
+        yield "pip installs the folder of the Python package", differs(status, 0, errors[-2000:])
+        found = {"PATH": os.environ["PATH"], "PYTHONPATH": to, "PYTHONDONTWRITEBYTECODE": "1"}
+        status, _, errors = run(python, "-m", "unittest", "discover", "-s", ROOT / "python/tests", env=found)
+        yield "the tests of the Python package", differs(status, 0, errors[-2000:])
+
+
+def most_columns(calls, seed):
+    one_more = calls.columns(made(random.Random(seed)), 20, [0] * 129, 0)[0]
+    yield "128 columns and one more", differs((one_more, calls.columns(b"", 20, [0] * 128, 0)[0]), (23, 1))
+
+
+def made_files(given, calls):
+    """Random files, and of each the messages of some numbers: all their fields, and some fields, as columns; and some as a table."""
+    pick, inputs = random.Random(given.seed), []
+    for at in range(given.files // 20):
+        data = damaged(pick, made(pick)) if at % 5 == 0 else made(pick)
+        found = [] if refusal_of(data) else [number for number, _, _ in reader.messages(data, False, value_of)[3]]
+        for message in sorted({20, pick.randrange(65536), *found}):
+            for fields in range(128), range(128, 256), [pick.randrange(256) for _ in range(pick.randrange(5))]:
+                inputs.append((data, message, list(fields), None))
+            form = pick.choice([[], [], ["--utc"], ["--raw"], ["--raw", "--utc"]])
+            inputs.append((data, message, pick.sample([*range(15), 73, 78, 253, 254], pick.choice([1, 3, 11])), form))
+    with tempfile.TemporaryDirectory() as folder:
+        def judge(number, row):
+            data, message, fields, form = row
+            if form is None:
+                return "columns of a file", by_library(calls, data, message, fields)
+            source = pathlib.Path(folder, "%d.fit" % number)
+            source.write_bytes(data)
+            return "table of a file", by_program(given.fitrec, source, message, fields, form)
+
+        yield from given.judged(judge, inputs)
+
+
+def proved_and_built(archive):
+    yield "proved and built", differs(build(archive), None)
+    if pathlib.Path(archive).exists():
+        yield "build-shared", differs(run(ROOT / "build-shared", pathlib.Path(archive).parent, archive)[::2], (0, ""))
+
+
+def check(given):
+    with tempfile.TemporaryDirectory() as folder:
+        archive, shared = folder + "/libfit_c.a", pathlib.Path(folder, "libfitrec.so")
+        yield from given.checks(proved_and_built, archive)
+        if not shared.exists():
+            return
+        calls = Library(shared)
+        yield from given.checks(python_package, archive)
+        yield from given.checks(most_columns, calls, given.seed)
+        yield from given.checks(made_files, given, calls)

@@ -1,0 +1,33 @@
+-- The result of printing bytes as a table, and of summing them up.
+use Rattle.std.specs.Prelude.{◌≡◌, ℕ, List, Option, Some, None, Result, Ok, Err}
+use Rattle.fit_activity.specs.declared.activity.Summary.{Summary}
+use Rattle.fit_activity.specs.Files.Activity.{activity_in}
+use Rattle.fit_grammar.specs.Format.File.{FileValue, FileOf}
+use Rattle.fit_grammar.specs.Format.Message.{messages_of}
+use Rattle.fit_grammar.specs.Format.Refusal.{IsFaultOf}
+use Rattle.fit_table.specs.declared.layout.Layout.{Layout}
+use Rattle.fit_table.specs.Table.{table_of, lines_of}
+use Rattle.fit_files.specs.declared.fault.ReportFault.{ReportFault}
+use Rattle.fit_files.specs.declared.fault.ReportFault.TheVariants as faults
+use Rattle.fit_files.specs.Printed.Shown.{ShowsBy}
+
+-- the table of a file, or, with a text that begins each line, its lines alone
+abbrev pub tabled : Layout → Option (List ℕ) → FileValue → List ℕ
+tabled layout None v = table_of layout (messages_of v.items)
+tabled layout (Some front) v = lines_of layout front (messages_of v.items)
+
+-- the bytes are a file, and its table was written, or a prefix of it and the output failed; or they are not a file, and nothing was
+-- written
+abbrev pub ShowsTable : {T : Type 0} → Layout → Option (List ℕ) → Option (List ℕ) → Option (List ℕ) → List ℕ → Result T ReportFault → Type 0
+ShowsTable layout front old new bytes result = ShowsBy (tabled layout front) old new bytes result
+
+-- the summary of a file that is an activity, or why it is none
+abbrev pub SumsUpFile : FileValue → Result Summary ReportFault → Type 0
+SumsUpFile v (Ok summary) = activity_in (messages_of v.items) ≡ Ok summary
+SumsUpFile v (Err (faults.Activity fault)) = activity_in (messages_of v.items) ≡ Err fault
+SumsUpFile v (Err fault) = ⊥
+
+-- the same for bytes
+abbrev pub SumsUp : List ℕ → Result Summary ReportFault → Type 0
+SumsUp bytes (Err (faults.File fault)) = IsFaultOf bytes fault
+SumsUp bytes result = (v : FileValue) × FileOf bytes v × SumsUpFile v result

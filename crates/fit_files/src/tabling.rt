@@ -1,0 +1,127 @@
+// Prints the table of a file, and sums a file up for a list of many.
+
+ghost use Rattle.std.specs.Prelude.{◌≡◌, ◌≤◌, ℕ, List, length, Option, Err, option_map, IfErr};
+ghost use Rattle.fit_grammar.specs.Calls.Output.{WritesText};
+ghost use Rattle.fit_columns.specs.declared.plans.TheConstants.{MOST_COLUMNS};
+ghost use Rattle.fit_table.specs.Table.{head_of};
+ghost use Rattle.fit_files.specs.declared.fault.ReportFault.TheVariants.{Input};
+ghost use Rattle.fit_files.specs.declared.reading.ReadFault.{ReadFault};
+ghost use Rattle.fit_files.specs.Calls.Reading.{ReportsInput};
+ghost use Rattle.fit_files.specs.Printed.Shown.{IsOutputFault};
+ghost use Rattle.fit_files.specs.Printed.Tabled.{tabled, ShowsTable, SumsUp, SumsUpFile};
+
+use crate::decoding::decode_input;
+use crate::fault::ReportFault;
+use fit_activity::{Summary, check_activity};
+use fit_grammar::{File, LentFile, WriteFailed};
+use fit_table::{Layout, write_head, write_lines, write_table};
+use std::alloc::Global;
+use std::io::{Read, Write};
+
+/// Reads a file of at most `most` bytes from an input, and writes its table. With a `front`, with which each line begins, the first line is
+/// left out. The input is read to its end before anything is written.
+pub fn table_input<T: Read, O: Write>(
+    alloc: Global,
+    from: &mut T,
+    most: usize,
+    layout: &Layout<'_>,
+    front: Option<&[u8]>,
+    out: &mut O,
+) -> Result<(), ReportFault>
+    requires { length layout.now.fields.now ≤ MOST_COLUMNS }
+    ensures shown { ReportsInput most (T.remaining from.old) (T.remaining from.new)
+        (ShowsTable layout.now (option_map (λ text. text.now) front.entry) (O.contents out.old) (O.contents out.new))
+        result }
+    ensures quiet { (why : ReadFault) → result ≡ Err (Input why) → O.contents out.new ≡ O.contents out.old }
+{
+    match decode_input(alloc, from, most) {
+        Ok(file) => table_flushed(&file, layout, front, out),
+        Err(fault) => Err(fault),
+    }
+}
+
+/// Writes the first line of a table. It begins with `front`.
+pub fn table_head<O: Write>(
+    layout: &Layout<'_>,
+    front: &[u8],
+    out: &mut O,
+) -> Result<(), ReportFault>
+    ensures text { WritesText (O.contents out.old) (O.contents out.new) result (head_of layout.now front.now) }
+    ensures fault { IfErr result IsOutputFault }
+{
+    match write_head(layout, front, out) {
+        Ok(()) => Ok(()),
+        Err(_) => Err(ReportFault::Output),
+    }
+}
+
+/// Reads a file of at most `most` bytes from an input, and sums it up if it is an activity.
+pub fn sum_up_input<T: Read>(
+    alloc: Global,
+    from: &mut T,
+    most: usize,
+) -> Result<Summary, ReportFault>
+    ensures { ReportsInput most (T.remaining from.old) (T.remaining from.new) SumsUp result }
+{
+    match decode_input(alloc, from, most) {
+        Ok(file) => sum_up(&file),
+        Err(fault) => Err(fault),
+    }
+}
+
+fn sum_up(file: &File) -> Result<Summary, ReportFault>
+    ensures { SumsUpFile file.now result }
+{
+    match check_activity(&file.lend()) {
+        Ok(summary) => Ok(summary),
+        Err(fault) => Err(ReportFault::Activity(fault)),
+    }
+}
+
+// Writes the table of a file, and flushes the output.
+fn table_flushed<O: Write>(
+    file: &File,
+    layout: &Layout<'_>,
+    front: Option<&[u8]>,
+    out: &mut O,
+) -> Result<(), ReportFault>
+    requires { length layout.now.fields.now ≤ MOST_COLUMNS }
+    ensures text { WritesText (O.contents out.old) (O.contents out.new) result
+        (tabled layout.now (option_map (λ text. text.now) front.entry) file.now) }
+    ensures fault { IfErr result IsOutputFault }
+{
+    let written = write_chosen(&file.lend(), layout, front, out);
+    flush_written(out, written)
+}
+
+// Flushes the output, to which a text was written.
+fn flush_written<O: Write>(out: &mut O, written: Result<(), WriteFailed>) -> Result<(), ReportFault>
+    ensures text { (before : Option (List ℕ)) (text : List ℕ)
+        → WritesText before (O.contents out.old) written text
+        → WritesText before (O.contents out.new) result text }
+    ensures fault { IfErr result IsOutputFault }
+{
+    let Ok(()) = written else {
+        return Err(ReportFault::Output);
+    };
+    match out.flush() {
+        Ok(()) => Ok(()),
+        Err(_) => Err(ReportFault::Output),
+    }
+}
+
+fn write_chosen<O: Write>(
+    file: &LentFile<'_>,
+    layout: &Layout<'_>,
+    front: Option<&[u8]>,
+    out: &mut O,
+) -> Result<(), WriteFailed>
+    requires { length layout.now.fields.now ≤ MOST_COLUMNS }
+    ensures { WritesText (O.contents out.old) (O.contents out.new) result
+        (tabled layout.now (option_map (λ text. text.now) front.entry) file.now) }
+{
+    match front {
+        Some(front) => write_lines(layout, front, file, out),
+        None => write_table(layout, file, out),
+    }
+}

@@ -1,0 +1,61 @@
+-- Numbers in decimal, in units.
+use Rattle.std.specs.Prelude.{ℕ, zero, suc, ◌+◌, ◌*◌, ◌/◌, ◌%◌, ℤ, pos, negsuc, neg_ℤ, ◌≤ℤ◌, ◌-ℤ◌, ◌*ℤ◌, List, [], ◌∷◌, ◌++◌, Result, Ok, Err, codes, decimal, nat_le, ◌&&◌, if◌then◌else◌}
+use Rattle.std.specs.Fmt.{signed_decimal}
+use Rattle.fit_text.specs.Date.{date_text}
+use Rattle.fit_table.specs.declared.unit.Unit.{Unit as AnyUnit}
+use Rattle.fit_table.specs.declared.unit.Unit.TheVariants.{Whole, Time, Date, Degrees, Height, Metres, Seconds, Speed, Beats, Turns, Watts, Celsius}
+
+-- the last digits of a number, this many
+abbrev pub digits : ℕ → ℕ → List ℕ
+digits zero n = []
+digits (suc count) n = digits count (n / 10) ++ (48 + n % 10) ∷ []
+
+-- a number of units of which `power` are one, with so many digits after the point
+abbrev pub places_text : ℕ → ℕ → ℕ → List ℕ
+places_text power count n = decimal (n / power) ++ (codes "." ++ digits count (n % power))
+
+-- a number without its sign: Ok if it is not negative
+abbrev pub split_of : ℤ → Result ℕ ℕ
+split_of (pos n) = Ok n
+split_of (negsuc n) = Err (suc n)
+
+abbrev pub signed_text : (ℕ → List ℕ) → Result ℕ ℕ → List ℕ
+signed_text text (Ok n) = text n
+signed_text text (Err n) = codes "-" ++ text n
+
+abbrev pub fixed_text : ℕ → ℕ → ℤ → List ℕ
+fixed_text power count value = signed_text (places_text power count) (split_of value)
+
+-- semicircles, of which 2 ^ 31 are 180 degrees, in the nearest hundred millionths of a degree
+abbrev pub rounded : ℕ → ℕ
+rounded n = (n * 1125000000 + 67108864) / 134217728
+
+abbrev pub degrees_text : ℤ → List ℕ
+degrees_text value = signed_text (λ n. places_text 100000000 8 (rounded n)) (split_of value)
+
+-- a time as a date, if it is a calendar time of 32 bits
+abbrev pub date_or : List ℕ → ℤ → List ℕ
+date_or empty (pos n) = if nat_le 268435456 n && nat_le n 4294967295 then date_text n else empty
+date_or empty (negsuc n) = empty
+
+-- numbers that are small enough for this
+abbrev pub limit : ℕ
+limit = 8590983168
+
+abbrev pub IsWide : ℤ → Type 0
+IsWide value = (neg_ℤ (pos limit) ≤ℤ value) × (value ≤ℤ pos limit)
+
+-- a value in its unit; the first text is that of a cell without a value
+abbrev pub unit_text : List ℕ → AnyUnit → ℤ → List ℕ
+unit_text empty Whole value = signed_decimal value
+unit_text empty Time value = signed_decimal value
+unit_text empty Date value = date_or empty value
+unit_text empty Degrees value = degrees_text value
+unit_text empty Height value = fixed_text 10 1 (pos 2 *ℤ (value -ℤ pos 2500))
+unit_text empty Metres value = fixed_text 100 2 value
+unit_text empty Seconds value = fixed_text 1000 3 value
+unit_text empty Speed value = fixed_text 1000 3 value
+unit_text empty Beats value = signed_decimal value
+unit_text empty Turns value = signed_decimal value
+unit_text empty Watts value = signed_decimal value
+unit_text empty Celsius value = signed_decimal value

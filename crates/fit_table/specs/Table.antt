@@ -1,0 +1,70 @@
+-- A table: a first line with the names of the columns, and a line for each message.
+use Rattle.std.specs.Prelude.{ℕ, ℤ, Bool, List, [], ◌∷◌, ◌++◌, length, Option, Some, None, codes, ◌==◌, if◌then◌else◌}
+use Rattle.std.specs.List.{flat_map}
+use Rattle.fit_base.specs.declared.order.Arch.{Arch}
+use Rattle.fit_grammar.specs.Format.Message.{Message}
+use Rattle.fit_text.specs.Profile.{names_of_fields}
+use Rattle.fit_text.specs.Text.{field_name}
+use Rattle.fit_columns.specs.declared.place.Place.{Place}
+use Rattle.fit_columns.specs.Columns.{cell_in, messages_numbered}
+use Rattle.fit_columns.specs.Places.{cell_with, place_cell}
+use Rattle.fit_table.specs.declared.layout.Layout.{Layout}
+use Rattle.fit_table.specs.Unit.{unit_in, suffix_of}
+use Rattle.fit_table.specs.Number.{unit_text}
+
+-- the end of a line
+abbrev pub line_end : List ℕ
+line_end = 13 ∷ 10 ∷ []
+
+-- ---- the first line
+
+-- the name of a column: that of its field, and its unit
+abbrev pub column_name : Layout → ℕ → List ℕ
+column_name layout number =
+    field_name (names_of_fields layout.message) number ++ suffix_of (unit_in layout number)
+
+abbrev pub names_from : Layout → List ℕ → List ℕ → List ℕ
+names_from layout front [] = []
+names_from layout front (number ∷ numbers) =
+    front ++ (column_name layout number ++ names_from layout (codes ",") numbers)
+
+-- the text `front` begins each line; it is a first cell with its comma, or nothing
+abbrev pub head_of : Layout → List ℕ → List ℕ
+head_of layout front = front ++ (names_from layout [] layout.fields.now ++ line_end)
+
+-- ---- the other lines
+
+-- a cell without a value; two quotation marks if it is alone, since an empty line is none
+abbrev pub empty_of : Layout → List ℕ
+empty_of layout = if length layout.fields.now == 1 then codes "\"\"" else []
+
+abbrev pub cell_text : Layout → ℕ → Option ℤ → List ℕ
+cell_text layout number None = empty_of layout
+cell_text layout number (Some value) = unit_text (empty_of layout) (unit_in layout number) value
+
+-- the values of the fields of these numbers, with commas between them
+abbrev pub cells_from : Layout → List ℕ → List ℕ → Message → List ℕ
+cells_from layout front [] m = []
+cells_from layout front (number ∷ numbers) m =
+    front ++ (cell_text layout number (cell_in number m.fields)
+    ++ cells_from layout (codes ",") numbers m)
+
+abbrev pub line_of : Layout → List ℕ → Message → List ℕ
+line_of layout front m = front ++ (cells_from layout [] layout.fields.now m ++ line_end)
+
+abbrev pub lines_of : Layout → List ℕ → List Message → List ℕ
+lines_of layout front messages =
+    flat_map (line_of layout front) (messages_numbered layout.message messages)
+
+-- the whole table of a file
+abbrev pub table_of : Layout → List Message → List ℕ
+table_of layout messages = head_of layout [] ++ lines_of layout [] messages
+
+-- ---- the same cells, by the places of the values
+
+abbrev pub cells_at : Layout → Arch → Option ℕ → List ℕ → List ℕ → List Place → List ℕ
+cells_at layout arch time content front [] = []
+cells_at layout arch time content front (place ∷ places) =
+    front ++ (cell_text layout place.number
+    (cell_with time place.number (place_cell place arch content))
+    ++ cells_at layout arch time content (codes ",") places)

@@ -1,0 +1,14 @@
+// What a table shows.
+
+/// What a table shows. It has at most 128 columns.
+#[derive(Clone, Copy, Debug)]
+pub struct Layout<'a> {
+    /// The global number of the messages that are its lines.
+    pub message: u16,
+    /// The numbers of the fields that are its columns.
+    pub fields: &'a [u8],
+    /// Whether values are the whole numbers that the file has.
+    pub raw: bool,
+    /// Whether times are dates in UTC.
+    pub utc: bool,
+}

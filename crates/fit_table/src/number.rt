@@ -1,0 +1,173 @@
+// Values in units.
+
+ghost use Rattle.std.specs.Prelude.{◌≡◌, ◌≤◌, ◌++◌, codes, length, take, IfSome, IfOk, IfErr};
+ghost use Rattle.fit_text.specs.Pen.{Puts};
+ghost use Rattle.fit_columns.specs.Places.{IsSmall};
+ghost use Rattle.fit_table.specs.Number.{digits, places_text, fixed_text, rounded, degrees_text, date_or, unit_text, split_of, limit, IsWide};
+ghost use Rattle.fit_table.specs.Table.{empty_of, cell_text};
+
+use crate::layout::Layout;
+use crate::unit::{Unit, unit_in};
+use fit_grammar::WriteFailed;
+use fit_text::{Pen, put_date};
+use std::io::Write;
+
+// The first time that is a date. A time below it counts from when the device was switched on.
+const FIRST_DATE: i64 = 0x1000_0000;
+
+/// The value of a field, as its column has it.
+pub fn put_cell<W: Write>(
+    pen: &mut Pen<'_, W>,
+    layout: &Layout<'_>,
+    number: u8,
+    value: Option<i64>,
+) -> Result<(), WriteFailed>
+    requires { IfSome value IsSmall }
+    ensures { Puts pen.old pen.new result (cell_text layout.now number value) }
+{
+    match value {
+        Some(value) => put_value(pen, empty_of(layout), unit_in(layout, number), value),
+        None => pen.put(empty_of(layout)),
+    }
+}
+
+// A cell without a value. In a table of one column it would be an empty line, which many readers skip.
+fn empty_of(layout: &Layout<'_>) -> &'static [u8]
+    ensures { result.now ≡ empty_of layout.now }
+{
+    if layout.fields.len() == 1 {
+        b"\"\""
+    } else {
+        b""
+    }
+}
+
+fn put_value<W: Write>(
+    pen: &mut Pen<'_, W>,
+    empty: &[u8],
+    unit: Unit,
+    value: i64,
+) -> Result<(), WriteFailed>
+    requires { IsSmall value }
+    ensures { Puts pen.old pen.new result (unit_text empty.now unit value) }
+{
+    match unit {
+        Unit::Degrees => put_degrees(pen, value),
+        Unit::Height => put_fixed(pen, 1, 10, 2 * (value - 2500)),
+        Unit::Metres => put_fixed(pen, 2, 100, value),
+        Unit::Seconds | Unit::Speed => put_fixed(pen, 3, 1000, value),
+        Unit::Date => put_date_or(pen, empty, value),
+        Unit::Whole | Unit::Time | Unit::Beats | Unit::Turns | Unit::Watts | Unit::Celsius =>
+            pen.put_signed(value),
+    }
+}
+
+// A time as a date, or else an empty cell.
+fn put_date_or<W: Write>(pen: &mut Pen<'_, W>, empty: &[u8], value: i64) -> Result<(), WriteFailed>
+    ensures { Puts pen.old pen.new result (date_or empty.now value) }
+{
+    if value >= FIRST_DATE && value <= 0xFFFF_FFFF {
+        put_date(pen, value as u32)
+    } else {
+        pen.put(empty)
+    }
+}
+
+// A number of units of which `power` are one.
+fn put_fixed<W: Write>(
+    pen: &mut Pen<'_, W>,
+    count: usize,
+    power: u64,
+    value: i64,
+) -> Result<(), WriteFailed>
+    requires few { count ≤ 8 }
+    requires some { 1 ≤ power }
+    requires wide { IsWide value }
+    ensures { Puts pen.old pen.new result (fixed_text power count value) }
+{
+    match split(value) {
+        Ok(n) => put_places(pen, count, power, n),
+        Err(n) => put_negative(pen, count, power, n),
+    }
+}
+
+fn put_degrees<W: Write>(pen: &mut Pen<'_, W>, value: i64) -> Result<(), WriteFailed>
+    requires { IsWide value }
+    ensures { Puts pen.old pen.new result (degrees_text value) }
+{
+    match split(value) {
+        Ok(n) => put_places(pen, 8, 100_000_000, round(n)),
+        Err(n) => put_negative(pen, 8, 100_000_000, round(n)),
+    }
+}
+
+// Semicircles in hundred millionths of a degree.
+fn round(n: u64) -> u64
+    requires { n ≤ limit }
+    ensures { result ≡ rounded n }
+{
+    (n * 1_125_000_000 + 67_108_864) / 134_217_728
+}
+
+// A number without its sign.
+fn split(value: i64) -> Result<u64, u64>
+    requires { IsWide value }
+    ensures value { result ≡ split_of value }
+    ensures ok { IfOk result (λ n. n ≤ limit) }
+    ensures err { IfErr result (λ n. n ≤ limit) }
+{
+    if value < 0 {
+        Err(value.unsigned_abs())
+    } else {
+        Ok(value as u64)
+    }
+}
+
+fn put_negative<W: Write>(
+    pen: &mut Pen<'_, W>,
+    count: usize,
+    power: u64,
+    n: u64,
+) -> Result<(), WriteFailed>
+    requires few { count ≤ 8 }
+    requires some { 1 ≤ power }
+    ensures { Puts pen.old pen.new result (codes "-" ++ places_text power count n) }
+{
+    pen.put(b"-")?;
+    put_places(pen, count, power, n)
+}
+
+fn put_places<W: Write>(
+    pen: &mut Pen<'_, W>,
+    count: usize,
+    power: u64,
+    n: u64,
+) -> Result<(), WriteFailed>
+    requires few { count ≤ 8 }
+    requires some { 1 ≤ power }
+    ensures { Puts pen.old pen.new result (places_text power count n) }
+{
+    pen.put_number(n / power)?;
+    pen.put(b".")?;
+    put_digits(pen, count, n % power)
+}
+
+fn put_digits<W: Write>(pen: &mut Pen<'_, W>, count: usize, n: u64) -> Result<(), WriteFailed>
+    requires { count ≤ 8 }
+    ensures { Puts pen.old pen.new result (digits count n) }
+{
+    let mut bytes = [0; 8];
+    place_digits(&mut bytes, count, n);
+    pen.put(&bytes[..count])
+}
+
+fn place_digits(bytes: &mut [u8], count: usize, n: u64)
+    requires { count ≤ length bytes.old }
+    ensures { take count bytes.new ≡ digits count n }
+{
+    if count == 0 {
+        return;
+    }
+    place_digits(bytes, count - 1, n / 10);
+    bytes[count - 1] = b'0' + (n % 10) as u8;
+}

@@ -1,0 +1,248 @@
+// A table of a file's messages.
+
+ghost use Rattle.std.specs.Prelude.{◌≡◌, ◌≤◌, ◌++◌, [], length, codes, decimal, IfOk};
+ghost use Rattle.fit_grammar.specs.Calls.Output.{WritesText};
+ghost use Rattle.fit_grammar.specs.Format.Message.{messages_of};
+ghost use Rattle.fit_text.specs.Pen.{Puts};
+ghost use Rattle.fit_text.specs.Profile.{names_of_fields};
+ghost use Rattle.fit_text.specs.Text.{field_name as name_of_field};
+ghost use Rattle.fit_columns.specs.declared.plans.TheConstants.{MOST_COLUMNS};
+ghost use Rattle.fit_columns.specs.Places.{ArePlacesIn};
+ghost use Rattle.fit_table.specs.Table.{line_end, column_name, names_from, head_of, cells_at, lines_of, table_of};
+
+use crate::layout::Layout;
+use crate::number::put_cell;
+use crate::unit::{suffix_of, unit_in};
+use fit_base::Arch;
+use fit_columns::{MOST_COLUMNS, Place, Plans, cell};
+use fit_grammar::{FileItem, LentFile, WriteFailed};
+use fit_text::{Pen, field_name};
+use std::io::Write;
+
+/// Writes the table of a file: its first line, and a line for each message with the global number of the layout, in order.
+#[inline(never)]
+pub fn write_table<W: Write>(
+    layout: &Layout<'_>,
+    file: &LentFile<'_>,
+    out: &mut W,
+) -> Result<(), WriteFailed>
+    requires { length layout.now.fields.now ≤ MOST_COLUMNS }
+    ensures { WritesText (W.contents out.old) (W.contents out.new) result
+        (table_of layout.now (messages_of file.now.items)) }
+{
+    let mut pen = Pen::new(out);
+    let done = put_table(&mut pen, layout, file);
+    let _ = pen.into_writer();
+    done
+}
+
+/// Writes the first line, with the names of the columns. It begins with `front`.
+#[inline(never)]
+pub fn write_head<W: Write>(
+    layout: &Layout<'_>,
+    front: &[u8],
+    out: &mut W,
+) -> Result<(), WriteFailed>
+    ensures { WritesText (W.contents out.old) (W.contents out.new) result
+        (head_of layout.now front.now) }
+{
+    let mut pen = Pen::new(out);
+    let done = put_whole_head(&mut pen, layout, front);
+    let _ = pen.into_writer();
+    done
+}
+
+/// Writes a line for each message with the global number of the layout, in order. Each begins with `front`.
+#[inline(never)]
+pub fn write_lines<W: Write>(
+    layout: &Layout<'_>,
+    front: &[u8],
+    file: &LentFile<'_>,
+    out: &mut W,
+) -> Result<(), WriteFailed>
+    requires { length layout.now.fields.now ≤ MOST_COLUMNS }
+    ensures { WritesText (W.contents out.old) (W.contents out.new) result
+        (lines_of layout.now front.now (messages_of file.now.items)) }
+{
+    let mut pen = Pen::new(out);
+    let done = put_all_lines(&mut pen, layout, front, file);
+    let _ = pen.into_writer();
+    done
+}
+
+fn put_table<W: Write>(
+    pen: &mut Pen<'_, W>,
+    layout: &Layout<'_>,
+    file: &LentFile<'_>,
+) -> Result<(), WriteFailed>
+    requires { length layout.now.fields.now ≤ MOST_COLUMNS }
+    ensures text { Puts pen.old pen.new result (table_of layout.now (messages_of file.now.items)) }
+    ensures none { IfOk result (λ _. pen.new.waiting ≡ []) }
+{
+    put_head(pen, layout, &[])?;
+    put_all_lines(pen, layout, &[], file)
+}
+
+fn put_whole_head<W: Write>(
+    pen: &mut Pen<'_, W>,
+    layout: &Layout<'_>,
+    front: &[u8],
+) -> Result<(), WriteFailed>
+    ensures text { Puts pen.old pen.new result (head_of layout.now front.now) }
+    ensures none { IfOk result (λ _. pen.new.waiting ≡ []) }
+{
+    put_head(pen, layout, front)?;
+    pen.hand_over()
+}
+
+fn put_all_lines<W: Write>(
+    pen: &mut Pen<'_, W>,
+    layout: &Layout<'_>,
+    front: &[u8],
+    file: &LentFile<'_>,
+) -> Result<(), WriteFailed>
+    requires { length layout.now.fields.now ≤ MOST_COLUMNS }
+    ensures text { Puts pen.old pen.new result
+        (lines_of layout.now front.now (messages_of file.now.items)) }
+    ensures none { IfOk result (λ _. pen.new.waiting ≡ []) }
+{
+    put_lines(pen, layout, front, file)?;
+    pen.hand_over()
+}
+
+fn put_head<W: Write>(
+    pen: &mut Pen<'_, W>,
+    layout: &Layout<'_>,
+    front: &[u8],
+) -> Result<(), WriteFailed>
+    ensures { Puts pen.old pen.new result (head_of layout.now front.now) }
+{
+    pen.put(front)?;
+    put_names(pen, layout)?;
+    pen.put(b"\r\n")
+}
+
+fn put_names<W: Write>(pen: &mut Pen<'_, W>, layout: &Layout<'_>) -> Result<(), WriteFailed>
+    ensures { Puts pen.old pen.new result (names_from layout.now [] layout.now.fields.now) }
+{
+    let mut front: &[u8] = &[];
+    let mut left = layout.fields;
+    while let [number, others @ ..] = left {
+        pen.put(front)?;
+        put_name(pen, layout, *number)?;
+        front = b",";
+        left = others;
+    }
+    Ok(())
+}
+
+// The name of a column.
+fn put_name<W: Write>(
+    pen: &mut Pen<'_, W>,
+    layout: &Layout<'_>,
+    number: u8,
+) -> Result<(), WriteFailed>
+    ensures { Puts pen.old pen.new result (column_name layout.now number) }
+{
+    put_field_name(pen, layout.message, number)?;
+    pen.put(suffix_of(unit_in(layout, number)))
+}
+
+fn put_field_name<W: Write>(
+    pen: &mut Pen<'_, W>,
+    message: u16,
+    number: u8,
+) -> Result<(), WriteFailed>
+    ensures { Puts pen.old pen.new result (name_of_field (names_of_fields message) number) }
+{
+    match field_name(message, number) {
+        Some(name) => pen.put(name.as_bytes()),
+        None => put_number_name(pen, number),
+    }
+}
+
+fn put_number_name<W: Write>(pen: &mut Pen<'_, W>, number: u8) -> Result<(), WriteFailed>
+    ensures { Puts pen.old pen.new result (codes "field_" ++ decimal number) }
+{
+    pen.put(b"field_")?;
+    pen.put_number(u64::from(number))
+}
+
+fn put_lines<W: Write>(
+    pen: &mut Pen<'_, W>,
+    layout: &Layout<'_>,
+    front: &[u8],
+    file: &LentFile<'_>,
+) -> Result<(), WriteFailed>
+    requires { length layout.now.fields.now ≤ MOST_COLUMNS }
+    ensures { Puts pen.old pen.new result
+        (lines_of layout.now front.now (messages_of file.now.items)) }
+{
+    let mut plans = Plans::new();
+    for item in file.items() {
+        match item {
+            FileItem::Definition(definition) => {
+                plans.forget(definition.local());
+                continue;
+            }
+            FileItem::Data(found, time) => {
+                if found.definition.global() != layout.message {
+                    continue;
+                }
+                plans.settle(found.local, &found.definition, layout.fields);
+                let plan = plans.get(found.local);
+                put_line(
+                    pen,
+                    layout,
+                    front,
+                    plan.places.as_slice(),
+                    plan.arch,
+                    time,
+                    found.content,
+                )?;
+            }
+        }
+    }
+    Ok(())
+}
+
+fn put_line<W: Write>(
+    pen: &mut Pen<'_, W>,
+    layout: &Layout<'_>,
+    front: &[u8],
+    places: &[Place],
+    arch: Arch,
+    time: Option<u32>,
+    content: &[u8],
+) -> Result<(), WriteFailed>
+    requires { ArePlacesIn (length content.now) places.now }
+    ensures { Puts pen.old pen.new result
+        (front.now ++ (cells_at layout.now arch time content.now [] places.now ++ line_end)) }
+{
+    pen.put(front)?;
+    put_cells(pen, layout, places, arch, time, content)?;
+    pen.put(b"\r\n")
+}
+
+fn put_cells<W: Write>(
+    pen: &mut Pen<'_, W>,
+    layout: &Layout<'_>,
+    places: &[Place],
+    arch: Arch,
+    time: Option<u32>,
+    content: &[u8],
+) -> Result<(), WriteFailed>
+    requires { ArePlacesIn (length content.now) places.now }
+    ensures { Puts pen.old pen.new result
+        (cells_at layout.now arch time content.now [] places.now) }
+{
+    let mut front: &[u8] = &[];
+    let mut left = places;
+    while let [place, others @ ..] = left {
+        pen.put(front)?;
+        put_cell(pen, layout, place.number, cell(place, arch, time, content))?;
+        front = b",";
+        left = others;
+    }
+    Ok(())
+}

@@ -1,0 +1,73 @@
+// The numbers of messages and fields that words name.
+
+ghost use Rattle.std.specs.Prelude.{◌≡◌, ◌≤◌, ◌++◌, ℕ, IsTrue, ◌↔◌, None, IfSome, codes, decimal};
+ghost use Rattle.fit_text.specs.Profile.{names_of_fields};
+ghost use Rattle.fit_text.specs.Text.{message_name, field_name};
+
+use fit_text::{field_name, message_name};
+use itoa::Buffer;
+
+/// The global number of the messages that this word names, such as `lap`, or `message_23` for those that have no name.
+pub fn message_of_word(word: &str) -> Option<u16>
+    ensures named { IfSome result (λ number. message_name number ≡ word.now) }
+    ensures none { result ≡ None → (number : ℕ) → number ≤ 65535 → message_name number ≡ word.now
+        → ⊥ }
+{
+    let mut number = 0;
+    while !is_message(number, word) {
+        if number == u16::MAX {
+            return None;
+        }
+        number += 1;
+    }
+    Some(number)
+}
+
+/// The number of the field that this word names in messages with this global number, such as `heart_rate`, or `field_39` for one that
+/// has no name.
+pub fn field_of_word(message: u16, word: &str) -> Option<u8>
+    ensures named { IfSome result (λ number. field_name (names_of_fields message) number
+        ≡ word.now) }
+    ensures none { result ≡ None
+        → (number : ℕ) → number ≤ 255 → field_name (names_of_fields message) number ≡ word.now → ⊥ }
+{
+    let mut number = 0;
+    while !is_field(message, number, word) {
+        if number == u8::MAX {
+            return None;
+        }
+        number += 1;
+    }
+    Some(number)
+}
+
+fn is_message(number: u16, word: &str) -> bool
+    ensures { IsTrue result ↔ (message_name number ≡ word.now) }
+{
+    match message_name(number) {
+        Some(name) => name == word,
+        None => match word.strip_prefix("message_") {
+            Some(digits) => is_number(u64::from(number), digits),
+            None => false,
+        },
+    }
+}
+
+fn is_field(message: u16, number: u8, word: &str) -> bool
+    ensures { IsTrue result ↔ (field_name (names_of_fields message) number ≡ word.now) }
+{
+    match field_name(message, number) {
+        Some(name) => name == word,
+        None => match word.strip_prefix("field_") {
+            Some(digits) => is_number(u64::from(number), digits),
+            None => false,
+        },
+    }
+}
+
+fn is_number(number: u64, digits: &str) -> bool
+    ensures { IsTrue result ↔ (decimal number ≡ digits.now) }
+{
+    let mut buffer = Buffer::new();
+    buffer.format(number) == digits
+}
