@@ -83,7 +83,7 @@ def run(program, folder, step):
     words = shlex.split(step.about)
     ran = subprocess.run([program, *words], stdin=subprocess.DEVNULL, capture_output=True, cwd=folder, timeout=100)
     out, err, text = ran.stdout.decode(), ran.stderr.decode(), step.text()
-    if words[0] == "table":
+    if words[:1] == ["table"]:
         text = text.replace("\n", "\r\n")
     printed = out == text
     if step.lines[:1] == ["..."]:
