@@ -9,11 +9,11 @@ import shutil
 import subprocess
 import tempfile
 
+import reader
 import released
 import told
 from files import damaged as damaged_file, made
 from kit import load_rt
-from reader import names_of
 from replacing import bytes_of
 from rides import differs, script_of
 from saves import NAMES, damaged
@@ -182,7 +182,7 @@ def looked_at(fitrec, program, source, mine):
 
 def in_columns(fitrec, program, source, message, fields):
     """What differs between the columns of a file by the library and its table by the program."""
-    name, names = names_of(message)
+    name, names = reader.names_of(message)
     names = ",".join(names.get(it, "field_%d" % it) for it in fields)
     wanted = run(fitrec, "table", "--raw", "--message", name or "message_%d" % message, "--fields", names, source)
     said = run(program, "columns", source, message, ",".join(map(str, fields)))
