@@ -17,7 +17,7 @@ OTHERS = {"activity.fit", "activity.frj", "ride.fit", "message_N", "field_N", "d
 
 def texts_of(root):
     """The text of each file that may be cited, by its path."""
-    parts = ["crates", "include", "web", "device", "compare", "bench", "examples", "docs", "completions", ".ci"]
+    parts = ["crates", "include", "web", "device", "compare", "bench", "examples", "docs", "completions", "python", ".ci"]
     files = [it for part in parts for it in (root / part).rglob("*") if it.is_file() and "out" not in it.relative_to(root).parts]
     files += [root / it for it in ("crates.txt", "HANDLES", "fitrec", "build", "install", "CHANGELOG.md")]
     return {it: it.read_text(errors="replace") for it in files}
