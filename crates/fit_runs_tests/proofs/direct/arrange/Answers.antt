@@ -1,4 +1,4 @@
-use Rattle.fit_scripts_tests.proofs.direct.arrange.Goals as goal
+use Rattle.fit_runs_tests.proofs.direct.arrange.Goals as goal
 
 pub returns-in-Ok : goal.returns-in-Ok
 returns-in-Ok c = c.cut_at.ensures.same.goes_on (rw c.in-Ok.is at c.requires.goes_on)
