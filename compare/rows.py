@@ -17,7 +17,7 @@ def run(fitrec, folder, step):
     words = shlex.split(step.about)
     status, out, err = program.run(fitrec, *words, cwd=folder)
     text, printed, reported = step.text(), out, step.named or step.error
-    if words[0] == "table":
+    if words[:1] == ["table"]:
         text = text.replace("\n", "\r\n")
     if step.lines[:1] == ["..."] and ("\n" + out).endswith(text[3:]):
         printed = text

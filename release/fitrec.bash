@@ -3,13 +3,14 @@ _fitrec() {
     local word=${COMP_WORDS[COMP_CWORD]} options=
     COMPREPLY=()
     if [ "$COMP_CWORD" -eq 1 ]; then
-        COMPREPLY=($(compgen -W 'show check replay record save repair salvage plain simulate version help --help' -- "$word"))
+        COMPREPLY=($(compgen -W 'show table check replay record save repair salvage plain simulate version help --help' -- "$word"))
         return
     fi
     case ${COMP_WORDS[1]} in
-        help) COMPREPLY=($(compgen -W 'show check replay record save repair salvage plain simulate version' -- "$word")); return ;;
+        help) COMPREPLY=($(compgen -W 'show table check replay record save repair salvage plain simulate version' -- "$word")); return ;;
         show) options='--utc --json --help' ;;
-        check) options='--help' ;;
+        table) options='--utc --raw --message --fields --each --null --help' ;;
+        check) options='--each --null --help' ;;
         replay) options='--checked --help' ;;
         record) options='--commit --help' ;;
         save) options='--earlier --help' ;;

@@ -1,6 +1,7 @@
 # Completes the words of fitrec in fish.
 complete -c fitrec -n __fish_use_subcommand -f
 complete -c fitrec -n __fish_use_subcommand -a show -d 'Shows every message of a FIT file, a line each'
+complete -c fitrec -n __fish_use_subcommand -a table -d 'Writes the values of a FIT file as a table (CSV): a line for each record, in units'
 complete -c fitrec -n __fish_use_subcommand -a check -d 'Says whether a FIT file is an activity, and sums it up in one line'
 complete -c fitrec -n __fish_use_subcommand -a replay -d 'Records a ride into a folder, as a script tells it'
 complete -c fitrec -n __fish_use_subcommand -a record -d 'Records a ride into a folder, as the lines of standard input tell it, and answers each line'
@@ -12,6 +13,14 @@ complete -c fitrec -n __fish_use_subcommand -a simulate -d 'Runs a script over a
 complete -c fitrec -n __fish_use_subcommand -a version -d 'Prints the version, and the kit and the logic that it was proved by'
 complete -c fitrec -n '__fish_seen_subcommand_from show' -l utc -d 'Shows times as dates in UTC'
 complete -c fitrec -n '__fish_seen_subcommand_from show' -l json -d 'Writes a JSON object on each line, for programs'
+complete -c fitrec -n '__fish_seen_subcommand_from table' -l utc -d 'Shows times as dates in UTC'
+complete -c fitrec -n '__fish_seen_subcommand_from table' -l raw -d 'Writes the whole numbers of the file, without units'
+complete -c fitrec -n '__fish_seen_subcommand_from table' -l message -x -d 'Takes messages of this name, such as lap or message_23, and not records'
+complete -c fitrec -n '__fish_seen_subcommand_from table' -l fields -x -d 'Takes these fields, with commas between their names, such as timestamp,heart_rate,field_39'
+complete -c fitrec -n '__fish_seen_subcommand_from table' -l each -d 'Takes several files, and goes on after one that is refused; the name - stands for names on standard input, a line each'
+complete -c fitrec -n '__fish_seen_subcommand_from table' -l null -d 'The names on standard input end with zero bytes, as find -print0 writes them'
+complete -c fitrec -n '__fish_seen_subcommand_from check' -l each -d 'Takes several files, and goes on after one that is refused; the name - stands for names on standard input, a line each'
+complete -c fitrec -n '__fish_seen_subcommand_from check' -l null -d 'The names on standard input end with zero bytes, as find -print0 writes them'
 complete -c fitrec -n '__fish_seen_subcommand_from replay' -l checked -d 'Stores a checksum with each commit, so that changed bytes are noticed'
 complete -c fitrec -n '__fish_seen_subcommand_from record' -l commit -x -d 'Commits after an entry that comes so many seconds of the ride after the last commit (10); 0 commits at the end alone'
 complete -c fitrec -n '__fish_seen_subcommand_from save' -l earlier -d 'Takes the commit before, if the bytes that the last one counts have changed'

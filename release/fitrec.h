@@ -65,7 +65,7 @@ enum {
     FITREC_DAMAGED = 8,          /* the two are not the files of one recording */
     FITREC_BAD_LENGTH = 9,       /* a length is greater than its buffer */
     FITREC_NO_CLOSING_ROOM = 10, /* the data file's buffer is too small */
-    FITREC_CHANGED = 16          /* the bytes that the last commit counts have changed since; fitrec_salvage copies what is readable */
+    FITREC_CHANGED = 16          /* the bytes that the last commit counts have changed since; see fitrec_leave_changed */
 };
 uint8_t fitrec_repair(uint8_t *data, size_t data_size, uint64_t *data_len, uint8_t *journal, size_t journal_size,
                       uint64_t *journal_len, struct fitrec_summary *summary);
@@ -86,6 +86,28 @@ enum {
 };
 uint8_t fitrec_save(uint8_t *data, size_t data_size, uint64_t *data_len, uint8_t *journal, size_t journal_size,
                     uint64_t *journal_len, uint8_t *out, size_t out_size, uint64_t *out_len, struct fitrec_summary *summary);
+
+/* How many bytes of whole messages follow the last commit of a recording, such as samples that came after it. A save leaves them out, and a
+   salvage with all set keeps them. 0 if there are none, if nothing was committed, and if the data file is a finished one: so ask before a
+   repair. After a repair that was cut off they may be its closing messages.
+
+   data, data_size         the data file
+   journal, journal_size   the journal */
+uint64_t fitrec_uncommitted(const uint8_t *data, size_t data_size, const uint8_t *journal, size_t journal_size);
+
+/* After FITREC_CHANGED: takes the last commit from a journal, so that a save takes the commit before it. What is left out may have been
+   confirmed.
+
+   data, data_size         the data file
+   journal, journal_size   the journal; after 0 the gate of its last commit is closed
+   left_out                after 0, how many bytes count no longer
+
+   Answers 0, or FITREC_NOT_LEFT. A save may then still answer FITREC_CHANGED, if the change is in what the earlier commit counts. */
+enum {
+    FITREC_LEFT_OUT = 0,
+    FITREC_NOT_LEFT = 17 /* nothing changed, or the journal has no earlier commit; it is as it was */
+};
+uint8_t fitrec_leave_changed(const uint8_t *data, size_t data_size, uint8_t *journal, size_t journal_size, uint64_t *left_out);
 
 /* How much of a file a salvage kept, in bytes. */
 struct fitrec_salvage_counts {
@@ -179,6 +201,45 @@ enum {
 };
 uint8_t fitrec_show(const uint8_t *bytes, size_t size, bool utc, uint8_t *out, size_t out_size, uint64_t *out_len,
                     uint64_t *fault_place);
+
+/* Writes a FIT file as JSON, an object on each line, as docs/PROGRAM.md ("show and check") describes it. The text is UTF-8, lines end with
+   a line feed, and no zero byte follows. Arguments and answers are those of fitrec_show. */
+enum {
+    FITREC_JSON = 0,
+    FITREC_JSON_NO_ROOM = 20 /* the text has no room in out */
+};
+uint8_t fitrec_json(const uint8_t *bytes, size_t size, bool utc, uint8_t *out, size_t out_size, uint64_t *out_len,
+                    uint64_t *fault_place);
+
+/* A value that is not there. No value is this number. */
+#define FITREC_NO_VALUE INT64_MIN
+
+/* The most columns of one call. */
+#define FITREC_MOST_COLUMNS 128
+
+/* Fills columns with the values of some fields: for each message with one global number, in the order of the file, the value of its
+   first field of the column's number. It is the whole number that the file has, without scale or offset: of an enum, a byte, or a sint or
+   uint of 8, 16 or 32 bits, also of the kinds with a z. It is FITREC_NO_VALUE if the message has no such field, or the field has another
+   type or not just one value, or its value is the invalid one. The time of a compressed timestamp is the first field 253.
+
+   bytes, size   the file
+   message       the global number, such as 20 for records
+   fields, field_count   the numbers of the fields
+   room          how many values a column has room for
+   out           column k begins at out[k * room] and has *rows values
+   out_size      how many values (not bytes) the buffer has, at least field_count * room
+   rows          how many messages have the number, after 0 and FITREC_COLUMNS_NO_ROOM
+   fault_place   the place of the fault, after 1 to 9
+
+   Answers 0, one of 1 to 9 above, or one of these. After FITREC_COLUMNS_NO_ROOM the values of out may have changed. */
+enum {
+    FITREC_COLUMNS = 0,
+    FITREC_COLUMNS_NO_ROOM = 20,  /* there are more messages than room */
+    FITREC_COLUMNS_TOO_MANY = 23, /* field_count exceeds FITREC_MOST_COLUMNS */
+    FITREC_COLUMNS_SHORT = 24     /* out_size is below field_count * room */
+};
+uint8_t fitrec_columns(const uint8_t *bytes, size_t size, uint16_t message, const uint8_t *fields, size_t field_count, size_t room,
+                       int64_t *out, size_t out_size, uint64_t *rows, uint64_t *fault_place);
 
 /* A recorder in a device.
 
@@ -280,9 +341,9 @@ struct fitrec_state {
     uint8_t stopped;   /* 1 after the stop */
 };
 
-/* Answers of a step. After every answer but FITREC_OK the plan has no calls that change what the files hold, and the recorder is as it was;
-   but fitrec_start and fitrec_reopen then leave no recorder in the handle, unless the answer is FITREC_NO_SPORT. A plan has room for all
-   calls of a step, so none fails for want of it. docs/EMBEDDING.md says what to do after each. */
+/* Answers of a step. After every answer but FITREC_OK the plan is empty, and the recorder is as it was; but fitrec_start and fitrec_reopen
+   then leave no recorder in the handle, unless the answer is FITREC_NO_SPORT, and fitrec_recover_begin plans two syncs. A plan has room for
+   all calls of a step, so none fails for want of it. docs/EMBEDDING.md says what to do after each. */
 enum {
     FITREC_OK = 0,
     FITREC_NOT_EMPTY = 1,    /* start: the data file has bytes */
@@ -305,17 +366,17 @@ enum {
 
 /* The answer of a call by windows that goes on: read count bytes of file from at on into window, say in filled how many there were, and
    make the next call. */
-#define FITREC_WANTS 13
+#define FITREC_NEEDS_WINDOW 13
 
 /* Begins a ride on an empty data file. time in seconds since 1989-12-31 00:00 UTC; serial of the device, or 0; sport 0 generic, 1 running,
    2 cycling. At most 11 calls; after them the start is committed. */
 uint8_t fitrec_start(struct fitrec_recorder *recorder, uint32_t time, uint32_t serial, uint8_t sport, struct fitrec_plan *plan);
 
 /* Hands an entry to the recorder. At most one call. A power cut loses the entry unless it is committed. */
-uint8_t fitrec_hand_sample(struct fitrec_recorder *recorder, const struct fitrec_sample *sample, struct fitrec_plan *plan);
-uint8_t fitrec_lap(struct fitrec_recorder *recorder, uint32_t time, struct fitrec_plan *plan);
-uint8_t fitrec_pause(struct fitrec_recorder *recorder, uint32_t time, struct fitrec_plan *plan);
-uint8_t fitrec_resume(struct fitrec_recorder *recorder, uint32_t time, struct fitrec_plan *plan);
+uint8_t fitrec_add_sample(struct fitrec_recorder *recorder, const struct fitrec_sample *sample, struct fitrec_plan *plan);
+uint8_t fitrec_add_lap(struct fitrec_recorder *recorder, uint32_t time, struct fitrec_plan *plan);
+uint8_t fitrec_pause_timer(struct fitrec_recorder *recorder, uint32_t time, struct fitrec_plan *plan);
+uint8_t fitrec_resume_timer(struct fitrec_recorder *recorder, uint32_t time, struct fitrec_plan *plan);
 
 /* Commits all entries so far. At most 8 calls; after them every recovery keeps these entries. */
 uint8_t fitrec_commit(struct fitrec_recorder *recorder, struct fitrec_plan *plan);
@@ -345,8 +406,8 @@ uint8_t fitrec_erase(const uint8_t *data, size_t data_size, const uint8_t *journ
    bytes at a time.
 
    The host sets the recovery to zeros, and data_size and journal_size to the lengths of the files. It calls fitrec_recover_begin, and then
-   again and again one of fitrec_recover_on, fitrec_reopen_on and fitrec_erase_on. After each call it carries out the plan, whole and in
-   order. As long as the answer is FITREC_WANTS, it then reads the window that is asked for, and calls on. Any other answer is the end, and
+   again and again one of fitrec_recover_next, fitrec_reopen_next and fitrec_erase_next. After each call it carries out the plan, whole and in
+   order. As long as the answer is FITREC_NEEDS_WINDOW, it then reads the window that is asked for, and calls on. Any other answer is the end, and
    that of fitrec_recover, fitrec_reopen or fitrec_erase. The host keeps these rules too:
 
    - The recovery stays as it is between two calls, but for window and filled.
@@ -360,17 +421,17 @@ uint8_t fitrec_erase(const uint8_t *data, size_t data_size, const uint8_t *journ
 /* Begins a recovery, a reopening or an erasing. 2 calls, which sync both files. */
 uint8_t fitrec_recover_begin(struct fitrec_recovery *recovery, struct fitrec_plan *plan);
 
-/* Goes on with the window, to a recovery. The plan is empty after FITREC_WANTS; at the end it finishes the data file, with at most 4 calls.
+/* Goes on with the window, to a recovery. The plan is empty after FITREC_NEEDS_WINDOW; at the end it finishes the data file, with at most 4 calls.
    Answers FITREC_NO_RECORDER, and changes nothing, if the recovery is none that was begun. */
-uint8_t fitrec_recover_on(struct fitrec_recovery *recovery, struct fitrec_plan *plan);
+uint8_t fitrec_recover_next(struct fitrec_recovery *recovery, struct fitrec_plan *plan);
 
 /* The same, to a reopening. Until the answer is FITREC_OK the recorder stays as it is. After that it continues the ride as it was committed,
    and the plan cuts off what comes after that, with at most 2 calls. */
-uint8_t fitrec_reopen_on(struct fitrec_recovery *recovery, struct fitrec_recorder *recorder, struct fitrec_plan *plan);
+uint8_t fitrec_reopen_next(struct fitrec_recovery *recovery, struct fitrec_recorder *recorder, struct fitrec_plan *plan);
 
 /* Ends an erasing, with the first window, which is of the journal. At most 6 calls. With a later window, or if the recovery is none that was
    begun, it answers FITREC_NO_RECORDER and changes nothing. */
-uint8_t fitrec_erase_on(struct fitrec_recovery *recovery, struct fitrec_plan *plan);
+uint8_t fitrec_erase_next(struct fitrec_recovery *recovery, struct fitrec_plan *plan);
 
 #ifdef __cplusplus
 }
