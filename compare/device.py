@@ -85,7 +85,7 @@ void _start(void) {
 # The room for the stack of the module in C; and the most bytes that rides take of the machine's stack, device.c and the C library's printing
 # included, and of the module's: with an object file, and in C.
 STACK = 65536 - 64
-OF_OBJECT, OF_C = (12288, 0), (8192, 10240)
+OF_OBJECT, OF_C = (12544, 0), (8192, 10240)
 # What a host does that breaks a rule, by its number.
 BROKEN = {1: "a call is left out", 2: "the calls are made in another order", 3: "the answer comes before the calls",
           4: "the recording goes on after a failed call", 5: "a sync keeps nothing"}

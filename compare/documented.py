@@ -131,7 +131,7 @@ def forms(command):
     """Yields the words of a command, with each choice of its options."""
     parts = [["", part[1:-1]] if part.startswith("[") else [part] for part in re.findall(r"\[[^]]*\]|\S+", command)]
     for choice in itertools.product(*parts):
-        yield " ".join(choice).replace("HEX", "A5").replace("SECONDS", "10").split()[1:]
+        yield " ".join(choice).replace("HEX", "A5").replace("SECONDS", "10").replace("NAMES", "heart_rate").replace("NAME", "record").split()[1:]
 
 
 def cited_commands(fitrec, name, text):

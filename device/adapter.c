@@ -74,22 +74,22 @@ uint8_t fitrec_start(struct fitrec_recorder *recorder, uint32_t time, uint32_t s
 uint8_t fitrec_add_sample(struct fitrec_recorder *recorder, const struct fitrec_sample *sample, struct fitrec_plan *plan) {
     begin(recorder);
     lend(sample_at(), sample, sizeof *sample);
-    return end(recorder, plan, Z_fitrecZ_fitrec_hand_sample(&module, recorder_at(), sample_at(), plan_at()));
+    return end(recorder, plan, Z_fitrecZ_fitrec_add_sample(&module, recorder_at(), sample_at(), plan_at()));
 }
 
 uint8_t fitrec_add_lap(struct fitrec_recorder *recorder, uint32_t time, struct fitrec_plan *plan) {
     begin(recorder);
-    return end(recorder, plan, Z_fitrecZ_fitrec_lap(&module, recorder_at(), time, plan_at()));
+    return end(recorder, plan, Z_fitrecZ_fitrec_add_lap(&module, recorder_at(), time, plan_at()));
 }
 
 uint8_t fitrec_pause_timer(struct fitrec_recorder *recorder, uint32_t time, struct fitrec_plan *plan) {
     begin(recorder);
-    return end(recorder, plan, Z_fitrecZ_fitrec_pause(&module, recorder_at(), time, plan_at()));
+    return end(recorder, plan, Z_fitrecZ_fitrec_pause_timer(&module, recorder_at(), time, plan_at()));
 }
 
 uint8_t fitrec_resume_timer(struct fitrec_recorder *recorder, uint32_t time, struct fitrec_plan *plan) {
     begin(recorder);
-    return end(recorder, plan, Z_fitrecZ_fitrec_resume(&module, recorder_at(), time, plan_at()));
+    return end(recorder, plan, Z_fitrecZ_fitrec_resume_timer(&module, recorder_at(), time, plan_at()));
 }
 
 uint8_t fitrec_commit(struct fitrec_recorder *recorder, struct fitrec_plan *plan) {
@@ -115,20 +115,20 @@ uint8_t fitrec_recover_begin(struct fitrec_recovery *recovery, struct fitrec_pla
 }
 
 uint8_t fitrec_recover_next(struct fitrec_recovery *recovery, struct fitrec_plan *plan) {
-    return by_windows(Z_fitrecZ_fitrec_recover_on, recovery, plan);
+    return by_windows(Z_fitrecZ_fitrec_recover_next, recovery, plan);
 }
 
 uint8_t fitrec_erase_next(struct fitrec_recovery *recovery, struct fitrec_plan *plan) {
-    return by_windows(Z_fitrecZ_fitrec_erase_on, recovery, plan);
+    return by_windows(Z_fitrecZ_fitrec_erase_next, recovery, plan);
 }
 
-static uint32_t reopen_on(Z_fitrec_instance_t *instance, u32 recovery, u32 plan) {
-    return Z_fitrecZ_fitrec_reopen_on(instance, recovery, recorder_at(), plan);
+static uint32_t reopen_next(Z_fitrec_instance_t *instance, u32 recovery, u32 plan) {
+    return Z_fitrecZ_fitrec_reopen_next(instance, recovery, recorder_at(), plan);
 }
 
 uint8_t fitrec_reopen_next(struct fitrec_recovery *recovery, struct fitrec_recorder *recorder, struct fitrec_plan *plan) {
     begin(recorder);
-    return end(recorder, plan, by_windows(reopen_on, recovery, plan));
+    return end(recorder, plan, by_windows(reopen_next, recovery, plan));
 }
 
 /* For a step that reads the files, all addresses are within the bounds. */
