@@ -193,7 +193,7 @@ stop 1000000030
     assert!(rt; answers(&rt, lines, Some(u32::MAX), never, 1));
 }
 
-// After a reopening the first entry is counted from. With 0 seconds each entry is committed.
+// After a reopening the last entry of the ride is counted from, here its start. With 0 seconds each entry is committed.
 #[test]
 fn commits_by_itself_after_a_reopening(rt: HostRuntime) {
     let lines = b"start 1000000000 7 running
@@ -204,7 +204,7 @@ sample 1000000024
 sample 1000000025
 ";
     let every_five =
-        "1 start: ok\n2 restart: ok\n3 reopen: ok\n4 sample: ok\n5 sample: ok\n6 sample: ok\n6 commit: ok\n7 commit: ok\n";
+        "1 start: ok\n2 restart: ok\n3 reopen: ok\n4 sample: ok\n4 commit: ok\n5 sample: ok\n6 sample: ok\n6 commit: ok\n7 commit: ok\n";
     let each =
         "1 start: ok\n2 restart: ok\n3 reopen: ok\n4 sample: ok\n4 commit: ok\n5 sample: ok\n5 commit: ok\n6 sample: ok\n6 commit: ok\n7 commit: ok\n";
     assert!(rt; answers(&rt, lines, Some(5), every_five, 0));
