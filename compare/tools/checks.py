@@ -65,7 +65,8 @@ class Run:
 
     def checks(self, function, *given, under=""):
         """The checks of a function, whose names may begin with the same words."""
-        if self.groups and function.__name__ not in self.groups:
+        # What it builds is needed by the other groups too.
+        if self.groups and function.__name__ not in (*self.groups, "proved_and_built"):
             return
         try:
             for it in function(*given):
