@@ -7,6 +7,7 @@ pub mod LentField
 pub mod LentItem
 pub mod LongestFront
 pub mod PlainForm
+pub mod PlainWriting
 pub mod Places
 pub mod Adding
 pub mod Possible

@@ -30,7 +30,7 @@ mod item;
 pub mod laws;
 mod message;
 mod plain;
-mod to_writer;
+mod sink;
 
 pub use definition::{
     Definition, DefinitionMessage, Definitions, DeveloperFieldDefinition, FieldDefinition,
@@ -48,4 +48,4 @@ pub use message::{DeveloperField, DeveloperFields, Field, Fields, Message, Messa
 pub use plain::{
     PlainFault, PlainFaultKind, WritePlainFault, plain_file, write_plain, write_plain_records,
 };
-pub use to_writer::{WriteFailed, put};
+pub use sink::{Sink, WriteFailed};

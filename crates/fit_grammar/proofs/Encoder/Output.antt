@@ -57,6 +57,16 @@ stops_before {o = o} {n = n} {r = r} {a = a} bad h b = writes-beginning o n r (a
 pub writes_same : {T E : Type 0} {o n : Option (List ℕ)} {r : Result T E} {a b : List ℕ} → WritesText o n r a → a ≡ b → WritesText o n r b
 writes_same {o = o} {n = n} {r = r} h e = let P : List ℕ → Type 0 = λ t. WritesText o n r t in subst P e h
 
+-- a text that was written, whatever is returned with it
+pub text_ok : {T E S F : Type 0} {o n : Option (List ℕ)} {x : T} {y : S} {text : List ℕ}
+    → WritesText {T = T} {E = E} o n (Ok x) text → WritesText {T = S} {E = F} o n (Ok y) text
+text_ok h = record { all = h.all; beginning = tt }
+
+-- a fault may have another name
+pub writes_off : {T E S F : Type 0} {o n : Option (List ℕ)} {e : E} {f : F} {text : List ℕ}
+    → WritesText {T = T} {E = E} o n (Err e) text → WritesText {T = S} {E = F} o n (Err f) text
+writes_off h = record { all = tt; beginning = h.beginning }
+
 -- of the empty text, all is written at the start
 pub writes_none : {T E : Type 0} (o : Option (List ℕ)) (x : T) → WritesText {E = E} o o (Ok x) []
 writes_none o x = record { all = appends-none o; beginning = tt }

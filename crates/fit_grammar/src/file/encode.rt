@@ -10,7 +10,7 @@ ghost use Rattle.fit_grammar.specs.Calls.Output.{WritesText};
 ghost use Rattle.fit_grammar.specs.Private.CheckedOutput.{WritesChecked};
 
 use crate::file::{EncodeFault, File, Frame};
-use crate::to_writer::{WriteFailed, put};
+use crate::sink::{Sink, WriteFailed};
 use fit_base::Crc;
 use std::io::Write;
 
@@ -18,50 +18,37 @@ use std::io::Write;
 pub fn encode_file<W: Write>(file: &File, out: &mut W) -> Result<(), EncodeFault>
     ensures { WritesText (W.contents out.old) (W.contents out.new) result (encoded file.now) }
 {
-    encode_records(file.frame(), file.records(), out)
-}
-
-/// Writes a file of these records, unchanged, after a header of this frame; at an `Err`, a prefix of it. It takes no memory,
-/// and fails only if the writer does.
-pub fn encode_records<W: Write>(
-    frame: Frame,
-    records: &[u8],
-    out: &mut W,
-) -> Result<(), EncodeFault>
-    requires { length records.now < 2 ^ 32 }
-    ensures written { WritesText (W.contents out.old) (W.contents out.new) result
-        (framed frame records.now) }
-    // If the records are those of some items, it is a file of these items.
-    ensures file { (items : List AnyItem) → IsFrame frame → Records records.now items
-        → FileOf (framed frame records.now) (record { frame = frame; items = items }) }
-{
-    match put_framed(out, frame, records) {
+    match encode_records(file.frame(), file.records(), out) {
         Ok(()) => Ok(()),
         Err(WriteFailed) => Err(EncodeFault::Write),
     }
 }
 
-// The header, the records and the checksum of both.
-fn put_framed<W: Write>(out: &mut W, frame: Frame, records: &[u8]) -> Result<(), WriteFailed>
+/// Writes a file of these records, unchanged, after a header of this frame; at an `Err`, a prefix of it. It takes no memory,
+/// and fails only if the bytes are not taken.
+pub fn encode_records<S: Sink>(frame: Frame, records: &[u8], out: &mut S) -> Result<(), S::Fault>
     requires { length records.now < 2 ^ 32 }
-    ensures { WritesText (W.contents out.old) (W.contents out.new) result
+    ensures written { WritesText (S.held out.old) (S.held out.new) result
         (framed frame records.now) }
+    // If the records are those of some items, it is a file of these items.
+    ensures file { (items : List AnyItem) → IsFrame frame → Records records.now items
+        → FileOf (framed frame records.now) (record { frame = frame; items = items }) }
 {
     let mut checksum = Crc::new();
     put_header(out, &mut checksum, frame, records.len() as u32)?;
     put_checked(out, &mut checksum, records)?;
-    put(out, &checksum.value().to_le_bytes())
+    out.put(&checksum.value().to_le_bytes())
 }
 
 // The header, with its checksum if it has 14 bytes.
-pub(crate) fn put_header<W: Write>(
-    out: &mut W,
+pub(crate) fn put_header<S: Sink>(
+    out: &mut S,
     checksum: &mut Crc,
     frame: Frame,
     size: u32,
-) -> Result<(), WriteFailed>
-    ensures { WritesChecked (W.contents out.old)
-        (W.contents out.new) checksum.old checksum.new result
+) -> Result<(), S::Fault>
+    ensures { WritesChecked (S.held out.old)
+        (S.held out.new) checksum.old checksum.new result
         (encoded_header frame size) }
 {
     let front = header_front(frame, size);
@@ -95,14 +82,14 @@ pub fn header_front(frame: Frame, size: u32) -> [u8; 12]
 }
 
 // Hands over the bytes, and adds them to the checksum.
-pub(crate) fn put_checked<W: Write>(
-    out: &mut W,
+pub(crate) fn put_checked<S: Sink>(
+    out: &mut S,
     checksum: &mut Crc,
     bytes: &[u8],
-) -> Result<(), WriteFailed>
-    ensures { WritesChecked (W.contents out.old)
-        (W.contents out.new) checksum.old checksum.new result bytes.now }
+) -> Result<(), S::Fault>
+    ensures { WritesChecked (S.held out.old)
+        (S.held out.new) checksum.old checksum.new result bytes.now }
 {
     checksum.add(bytes);
-    put(out, bytes)
+    out.put(bytes)
 }

@@ -6,6 +6,7 @@ ghost use Rattle.fit_grammar.specs.Format.Item.{Defines};
 ghost use Rattle.fit_grammar.specs.Format.Records.{data_size};
 ghost use Rattle.fit_grammar.specs.Calls.LentItem.{lent_item};
 ghost use Rattle.fit_grammar.specs.Calls.Output.{WritesText};
+ghost use Rattle.fit_grammar.specs.Calls.PlainWriting.{JudgesFields};
 ghost use Rattle.fit_grammar.specs.Calls.PlainForm.{plain_of, plain_items, plain_item, plain_data, timed_after, definitions_before, is_timed, time_front};
 ghost use Rattle.fit_grammar.specs.Private.CheckedOutput.{WritesChecked};
 ghost use Rattle.fit_grammar.specs.Private.PlainSoFar.{lent_data};
@@ -17,26 +18,26 @@ use crate::file::LentFile;
 use crate::file::encode::{put_checked, put_header};
 use crate::item::{DataMessage, FileItem};
 use crate::plain::making::{bytes_of_time, plain_definition_of};
-use crate::to_writer::{WriteFailed, put};
+use crate::sink::Sink;
 use fit_base::{Arch, Crc};
-use std::io::Write;
 
 /// Why a plain form was not written.
 #[derive(Clone, Copy, Debug, PartialEq, Eq)]
-pub enum WritePlainFault {
+pub enum WritePlainFault<F> {
     /// The definition of a message would have 256 fields.
     TooLong,
-    /// The writer failed.
-    Write,
+    /// The bytes were not taken.
+    Write(F),
 }
 
 /// Writes the records of a file's plain form, as `plain_file` makes it; at an `Err`, a prefix of them. It takes no memory.
-pub fn write_plain_records<W: Write>(
+pub fn write_plain_records<S: Sink>(
     file: &LentFile<'_>,
-    out: &mut W,
-) -> Result<(), WritePlainFault>
-    ensures { WritesText (W.contents out.old) (W.contents out.new) result
+    out: &mut S,
+) -> Result<(), WritePlainFault<S::Fault>>
+    ensures text { WritesText (S.held out.old) (S.held out.new) result
         (encoded_items (plain_items file.now.items)) }
+    ensures fields { JudgesFields (plain_items file.now.items) result }
 {
     let mut checksum = Crc::new();
     put_items(out, &mut checksum, file)
@@ -44,31 +45,33 @@ pub fn write_plain_records<W: Write>(
 
 /// Writes a file's plain form, whose records have `size` bytes: what `encode_file` writes of the file that `plain_file` makes. At an
 /// `Err`, a prefix of it. It takes no memory.
-pub fn write_plain<W: Write>(
+pub fn write_plain<S: Sink>(
     file: &LentFile<'_>,
     size: u32,
-    out: &mut W,
-) -> Result<(), WritePlainFault>
+    out: &mut S,
+) -> Result<(), WritePlainFault<S::Fault>>
     requires { size ≡ data_size (plain_items file.now.items) }
-    ensures { WritesText (W.contents out.old) (W.contents out.new) result
+    ensures text { WritesText (S.held out.old) (S.held out.new) result
         (encoded (plain_of file.now)) }
+    ensures fields { JudgesFields (plain_items file.now.items) result }
 {
     let mut checksum = Crc::new();
     put_header(out, &mut checksum, file.frame(), size)?;
     put_items(out, &mut checksum, file)?;
-    put(out, &checksum.value().to_le_bytes())?;
+    out.put(&checksum.value().to_le_bytes())?;
     Ok(())
 }
 
 // The records, which are added to the checksum.
-fn put_items<W: Write>(
-    out: &mut W,
+fn put_items<S: Sink>(
+    out: &mut S,
     checksum: &mut Crc,
     file: &LentFile<'_>,
-) -> Result<(), WritePlainFault>
-    ensures { WritesChecked (W.contents out.old)
-        (W.contents out.new) checksum.old checksum.new result
+) -> Result<(), WritePlainFault<S::Fault>>
+    ensures text { WritesChecked (S.held out.old)
+        (S.held out.new) checksum.old checksum.new result
         (encoded_items (plain_items file.now.items)) }
+    ensures fields { JudgesFields (plain_items file.now.items) result }
 {
     let mut timed = [false; 16];
     for item in file.items() {
@@ -78,45 +81,50 @@ fn put_items<W: Write>(
 }
 
 // What is written for an item.
-fn put_item<W: Write>(
-    out: &mut W,
+fn put_item<S: Sink>(
+    out: &mut S,
     checksum: &mut Crc,
     timed: &mut [bool; 16],
     item: &FileItem<'_>,
-) -> Result<(), WritePlainFault>
+) -> Result<(), WritePlainFault<S::Fault>>
     requires { IsWritable (lent_item item.now) }
-    ensures text { WritesChecked (W.contents out.old)
-        (W.contents out.new) checksum.old checksum.new result
+    ensures text { WritesChecked (S.held out.old)
+        (S.held out.new) checksum.old checksum.new result
         (encoded_items (plain_item timed.old (lent_item item.now))) }
     ensures timed { OnOk result (timed.new ≡ timed_after timed.old (lent_item item.now)) }
+    ensures fields { JudgesFields (plain_item timed.old (lent_item item.now)) result }
 {
     match item {
         FileItem::Definition(definition) => {
             put_definition(out, checksum, &definition.read())?;
             timed[definition.local() as usize] = false;
+            Ok(())
         }
         FileItem::Data(message, time) => {
             put_definition_before(out, checksum, timed, message, time.is_some())?;
             put_data(out, checksum, message, *time)?;
+            Ok(())
         }
     }
-    Ok(())
 }
 
 // The definition before a message, with the time in front or not, if the last one of its local number does not fit.
-fn put_definition_before<W: Write>(
-    out: &mut W,
+fn put_definition_before<S: Sink>(
+    out: &mut S,
     checksum: &mut Crc,
     timed: &mut [bool; 16],
     message: &DataMessage<'_>,
     needs: bool,
-) -> Result<(), WritePlainFault>
+) -> Result<(), WritePlainFault<S::Fault>>
     requires { (message.now.local < 16) × (message.now.definition.local ≡ message.now.local) }
-    ensures text { WritesChecked (W.contents out.old)
-        (W.contents out.new) checksum.old checksum.new result
+    ensures text { WritesChecked (S.held out.old)
+        (S.held out.new) checksum.old checksum.new result
         (encoded_items
         (definitions_before (is_timed timed.old message.now.local) needs message.now.definition)) }
     ensures timed { OnOk result (timed.new ≡ slice_set timed.old message.now.local needs) }
+    ensures fields { JudgesFields
+        (definitions_before (is_timed timed.old message.now.local) needs message.now.definition)
+        result }
 {
     if timed[message.local as usize] == needs {
         return Ok(());
@@ -129,28 +137,28 @@ fn put_definition_before<W: Write>(
     Ok(())
 }
 
-fn put_definition<W: Write>(
-    out: &mut W,
+fn put_definition<S: Sink>(
+    out: &mut S,
     checksum: &mut Crc,
     definition: &Definition,
-) -> Result<(), WriteFailed>
+) -> Result<(), S::Fault>
     requires { definition.now.local < 16 }
-    ensures { WritesChecked (W.contents out.old)
-        (W.contents out.new) checksum.old checksum.new result
+    ensures { WritesChecked (S.held out.old)
+        (S.held out.new) checksum.old checksum.new result
         (encoded_item (Defines definition.now)) }
 {
     put_checked(out, checksum, WrittenDefinition::new(definition).bytes())
 }
 
 // The plain form of a message: its local number, its time if it has one, and its content.
-fn put_data<W: Write>(
-    out: &mut W,
+fn put_data<S: Sink>(
+    out: &mut S,
     checksum: &mut Crc,
     message: &DataMessage<'_>,
     time: Option<u32>,
-) -> Result<(), WriteFailed>
-    ensures { WritesChecked (W.contents out.old)
-        (W.contents out.new) checksum.old checksum.new result
+) -> Result<(), S::Fault>
+    ensures { WritesChecked (S.held out.old)
+        (S.held out.new) checksum.old checksum.new result
         (encoded_item (plain_data (lent_data message.now time))) }
 {
     put_checked(out, checksum, &[message.local])?;
@@ -158,14 +166,14 @@ fn put_data<W: Write>(
     put_checked(out, checksum, message.content)
 }
 
-fn put_time<W: Write>(
-    out: &mut W,
+fn put_time<S: Sink>(
+    out: &mut S,
     checksum: &mut Crc,
     arch: Arch,
     time: Option<u32>,
-) -> Result<(), WriteFailed>
-    ensures { WritesChecked (W.contents out.old)
-        (W.contents out.new) checksum.old checksum.new result
+) -> Result<(), S::Fault>
+    ensures { WritesChecked (S.held out.old)
+        (S.held out.new) checksum.old checksum.new result
         (time_front arch time) }
 {
     match time {
@@ -174,12 +182,12 @@ fn put_time<W: Write>(
     }
 }
 
-impl From<WriteFailed> for WritePlainFault {
+impl<F> From<F> for WritePlainFault<F> {
     ghost use Rattle.fit_grammar.specs.declared.plain.writing.WritePlainFault.TheVariants as faults;
 
-    ghost from_gives = { λ _ e. e ≡ faults.Write };
+    ghost from_gives = { λ fault e. e ≡ faults.Write fault };
 
-    fn from(_e: WriteFailed) -> WritePlainFault {
-        WritePlainFault::Write
+    fn from(fault: F) -> WritePlainFault<F> {
+        WritePlainFault::Write(fault)
     }
 }

@@ -4,5 +4,5 @@ use Rattle.fit_grammar.proofs.plain.writing.put_items.Given as goal
 
 abbrev pub invariant-loop-item : goal.invariant-loop-item
 invariant-loop-item g l =
-    WrittenTo (plain_items l.fn.file.items) (g.W.Write.contents l.initial.out) (g.W.Write.contents l.out) l.initial.checksum l.checksum
+    WrittenTo (plain_items l.fn.file.items) (g.S.Sink.held l.initial.out) (g.S.Sink.held l.out) l.initial.checksum l.checksum
     l.timed l.item-iterator

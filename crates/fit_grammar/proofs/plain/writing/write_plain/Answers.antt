@@ -6,10 +6,9 @@ use Rattle.fit_grammar.specs.Format.Encoding.{two_bytes, with_checksum, encoded_
 use Rattle.fit_grammar.specs.Format.File.{FileValue}
 use Rattle.fit_grammar.specs.Format.Records.{data_size}
 use Rattle.fit_grammar.specs.Calls.PlainForm.{plain_items, plain_of}
-use Rattle.fit_grammar.proofs.Encoder.Output.{then_writes, stops_before, writes_same}
+use Rattle.fit_grammar.proofs.Encoder.Output.{then_writes, stops_before, writes_same, text_ok}
 use Rattle.fit_grammar.proofs.Encoder.Checked.{then_checked}
 use Rattle.fit_grammar.proofs.Encoder.Encoded.{checksum_bytes}
-use Rattle.fit_grammar.proofs.PlainForm.Written.{text_ok}
 use Rattle.fit_grammar.proofs.plain.writing.write_plain.Goals as goal
 
 -- the parts that are written one after another
@@ -19,8 +18,8 @@ whole v frame size frame_is size_is =
     ap (λ (f : Frame). with_checksum (encoded_header f size ++ encoded_items (plain_items v.items))) frame_is
     ∙ ap (λ (n : ℕ). with_checksum (encoded_header v.frame n ++ encoded_items (plain_items v.items))) size_is
 
-pub returns-in_err-put_header : goal.returns-in_err-put_header
-returns-in_err-put_header g c =
+pub returns-in_err-put_header-clause-text : goal.returns-in_err-put_header-clause-text
+returns-in_err-put_header-clause-text g c =
     let v = c.args.file.now in
     let records = encoded_items (plain_items v.items) in
     let header = encoded_header c.frame.result c.args.size in
@@ -28,34 +27,34 @@ returns-in_err-put_header g c =
     writes_same (stops_before c.from_residual.ensures.0 c.in_err-put_header.ensures.writes (records ++ closing))
     (sym (append_assoc header records closing) ∙ whole v c.frame.result c.args.size c.frame.ensures.frame c.requires)
 
-pub returns-in_err-put_items : goal.returns-in_err-put_items
-returns-in_err-put_items g c =
+pub returns-in_err-put_items-clause-text : goal.returns-in_err-put_items-clause-text
+returns-in_err-put_items-clause-text g c =
     let v = c.args.file.now in
     let records = encoded_items (plain_items v.items) in
     let header = encoded_header c.frame.result c.args.size in
     let closing = two_bytes Little (crc (header ++ records)) in
     writes_same (then_writes c.in_ok-put_header.ensures.writes
-    (stops_before c.from_residual-in_err-put_items.ensures.0 c.in_err-put_items.ensures.writes closing))
+    (stops_before c.from_residual-in_err-put_items.ensures.0 c.in_err-put_items.ensures.text.writes closing))
     (sym (append_assoc header records closing) ∙ whole v c.frame.result c.args.size c.frame.ensures.frame c.requires)
 
-pub returns-in_err-put : goal.returns-in_err-put
-returns-in_err-put g c =
+pub returns-in_err-put-clause-text : goal.returns-in_err-put-clause-text
+returns-in_err-put-clause-text g c =
     let v = c.args.file.now in
     let records = encoded_items (plain_items v.items) in
     let header = encoded_header c.frame.result c.args.size in
-    let all = then_checked c.in_ok-put_header.ensures c.in_ok-put_items.ensures in
+    let all = then_checked c.in_ok-put_header.ensures c.in_ok-put_items.ensures.text in
     let closing = checksum_bytes (header ++ records) c.to_le_bytes.result c.value.result _ _ c.to_le_bytes.ensures c.value.type_inv
     c.value.ensures all.checksum c.new-checksum.ensures in
     writes_same (then_writes all.writes (stops_before c.from_residual-in_err-put.ensures.0 c.in_err-put.ensures []))
     (ap (λ (l : List ℕ). (header ++ records) ++ l) (append-nil c.to_le_bytes.result ∙ closing)
     ∙ whole v c.frame.result c.args.size c.frame.ensures.frame c.requires)
 
-pub returns : goal.returns
-returns g c =
+pub returns-clause-text : goal.returns-clause-text
+returns-clause-text g c =
     let v = c.args.file.now in
     let records = encoded_items (plain_items v.items) in
     let header = encoded_header c.frame.result c.args.size in
-    let all = then_checked c.in_ok-put_header.ensures c.in_ok-put_items.ensures in
+    let all = then_checked c.in_ok-put_header.ensures c.in_ok-put_items.ensures.text in
     let closing = checksum_bytes (header ++ records) c.to_le_bytes.result c.value.result _ _ c.to_le_bytes.ensures c.value.type_inv
     c.value.ensures all.checksum c.new-checksum.ensures in
     writes_same (text_ok (then_writes all.writes c.in_ok-put.ensures))

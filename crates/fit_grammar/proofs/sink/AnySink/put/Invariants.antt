@@ -1,9 +1,9 @@
 use Rattle.std.proofs.Common.{length}
 use Rattle.fit_grammar.proofs.Encoder.Output.{Leaves}
-use Rattle.fit_grammar.proofs.to_writer.put.Given as goal
+use Rattle.fit_grammar.proofs.sink.AnySink.put.Given as goal
 
 abbrev pub invariant-loop-rest : goal.invariant-loop-rest
-invariant-loop-rest g l = Leaves (g.W.Write.contents l.initial.out) (g.W.Write.contents l.out) l.bytes l.rest
+invariant-loop-rest g l = Leaves (g.W.Write.contents l.initial.self) (g.W.Write.contents l.self) l.bytes l.rest
 
 abbrev pub decreases-loop-rest : goal.decreases-loop-rest
 decreases-loop-rest g l = length l.rest

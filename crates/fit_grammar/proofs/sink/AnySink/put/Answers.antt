@@ -1,7 +1,7 @@
 use Rattle.std.proofs.Common.{arith}
 use Rattle.std.proofs.lemmas.Grind.{common_steps}
 use Rattle.fit_grammar.proofs.Encoder.Output.{leaves_rest}
-use Rattle.fit_grammar.proofs.to_writer.put.Goals as goal
+use Rattle.fit_grammar.proofs.sink.AnySink.put.Goals as goal
 
 pub loop-rest-preserved : goal.loop-rest-preserved
 loop-rest-preserved g c =
