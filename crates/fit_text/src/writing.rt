@@ -1,4 +1,4 @@
-// Text on its way to a writer.
+// Text on its way to what takes it.
 
 ghost use Rattle.std.specs.Prelude.{◌≡◌, ◌+◌, ◌≤◌, [], ◌++◌, codes, length, take, decimal, IfOk};
 ghost use Rattle.std.specs.Fmt.{signed_decimal};
@@ -12,7 +12,7 @@ mod label;
 mod member;
 
 use decimal::place_number;
-use fit_grammar::{WriteFailed, put};
+use fit_grammar::{Sink, WriteFailed};
 pub use label::{LABEL, Label};
 use member::place_member;
 use std::fmt;
@@ -25,33 +25,33 @@ const SIZE: usize = 32_768;
 // The room for a name and a number, in bytes.
 const ROOM: usize = 64;
 
-/// Writes text through a buffer of 32768 bytes. It hands the text to its writer when there is no room for
-/// more. After an `Err` the writer has taken a prefix of the text.
+/// Writes text through a buffer of 32768 bytes. It hands the text on when there is no room for more. After an `Err` a prefix of the
+/// text was taken.
 #[derive(Drop)]
-pub struct Pen<'a, W: Write> {
+pub struct Pen<'a, S: Sink> {
     bytes: [u8; SIZE],
     // How many bytes wait to be handed over.
     len: usize,
-    out: &'a mut W,
+    out: &'a mut S,
 }
 
-impl<'a, W: Write> Model for Pen<'a, W> {
+impl<'a, S: Sink> Model for Pen<'a, S> {
     ghost Value = { Written };
 
     ghost view = { λ p. record {
       name = p.out.ghost_name;
-      held = W.contents p.out.now;
+      held = S.held p.out.now;
       waiting = take p.len p.bytes;
     } };
 
     ghost invariant = { λ p. p.len ≤ SIZE };
 }
 
-impl<'a, W: Write> Pen<'a, W> {
+impl<'a, S: Sink> Pen<'a, S> {
     /// A pen that has put nothing yet.
-    pub fn new(out: &'a mut W) -> Self
+    pub fn new(out: &'a mut S) -> Self
         ensures { result
-            ≡ record { name = out.entry.ghost_name; held = W.contents out.old; waiting = [] } }
+            ≡ record { name = out.entry.ghost_name; held = S.held out.old; waiting = [] } }
     {
         Pen {
             bytes: [0; SIZE],
@@ -60,37 +60,28 @@ impl<'a, W: Write> Pen<'a, W> {
         }
     }
 
-    /// The writer. Text that waits is dropped.
-    pub fn into_writer(self) -> &'a mut W
+    /// What takes the text. Text that waits is dropped.
+    pub fn into_writer(self) -> &'a mut S
         ensures name { result.ghost_name ≡ self.entry.name }
-        ensures held { W.contents result.now ≡ self.entry.held }
+        ensures held { S.held result.now ≡ self.entry.held }
     {
         let Pen { out, .. } = self;
         out
     }
 
     /// Hands over all text that waits. After an `Err` none waits.
-    pub fn hand_over(&mut self) -> Result<(), WriteFailed>
+    pub fn hand_over(&mut self) -> Result<(), S::Fault>
         ensures puts { Puts self.old self.new result [] }
         ensures none { IfOk result (λ _. self.new.waiting ≡ []) }
     {
         let text = &self.bytes[..self.len];
         self.len = 0;
-        put(self.out, text)
-    }
-
-    /// Hands over all text that waits, and flushes the writer.
-    pub fn flush(&mut self) -> Result<(), WriteFailed>
-        ensures puts { Puts self.old self.new result [] }
-        ensures none { IfOk result (λ _. self.new.waiting ≡ []) }
-    {
-        self.hand_over()?;
-        self.out.flush().map_err(|_| WriteFailed)
+        self.out.put(text)
     }
 
     /// Makes room for 64 bytes. It hands over all text that waits if there is none.
     #[inline]
-    pub fn room(&mut self) -> Result<(), WriteFailed>
+    pub fn room(&mut self) -> Result<(), S::Fault>
         ensures puts { Puts self.old self.new result [] }
         ensures room { IfOk result (λ _. length self.new.waiting + ROOM ≤ SIZE) }
     {
@@ -147,7 +138,7 @@ impl<'a, W: Write> Pen<'a, W> {
 
     /// Puts a text of any length.
     #[inline]
-    pub fn put(&mut self, text: &[u8]) -> Result<(), WriteFailed>
+    pub fn put(&mut self, text: &[u8]) -> Result<(), S::Fault>
         ensures { Puts self.old self.new result text.now }
     {
         if text.len() > SIZE - self.len {
@@ -159,12 +150,12 @@ impl<'a, W: Write> Pen<'a, W> {
 
     // Puts a text for which there is no room. If it is longer than the buffer, it is handed over directly.
     #[inline(never)]
-    fn put_beyond(&mut self, text: &[u8]) -> Result<(), WriteFailed>
+    fn put_beyond(&mut self, text: &[u8]) -> Result<(), S::Fault>
         ensures { Puts self.old self.new result text.now }
     {
         self.hand_over()?;
         if text.len() > SIZE {
-            return put(self.out, text);
+            return self.out.put(text);
         }
         self.add(text);
         Ok(())
@@ -172,7 +163,7 @@ impl<'a, W: Write> Pen<'a, W> {
 
     /// Puts a number in decimal.
     #[inline]
-    pub fn put_number(&mut self, number: u64) -> Result<(), WriteFailed>
+    pub fn put_number(&mut self, number: u64) -> Result<(), S::Fault>
         ensures { Puts self.old self.new result (decimal number) }
     {
         self.room()?;
@@ -182,7 +173,7 @@ impl<'a, W: Write> Pen<'a, W> {
 
     /// Puts a number in decimal, after `-` if it is negative.
     #[inline]
-    pub fn put_signed(&mut self, number: i64) -> Result<(), WriteFailed>
+    pub fn put_signed(&mut self, number: i64) -> Result<(), S::Fault>
         ensures { Puts self.old self.new result (signed_decimal number) }
     {
         self.room()?;
@@ -194,7 +185,18 @@ impl<'a, W: Write> Pen<'a, W> {
     }
 }
 
-impl<W: Write> fmt::Write for Pen<'_, W> {
+impl<'a, W: Write> Pen<'a, W> {
+    /// Hands over all text that waits, and flushes the writer.
+    pub fn flush(&mut self) -> Result<(), WriteFailed>
+        ensures puts { Puts self.old self.new result [] }
+        ensures none { IfOk result (λ _. self.new.waiting ≡ []) }
+    {
+        self.hand_over()?;
+        self.out.flush().map_err(|_| WriteFailed)
+    }
+}
+
+impl<S: Sink> fmt::Write for Pen<'_, S> {
     ghost write_str_gives = { AddsBytes };
 
     fn write_str(&mut self, text: &str) -> fmt::Result {

@@ -11,17 +11,16 @@ ghost use Rattle.fit_text.specs.Plan.{IsPlanOf};
 use crate::showing::plan::{Column, Plan};
 use crate::showing::plans::Plans;
 use crate::writing::Pen;
-use fit_grammar::{DataMessage, DeveloperFieldDefinition, FileItem, Frame, LentFile, WriteFailed};
-use std::io::Write;
+use fit_grammar::{DataMessage, DeveloperFieldDefinition, FileItem, Frame, LentFile, Sink};
 
 /// Why a file was not shown.
 #[derive(Clone, Copy, Debug, PartialEq, Eq)]
-pub enum ShowFault {
-    /// The writer failed, or accepted no byte.
-    Write,
+pub enum ShowFault<F> {
+    /// The text was not taken: a writer failed, or accepted no byte.
+    Write(F),
 }
 
-impl ShowFault {
+impl<F> ShowFault<F> {
     /// The number of the fault, 1.
     pub fn code(&self) -> u8
         ensures { result ≡ 1 }
@@ -41,91 +40,83 @@ pub trait Form {
     // The line that says how many messages there are.
     ghost count: { ℕ → List ℕ };
 
-    fn put_header<W: Write>(
-        pen: &mut Pen<'_, W>,
-        frame: Frame,
-        size: u32,
-    ) -> Result<(), WriteFailed>
+    fn put_header<S: Sink>(pen: &mut Pen<'_, S>, frame: Frame, size: u32) -> Result<(), S::Fault>
         ensures { Puts pen.old pen.new result (header frame size) };
 
-    fn put_line<W: Write>(
-        pen: &mut Pen<'_, W>,
+    fn put_line<S: Sink>(
+        pen: &mut Pen<'_, S>,
         plan: &Plan,
         columns: &[Column],
         developer: &[DeveloperFieldDefinition],
         number: u64,
         message: &DataMessage<'_>,
         time: Option<u32>,
-    ) -> Result<(), WriteFailed>
+    ) -> Result<(), S::Fault>
         requires { IsPlanOf message.now.definition plan.now columns.now developer.now }
         ensures { Puts pen.old pen.new result
             (line plan.now.utc number
             (message_under message.now.definition time message.now.content.now)) };
 
-    fn put_count<W: Write>(pen: &mut Pen<'_, W>, messages: u64) -> Result<(), WriteFailed>
+    fn put_count<S: Sink>(pen: &mut Pen<'_, S>, messages: u64) -> Result<(), S::Fault>
         ensures { Puts pen.old pen.new result (count messages) };
 }
 
 /// Writes a file, in one pass and without allocation, through a buffer of its own.
-pub fn write_file<F: Form, W: Write>(
+pub fn write_file<F: Form, S: Sink>(
     file: &LentFile<'_>,
     utc: bool,
-    out: &mut W,
-) -> Result<(), ShowFault>
-    ensures { WritesText (W.contents out.old) (W.contents out.new) result
+    out: &mut S,
+) -> Result<(), ShowFault<S::Fault>>
+    ensures { WritesText (S.held out.old) (S.held out.new) result
         (lines_of F.header (F.line utc) F.count file.now) }
 {
-    match put_file::<F, W>(out, utc, file) {
+    match put_file::<F, S>(out, utc, file) {
         Ok(()) => Ok(()),
-        Err(WriteFailed) => Err(ShowFault::Write),
+        Err(fault) => Err(ShowFault::Write(fault)),
     }
 }
 
-fn put_file<F: Form, W: Write>(
-    out: &mut W,
-    utc: bool,
-    file: &LentFile<'_>,
-) -> Result<(), WriteFailed>
-    ensures { WritesText (W.contents out.old) (W.contents out.new) result
+fn put_file<F: Form, S: Sink>(out: &mut S, utc: bool, file: &LentFile<'_>) -> Result<(), S::Fault>
+    ensures { WritesText (S.held out.old) (S.held out.new) result
         (lines_of F.header (F.line utc) F.count file.now) }
 {
     let mut pen = Pen::new(out);
-    let done = put_all::<F, W>(&mut pen, utc, file);
+    let done = put_all::<F, S>(&mut pen, utc, file);
     let _ = pen.into_writer();
     done
 }
 
 // All lines. At Ok none of their text waits.
-fn put_all<F: Form, W: Write>(
-    pen: &mut Pen<'_, W>,
+fn put_all<F: Form, S: Sink>(
+    pen: &mut Pen<'_, S>,
     utc: bool,
     file: &LentFile<'_>,
-) -> Result<(), WriteFailed>
+) -> Result<(), S::Fault>
     ensures text { Puts pen.old pen.new result (lines_of F.header (F.line utc) F.count file.now) }
     ensures none { IfOk result (λ _. pen.new.waiting ≡ []) }
 {
-    put_lines::<F, W>(pen, utc, file)?;
+    put_lines::<F, S>(pen, utc, file)?;
     pen.hand_over()
 }
 
-fn put_lines<F: Form, W: Write>(
-    pen: &mut Pen<'_, W>,
+fn put_lines<F: Form, S: Sink>(
+    pen: &mut Pen<'_, S>,
     utc: bool,
     file: &LentFile<'_>,
-) -> Result<(), WriteFailed>
+) -> Result<(), S::Fault>
     ensures { Puts pen.old pen.new result (lines_of F.header (F.line utc) F.count file.now) }
 {
     F::put_header(pen, file.frame(), file.data_size())?;
-    let count = put_messages::<F, W>(pen, utc, file)?;
+    let count = put_messages::<F, S>(pen, utc, file)?;
     F::put_count(pen, count)
 }
 
 // The lines of the messages. Returns how many there are.
-fn put_messages<F: Form, W: Write>(
-    pen: &mut Pen<'_, W>,
+fn put_messages<F: Form, S: Sink>(
+    pen: &mut Pen<'_, S>,
     utc: bool,
     file: &LentFile<'_>,
-) -> Result<u64, WriteFailed>
+) -> Result<u64, S::Fault>
     requires { length (messages_of file.now.items) < 2 ^ 32 }
     ensures text { Puts pen.old pen.new result
         (numbered (F.line utc) (messages_of file.now.items)) }

@@ -5,8 +5,7 @@ ghost use Rattle.fit_text.specs.Form.{header_by};
 ghost use Rattle.fit_text.specs.Pen.{Puts};
 
 use crate::writing::Pen;
-use fit_grammar::{Frame, WriteFailed};
-use std::io::Write;
+use fit_grammar::{Frame, Sink};
 
 /// What is in front of each number of a header's line, and what is at its end.
 #[derive(Drop)]
@@ -19,12 +18,12 @@ pub struct HeaderWords {
 }
 
 /// The line of a header, for this many bytes of records.
-pub fn put_header_by<W: Write>(
-    pen: &mut Pen<'_, W>,
+pub fn put_header_by<S: Sink>(
+    pen: &mut Pen<'_, S>,
     words: &HeaderWords,
     frame: Frame,
     size: u32,
-) -> Result<(), WriteFailed>
+) -> Result<(), S::Fault>
     ensures { Puts pen.old pen.new result
         (header_by words.now.header.now words.now.protocol.now words.now.profile.now words.now.records.now
         words.now.end.now frame size) }
@@ -38,11 +37,11 @@ pub fn put_header_by<W: Write>(
 }
 
 /// A word and a number.
-pub fn put_labelled<W: Write>(
-    pen: &mut Pen<'_, W>,
+pub fn put_labelled<S: Sink>(
+    pen: &mut Pen<'_, S>,
     label: &[u8],
     number: u64,
-) -> Result<(), WriteFailed>
+) -> Result<(), S::Fault>
     ensures { Puts pen.old pen.new result (label.now ++ decimal number) }
 {
     pen.put(label)?;

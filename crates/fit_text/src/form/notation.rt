@@ -4,8 +4,7 @@ ghost use Rattle.std.specs.Prelude.{◌≡◌, ◌≤◌, ℕ, List, length};
 ghost use Rattle.fit_text.specs.Pen.{Puts};
 
 use crate::writing::Pen;
-use fit_grammar::WriteFailed;
-use std::io::Write;
+use fit_grammar::Sink;
 
 /// How values are written where text and JSON differ.
 pub trait Notation {
@@ -19,6 +18,6 @@ pub trait Notation {
         ensures text { result.now ≡ none }
         ensures short { length result.now ≤ 4 };
 
-    fn put_bytes<W: Write>(pen: &mut Pen<'_, W>, bytes: &[u8]) -> Result<(), WriteFailed>
+    fn put_bytes<S: Sink>(pen: &mut Pen<'_, S>, bytes: &[u8]) -> Result<(), S::Fault>
         ensures { Puts pen.old pen.new result (written bytes.now) };
 }

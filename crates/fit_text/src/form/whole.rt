@@ -8,11 +8,11 @@ ghost use Rattle.fit_text.specs.Plan.{whole_of};
 use crate::form::notation::Notation;
 use crate::showing::plan::Kind;
 use crate::writing::Pen;
-use std::io::Write;
+use fit_grammar::Sink;
 
 /// A number, or what stands for the invalid one.
 #[inline]
-pub fn add_unsigned<N: Notation, W: Write>(pen: &mut Pen<'_, W>, invalid: u64, number: u64)
+pub fn add_unsigned<N: Notation, S: Sink>(pen: &mut Pen<'_, S>, invalid: u64, number: u64)
     requires { length pen.old.waiting + 21 ≤ SIZE }
     ensures { Adds pen.old pen.new (whole_of N.none (Kind.Unsigned invalid) number) }
 {
@@ -25,7 +25,7 @@ pub fn add_unsigned<N: Notation, W: Write>(pen: &mut Pen<'_, W>, invalid: u64, n
 
 /// The same for a number with a sign. The invalid one is the greatest.
 #[inline]
-pub fn add_signed<N: Notation, W: Write>(pen: &mut Pen<'_, W>, invalid: u64, number: u64)
+pub fn add_signed<N: Notation, S: Sink>(pen: &mut Pen<'_, S>, invalid: u64, number: u64)
     requires room { length pen.old.waiting + 22 ≤ SIZE }
     requires fits { number < 2 * invalid + 2 }
     requires limit { 2 * invalid + 2 ≤ 2 ^ 64 }

@@ -11,21 +11,20 @@ use crate::json::notation::AsJson;
 use crate::showing::plan::{Column, Kind};
 use crate::writing::Pen;
 use fit_base::{Arch, FieldValue, number_of};
-use fit_grammar::WriteFailed;
-use std::io::Write;
+use fit_grammar::Sink;
 
 /// The fields at the front of this content, each with its name, with commas between them. The first has none in front if `is_first`.
 /// Fields of the numbers `dates` are dates. Returns the bytes after them.
 // Not inlined, so its loop keeps its variables in registers.
 #[inline(never)]
-pub fn put_columns<'c, W: Write>(
-    pen: &mut Pen<'_, W>,
+pub fn put_columns<'c, S: Sink>(
+    pen: &mut Pen<'_, S>,
     dates: &[u8],
     arch: Arch,
     columns: &[Column],
     content: &'c [u8],
     is_first: bool,
-) -> Result<&'c [u8], WriteFailed>
+) -> Result<&'c [u8], S::Fault>
     requires kinds { HaveKinds dates.now columns.now }
     requires within { sum_by (λ column. column.size) columns.now ≤ length content.now }
     ensures text { Puts pen.old pen.new result
@@ -48,14 +47,14 @@ pub fn put_columns<'c, W: Write>(
 
 /// A field with its name, after a comma if it is not the first.
 #[inline(always)]
-pub fn put_column<W: Write>(
-    pen: &mut Pen<'_, W>,
+pub fn put_column<S: Sink>(
+    pen: &mut Pen<'_, S>,
     dates: &[u8],
     arch: Arch,
     column: &Column,
     bytes: &[u8],
     is_first: bool,
-) -> Result<(), WriteFailed>
+) -> Result<(), S::Fault>
     requires kind { IsKind dates.now column.now.number column.now.base column.now.size column.now.kind }
     requires size { length bytes.now ≡ column.now.size }
     ensures { Puts pen.old pen.new result
@@ -65,11 +64,11 @@ pub fn put_column<W: Write>(
     pen.add_member(&column.label, is_first);
     match column.kind {
         Kind::Unsigned(invalid) => {
-            add_unsigned::<AsJson, W>(pen, invalid, number_of(arch, bytes));
+            add_unsigned::<AsJson, S>(pen, invalid, number_of(arch, bytes));
             Ok(())
         }
         Kind::Signed(invalid) => {
-            add_signed::<AsJson, W>(pen, invalid, number_of(arch, bytes));
+            add_signed::<AsJson, S>(pen, invalid, number_of(arch, bytes));
             Ok(())
         }
         Kind::Other => put_other(pen, dates, arch, column, bytes),
@@ -80,13 +79,13 @@ pub fn put_column<W: Write>(
 // Not inlined, so no other column pays for its room.
 #[cold]
 #[inline(never)]
-fn put_other<W: Write>(
-    pen: &mut Pen<'_, W>,
+fn put_other<S: Sink>(
+    pen: &mut Pen<'_, S>,
     dates: &[u8],
     arch: Arch,
     column: &Column,
     bytes: &[u8],
-) -> Result<(), WriteFailed>
+) -> Result<(), S::Fault>
     ensures { Puts pen.old pen.new result
         (json_at dates.now column.now.number column.now.base arch bytes.now) }
 {

@@ -10,15 +10,14 @@ ghost use Rattle.fit_text.specs.Members.{separator};
 use crate::form::header::put_labelled;
 use crate::json::string::put_quoted_bytes;
 use crate::writing::Pen;
-use fit_grammar::{DeveloperFieldDefinition, WriteFailed};
-use std::io::Write;
+use fit_grammar::{DeveloperFieldDefinition, Sink};
 
 /// The developer fields at the front of this content, with commas between them.
-pub fn put_developer_fields<W: Write>(
-    pen: &mut Pen<'_, W>,
+pub fn put_developer_fields<S: Sink>(
+    pen: &mut Pen<'_, S>,
     fields: &[DeveloperFieldDefinition],
     content: &[u8],
-) -> Result<(), WriteFailed>
+) -> Result<(), S::Fault>
     requires { sum_by (λ field. field.size) fields.now ≤ length content.now }
     ensures { Puts pen.old pen.new result
         (join_by developer_json (codes ",") (developer_of fields.now content.now)) }
@@ -37,12 +36,12 @@ pub fn put_developer_fields<W: Write>(
 }
 
 // A developer field, after a comma if it is not the first.
-fn put_next<W: Write>(
-    pen: &mut Pen<'_, W>,
+fn put_next<S: Sink>(
+    pen: &mut Pen<'_, S>,
     field: &DeveloperFieldDefinition,
     bytes: &[u8],
     is_first: bool,
-) -> Result<(), WriteFailed>
+) -> Result<(), S::Fault>
     ensures { Puts pen.old pen.new result
         (separator is_first
         ++ developer_json (record {
@@ -60,11 +59,11 @@ fn put_next<W: Write>(
 }
 
 // A developer field: the index of its developer data, its number, and its bytes.
-fn put_developer_field<W: Write>(
-    pen: &mut Pen<'_, W>,
+fn put_developer_field<S: Sink>(
+    pen: &mut Pen<'_, S>,
     field: &DeveloperFieldDefinition,
     bytes: &[u8],
-) -> Result<(), WriteFailed>
+) -> Result<(), S::Fault>
     ensures { Puts pen.old pen.new result
         (developer_json (record { index = field.now.index; number = field.now.number; bytes = bytes.now })) }
 {

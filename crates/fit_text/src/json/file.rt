@@ -9,18 +9,21 @@ use crate::json::message::put_message;
 use crate::json::notation::AsJson;
 use crate::showing::plan::{Column, Plan};
 use crate::writing::Pen;
-use fit_grammar::{DataMessage, DeveloperFieldDefinition, Frame, LentFile, WriteFailed};
-use std::io::Write;
+use fit_grammar::{DataMessage, DeveloperFieldDefinition, Frame, LentFile, Sink};
 
 /// Writes a file as JSON, an object on each line, in one pass and without allocation, through a buffer of its own. If `utc` is set,
 /// times are dates in UTC. The writer is not flushed. If it fails, it has taken a prefix of the text.
 // Not inlined, so its buffers reuse the stack on which those of the reading were.
 #[inline(never)]
 #[tactic(auto, unfolding(crate::specs::Json::json_of))]
-pub fn show_json<W: Write>(file: &LentFile<'_>, utc: bool, out: &mut W) -> Result<(), ShowFault>
-    ensures { WritesText (W.contents out.old) (W.contents out.new) result (json_of utc file.now) }
+pub fn show_json<S: Sink>(
+    file: &LentFile<'_>,
+    utc: bool,
+    out: &mut S,
+) -> Result<(), ShowFault<S::Fault>>
+    ensures { WritesText (S.held out.old) (S.held out.new) result (json_of utc file.now) }
 {
-    write_file::<AsJson, W>(file, utc, out)
+    write_file::<AsJson, S>(file, utc, out)
 }
 
 impl Form for AsJson {
@@ -32,11 +35,7 @@ impl Form for AsJson {
 
     ghost count = { count_json };
 
-    fn put_header<W: Write>(
-        pen: &mut Pen<'_, W>,
-        frame: Frame,
-        size: u32,
-    ) -> Result<(), WriteFailed> {
+    fn put_header<S: Sink>(pen: &mut Pen<'_, S>, frame: Frame, size: u32) -> Result<(), S::Fault> {
         let words = HeaderWords {
             header: b"{\"header\":",
             protocol: b",\"protocol\":\"",
@@ -47,19 +46,19 @@ impl Form for AsJson {
         put_header_by(pen, &words, frame, size)
     }
 
-    fn put_line<W: Write>(
-        pen: &mut Pen<'_, W>,
+    fn put_line<S: Sink>(
+        pen: &mut Pen<'_, S>,
         plan: &Plan,
         columns: &[Column],
         developer: &[DeveloperFieldDefinition],
         number: u64,
         message: &DataMessage<'_>,
         time: Option<u32>,
-    ) -> Result<(), WriteFailed> {
+    ) -> Result<(), S::Fault> {
         put_message(pen, plan, columns, developer, number, message, time)
     }
 
-    fn put_count<W: Write>(pen: &mut Pen<'_, W>, messages: u64) -> Result<(), WriteFailed> {
+    fn put_count<S: Sink>(pen: &mut Pen<'_, S>, messages: u64) -> Result<(), S::Fault> {
         put_labelled(pen, b"{\"messages\":", messages)?;
         pen.put(b"}\n")
     }

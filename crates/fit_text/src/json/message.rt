@@ -15,20 +15,19 @@ use crate::showing::date::dates_of;
 use crate::showing::plan::{Column, Plan};
 use crate::writing::Pen;
 use fit_base::Arch;
-use fit_grammar::{DataMessage, DeveloperFieldDefinition, WriteFailed};
-use std::io::Write;
+use fit_grammar::{DataMessage, DeveloperFieldDefinition, Sink};
 
 /// The line of a message: its number, its global number, its name, its fields with the time of its compressed timestamp in front, and
 /// its developer fields.
-pub fn put_message<W: Write>(
-    pen: &mut Pen<'_, W>,
+pub fn put_message<S: Sink>(
+    pen: &mut Pen<'_, S>,
     plan: &Plan,
     columns: &[Column],
     developer: &[DeveloperFieldDefinition],
     number: u64,
     message: &DataMessage<'_>,
     time: Option<u32>,
-) -> Result<(), WriteFailed>
+) -> Result<(), S::Fault>
     requires { IsPlanOf message.now.definition plan.now columns.now developer.now }
     ensures { Puts pen.old pen.new result
         (message_json plan.now.utc number
@@ -51,7 +50,7 @@ pub fn put_message<W: Write>(
 }
 
 // What a line has before its fields.
-fn put_head<W: Write>(pen: &mut Pen<'_, W>, number: u64, global: u16) -> Result<(), WriteFailed>
+fn put_head<S: Sink>(pen: &mut Pen<'_, S>, number: u64, global: u16) -> Result<(), S::Fault>
     ensures { Puts pen.old pen.new result
         (codes "{\"number\":" ++ decimal number ++ codes ",\"message\":" ++ decimal global
         ++ codes ",\"name\":" ++ name_json (message_named global) ++ codes ",\"fields\":{") }
@@ -65,7 +64,7 @@ fn put_head<W: Write>(pen: &mut Pen<'_, W>, number: u64, global: u16) -> Result<
 }
 
 // The name of a message, and the beginning of its fields.
-fn put_message_name<W: Write>(pen: &mut Pen<'_, W>, global: u16) -> Result<(), WriteFailed>
+fn put_message_name<S: Sink>(pen: &mut Pen<'_, S>, global: u16) -> Result<(), S::Fault>
     ensures { Puts pen.old pen.new result
         (codes ",\"name\":" ++ (name_json (message_named global) ++ codes ",\"fields\":{")) }
 {
@@ -83,12 +82,12 @@ fn put_message_name<W: Write>(pen: &mut Pen<'_, W>, global: u16) -> Result<(), W
 
 // The time of a compressed timestamp, if there is one.
 #[inline]
-fn put_time<W: Write>(
-    pen: &mut Pen<'_, W>,
+fn put_time<S: Sink>(
+    pen: &mut Pen<'_, S>,
     dates: &[u8],
     column: &Column,
     time: Option<u32>,
-) -> Result<(), WriteFailed>
+) -> Result<(), S::Fault>
     requires kind { IsKind dates.now column.now.number column.now.base column.now.size column.now.kind }
     requires size { column.now.size ≡ 4 }
     ensures text { Puts pen.old pen.new result (time_json dates.now column.now time) }

@@ -6,8 +6,7 @@ ghost use Rattle.fit_text.specs.Json.{bytes_json};
 use crate::form::notation::Notation;
 use crate::json::string::put_quoted_bytes;
 use crate::writing::Pen;
-use fit_grammar::WriteFailed;
-use std::io::Write;
+use fit_grammar::Sink;
 
 /// JSON.
 pub enum AsJson {}
@@ -22,7 +21,7 @@ impl Notation for AsJson {
         b"null"
     }
 
-    fn put_bytes<W: Write>(pen: &mut Pen<'_, W>, bytes: &[u8]) -> Result<(), WriteFailed> {
+    fn put_bytes<S: Sink>(pen: &mut Pen<'_, S>, bytes: &[u8]) -> Result<(), S::Fault> {
         put_quoted_bytes(pen, bytes)
     }
 }

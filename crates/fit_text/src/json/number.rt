@@ -10,24 +10,23 @@ use crate::form::number::{put_at, put_numbers};
 use crate::json::notation::AsJson;
 use crate::writing::Pen;
 use fit_base::{BaseType, FieldValue};
-use fit_grammar::WriteFailed;
-use std::io::Write;
+use fit_grammar::Sink;
 
 /// The number of a field of this type, or an array of several.
-pub fn put_one_or_several<W: Write>(
-    pen: &mut Pen<'_, W>,
+pub fn put_one_or_several<S: Sink>(
+    pen: &mut Pen<'_, S>,
     base: BaseType,
     field: &FieldValue<'_>,
-) -> Result<(), WriteFailed>
+) -> Result<(), S::Fault>
     requires known { base_type field.now.base ≡ Some base }
     ensures { Puts pen.old pen.new result
         (numbers_json base
         (numbers field.now.arch (value_size field.now) (count_of field.now) field.now.bytes)) }
 {
     if field.count() == 1 {
-        return put_at::<AsJson, W>(pen, base, field, 0);
+        return put_at::<AsJson, S>(pen, base, field, 0);
     }
     pen.put(b"[")?;
-    put_numbers::<AsJson, W>(pen, base, field)?;
+    put_numbers::<AsJson, S>(pen, base, field)?;
     pen.put(b"]")
 }

@@ -11,12 +11,11 @@ ghost use Rattle.fit_text.specs.Json.{bytes_json, byte_json, string_byte, string
 use crate::showing::bytes::{all_invalid, hex_byte, is_plain, put_hex};
 use crate::writing::Pen;
 use fit_base::FieldValue;
-use fit_grammar::WriteFailed;
-use std::io::Write;
+use fit_grammar::Sink;
 
 /// Bytes as a string of hexadecimal digits after `0x`.
 #[inline(never)]
-pub fn put_quoted_bytes<W: Write>(pen: &mut Pen<'_, W>, bytes: &[u8]) -> Result<(), WriteFailed>
+pub fn put_quoted_bytes<S: Sink>(pen: &mut Pen<'_, S>, bytes: &[u8]) -> Result<(), S::Fault>
     ensures { Puts pen.old pen.new result (bytes_json bytes.now) }
 {
     pen.put(b"\"")?;
@@ -26,7 +25,7 @@ pub fn put_quoted_bytes<W: Write>(pen: &mut Pen<'_, W>, bytes: &[u8]) -> Result<
 
 /// The bytes of a field of type byte: `null` if all of them are FF.
 #[inline(never)]
-pub fn put_byte_field<W: Write>(pen: &mut Pen<'_, W>, bytes: &[u8]) -> Result<(), WriteFailed>
+pub fn put_byte_field<S: Sink>(pen: &mut Pen<'_, S>, bytes: &[u8]) -> Result<(), S::Fault>
     ensures { Puts pen.old pen.new result (byte_json bytes.now) }
 {
     if all_invalid(bytes) {
@@ -38,7 +37,7 @@ pub fn put_byte_field<W: Write>(pen: &mut Pen<'_, W>, bytes: &[u8]) -> Result<()
 
 /// A string, up to its first zero byte. One that is no UTF-8 is read as Latin-1.
 #[inline(never)]
-pub fn put_string<W: Write>(pen: &mut Pen<'_, W>, field: &FieldValue<'_>) -> Result<(), WriteFailed>
+pub fn put_string<S: Sink>(pen: &mut Pen<'_, S>, field: &FieldValue<'_>) -> Result<(), S::Fault>
     ensures { Puts pen.old pen.new result (string_json field.now.bytes) }
 {
     let in_utf8 = is_utf8(field);
@@ -54,7 +53,7 @@ fn is_utf8(field: &FieldValue<'_>) -> bool
     field.text().is_some()
 }
 
-fn put_all<W: Write>(pen: &mut Pen<'_, W>, in_utf8: bool, bytes: &[u8]) -> Result<(), WriteFailed>
+fn put_all<S: Sink>(pen: &mut Pen<'_, S>, in_utf8: bool, bytes: &[u8]) -> Result<(), S::Fault>
     ensures { Puts pen.old pen.new result (flat_map (string_byte in_utf8) bytes.now) }
 {
     for byte in bytes {
@@ -63,11 +62,7 @@ fn put_all<W: Write>(pen: &mut Pen<'_, W>, in_utf8: bool, bytes: &[u8]) -> Resul
     Ok(())
 }
 
-fn put_string_byte<W: Write>(
-    pen: &mut Pen<'_, W>,
-    in_utf8: bool,
-    byte: u8,
-) -> Result<(), WriteFailed>
+fn put_string_byte<S: Sink>(pen: &mut Pen<'_, S>, in_utf8: bool, byte: u8) -> Result<(), S::Fault>
     ensures { Puts pen.old pen.new result (string_byte in_utf8 byte) }
 {
     if is_whole(in_utf8, byte) {

@@ -8,11 +8,10 @@ ghost use Rattle.fit_text.specs.Text.{hex_byte, hex_text, is_plain, escaped, str
 
 use crate::writing::Pen;
 use fit_base::FieldValue;
-use fit_grammar::WriteFailed;
-use std::io::Write;
+use fit_grammar::Sink;
 
 /// `0x` and two digits a byte; nothing for no bytes.
-pub fn put_hex<W: Write>(pen: &mut Pen<'_, W>, bytes: &[u8]) -> Result<(), WriteFailed>
+pub fn put_hex<S: Sink>(pen: &mut Pen<'_, S>, bytes: &[u8]) -> Result<(), S::Fault>
     ensures { Puts pen.old pen.new result (hex_text bytes.now) }
 {
     if bytes.is_empty() {
@@ -22,7 +21,7 @@ pub fn put_hex<W: Write>(pen: &mut Pen<'_, W>, bytes: &[u8]) -> Result<(), Write
     put_digits(pen, bytes)
 }
 
-fn put_digits<W: Write>(pen: &mut Pen<'_, W>, bytes: &[u8]) -> Result<(), WriteFailed>
+fn put_digits<S: Sink>(pen: &mut Pen<'_, S>, bytes: &[u8]) -> Result<(), S::Fault>
     ensures { Puts pen.old pen.new result (flat_map hex_byte bytes.now) }
 {
     for byte in bytes {
@@ -32,7 +31,7 @@ fn put_digits<W: Write>(pen: &mut Pen<'_, W>, bytes: &[u8]) -> Result<(), WriteF
 }
 
 /// A string between quotation marks, up to its first zero byte.
-pub fn put_string<W: Write>(pen: &mut Pen<'_, W>, field: &FieldValue<'_>) -> Result<(), WriteFailed>
+pub fn put_string<S: Sink>(pen: &mut Pen<'_, S>, field: &FieldValue<'_>) -> Result<(), S::Fault>
     ensures { Puts pen.old pen.new result (string_text field.now.bytes) }
 {
     pen.put(b"\"")?;
@@ -40,7 +39,7 @@ pub fn put_string<W: Write>(pen: &mut Pen<'_, W>, field: &FieldValue<'_>) -> Res
     pen.put(b"\"")
 }
 
-fn put_all_escaped<W: Write>(pen: &mut Pen<'_, W>, bytes: &[u8]) -> Result<(), WriteFailed>
+fn put_all_escaped<S: Sink>(pen: &mut Pen<'_, S>, bytes: &[u8]) -> Result<(), S::Fault>
     ensures { Puts pen.old pen.new result (flat_map escaped bytes.now) }
 {
     for byte in bytes {
@@ -49,7 +48,7 @@ fn put_all_escaped<W: Write>(pen: &mut Pen<'_, W>, bytes: &[u8]) -> Result<(), W
     Ok(())
 }
 
-fn put_escaped<W: Write>(pen: &mut Pen<'_, W>, byte: u8) -> Result<(), WriteFailed>
+fn put_escaped<S: Sink>(pen: &mut Pen<'_, S>, byte: u8) -> Result<(), S::Fault>
     ensures { Puts pen.old pen.new result (escaped byte) }
 {
     if is_plain(byte) {
@@ -67,7 +66,7 @@ pub fn is_plain(byte: u8) -> bool
 }
 
 /// The bytes of a field of type byte: `-` if all of them are FF.
-pub fn put_byte_field<W: Write>(pen: &mut Pen<'_, W>, bytes: &[u8]) -> Result<(), WriteFailed>
+pub fn put_byte_field<S: Sink>(pen: &mut Pen<'_, S>, bytes: &[u8]) -> Result<(), S::Fault>
     ensures { Puts pen.old pen.new result (byte_text bytes.now) }
 {
     if all_invalid(bytes) {

@@ -10,20 +10,19 @@ use crate::showing::notation::AsText;
 use crate::showing::plan::{Column, Kind};
 use crate::writing::Pen;
 use fit_base::{Arch, FieldValue, number_of};
-use fit_grammar::WriteFailed;
-use std::io::Write;
+use fit_grammar::Sink;
 
 /// The fields at the front of this content, each with its name. Fields of the numbers `dates` are shown as
 /// dates. Returns the bytes after them.
 // Not inlined, so its loop keeps its variables in registers.
 #[inline(never)]
-pub fn put_columns<'c, W: Write>(
-    pen: &mut Pen<'_, W>,
+pub fn put_columns<'c, S: Sink>(
+    pen: &mut Pen<'_, S>,
     dates: &[u8],
     arch: Arch,
     columns: &[Column],
     content: &'c [u8],
-) -> Result<&'c [u8], WriteFailed>
+) -> Result<&'c [u8], S::Fault>
     requires kinds { HaveKinds dates.now columns.now }
     requires within { sum_by (λ column. column.size) columns.now ≤ length content.now }
     ensures text { Puts pen.old pen.new result
@@ -44,13 +43,13 @@ pub fn put_columns<'c, W: Write>(
 
 /// A field with its name. Fields of the numbers `dates` are shown as dates.
 #[inline(always)]
-pub fn put_column<W: Write>(
-    pen: &mut Pen<'_, W>,
+pub fn put_column<S: Sink>(
+    pen: &mut Pen<'_, S>,
     dates: &[u8],
     arch: Arch,
     column: &Column,
     bytes: &[u8],
-) -> Result<(), WriteFailed>
+) -> Result<(), S::Fault>
     requires kind { IsKind dates.now column.now.number column.now.base column.now.size column.now.kind }
     requires size { length bytes.now ≡ column.now.size }
     ensures { Puts pen.old pen.new result (column_text dates.now arch column.now bytes.now) }
@@ -59,11 +58,11 @@ pub fn put_column<W: Write>(
     pen.add_label(&column.label);
     match column.kind {
         Kind::Unsigned(invalid) => {
-            add_unsigned::<AsText, W>(pen, invalid, number_of(arch, bytes));
+            add_unsigned::<AsText, S>(pen, invalid, number_of(arch, bytes));
             Ok(())
         }
         Kind::Signed(invalid) => {
-            add_signed::<AsText, W>(pen, invalid, number_of(arch, bytes));
+            add_signed::<AsText, S>(pen, invalid, number_of(arch, bytes));
             Ok(())
         }
         Kind::Other => put_other(pen, dates, arch, column, bytes),
@@ -74,13 +73,13 @@ pub fn put_column<W: Write>(
 // Not inlined, so no other column pays for its room.
 #[cold]
 #[inline(never)]
-fn put_other<W: Write>(
-    pen: &mut Pen<'_, W>,
+fn put_other<S: Sink>(
+    pen: &mut Pen<'_, S>,
     dates: &[u8],
     arch: Arch,
     column: &Column,
     bytes: &[u8],
-) -> Result<(), WriteFailed>
+) -> Result<(), S::Fault>
     ensures { Puts pen.old pen.new result
         (shown_at dates.now column.now.number column.now.base arch bytes.now) }
 {

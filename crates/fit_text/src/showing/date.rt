@@ -7,10 +7,9 @@ ghost use Rattle.fit_text.specs.Date.{dates_of, date_in, date_text};
 
 use crate::writing::Pen;
 use fit_base::{BaseType, FieldValue};
-use fit_grammar::WriteFailed;
+use fit_grammar::Sink;
 use jiff::Timestamp;
 use jiff::fmt::temporal::DateTimePrinter;
-use std::io::Write;
 
 // The first calendar time. A time below it counts from when the device was switched on.
 const FIRST_DATE: u64 = 0x1000_0000;
@@ -57,7 +56,7 @@ pub fn date_in(dates: &[u8], number: u8, value: &FieldValue<'_>) -> Option<u32>
 }
 
 /// A time as a date in UTC, such as `2021-09-08T01:46:40Z`.
-pub fn put_date<W: Write>(pen: &mut Pen<'_, W>, time: u32) -> Result<(), WriteFailed>
+pub fn put_date<S: Sink>(pen: &mut Pen<'_, S>, time: u32) -> Result<(), S::Fault>
     ensures { Puts pen.old pen.new result (date_text time) }
 {
     match Timestamp::from_second(i64::from(time) + FIT_EPOCH) {

@@ -8,15 +8,14 @@ ghost use Rattle.fit_text.specs.Text.{developer_text};
 
 use crate::showing::bytes::put_hex;
 use crate::writing::Pen;
-use fit_grammar::{DeveloperFieldDefinition, WriteFailed};
-use std::io::Write;
+use fit_grammar::{DeveloperFieldDefinition, Sink};
 
 /// The developer fields at the front of this content.
-pub fn put_developer_fields<W: Write>(
-    pen: &mut Pen<'_, W>,
+pub fn put_developer_fields<S: Sink>(
+    pen: &mut Pen<'_, S>,
     fields: &[DeveloperFieldDefinition],
     content: &[u8],
-) -> Result<(), WriteFailed>
+) -> Result<(), S::Fault>
     requires { sum_by (λ field. field.size) fields.now ≤ length content.now }
     ensures { Puts pen.old pen.new result
         (flat_map developer_text (developer_of fields.now content.now)) }
@@ -33,11 +32,11 @@ pub fn put_developer_fields<W: Write>(
 }
 
 // A developer field: the index of its developer data, its number, and its bytes with two digits each.
-fn put_developer_field<W: Write>(
-    pen: &mut Pen<'_, W>,
+fn put_developer_field<S: Sink>(
+    pen: &mut Pen<'_, S>,
     field: &DeveloperFieldDefinition,
     bytes: &[u8],
-) -> Result<(), WriteFailed>
+) -> Result<(), S::Fault>
     ensures { Puts pen.old pen.new result
         (developer_text (record { index = field.now.index; number = field.now.number; bytes = bytes.now })) }
 {

@@ -14,16 +14,15 @@ use crate::showing::date::{date_in, put_date};
 use crate::showing::notation::AsText;
 use crate::writing::Pen;
 use fit_base::{BaseType, FieldValue};
-use fit_grammar::WriteFailed;
-use std::io::Write;
+use fit_grammar::Sink;
 
 /// A date if a field of this number is shown as one, else its values.
-pub fn put_shown<W: Write>(
-    pen: &mut Pen<'_, W>,
+pub fn put_shown<S: Sink>(
+    pen: &mut Pen<'_, S>,
     dates: &[u8],
     number: u8,
     value: &FieldValue<'_>,
-) -> Result<(), WriteFailed>
+) -> Result<(), S::Fault>
     ensures { Puts pen.old pen.new result (let field : MessageField = record
         { number = number; base = value.now.base; values = values_of value.now } in
         shown_text (date_in dates.now field) field) }
@@ -35,7 +34,7 @@ pub fn put_shown<W: Write>(
 }
 
 /// The values of a field.
-fn put_value<W: Write>(pen: &mut Pen<'_, W>, value: &FieldValue<'_>) -> Result<(), WriteFailed>
+fn put_value<S: Sink>(pen: &mut Pen<'_, S>, value: &FieldValue<'_>) -> Result<(), S::Fault>
     ensures { Puts pen.old pen.new result
         (values_text (base_type value.now.base) (values_of value.now)) }
 {
@@ -49,11 +48,11 @@ fn put_value<W: Write>(pen: &mut Pen<'_, W>, value: &FieldValue<'_>) -> Result<(
 }
 
 // The values of a field of this type, at least one.
-fn put_some<W: Write>(
-    pen: &mut Pen<'_, W>,
+fn put_some<S: Sink>(
+    pen: &mut Pen<'_, S>,
     base: BaseType,
     value: &FieldValue<'_>,
-) -> Result<(), WriteFailed>
+) -> Result<(), S::Fault>
     requires known { base_type value.now.base ≡ Some base }
     requires some { count_of value.now ≢ 0 }
     ensures { Puts pen.old pen.new result
@@ -62,6 +61,6 @@ fn put_some<W: Write>(
     match base {
         BaseType::String => put_string(pen, value),
         BaseType::Byte => put_byte_field(pen, value.raw()),
-        _ => put_numbers::<AsText, W>(pen, base, value),
+        _ => put_numbers::<AsText, S>(pen, base, value),
     }
 }

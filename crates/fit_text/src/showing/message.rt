@@ -12,19 +12,18 @@ use crate::showing::developer::put_developer_fields;
 use crate::showing::plan::{Column, Plan};
 use crate::writing::Pen;
 use fit_base::Arch;
-use fit_grammar::{DataMessage, DeveloperFieldDefinition, WriteFailed};
-use std::io::Write;
+use fit_grammar::{DataMessage, DeveloperFieldDefinition, Sink};
 
 /// The line of a message: its number, its name, the time of its compressed timestamp if it has one, its fields, and its developer fields.
-pub fn put_message<W: Write>(
-    pen: &mut Pen<'_, W>,
+pub fn put_message<S: Sink>(
+    pen: &mut Pen<'_, S>,
     plan: &Plan,
     columns: &[Column],
     developer: &[DeveloperFieldDefinition],
     number: u64,
     message: &DataMessage<'_>,
     time: Option<u32>,
-) -> Result<(), WriteFailed>
+) -> Result<(), S::Fault>
     requires { IsPlanOf message.now.definition plan.now columns.now developer.now }
     ensures { Puts pen.old pen.new result
         (message_text plan.now.utc number
@@ -42,12 +41,12 @@ pub fn put_message<W: Write>(
 
 // The time of a compressed timestamp, if there is one.
 #[inline]
-fn put_time<W: Write>(
-    pen: &mut Pen<'_, W>,
+fn put_time<S: Sink>(
+    pen: &mut Pen<'_, S>,
     dates: &[u8],
     column: &Column,
     time: Option<u32>,
-) -> Result<(), WriteFailed>
+) -> Result<(), S::Fault>
     requires kind { IsKind dates.now column.now.number column.now.base column.now.size column.now.kind }
     requires size { column.now.size ≡ 4 }
     ensures text { Puts pen.old pen.new result (time_text dates.now column.now time) }

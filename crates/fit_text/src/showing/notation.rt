@@ -6,8 +6,7 @@ ghost use Rattle.fit_text.specs.Text.{hex_text};
 use crate::form::notation::Notation;
 use crate::showing::bytes::put_hex;
 use crate::writing::Pen;
-use fit_grammar::WriteFailed;
-use std::io::Write;
+use fit_grammar::Sink;
 
 /// The shown text.
 pub enum AsText {}
@@ -22,7 +21,7 @@ impl Notation for AsText {
         b"-"
     }
 
-    fn put_bytes<W: Write>(pen: &mut Pen<'_, W>, bytes: &[u8]) -> Result<(), WriteFailed> {
+    fn put_bytes<S: Sink>(pen: &mut Pen<'_, S>, bytes: &[u8]) -> Result<(), S::Fault> {
         put_hex(pen, bytes)
     }
 }

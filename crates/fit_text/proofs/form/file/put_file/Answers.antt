@@ -7,4 +7,4 @@ returns g c =
     let name : c.into_writer.result.ghost_name ≡ c.new-pen.result.name = c.into_writer.ensures.name ∙ c.put_all-done.ensures.text.same in
     let start = ap (λ w. w.held) c.new-pen.ensures in
     let all = puts_written _ _ _ _ (ap (λ w. w.waiting) c.new-pen.ensures) c.put_all-done.ensures.none c.put_all-done.ensures.text in
-    writes_held (rw (start, ← c.into_writer.ensures.held) at all) (ap g.W.Write.contents (search rules))
+    writes_held (rw (start, ← c.into_writer.ensures.held) at all) (ap g.S.Sink.held (search rules))

@@ -1,8 +1,11 @@
 use Rattle.std.proofs.Common.{◌++◌, ap, ◌∙◌, codes}
 use Rattle.fit_text.specs.Json.{name_json}
 use Rattle.fit_text.proofs.JsonLemmas.{name_begins}
-use Rattle.fit_text.proofs.PenLemmas.{puts_same, puts_more}
+use Rattle.fit_text.proofs.PenLemmas.{puts_same, puts_more, puts_stop}
 use Rattle.fit_text.proofs.json.message.put_message_name.Goals as goal
+
+pub returns-in_err-room-in-Some : goal.returns-in_err-room-in-Some
+returns-in_err-room-in-Some g c = puts_stop c.from_residual.ensures.0 c.in_err-room-in-Some.ensures.puts _
 
 pub returns-in_ok-room-in-Some : goal.returns-in_ok-room-in-Some
 returns-in_ok-room-in-Some g c =
