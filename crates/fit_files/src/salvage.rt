@@ -7,7 +7,7 @@ use crate::fault::ReportFault;
 use crate::plain::plain_of;
 use crate::printing::print_line;
 use crate::reading::ReadFault;
-use fit_grammar::{EncodeFault, File, Frame, Places, encode_records};
+use fit_grammar::{File, Frame, Places, Sink, encode_records};
 use std::alloc::Global;
 use std::fmt::{self, Formatter};
 use std::io::Write;
@@ -34,8 +34,8 @@ impl Salvage<'_> {
 
     /// Writes the row as a file of its own: a header, the row and a checksum. After an `Err` a prefix of that file is written. No
     /// data is invented, and no memory is allocated.
-    pub fn write<O: Write>(&self, out: &mut O) -> Result<(), EncodeFault>
-        ensures written { WritesText (O.contents out.old) (O.contents out.new) result
+    pub fn write<S: Sink>(&self, out: &mut S) -> Result<(), S::Fault>
+        ensures written { WritesText (S.held out.old) (S.held out.new) result
             (saved_file self.now) }
         ensures file { (all : Bool) (bytes : List ℕ) (found : IsSalvage all bytes self.now)
             → FileOf (saved_file self.now)
