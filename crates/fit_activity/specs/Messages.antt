@@ -1,4 +1,5 @@
 -- The messages of a recording, as fields and as bytes, and which entry a message belongs to.
+pub mod Numbers
 pub mod ProfileField
 pub mod ProfileMessage
 pub mod RideMessages

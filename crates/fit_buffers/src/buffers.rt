@@ -1,6 +1,7 @@
 // The disk over two buffers.
 
 ghost use Rattle.std.specs.Prelude.{◌≡◌, ◌↔◌, ◌+◌, ◌<◌, ◌≤◌, ◌^◌, false, true, IsTrue, length, take, IfOk, IsErr, OnOk, OnErr};
+ghost use Rattle.fit_disk.specs.Changes.{after_write};
 ghost use Rattle.fit_disk.specs.Calls.{ReadsAt, Wrote, Shortened, Synced, IsSound};
 ghost use Rattle.fit_disk.specs.CallSchedule.{counts_of};
 ghost use Rattle.fit_disk.specs.Content.{over};
@@ -9,21 +10,9 @@ ghost use Rattle.fit_disk.specs.Runs.{TakesRoom};
 ghost use Rattle.fit_disk.specs.Stored.{at_rest};
 ghost use Rattle.fit_disk.specs.Story.{seen_of};
 ghost use Rattle.fit_disk.specs.declared.disk.Which.TheVariants.{Data, Journal};
-ghost use Rattle.fit_notes.specs.Noted.{number_of, refused};
 
 use fit_disk::{CallCounts, DeviceError, Disk, Which, copy_from};
-use fit_notes::Notes;
-
-// The kinds of notes.
-const FOUND: u64 = 0;
-
-const WRITTEN: u64 = 1;
-
-const REFUSED: u64 = 2;
-
-const CUT: u64 = 3;
-
-const SYNCED: u64 = 4;
+use fit_notes::{Note, Notes};
 
 /// The two files of a recording, each in the front of a buffer. A write for which the buffer has no room
 /// fails, and reads give what they gave before it.
@@ -72,8 +61,8 @@ impl<'a, 'b> Buffers<'a, 'b> {
         ensures same_journal { result.journal_bytes.ghost_name ≡ journal_bytes.entry.ghost_name }
     {
         let mut notes = Notes::new();
-        notes.note(&[FOUND, 0, 0], &data_bytes[..data_len]);
-        notes.note(&[FOUND, 1, 0], &journal_bytes[..journal_len]);
+        notes.note(&Note::Found(Which::Data), &data_bytes[..data_len]);
+        notes.note(&Note::Found(Which::Journal), &journal_bytes[..journal_len]);
         Buffers {
             data_bytes,
             data_len,
@@ -112,22 +101,13 @@ impl<'a, 'b> Buffers<'a, 'b> {
         requires lacks { room_of which self.old < at + length bytes.now }
         ensures err { IsErr result }
         ensures counts { counts_in self.new ≡ with_failure (counts_in self.old) }
-        ensures story { story_in self.new ≡ refused which at bytes.now (story_in self.old) }
+        ensures story { story_in self.new
+            ≡ after_write false which at bytes.now (story_in self.old) }
         ensures memory { memory_of self.new ≡ memory_of self.old }
     {
-        self.notes.note(&[REFUSED, number(which), at], bytes);
+        self.notes.note(&Note::Refused(which, at), bytes);
         self.counts.fail();
         Err(DeviceError)
-    }
-}
-
-// The number of a file in a note.
-fn number(which: Which) -> u64
-    ensures { result ≡ number_of which }
-{
-    match which {
-        Which::Data => 0,
-        Which::Journal => 1,
     }
 }
 
@@ -191,7 +171,7 @@ impl Disk for Buffers<'_, '_> {
                 bytes,
             ),
         }
-        self.notes.note(&[WRITTEN, number(which), at], bytes);
+        self.notes.note(&Note::Written(which, at), bytes);
         Ok(())
     }
 
@@ -208,7 +188,7 @@ impl Disk for Buffers<'_, '_> {
             Which::Data => self.data_len = len as usize,
             Which::Journal => self.journal_len = len as usize,
         }
-        self.notes.note(&[CUT, number(which), len], &[]);
+        self.notes.note(&Note::Cut(which, len), &[]);
         Ok(())
     }
 
@@ -220,7 +200,7 @@ impl Disk for Buffers<'_, '_> {
         ensures room { TakesRoom 1 0 (IsErr result) (log_in self.old) (log_in self.new) }
     {
         self.counts.call()?;
-        self.notes.note(&[SYNCED, number(which), 0], &[]);
+        self.notes.note(&Note::Synced(which), &[]);
         Ok(())
     }
 }

@@ -1,8 +1,9 @@
 -- What each call of an honest disk does to its story.
-use Rattle.std.specs.Prelude.{◌≡◌, ◌⊎◌, ℕ, ◌-◌, min, List, length, take, drop, Result, OnOk, OnErr}
+use Rattle.std.specs.Prelude.{◌≡◌, ◌⊎◌, ℕ, ◌-◌, min, true, List, length, take, drop, Result, OnOk, OnErr}
 use Rattle.fit_disk.specs.declared.disk.Which.{Which}
-use Rattle.fit_disk.specs.Content.{over, Torn, PartlyCut}
-use Rattle.fit_disk.specs.Stored.{at_rest, write_begun, cut_begun}
+use Rattle.fit_disk.specs.Changes.{after_write, after_cut, after_sync}
+use Rattle.fit_disk.specs.Content.{Torn, PartlyCut}
+use Rattle.fit_disk.specs.Stored.{write_begun, cut_begun}
 use Rattle.fit_disk.specs.State.{State, file_of, seen_in, BothLeft}
 use Rattle.fit_disk.specs.Story.{Story, then_file, seen_of}
 
@@ -20,9 +21,7 @@ PartlyWrote which at count old new =
 -- either all of the bytes were written, or the write failed before it began or in part
 pub record Wrote {T E : Type 0} (which : Which) (at : ℕ) (bytes : List ℕ) (result : Result T E)
     (old new : Story) : Type 0 where
-  pub ok : OnOk result (new ≡
-      then_file which (write_begun at (length bytes) (over at bytes (seen_of which old))
-      (file_of which old.now)) old)
+  pub ok : OnOk result (new ≡ after_write true which at bytes old)
   pub err : OnErr result ((new ≡ old) ⊎ PartlyWrote which at (length bytes) old new)
 
 -- a part of the cut was done
@@ -34,14 +33,13 @@ PartlyShortened which len old new =
 -- either the file was cut to the length, or the cut failed before it began or in part
 pub record Shortened {T E : Type 0} (which : Which) (len : ℕ) (result : Result T E)
     (old new : Story) : Type 0 where
-  pub ok : OnOk result (new
-      ≡ then_file which (cut_begun len (take len (seen_of which old)) (file_of which old.now)) old)
+  pub ok : OnOk result (new ≡ after_cut true which len old)
   pub err : OnErr result ((new ≡ old) ⊎ PartlyShortened which len old new)
 
 -- a sync keeps all that reads give of the file; a failed sync keeps nothing new and loses nothing
 pub record Synced {T E : Type 0} (which : Which) (result : Result T E)
     (old new : Story) : Type 0 where
-  pub ok : OnOk result (new ≡ then_file which (at_rest (seen_of which old)) old)
+  pub ok : OnOk result (new ≡ after_sync which old)
   pub err : OnErr result (new ≡ old)
 
 -- what reads give may itself be left, for example when only the process crashes

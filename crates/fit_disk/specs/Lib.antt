@@ -3,6 +3,7 @@ pub mod Stored
 pub mod State
 pub mod Story
 pub mod Counts
+pub mod Changes
 pub mod Calls
 pub mod Runs
 pub mod Cycle

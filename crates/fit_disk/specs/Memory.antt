@@ -1,11 +1,9 @@
 -- What a memory disk shows.
-use Rattle.std.specs.Prelude.{[], ◌≡◌, ℕ, true, Result, IsErr, is_err, OnErr, Bool, ◌||◌, ◌==◌}
+use Rattle.std.specs.Prelude.{[], ◌≡◌, true, Result, IsErr, is_err, OnErr, Bool, ◌||◌, ◌==◌}
 use Rattle.fit_disk.specs.declared.call_schedule.CallSchedule.{CallSchedule}
-use Rattle.fit_disk.specs.declared.disk.Which.{Which}
 use Rattle.fit_disk.specs.declared.memory.Memory.{Memory}
-use Rattle.fit_disk.specs.Stored.{write_begun, cut_begun}
-use Rattle.fit_disk.specs.State.{file_of, seen_in}
-use Rattle.fit_disk.specs.Story.{Story, then_file, seen_of}
+use Rattle.fit_disk.specs.State.{seen_in}
+use Rattle.fit_disk.specs.Story.{Story}
 use Rattle.fit_disk.specs.Counts.{Counts, Log, Schedule, must_fail, last_count, no_room}
 use Rattle.fit_disk.specs.CallSchedule.{counts_of, schedule_by}
 use Rattle.fit_disk.specs.Store.{store_story}
@@ -57,13 +55,3 @@ pub record FailsCleanly {T E : Type 0} (result : Result T E) (old new : Memory) 
   pub same_reads : OnErr result (seen_in (memory_story new).now ≡ seen_in (memory_story old).now)
   pub unchanged : last_growth_was_refused new ≡ true
       → IsErr result × (memory_story new ≡ memory_story old)
-
--- the story after a write that failed for a cause other than memory: it was begun, and reads give what they gave before
-abbrev pub write_failed : Which → ℕ → ℕ → Story → Story
-write_failed which at count old =
-    then_file which (write_begun at count (seen_of which old) (file_of which old.now)) old
-
--- the same for a cut
-abbrev pub cut_failed : Which → ℕ → Story → Story
-cut_failed which len old =
-    then_file which (cut_begun len (seen_of which old) (file_of which old.now)) old

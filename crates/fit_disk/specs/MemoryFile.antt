@@ -13,6 +13,6 @@ pub record IsHalf (half : MemoryFile) (file : Stored) : Type 0 where
   pub sound : Left file file.seen
 
 -- a write up to this end needs no memory
-pub record HasRoom (half : MemoryFile) (end : ℕ) : Type 0 where
+pub record FileHasRoom (half : MemoryFile) (end : ℕ) : Type 0 where
   pub bytes : end ≤ vec_capacity half.seen
   pub range : vec_len half.written < vec_capacity half.written

@@ -3,6 +3,7 @@
 ghost use Rattle.std.specs.Prelude.{◌≡◌, ◌⊎◌, ◌<◌, ◌≤◌, true, false, min, length, IfOk, OnErr};
 ghost use Rattle.fit_disk.specs.State.{BothLeft, seen_in};
 ghost use Rattle.fit_disk.specs.Story.{state_then, seen_of};
+ghost use Rattle.fit_disk.specs.Changes.{after_write, after_cut};
 ghost use Rattle.fit_disk.specs.Cycle.{cycled, taken_in};
 ghost use Rattle.fit_disk.specs.Events.{fresh};
 ghost use Rattle.fit_disk.specs.Calls.{ReadsAt, Wrote, Shortened, Synced};
@@ -106,7 +107,7 @@ impl Memory {
 }
 
 impl Disk for Memory {
-    ghost use Rattle.fit_disk.specs.Memory.{memory_story, memory_counts, memory_schedule, memory_log, growth_was_refused, last_growth_was_refused, FailsByCause, FailsCleanly, write_failed, cut_failed};
+    ghost use Rattle.fit_disk.specs.Memory.{memory_story, memory_counts, memory_schedule, memory_log, growth_was_refused, last_growth_was_refused, FailsByCause, FailsCleanly};
 
     ghost honest = { true };
 
@@ -153,7 +154,7 @@ impl Disk for Memory {
             (memory_story self.new) }
         ensures begun { last_growth_was_refused self.new ≡ false
             → OnErr result (memory_story self.new
-            ≡ write_failed which at (length bytes.now) (memory_story self.old)) }
+            ≡ after_write false which at bytes.now (memory_story self.old)) }
         ensures cause { FailsByCause result self.old self.new }
         ensures clean { FailsCleanly result self.old self.new }
         ensures counted { CountsCall result (memory_counts self.old) (memory_counts self.new) }
@@ -172,7 +173,8 @@ impl Disk for Memory {
         ensures shortened { Shortened which len result (memory_story self.old)
             (memory_story self.new) }
         ensures begun { last_growth_was_refused self.new ≡ false
-            → OnErr result (memory_story self.new ≡ cut_failed which len (memory_story self.old)) }
+            → OnErr result (memory_story self.new
+            ≡ after_cut false which len (memory_story self.old)) }
         ensures cause { FailsByCause result self.old self.new }
         ensures clean { FailsCleanly result self.old self.new }
         ensures counted { CountsCall result (memory_counts self.old) (memory_counts self.new) }

@@ -21,7 +21,7 @@ pub(crate) struct MemoryFile {
 }
 
 impl MemoryFile {
-    ghost use Rattle.fit_disk.specs.MemoryFile.{IsHalf, HasRoom};
+    ghost use Rattle.fit_disk.specs.MemoryFile.{IsHalf, FileHasRoom};
 
     pub(crate) fn new(alloc: Global) -> MemoryFile
         ensures { IsHalf result (at_rest []) }
@@ -43,7 +43,7 @@ impl MemoryFile {
     // Takes the memory that a write up to this end and a later power cut need.
     pub(crate) fn make_room(&mut self, end: usize) -> Result<(), AllocError>
         ensures same { (file : Stored) → IsHalf self.old file → IsHalf self.new file }
-        ensures ok { OnOk result (HasRoom self.new end) }
+        ensures ok { OnOk result (FileHasRoom self.new end) }
     {
         self.written.reserve(1)?;
         if end > self.seen.len() {
@@ -55,7 +55,7 @@ impl MemoryFile {
     // Begins a write, and does either all of it or nothing.
     pub(crate) fn begin_write(&mut self, at: usize, bytes: &[u8], is_done: bool)
         requires within { at ≤ vec_len self.old.seen }
-        requires room { HasRoom self.old (at + length bytes.now) }
+        requires room { FileHasRoom self.old (at + length bytes.now) }
         ensures begun { (file : Stored) → IsHalf self.old file → IsHalf self.new
             (write_begun at (length bytes.now) (if is_done then over at bytes.now file.seen
             else file.seen) file) }

@@ -3,6 +3,8 @@
 //! A disk whose files are not in memory that contracts can see keeps a `Notes`, and notes each call once it is done (`specs/Noted`).
 #![tactic(auto)]
 
+mod note;
 mod notes;
 
+pub use note::Note;
 pub use notes::Notes;

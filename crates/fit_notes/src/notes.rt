@@ -4,8 +4,9 @@ ghost use Rattle.std.specs.Prelude.{◌≡◌};
 ghost use Rattle.std.specs.Borrow.{ftrue};
 ghost use Rattle.fit_disk.specs.Story.{Story};
 ghost use Rattle.fit_disk.specs.Events.{fresh};
-ghost use Rattle.fit_notes.specs.Noted.{noted_by, since_by};
+ghost use Rattle.fit_notes.specs.Noted.{noted, marked};
 
+use crate::Note;
 use std::marker::Model;
 
 /// The story of two files, and what it was at the last mark. Both are ghost data, so it takes one byte of memory, which C may
@@ -45,9 +46,9 @@ impl Notes {
         Notes { marker: 0 }
     }
 
-    /// Notes what a call did. The numbers are its kind, the number of the file, and a place or a length.
-    pub fn note(&mut self, _numbers: &[u64], _bytes: &[u8])
-        ensures { (self.new.story ≡ noted_by _numbers.now _bytes.now self.old.story)
-            × (self.new.since ≡ since_by _numbers.now self.old.story self.old.since) }
+    /// Notes what a call with these bytes did.
+    pub fn note(&mut self, _note: &Note, _bytes: &[u8])
+        ensures { (self.new.story ≡ noted _note.now _bytes.now self.old.story)
+            × (self.new.since ≡ marked _note.now self.old.story self.old.since) }
     {}
 }

@@ -8,11 +8,11 @@ use Rattle.fit_disk.specs.Story.{Story}
 use Rattle.fit_notes.proofs.Numbers.{same_story}
 use Rattle.fit_notes.specs.Numbers.{numbers_of}
 use Rattle.fit_plan.specs.Lent.{lent_counts, lent_since, lent_story, lent_log, bit_of, IsLentWhole}
-use Rattle.fit_plan.specs.Part.{BeginsWith}
+use Rattle.fit_plan.specs.Part.{HasFront}
 use Rattle.fit_plan.specs.declared.journal.LentJournal.{LentJournal}
 
 -- a read of the front that has all that the file gives is a read of the file
-reads_front : (seen front buffer : List ℕ) (at room count : ℕ) (is_whole : Bool) → BeginsWith seen front is_whole
+reads_front : (seen front buffer : List ℕ) (at room count : ℕ) (is_whole : Bool) → HasFront seen front is_whole
     → (is_whole ≡ false → at + room ≤ length front) → ReadsAt front at room buffer count → ReadsAt seen at room buffer count
 reads_front seen front buffer at room count true is enough reads =
     subst (λ bytes. ReadsAt bytes at room buffer count) (is.whole refl) reads
@@ -28,7 +28,7 @@ reads_front seen front buffer at room count false is enough reads =
           ∙ ap (take count) (drop-take at after seen) ∙ take-take count after (drop at seen) fits;
     }
 
-pub reads_file : (seen file front buffer : List ℕ) (at room count : ℕ) (is_whole : Bool) → file ≡ seen → BeginsWith file front is_whole
+pub reads_file : (seen file front buffer : List ℕ) (at room count : ℕ) (is_whole : Bool) → file ≡ seen → HasFront file front is_whole
     → (is_whole ≡ false → at + room ≤ length front) → ReadsAt front at room buffer count → ReadsAt seen at room buffer count
 reads_file seen file front buffer at room count is_whole same is enough reads =
     subst (λ bytes. ReadsAt bytes at room buffer count) same (reads_front file front buffer at room count is_whole is enough reads)

@@ -12,13 +12,13 @@ use Rattle.fit_disk.specs.Content.{over}
 use Rattle.fit_disk.specs.State.{State, Contents, BothLeft, LeavesOnly, with_file}
 use Rattle.fit_disk.specs.Stored.{Stored, Left, IsOutside, write_begun, cut_begun}
 use Rattle.fit_disk.specs.Story.{Story, Throughout}
-use Rattle.fit_notes.specs.Noted.{which_of, wrote, shortened}
+use Rattle.fit_disk.specs.Changes.{after_write, after_cut}
 use Rattle.fit_plan.specs.declared.calls.Call.{Call}
 use Rattle.fit_plan.specs.Between.{states_of, GoesOnTo, IsLeftBetween}
-use Rattle.fit_plan.specs.Carried.{carried}
+use Rattle.fit_plan.specs.Carried.{which_of, carried}
 use Rattle.fit_plan.specs.CutOff.{PartlyDone, IsCutOff, done_first}
 use Rattle.fit_plan.specs.Planned.{call_bytes, done_by}
-use Rattle.fit_plan.specs.Within.{IsWithin}
+use Rattle.fit_plan.specs.Within.{IsCallWithin}
 
 past_of : (is_write is_cut : Bool) (x y z : Story) (past : List State) → x.past ≡ past → y.past ≡ past → z.past ≡ past
     → (if is_write then x else if is_cut then y else z).past ≡ past
@@ -90,7 +90,7 @@ shortened_left : (len : ℕ) (now other : List ℕ) (file : Stored) (content : L
 shortened_left len now other file content left = record { no_shorter = left.no_shorter; no_longer = left.no_longer; same = left.same; bytes = left.bytes }
 
 wrote_left : (which : Which) (at count : ℕ) (bytes : List ℕ) (old new : Story) (contents : Contents) → length bytes ≡ count
-    → PartlyWrote which at count old new → BothLeft new.now contents → BothLeft (wrote which at bytes old).now contents
+    → PartlyWrote which at count old new → BothLeft new.now contents → BothLeft (after_write true which at bytes old).now contents
 wrote_left Data at count bytes old new contents same part left =
     let here : BothLeft (with_file Data (write_begun at count part.0 old.now.data_file) old.now) contents = subst (λ (story : Story). BothLeft story.now contents) part.2 left in
     record { data_left = written_left at count part.0 old.now.data_file bytes contents.in_data same here.data_left; journal_left = here.journal_left }
@@ -99,7 +99,7 @@ wrote_left Journal at count bytes old new contents same part left =
     record { data_left = here.data_left; journal_left = written_left at count part.0 old.now.journal_file bytes contents.in_journal same here.journal_left }
 
 cut_left : (which : Which) (len : ℕ) (old new : Story) (contents : Contents) → PartlyShortened which len old new → BothLeft new.now contents
-    → BothLeft (shortened which len old).now contents
+    → BothLeft (after_cut true which len old).now contents
 cut_left Data len old new contents part left =
     let here : BothLeft (with_file Data (cut_begun len part.0 old.now.data_file) old.now) contents = subst (λ (story : Story). BothLeft story.now contents) part.2 left in
     record { data_left = shortened_left len part.0 _ old.now.data_file contents.in_data here.data_left; journal_left = here.journal_left }
@@ -108,7 +108,7 @@ cut_left Journal len old new contents part left =
     record { data_left = here.data_left; journal_left = shortened_left len part.0 _ old.now.journal_file contents.in_journal here.journal_left }
 
 -- a host that is cut off leaves what may be left at some moment of all calls
-pub left_by_cut : (bytes : List ℕ) (calls : List Call) (old mid : Story) (contents : Contents) → All (IsWithin (length bytes)) calls → IsCutOff bytes calls old mid
+pub left_by_cut : (bytes : List ℕ) (calls : List Call) (old mid : Story) (contents : Contents) → All (IsCallWithin (length bytes)) calls → IsCutOff bytes calls old mid
     → BothLeft mid.now contents → IsLeftBetween old (fold (done_by bytes) old calls) contents
 left_by_cut bytes calls old mid contents within off left = by_end off.ends
   where
@@ -125,7 +125,7 @@ left_by_cut bytes calls old mid contents within off left = by_end off.ends
         → IsLeftBetween old (fold (done_by bytes) old calls) contents
     by_end (inl same) = at_first (subst (λ (story : Story). BothLeft story.now contents) same left)
     by_end (inr (call, rest, next, inl (kind, part))) =
-        let call_within : IsWithin (length bytes) call = All-head (IsWithin (length bytes)) call rest (subst (All (IsWithin (length bytes))) next (All-drop (IsWithin (length bytes)) off.count calls within)) in
+        let call_within : IsCallWithin (length bytes) call = All-head (IsCallWithin (length bytes)) call rest (subst (All (IsCallWithin (length bytes))) next (All-drop (IsCallWithin (length bytes)) off.count calls within)) in
         let all : length (call_bytes bytes call) ≡ call.count = omega (arith, call_within.within, length-take call.count (drop call.start bytes), length-drop call.start bytes) in
         at_next call rest next (rw kind (wrote_left (which_of call.file) call.at call.count (call_bytes bytes call) (done_first off.count bytes calls old) mid contents all part left))
     by_end (inr (call, rest, next, inr (inl (kind, part)))) = at_next call rest next (rw kind (cut_left (which_of call.file) call.at (done_first off.count bytes calls old) mid contents part left))

@@ -2,10 +2,9 @@
 use Rattle.std.specs.Prelude.{ℕ, ◌<◌, ◌≤◌, List, length, take, drop}
 use Rattle.std.specs.List.{fold, HoldsAt}
 use Rattle.fit_disk.specs.Story.{Story, seen_of}
-use Rattle.fit_notes.specs.Noted.{which_of}
 use Rattle.fit_plan.specs.declared.calls.Call.{Call}
 use Rattle.fit_plan.specs.declared.calls.Calls.{Calls}
-use Rattle.fit_plan.specs.Carried.{carried}
+use Rattle.fit_plan.specs.Carried.{which_of, carried}
 
 -- the bytes of a call among those of the plan
 abbrev pub call_bytes : List ℕ → Call → List ℕ

@@ -2,12 +2,11 @@
 
 ghost use Rattle.std.specs.Prelude.{◌≡◌, ◌+◌, ◌-◌, ◌<◌, ◌≤◌, [], length, IsErr, OnOk, OnErr, All};
 ghost use Rattle.fit_disk.specs.Story.{Story, seen_of};
-ghost use Rattle.fit_notes.specs.Noted.{which_of};
-ghost use Rattle.fit_plan.specs.Within.{IsWithin};
-ghost use Rattle.fit_plan.specs.Carried.{carried};
+ghost use Rattle.fit_plan.specs.Within.{IsCallWithin};
+ghost use Rattle.fit_plan.specs.Carried.{carried, number_of, write_kind, sync_kind};
 
 use arrayvec::ArrayVec;
-use fit_disk::DeviceError;
+use fit_disk::{DeviceError, Which};
 
 /// The most calls of a plan. No call of a recorder makes more.
 pub const MOST_CALLS: usize = 12;
@@ -35,7 +34,7 @@ pub struct Call {
 pub struct Calls {
     pub calls: ArrayVec<Call, MOST_CALLS>,
     pub bytes: ArrayVec<u8, MOST_BYTES>,
-    ghost within: { All (IsWithin (length bytes.items)) calls.items },
+    ghost within: { All (IsCallWithin (length bytes.items)) calls.items },
 }
 
 impl Calls {
@@ -57,15 +56,15 @@ impl Calls {
     pub(crate) fn add(
         &mut self,
         kind: u8,
-        file: u8,
+        which: Which,
         at: u64,
         bytes: &[u8],
     ) -> Result<(), DeviceError>
-        requires known { (1 ≤ kind) × (kind ≤ 3) × (file ≤ 1) }
+        requires known { (write_kind ≤ kind) × (kind ≤ sync_kind) }
         ensures ok { OnOk result ((since : Story) → planned self.new since
-            ≡ carried kind (which_of file) at bytes.now (planned self.old since)) }
+            ≡ carried kind which at bytes.now (planned self.old since)) }
         ensures inside { OnOk result ((since : Story) → AreInside self.old since
-            → at ≤ length (seen_of (which_of file) (planned self.old since))
+            → at ≤ length (seen_of which (planned self.old since))
             → AreInside self.new since) }
         ensures err { OnErr result (self.new ≡ self.old) }
         ensures added { OnOk result ((length self.new.calls.items ≡ length self.old.calls.items + 1)
@@ -76,6 +75,7 @@ impl Calls {
         if self.calls.is_full() {
             return Err(DeviceError);
         }
+        let file = number(which);
         let start = self.bytes.len();
         let Ok(()) = self.bytes.try_extend_from_slice(bytes) else {
             return Err(DeviceError);
@@ -88,5 +88,15 @@ impl Calls {
             file,
         });
         Ok(())
+    }
+}
+
+// The number of a file for a host.
+fn number(which: Which) -> u8
+    ensures { result ≡ number_of which }
+{
+    match which {
+        Which::Data => 0,
+        Which::Journal => 1,
     }
 }

@@ -7,11 +7,10 @@ ghost use Rattle.fit_disk.specs.Counts.{CountsCall, CountsRead, last_count, no_c
 ghost use Rattle.fit_disk.specs.Runs.{TakesRoom};
 ghost use Rattle.fit_disk.specs.Story.{seen_of};
 ghost use Rattle.fit_disk.specs.declared.disk.Which.TheVariants.{Data, Journal};
-ghost use Rattle.fit_plan.specs.Part.{BeginsWith};
+ghost use Rattle.fit_plan.specs.Part.{HasFront};
 
-use crate::plan::{MARK, SHORTENED, SYNCED, WRITTEN, number};
 use fit_disk::{CallCounts, DeviceError, Disk, Which, copy_from};
-use fit_notes::Notes;
+use fit_notes::{Note, Notes};
 
 /// Two files, of which the host lends the first bytes of the journal, and says how long the data file is. It is to be read, and not
 /// to be changed: a change is only noted, and reads after it fail.
@@ -28,7 +27,7 @@ pub struct LentJournal<'a> {
     ghost sound: { IsSound notes.story.now },
     ghost sized: { has_changed ≡ false → size ≡ length notes.story.now.data_file.seen },
     ghost front: { has_changed ≡ false
-        → BeginsWith notes.story.now.journal_file.seen bytes.now is_whole },
+        → HasFront notes.story.now.journal_file.seen bytes.now is_whole },
     ghost longer: { length notes.since.past ≤ length notes.story.past },
     ghost noted: { has_changed ≡ true → length notes.since.past < length notes.story.past },
     // A whole journal gives all reads until it is changed.
@@ -44,13 +43,13 @@ impl<'a> LentJournal<'a> {
     pub fn over(size: u64, mut notes: Notes, bytes: &'a [u8], is_whole: bool) -> LentJournal<'a>
         requires sound { IsSound notes.story.now }
         requires sized { size ≡ length notes.story.now.data_file.seen }
-        requires front { BeginsWith notes.story.now.journal_file.seen bytes.now is_whole }
+        requires front { HasFront notes.story.now.journal_file.seen bytes.now is_whole }
         ensures story { lent_story result ≡ notes.story }
         ensures since { lent_since result ≡ notes.story }
         ensures counts { lent_counts result ≡ no_calls }
         ensures whole { is_whole ≡ true → IsLentWhole result }
     {
-        notes.note(&[MARK, 0, 0], &[]);
+        notes.note(&Note::Mark, &[]);
         LentJournal {
             size,
             bytes,
@@ -157,8 +156,7 @@ impl Disk for LentJournal<'_> {
     {
         self.counts.call()?;
         self.has_changed = true;
-        self.notes
-            .note(&[WRITTEN, u64::from(number(which)), at], bytes);
+        self.notes.note(&Note::Written(which, at), bytes);
         Ok(())
     }
 
@@ -172,8 +170,7 @@ impl Disk for LentJournal<'_> {
     {
         self.counts.call()?;
         self.has_changed = true;
-        self.notes
-            .note(&[SHORTENED, u64::from(number(which)), len], &[]);
+        self.notes.note(&Note::Cut(which, len), &[]);
         Ok(())
     }
 
@@ -185,7 +182,7 @@ impl Disk for LentJournal<'_> {
         ensures room { TakesRoom 1 0 (IsErr result) (lent_log self.old) (lent_log self.new) }
     {
         self.counts.call()?;
-        self.notes.note(&[SYNCED, u64::from(number(which)), 0], &[]);
+        self.notes.note(&Note::Synced(which), &[]);
         Ok(())
     }
 }

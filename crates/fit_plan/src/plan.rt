@@ -7,28 +7,18 @@ ghost use Rattle.fit_disk.specs.Counts.{CountsCall, CountsRead, no_calls, with_r
 ghost use Rattle.fit_disk.specs.Runs.{TakesRoom};
 ghost use Rattle.fit_disk.specs.Story.{seen_of};
 ghost use Rattle.fit_disk.specs.declared.disk.Which.TheVariants.{Data};
-ghost use Rattle.fit_notes.specs.Noted.{number_of};
 ghost use Rattle.fit_plan.specs.Planned.{planned, AreInside};
 
 use crate::calls::Calls;
 use fit_disk::{CallCounts, DeviceError, Disk, Which};
-use fit_notes::Notes;
+use fit_notes::{Note, Notes};
 
-// The kinds of calls.
+// The kinds of calls for a host.
 const WRITE: u8 = 1;
 
 const CUT: u8 = 2;
 
 const SYNC: u8 = 3;
-
-// The kinds of notes.
-pub(crate) const WRITTEN: u64 = 1;
-
-pub(crate) const SHORTENED: u64 = 3;
-
-pub(crate) const SYNCED: u64 = 4;
-
-pub(crate) const MARK: u64 = 5;
 
 /// Two files that are elsewhere, and the calls that a host is to carry out on them.
 #[derive(Drop)]
@@ -56,7 +46,7 @@ impl Plan {
         ensures counts { plan_counts result ≡ no_calls }
         ensures room { room_in result ≡ whole_room }
     {
-        notes.note(&[MARK, 0, 0], &[]);
+        notes.note(&Note::Mark, &[]);
         Plan {
             calls: Calls::new(),
             size,
@@ -88,16 +78,6 @@ impl Plan {
     {
         self.counts.fail();
         Err(DeviceError)
-    }
-}
-
-// The number of a file.
-pub(crate) fn number(which: Which) -> u8
-    ensures { result ≡ number_of which }
-{
-    match which {
-        Which::Data => 0,
-        Which::Journal => 1,
     }
 }
 
@@ -154,18 +134,17 @@ impl Disk for Plan {
             (plan_log self.old) (plan_log self.new) }
     {
         self.counts.call()?;
-        let file = number(which);
         let Some(end) = at.checked_add(bytes.len() as u64) else {
             return self.failed();
         };
-        let Ok(()) = self.calls.add(WRITE, file, at, bytes) else {
+        let Ok(()) = self.calls.add(WRITE, which, at, bytes) else {
             return self.failed();
         };
         self.size = match which {
             Which::Data => self.size.max(end),
             Which::Journal => self.size,
         };
-        self.notes.note(&[WRITTEN, u64::from(file), at], bytes);
+        self.notes.note(&Note::Written(which, at), bytes);
         Ok(())
     }
 
@@ -178,15 +157,14 @@ impl Disk for Plan {
         ensures room { TakesRoom 1 0 (IsErr result) (plan_log self.old) (plan_log self.new) }
     {
         self.counts.call()?;
-        let file = number(which);
-        let Ok(()) = self.calls.add(CUT, file, len, &[]) else {
+        let Ok(()) = self.calls.add(CUT, which, len, &[]) else {
             return self.failed();
         };
         self.size = match which {
             Which::Data => len,
             Which::Journal => self.size,
         };
-        self.notes.note(&[SHORTENED, u64::from(file), len], &[]);
+        self.notes.note(&Note::Cut(which, len), &[]);
         Ok(())
     }
 
@@ -198,11 +176,10 @@ impl Disk for Plan {
         ensures room { TakesRoom 1 0 (IsErr result) (plan_log self.old) (plan_log self.new) }
     {
         self.counts.call()?;
-        let file = number(which);
-        let Ok(()) = self.calls.add(SYNC, file, 0, &[]) else {
+        let Ok(()) = self.calls.add(SYNC, which, 0, &[]) else {
             return self.failed();
         };
-        self.notes.note(&[SYNCED, u64::from(file), 0], &[]);
+        self.notes.note(&Note::Synced(which), &[]);
         Ok(())
     }
 }

@@ -3,7 +3,7 @@
 ghost use Rattle.std.specs.Prelude.{◌≡◌, ◌↔◌, true, false, IsTrue, List, map, take};
 ghost use Rattle.arrayvec.specs.ArrayVec.{ArrayVec as AnyArrayVec};
 ghost use Rattle.fit_recorder.specs.Calls.Recorder.{IsIdle, state_of, has_failed, disk_of};
-ghost use Rattle.fit_recorder.specs.Calls.Frozen.{definition_bytes_in, definitions_in, state_in, has_failed_in, IsPossible};
+ghost use Rattle.fit_recorder.specs.Calls.Frozen.{definition_bytes_in, definitions_in, state_in, has_failed_in, IsPossibleRecorder};
 
 use crate::limits::{LONGEST_ITEM, PAGE};
 use crate::recorder::Recorder;
@@ -81,7 +81,7 @@ impl<D: Disk> Recorder<D> {
     pub fn freeze(&self, numbers: &mut FrozenRecorder)
         ensures state { state_in numbers.new ≡ state_of self.now }
         ensures failed { has_failed_in numbers.new ≡ has_failed self.now }
-        ensures possible { IsPossible numbers.new }
+        ensures possible { IsPossibleRecorder numbers.new }
     {
         numbers.totals = self.totals.freeze();
         numbers.journal = self.files.journal.freeze();
@@ -96,7 +96,7 @@ impl<D: Disk> Recorder<D> {
     /// Makes this the recorder with these numbers, and keeps its disk. If no recorder has such numbers, it reports `false` and
     /// changes nothing.
     pub fn thaw(&mut self, numbers: &FrozenRecorder) -> bool
-        ensures possible { IsTrue result ↔ IsPossible numbers.now }
+        ensures possible { IsTrue result ↔ IsPossibleRecorder numbers.now }
         ensures state { result ≡ true → state_of self.new ≡ state_in numbers.now }
         ensures failed { result ≡ true → has_failed self.new ≡ has_failed_in numbers.now }
         ensures disk { disk_of self.new ≡ disk_of self.old }

@@ -7,7 +7,7 @@ use Rattle.fit_base.specs.declared.base.BaseType.TheVariants.{Enum, Uint32}
 use Rattle.fit_grammar.specs.Format.Message.{Message}
 use Rattle.fit_activity.specs.declared.activity.seen.Seen.{Seen}
 use Rattle.fit_activity.specs.declared.activity.seen.SessionValues.{SessionValues}
-use Rattle.fit_activity.specs.Files.Activity.{has_global, value_of, begins_with_file_id, is_activity_file, is_four, messages_counted}
+use Rattle.fit_activity.specs.Files.Activity.{has_global, value_of, begins_with_file_id, is_activity_file, is_activity_type, messages_counted}
 use Rattle.fit_activity.specs.Private.Seen.{session_values, is_some_message, seen_in_messages, seen_with}
 
 -- the first message that passes a test
@@ -47,7 +47,7 @@ begins-push [] m = refl
 begins-push (x ∷ messages) m = refl
 
 activity-push : (messages : List Message) (m : Message)
-    → cond (is_some_message messages) (is_activity_file messages) (is_four (value_of Enum 0 m)) ≡ is_activity_file (messages ++ m ∷ [])
+    → cond (is_some_message messages) (is_activity_file messages) (is_activity_type (value_of Enum 0 m)) ≡ is_activity_file (messages ++ m ∷ [])
 activity-push [] m = refl
 activity-push (x ∷ messages) m = refl
 
@@ -75,7 +75,7 @@ pub seen-push : (messages : List Message) (m : Message) → seen_with (seen_in_m
 seen-push messages m =
     let all = messages ++ m ∷ [] in
     let f = cond (is_some_message messages) (begins_with_file_id messages) (has_global 0 m) in
-    let a = cond (is_some_message messages) (is_activity_file messages) (is_four (value_of Enum 0 m)) in
+    let a = cond (is_some_message messages) (is_activity_file messages) (is_activity_type (value_of Enum 0 m)) in
     let r = messages_counted 20 messages + cond (m.global == 20) 1 0 in
     let l = messages_counted 19 messages + cond (m.global == 19) 1 0 in
     let s = messages_counted 18 messages + cond (m.global == 18) 1 0 in

@@ -19,7 +19,7 @@ use Rattle.fit_activity.specs.Rides.Timer.{switch_of, runs_now, timer}
 use Rattle.fit_activity.specs.Rides.Stretch.{greater_of, distance_of, heart_rate_of, speed_of, power_of, known_distance, end_time, begins_stretch, begin_of, open_stretch, before_open, greatest}
 use Rattle.fit_activity.specs.Rides.Refusal.{start_refusal, has_stopped, Allowed}
 use Rattle.fit_activity.specs.Rides.RunningTotals.{TotalsState, KeepsTime, AreBy, IsClock, IsTally, AreSums, AreTotals}
-use Rattle.fit_activity.specs.Private.Step.{clock_until, clock_switched, clock_lapped, more_seconds, no_tally, HasRoom, SumsHaveRoom, tally_with, sums_at, sums_with, totals_at, totals_after, refusal_by}
+use Rattle.fit_activity.specs.Private.Step.{clock_until, clock_switched, clock_lapped, more_seconds, no_tally, TallyHasRoom, SumsHaveRoom, tally_with, sums_at, sums_with, totals_at, totals_after, refusal_by}
 use Rattle.fit_activity.proofs.RunningTotals.Pushed.{last_given-push, All-push, after_last-push, before_last-push, filter_map-push, filter_map-none, length-filter_map-le, greatest-push, greatest-with, sum-bounded}
 use Rattle.fit_activity.proofs.RunningTotals.Timing.{AreBy-later, timer-push, timer-empty}
 use Rattle.fit_activity.proofs.RunningTotals.Judged.{allowed-push, refusal-kept, passes}
@@ -111,7 +111,7 @@ open-begun distance list r begins is =
     (subst (λ xs. AreSums (sums_at distance) list xs) (sym inside) empty)
 
 -- the sums of fewer than 2^32 entries have room for one more
-tally-room : (tally : Tally) (bound : ℕ) (values : List ℕ) → bound * length values < 2 ^ 60 → length values < 2 ^ 60 → IsTally tally bound values → HasRoom tally
+tally-room : (tally : Tally) (bound : ℕ) (values : List ℕ) → bound * length values < 2 ^ 60 → length values < 2 ^ 60 → IsTally tally bound values → TallyHasRoom tally
 tally-room tally bound values small few is =
     let sum = sum-bounded bound values is.bounded in record {
       total = omega (arith, is.total, sum, small);

@@ -4,6 +4,7 @@ use Rattle.fit_base.specs.declared.base.BaseType.{BaseType}
 use Rattle.fit_base.specs.declared.base.BaseType.TheVariants.{Enum, Uint32}
 use Rattle.fit_base.specs.Base.{row_of}
 use Rattle.fit_grammar.specs.Format.Message.{Message, MessageField}
+use Rattle.fit_activity.specs.Messages.Numbers.{activity_file_type, activity_global, file_id_global, lap_global, record_global, session_global}
 use Rattle.fit_activity.specs.Messages.ProfileField.{one_of}
 use Rattle.fit_activity.specs.declared.activity.Summary.{Summary}
 use Rattle.fit_activity.specs.declared.activity.ActivityFault.{ActivityFault}
@@ -28,16 +29,16 @@ value_of base number m =
 -- the first message is a file_id
 abbrev pub begins_with_file_id : List Message → Bool
 begins_with_file_id [] = false
-begins_with_file_id (m ∷ messages) = has_global 0 m
+begins_with_file_id (m ∷ messages) = has_global file_id_global m
 
--- the value is 4, the file type of an activity
-abbrev pub is_four : Option ℕ → Bool
-is_four (Some value) = value == 4
-is_four None = false
+-- the value is the type of an activity
+abbrev pub is_activity_type : Option ℕ → Bool
+is_activity_type (Some value) = value == activity_file_type
+is_activity_type None = false
 
 abbrev pub is_activity_file : List Message → Bool
 is_activity_file [] = false
-is_activity_file (m ∷ messages) = is_four (value_of Enum 0 m)
+is_activity_file (m ∷ messages) = is_activity_type (value_of Enum 0 m)
 
 -- how many messages have this global number
 abbrev pub messages_counted : ℕ → List Message → ℕ
@@ -46,14 +47,14 @@ messages_counted global messages = count_by (has_global global) messages
 -- a value of the first session
 abbrev pub session_value : ℕ → List Message → Option ℕ
 session_value number messages =
-    option_and_then (value_of Uint32 number) (find (has_global 18) messages)
+    option_and_then (value_of Uint32 number) (find (has_global session_global) messages)
 
 abbrev pub summary_of : List Message → Summary
 summary_of messages =
     record {
-      records = messages_counted 20 messages;
-      laps = messages_counted 19 messages;
-      sessions = messages_counted 18 messages;
+      records = messages_counted record_global messages;
+      laps = messages_counted lap_global messages;
+      sessions = messages_counted session_global messages;
       start = session_value 2 messages;
       elapsed_ms = session_value 7 messages;
       timer_ms = session_value 8 messages;
@@ -65,9 +66,9 @@ abbrev pub activity_in : List Message → Result Summary ActivityFault
 activity_in messages =
     if not (begins_with_file_id messages) then Err NoFileId
     else if not (is_activity_file messages) then Err NotActivity
-    else if messages_counted 19 messages == 0 then Err NoLap
-    else if messages_counted 18 messages == 0 then Err NoSession
-    else if messages_counted 34 messages == 0 then Err NoActivity
+    else if messages_counted lap_global messages == 0 then Err NoLap
+    else if messages_counted session_global messages == 0 then Err NoSession
+    else if messages_counted activity_global messages == 0 then Err NoActivity
     else Ok (summary_of messages)
 
 -- the number of a fault

@@ -2,12 +2,13 @@
 use Rattle.std.specs.Prelude.{ℕ, ◌+◌, Bool, true, false, List, [], ◌∷◌, Result, Ok, Err, not, ◌==◌, ◌&&◌, if◌then◌else◌}
 use Rattle.fit_base.specs.declared.base.BaseType.TheVariants.{Enum, Uint32}
 use Rattle.fit_grammar.specs.Format.Message.{Message}
+use Rattle.fit_activity.specs.Messages.Numbers.{activity_global, file_id_global, lap_global, record_global, session_global}
 use Rattle.fit_activity.specs.declared.activity.Summary.{Summary}
 use Rattle.fit_activity.specs.declared.activity.ActivityFault.{ActivityFault}
 use Rattle.fit_activity.specs.declared.activity.ActivityFault.TheVariants.{NoFileId, NotActivity, NoLap, NoSession, NoActivity}
 use Rattle.fit_activity.specs.declared.activity.seen.Seen.{Seen}
 use Rattle.fit_activity.specs.declared.activity.seen.SessionValues.{SessionValues}
-use Rattle.fit_activity.specs.Files.Activity.{has_global, is_four, value_of, begins_with_file_id, is_activity_file, messages_counted, session_value}
+use Rattle.fit_activity.specs.Files.Activity.{has_global, is_activity_type, value_of, begins_with_file_id, is_activity_file, messages_counted, session_value}
 
 -- the values of a session that go into a summary
 abbrev pub session_values : Message → SessionValues
@@ -40,10 +41,10 @@ seen_in_messages messages =
       begun = is_some_message messages;
       file_id = begins_with_file_id messages;
       activity_file = is_activity_file messages;
-      records = messages_counted 20 messages;
-      laps = messages_counted 19 messages;
-      sessions = messages_counted 18 messages;
-      activities = messages_counted 34 messages;
+      records = messages_counted record_global messages;
+      laps = messages_counted lap_global messages;
+      sessions = messages_counted session_global messages;
+      activities = messages_counted activity_global messages;
       session = first_session_values messages;
     }
 
@@ -52,24 +53,26 @@ abbrev pub first_seen : Seen → Message → Seen
 first_seen seen m =
     record seen {
       begun = true;
-      file_id = if seen.begun then seen.file_id else has_global 0 m;
-      activity_file = if seen.begun then seen.activity_file else is_four (value_of Enum 0 m);
+      file_id = if seen.begun then seen.file_id else has_global file_id_global m;
+      activity_file =
+          if seen.begun then seen.activity_file else is_activity_type (value_of Enum 0 m);
     }
 
 abbrev pub session_seen : Seen → Message → Seen
 session_seen seen m =
     record seen {
       session =
-          if (seen.sessions == 0) && has_global 18 m then session_values m else seen.session;
+          if (seen.sessions == 0) && has_global session_global m
+          then session_values m else seen.session;
     }
 
 abbrev pub counted : Seen → ℕ → Seen
 counted seen global =
     record seen {
-      records = seen.records + (if global == 20 then 1 else 0);
-      laps = seen.laps + (if global == 19 then 1 else 0);
-      sessions = seen.sessions + (if global == 18 then 1 else 0);
-      activities = seen.activities + (if global == 34 then 1 else 0);
+      records = seen.records + (if global == record_global then 1 else 0);
+      laps = seen.laps + (if global == lap_global then 1 else 0);
+      sessions = seen.sessions + (if global == session_global then 1 else 0);
+      activities = seen.activities + (if global == activity_global then 1 else 0);
     }
 
 abbrev pub seen_with : Seen → Message → Seen

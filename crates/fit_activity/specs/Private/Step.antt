@@ -90,13 +90,13 @@ sums_with sums s =
     }
 
 -- the sums can take one more value
-pub record HasRoom (tally : Tally) : Type 0 where
+pub record TallyHasRoom (tally : Tally) : Type 0 where
   pub total : tally.total < 2 ^ 60
   pub count : tally.count < 2 ^ 60
 
 pub record SumsHaveRoom (sums : Sums) : Type 0 where
-  pub heart_rate : HasRoom sums.heart_rate
-  pub power : HasRoom sums.power
+  pub heart_rate : TallyHasRoom sums.heart_rate
+  pub power : TallyHasRoom sums.power
 
 -- the stretch with these sums and times, and the distance known at its end
 abbrev pub stretch_by : Sums → ℕ → ℕ → ℕ → Option ℕ → Stretch

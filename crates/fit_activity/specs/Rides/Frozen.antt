@@ -57,6 +57,6 @@ totals_in f = record {
 }
 
 -- running totals may have these numbers
-pub record ArePossible (f : FrozenTotals) : Type 0 where
+pub record ArePossibleTotals (f : FrozenTotals) : Type 0 where
   pub clock : KeepsTime (clock_in f.clock)
   pub laps : f.laps ≤ 999

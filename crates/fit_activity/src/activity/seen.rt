@@ -5,6 +5,7 @@ ghost use Rattle.fit_activity.specs.Private.Seen.{session_values as values_of_se
 
 use crate::activity::field_value::{uint32_of, value_of};
 use crate::activity::{ActivityFault, Summary};
+use crate::speaking::numbers::{ACTIVITY, ACTIVITY_FILE, FILE_ID, LAP, RECORD, SESSION};
 use fit_base::BaseType;
 use fit_grammar::Message;
 
@@ -75,8 +76,9 @@ impl Seen {
     {
         if !self.begun {
             self.begun = true;
-            self.file_id = message.global() == 0;
-            self.activity_file = value_of(message, 0, BaseType::Enum) == Some(4);
+            self.file_id = message.global() == FILE_ID;
+            self.activity_file = value_of(message, 0, BaseType::Enum)
+                == Some(u64::from(ACTIVITY_FILE));
         }
     }
 
@@ -84,7 +86,7 @@ impl Seen {
     fn see_session(&mut self, message: &Message)
         ensures { self.new ≡ session_seen self.old message.now.message }
     {
-        if self.sessions == 0 && message.global() == 18 {
+        if self.sessions == 0 && message.global() == SESSION {
             self.session = session_values(message);
         }
     }
@@ -98,10 +100,10 @@ impl Seen {
         ensures { self.new ≡ counted self.old global }
     {
         match global {
-            18 => self.sessions += 1,
-            19 => self.laps += 1,
-            20 => self.records += 1,
-            34 => self.activities += 1,
+            SESSION => self.sessions += 1,
+            LAP => self.laps += 1,
+            RECORD => self.records += 1,
+            ACTIVITY => self.activities += 1,
             _ => {}
         }
     }

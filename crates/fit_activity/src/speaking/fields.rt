@@ -6,6 +6,7 @@ ghost use Rattle.fit_activity.specs.Messages.ProfileField.{ProfileFieldFits};
 ghost use Rattle.fit_activity.specs.Messages.ProfileMessage.{file_id_message, sport_message, event_message, lap_message, session_message, activity_message};
 
 use crate::recording::start::Sport;
+use crate::speaking::numbers::{ACTIVITY_FILE, MESSAGE_INDEX, TIMESTAMP};
 use crate::speaking::profile_field::ProfileField;
 use crate::totals::summary::{ActivitySummary, LapSummary, SessionSummary};
 
@@ -14,7 +15,7 @@ pub(crate) fn file_id_fields(time: u32, serial: u32) -> [ProfileField; 5]
     ensures fit { AllByRecursion ProfileFieldFits result }
 {
     [
-        ProfileField::enumeration(0, 4),
+        ProfileField::enumeration(0, ACTIVITY_FILE),
         ProfileField::uint16(1, 255),
         ProfileField::uint16(2, 1),
         ProfileField::uint32z(3, serial),
@@ -38,7 +39,7 @@ pub(crate) fn event_fields(time: u32, event_type: u8) -> [ProfileField; 3]
     ensures fit { AllByRecursion ProfileFieldFits result }
 {
     [
-        ProfileField::uint32(253, time),
+        ProfileField::uint32(TIMESTAMP, time),
         ProfileField::enumeration(0, 0),
         ProfileField::enumeration(1, event_type),
     ]
@@ -50,8 +51,8 @@ pub(crate) fn lap_fields(lap: &LapSummary, trigger: u8) -> [ProfileField; 15]
 {
     let stretch = &lap.stretch;
     [
-        ProfileField::uint16(254, lap.index),
-        ProfileField::uint32(253, stretch.end),
+        ProfileField::uint16(MESSAGE_INDEX, lap.index),
+        ProfileField::uint32(TIMESTAMP, stretch.end),
         ProfileField::enumeration(0, 9),
         ProfileField::enumeration(1, 1),
         ProfileField::uint32(2, stretch.start),
@@ -74,8 +75,8 @@ pub(crate) fn session_fields(session: &SessionSummary) -> [ProfileField; 19]
 {
     let stretch = &session.stretch;
     [
-        ProfileField::uint16(254, 0),
-        ProfileField::uint32(253, stretch.end),
+        ProfileField::uint16(MESSAGE_INDEX, 0),
+        ProfileField::uint32(TIMESTAMP, stretch.end),
         ProfileField::enumeration(0, 8),
         ProfileField::enumeration(1, 1),
         ProfileField::uint32(2, stretch.start),
@@ -101,7 +102,7 @@ pub(crate) fn activity_fields(activity: ActivitySummary) -> [ProfileField; 6]
     ensures fit { AllByRecursion ProfileFieldFits result }
 {
     [
-        ProfileField::uint32(253, activity.time),
+        ProfileField::uint32(TIMESTAMP, activity.time),
         ProfileField::uint32(0, activity.timer),
         ProfileField::uint16(1, 1),
         ProfileField::enumeration(2, 0),

@@ -6,8 +6,10 @@ ghost use Rattle.fit_base.specs.declared.base.BaseType.TheVariants as types;
 ghost use Rattle.fit_grammar.specs.Format.Item.{Defines, item_size};
 ghost use Rattle.fit_grammar.specs.Format.Encoding.{encoded_item};
 ghost use Rattle.fit_grammar.specs.Calls.Possible.{DefinitionFits};
+ghost use Rattle.fit_activity.specs.Messages.Numbers.{record_global, timestamp_field};
 ghost use Rattle.fit_activity.specs.Messages.ProfileField.{profile_field, field_definition, field_content, content_length, present, ProfileFieldFits, OptionFits};
 
+use crate::speaking::numbers::{RECORD, TIMESTAMP};
 use crate::speaking::profile_field::ProfileField;
 use arrayvec::ArrayVec;
 use fit_base::Arch;
@@ -194,13 +196,13 @@ impl SpokenMessage {
             ≡ spelled
             (record {
               local = 0;
-              global = 20;
-              fields = profile_field 253 types.Uint32 time
+              global = record_global;
+              fields = profile_field timestamp_field types.Uint32 time
                   ∷ present fields.now;
             }) }
     {
-        self.begin(0, 20);
-        self.put(&ProfileField::uint32(253, time));
+        self.begin(0, RECORD);
+        self.put(&ProfileField::uint32(TIMESTAMP, time));
         self.put_present(fields);
     }
 
@@ -210,9 +212,10 @@ impl SpokenMessage {
         requires few { length fields.now ≤ 14 }
         requires short { content_length (present fields.now) ≤ 37 }
         ensures { self.new
-            ≡ spelled (record { local = 0; global = 20; fields = present fields.now }) }
+            ≡ spelled
+            (record { local = 0; global = record_global; fields = present fields.now }) }
     {
-        self.begin(0, 20);
+        self.begin(0, RECORD);
         self.put_present(fields);
     }
 }
@@ -270,12 +273,12 @@ impl Speech {
             ++ spelled
             (record {
               local = 0;
-              global = 20;
-              fields = profile_field 253 types.Uint32 time
+              global = record_global;
+              fields = profile_field timestamp_field types.Uint32 time
                   ∷ present fields.now;
             }) ∷ [] }
         // This follows from its type.
-        ensures fits { ProfileFieldFits (profile_field 253 types.Uint32 time) }
+        ensures fits { ProfileFieldFits (profile_field timestamp_field types.Uint32 time) }
     {
         self.slots[self.count].spell_record(time, fields);
         self.count += 1;
@@ -288,7 +291,8 @@ impl Speech {
         requires few { length fields.now ≤ 14 }
         requires short { content_length (present fields.now) ≤ 37 }
         ensures { self.new ≡ self.old
-            ++ spelled (record { local = 0; global = 20; fields = present fields.now }) ∷ [] }
+            ++ spelled
+            (record { local = 0; global = record_global; fields = present fields.now }) ∷ [] }
     {
         self.slots[self.count].spell_untimed(fields);
         self.count += 1;

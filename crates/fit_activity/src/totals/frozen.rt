@@ -1,7 +1,7 @@
 // Running totals as plain numbers, which C can keep.
 
 ghost use Rattle.std.specs.Prelude.{◌≡◌, ◌↔◌, IsTrue, IfSome, IsSome};
-ghost use Rattle.fit_activity.specs.Rides.Frozen.{if_set, sport_in, tally_in, sums_in, clock_in, totals_in, ArePossible};
+ghost use Rattle.fit_activity.specs.Rides.Frozen.{if_set, sport_in, tally_in, sums_in, clock_in, totals_in, ArePossibleTotals};
 ghost use Rattle.fit_activity.specs.Rides.RunningTotals.{KeepsTime};
 
 use crate::recording::start::{Sport, Start};
@@ -63,7 +63,7 @@ impl Totals {
     /// The totals as plain numbers.
     pub fn freeze(&self) -> FrozenTotals
         ensures numbers { totals_in result ≡ self.now }
-        ensures possible { ArePossible result }
+        ensures possible { ArePossibleTotals result }
     {
         FrozenTotals {
             whole: frozen_sums(&self.whole),
@@ -82,7 +82,7 @@ impl Totals {
     /// The totals with these numbers, or `None` if no totals have them.
     pub fn thaw(numbers: &FrozenTotals) -> Option<Totals>
         ensures some { IfSome result (λ totals. totals ≡ totals_in numbers.now) }
-        ensures possible { IsSome result ↔ ArePossible numbers.now }
+        ensures possible { IsSome result ↔ ArePossibleTotals numbers.now }
     {
         let clock = thawed_clock(&numbers.clock);
         if !keeps_time(&clock) || numbers.laps > 999 {

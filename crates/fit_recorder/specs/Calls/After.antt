@@ -1,5 +1,5 @@
 -- What holds after a call of a recorder, of the recorder before and after it.
-use Rattle.std.specs.Prelude.{◌≡◌, ◌⊎◌, ℕ, ◌+◌, ◌<◌, ◌≤◌, Bool, true, false, IsTrue, List, [], ◌∷◌, ◌++◌, take, None, Result, OnOk, IfErr, IsErrOf}
+use Rattle.std.specs.Prelude.{◌≡◌, ◌⊎◌, ℕ, ◌+◌, ◌<◌, ◌≤◌, Bool, true, false, IsTrue, List, [], ◌∷◌, ◌++◌, take, None, Result, OnOk, OnErr, IfErr, IsErrOf}
 use Rattle.fit_activity.specs.declared.recording.entry.Entry.{Entry}
 use Rattle.fit_activity.specs.Rides.Recording.{Recorded, Added}
 use Rattle.fit_disk.specs.declared.disk.Which.TheVariants.{Data}
@@ -76,6 +76,13 @@ module _ {D : Type 0} where
   abbrev pub MakesCalls : (D → Log) → ℕ → ℕ → Type 0 → Recorder D → Recorder D → Type 0
   MakesCalls log most bytes Reported old new =
       MakesWithin most bytes Reported (log (disk_of old)) (log (disk_of new))
+
+  -- a recorder fails by its device alone, and notes it
+  pub record FailsByDevice (result : Result (Unit {0}) RecFault)
+      (old new : Recorder D) : Type 0 where
+    pub fault : IfErr result (λ fault. fault ≡ Device)
+    pub going : OnOk result (has_failed new ≡ has_failed old)
+    pub gone : OnErr result (has_failed new ≡ true)
 
   -- Bytes that fit into the page after those that wait there make no call. Else one call writes the page, and only they wait.
   pub record FillsPage (log : D → Log) (bytes : ℕ) (old new : Recorder D) : Type 0 where

@@ -1,7 +1,7 @@
 -- The recorder that frozen numbers stand for. A flag is set where it is 1.
 use Rattle.std.specs.Prelude.{◌≡◌, ◌⊎◌, ℕ, ◌≤◌, ◌==◌, Bool, true, List, map, take}
 use Rattle.arrayvec.specs.ArrayVec.{ArrayVec}
-use Rattle.fit_activity.specs.Rides.Frozen.{totals_in, ArePossible}
+use Rattle.fit_activity.specs.Rides.Frozen.{totals_in, ArePossibleTotals}
 use Rattle.fit_activity.specs.Rides.Recording.{Recorded}
 use Rattle.fit_activity.specs.Rides.Refusal.{has_stopped}
 use Rattle.fit_activity.specs.Rides.RunningTotals.{AreTotals}
@@ -35,8 +35,8 @@ abbrev pub has_failed_in : FrozenRecorder → Bool
 has_failed_in f = f.failed == 1
 
 -- a recorder may have these numbers
-pub record IsPossible (f : FrozenRecorder) : Type 0 where
-  pub totals : ArePossible f.totals
+pub record IsPossibleRecorder (f : FrozenRecorder) : Type 0 where
+  pub totals : ArePossibleTotals f.totals
   pub journal : open_gates (slots_in f.journal) ≤ row_slots
 
 -- `StandsAt` of a recorder with these numbers over a disk with this story

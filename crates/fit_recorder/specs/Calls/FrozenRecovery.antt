@@ -18,7 +18,7 @@ use Rattle.fit_recorder.specs.Private.Length.{CommitsLength}
 use Rattle.fit_activity.specs.declared.replay.Replay.{Replay}
 use Rattle.fit_activity.specs.Messages.FrozenReplay.{replay_in, IsPossibleReplay}
 use Rattle.fit_grammar.specs.Calls.FrozenTable.{table_in, ArePossible}
-use Rattle.fit_recorder.specs.Private.BodyRead.{Reading, AreRead}
+use Rattle.fit_recorder.specs.Private.BodyRead.{Reading, AreItemsRead}
 use Rattle.fit_recorder.specs.declared.recovery.frozen.FrozenRecovery.{FrozenRecovery}
 
 abbrev pub reading_in : FrozenRecovery → Reading
@@ -38,7 +38,7 @@ abbrev pub journal_of : FrozenRecovery → Slots
 journal_of f = slots_in f.journal
 
 -- a recovery may have these numbers
-pub record IsPossible (f : FrozenRecovery) : Type 0 where
+pub record IsPossibleRecovery (f : FrozenRecovery) : Type 0 where
   pub within : f.at ≤ f.len
   pub definitions : ArePossible f.definitions
   pub heard : IsPossibleReplay f.heard
@@ -46,7 +46,7 @@ pub record IsPossible (f : FrozenRecovery) : Type 0 where
 
 -- the recovery with these numbers reads on over these files
 pub record ReadsOnIn (f : FrozenRecovery) (story : Story) : Type 0 where
-  pub possible : IsPossible f
+  pub possible : IsPossibleRecovery f
   pub messages : List Message
   pub heard : HasHeard (replay_of f) messages
   pub few : length messages ≤ f.at
@@ -55,5 +55,5 @@ pub record ReadsOnIn (f : FrozenRecovery) (story : Story) : Type 0 where
   pub committed : CommitsLength (seen_in story.now) f.len (checksum_in (journal_of f))
   pub adopted : Adopted (journal_of f) f.len story.now.journal_file.seen
   pub read : (body : List ℕ) → length body ≡ f.len → HasBody body (seen_of Data story)
-      → (items : List Item) × AreRead (reading_in f) body items
+      → (items : List Item) × AreItemsRead (reading_in f) body items
       × HasHeard (replay_of f) (messages_of items)

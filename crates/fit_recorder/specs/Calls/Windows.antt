@@ -24,7 +24,7 @@ CanReadOn recovery =
     HeardUpTo recovery.reader recovery.replay × (recovery.reader.len ≤ most_records)
 
 -- both files are at rest, so many bytes of the body are committed, the journal was adopted, and some items of the body were read
-pub record ReadsOn (story : Story) (recovery : Recovery) : Type 0 where
+pub record ReadsBodyOn (story : Story) (recovery : Recovery) : Type 0 where
   pub settled : IsSettled (seen_in story.now) story
   pub committed : CommitsLength (seen_in story.now) recovery.reader.len
       (checksum_in recovery.journal)
@@ -50,7 +50,7 @@ pub record HasMoved (given : ℕ) (old new : Recovery) : Type 0 where
 
 -- the outcome of a beginning: a body, of which no item was read, or what a recovery answers
 abbrev pub FindsBody : Story → Recovery → Result (Unit {0}) RecFault → Type 0
-FindsBody story recovery (Ok _) = ReadsOn story recovery
+FindsBody story recovery (Ok _) = ReadsBodyOn story recovery
 FindsBody story recovery (Err fault) = RecoveryAnswers (seen_in story.now) story (Err fault)
 
 -- The outcome of a step of a resume by windows: more bytes are wanted, and the recovery reads on; or the ride is taken up, or refused, which
@@ -59,7 +59,7 @@ abbrev pub TakesUpOn : Story → Story → Recovery → Option (Result FoundRide
 TakesUpOn old new recovery (Some taken) =
     TakesUp (seen_in old.now) new taken
     × IfErr taken (λ fault. (fault ≡ faults.Device) ⊎ (new ≡ old))
-TakesUpOn old new recovery None = (new ≡ old) × ReadsOn old recovery
+TakesUpOn old new recovery None = (new ≡ old) × ReadsBodyOn old recovery
 
 -- what is known of it over any disk
 abbrev pub MayTakeUpOn : Recovery → Option (Result FoundRide RecFault) → Type 0
@@ -68,7 +68,7 @@ MayTakeUpOn recovery (Some (Err fault)) = IsResumeFault fault
 MayTakeUpOn recovery None = CanReadOn recovery
 
 -- the disk has room for so many calls with so many bytes
-pub record HasRoom (calls bytes : ℕ) (log : Log) : Type 0 where
+pub record HasRoomForCalls (calls bytes : ℕ) (log : Log) : Type 0 where
   pub counted : log.counts.calls + calls ≤ last_count
   pub for_calls : calls ≤ log.room.calls
   pub for_bytes : bytes ≤ log.room.bytes

@@ -23,14 +23,14 @@ pub struct FrozenRecovery {
 }
 
 impl Recovery {
-    ghost use Rattle.fit_recorder.specs.Calls.FrozenRecovery.{reading_in, replay_of, journal_of, IsPossible};
+    ghost use Rattle.fit_recorder.specs.Calls.FrozenRecovery.{reading_in, replay_of, journal_of, IsPossibleRecovery};
 
     /// Writes the recovery as plain numbers.
     pub fn freeze(&self, numbers: &mut FrozenRecovery)
         ensures reading { reading_in numbers.new ≡ reading_of self.now.reader }
         ensures replay { replay_of numbers.new ≡ self.now.replay }
         ensures journal { journal_of numbers.new ≡ self.now.journal }
-        ensures possible { IsPossible numbers.new }
+        ensures possible { IsPossibleRecovery numbers.new }
     {
         numbers.time = self.reader.time;
         numbers.at = self.reader.at;
@@ -46,7 +46,7 @@ impl Recovery {
         ensures reading { result ≡ true → reading_of self.new.reader ≡ reading_in numbers.now }
         ensures replay { result ≡ true → self.new.replay ≡ replay_of numbers.now }
         ensures journal { result ≡ true → self.new.journal ≡ journal_of numbers.now }
-        ensures possible { IsPossible numbers.now → result ≡ true }
+        ensures possible { IsPossibleRecovery numbers.now → result ≡ true }
     {
         let Some(journal) = Journal::thaw(&numbers.journal) else {
             return false;

@@ -1,15 +1,15 @@
-use Rattle.std.proofs.Common.{◌≡◌, ◌≤◌, ◌∙◌, ℕ, List, length, refl, sym, subst, arith}
+use Rattle.std.proofs.Common.{◌≤◌, true, ℕ, List, length, arith}
 use Rattle.fit_disk.proofs.Sound.{write_sound}
 use Rattle.fit_disk.specs.declared.disk.Which.{Which}
 use Rattle.fit_disk.specs.declared.disk.Which.TheVariants.{Data, Journal}
 use Rattle.fit_disk.specs.Calls.{IsSound}
 use Rattle.fit_disk.specs.Story.{Story, seen_of}
 use Rattle.fit_disk.specs.Content.{IsBytes}
-use Rattle.fit_notes.specs.Noted.{number_of, which_of, wrote}
+use Rattle.fit_disk.specs.Changes.{after_write}
 use Rattle.fit_plan.proofs.journal.LentJournalDisk.write.Goals as goal
 
 stays_sound : (which : Which) (at : ℕ) (bytes : List ℕ) (story : Story) → at ≤ length (seen_of which story) → IsBytes bytes → IsSound story.now
-    → IsSound (wrote which at bytes story).now
+    → IsSound (after_write true which at bytes story).now
 stays_sound Data at bytes story within are sound = record {
   data_left = write_sound at bytes story.now.data_file within are sound.data_left;
   journal_left = sound.journal_left;
@@ -19,13 +19,7 @@ stays_sound Journal at bytes story within are sound = record {
   journal_left = write_sound at bytes story.now.journal_file within are sound.journal_left;
 }
 
-file_is : (which : Which) (number : ℕ) → number ≡ number_of which → which_of number ≡ which
-file_is Data number is = rw (is) refl
-file_is Journal number is = rw (is) refl
-
 pub invariant_of-self-2-clause-sound : goal.invariant_of-self-2-clause-sound
 invariant_of-self-2-clause-sound c =
     let old = c.args.self.now in
-    let is : which_of c.from.result ≡ c.args.which = file_is c.args.which c.from.result (c.from.ensures ∙ c.number.ensures) in
-    rw (c.note.ensures.0) (subst (λ (which : Which). IsSound (wrote which c.args.at c.args.bytes.now old.notes.story).now) (sym is)
-    (stays_sound c.args.which c.args.at c.args.bytes.now old.notes.story c.requires (λ i. omega (arith, c.type_inv.bytes i)) old.sound))
+    rw (c.note.ensures.0) (stays_sound c.args.which c.args.at c.args.bytes.now old.notes.story c.requires (λ i. omega (arith, c.type_inv.bytes i)) old.sound)

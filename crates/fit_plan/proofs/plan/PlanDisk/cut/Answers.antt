@@ -12,4 +12,4 @@ returns-in_default-clause-room c = refused 0 _ c.args.self.now c.failed.new.self
 pub invariant_of-self-2-clause-inside : goal.invariant_of-self-2-clause-inside
 invariant_of-self-2-clause-inside c =
     let old = c.args.self.now in
-    rw (c.note.ensures.1) (c.in-Ok.ensures.inside old.notes.since old.inside (begins_inside old c.args.which c.number-file.result c.args.len c.number-file.ensures c.requires))
+    rw (c.note.ensures.1) (c.in-Ok.ensures.inside old.notes.since old.inside (begins_inside old c.args.which c.args.len c.requires))

@@ -16,13 +16,13 @@ invariant_of-self-2-clause-sound c =
     elim c.match-which.branch [
       | in-Data w ↦
           let within : c.args.at ≤ length state.data_file.seen = subst (λ which. c.args.at ≤ length (seen_of which old.notes.story)) w.in-Data.is c.requires in
-          rw (c.note.ensures.0, c.from.ensures, c.number-file.ensures, w.in-Data.is) (record {
+          rw (c.note.ensures.0, w.in-Data.is) (record {
             data_left = write_sound c.args.at c.args.bytes.now state.data_file within (λ i. omega (arith, c.type_inv.bytes i)) old.sound.data_left;
             journal_left = old.sound.journal_left;
           })
       | in-Journal w ↦
           let within : c.args.at ≤ length state.journal_file.seen = subst (λ which. c.args.at ≤ length (seen_of which old.notes.story)) w.in-Journal.is c.requires in
-          rw (c.note.ensures.0, c.from.ensures, c.number-file.ensures, w.in-Journal.is) (record {
+          rw (c.note.ensures.0, w.in-Journal.is) (record {
             data_left = old.sound.data_left;
             journal_left = write_sound c.args.at c.args.bytes.now state.journal_file within (λ i. omega (arith, c.type_inv.bytes i)) old.sound.journal_left;
           })
@@ -35,8 +35,8 @@ invariant_of-self-2-clause-sized c =
     elim c.match-which.branch [
       | in-Data w ↦
           let within : c.args.at ≤ length state.data_file.seen = subst (λ which. c.args.at ≤ length (seen_of which old.notes.story)) w.in-Data.is c.requires in
-          rw (c.note.ensures.0, c.from.ensures, c.number-file.ensures, w.in-Data.is, w.self-is) (omega (arith, c.in-Some.ensures, old.sized, length-over c.args.at c.args.bytes.now state.data_file.seen within))
-      | in-Journal w ↦ rw (c.note.ensures.0, c.from.ensures, c.number-file.ensures, w.in-Journal.is, w.self-is) old.sized
+          rw (c.note.ensures.0, w.in-Data.is, w.self-is) (omega (arith, c.in-Some.ensures, old.sized, length-over c.args.at c.args.bytes.now state.data_file.seen within))
+      | in-Journal w ↦ rw (c.note.ensures.0, w.in-Journal.is, w.self-is) old.sized
     ]
 
 pub returns-in_default-add-clause-room : goal.returns-in_default-add-clause-room
@@ -46,4 +46,4 @@ returns-in_default-add-clause-room c = refused (length c.args.bytes.now) _ c.arg
 pub invariant_of-self-2-clause-inside : goal.invariant_of-self-2-clause-inside
 invariant_of-self-2-clause-inside c =
     let old = c.args.self.now in
-    rw (c.note.ensures.1) (c.in-Ok.ensures.inside old.notes.since old.inside (begins_inside old c.args.which c.number-file.result c.args.at c.number-file.ensures c.requires))
+    rw (c.note.ensures.1) (c.in-Ok.ensures.inside old.notes.since old.inside (begins_inside old c.args.which c.args.at c.requires))
