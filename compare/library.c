@@ -213,9 +213,7 @@ static void plain(char **words) {
     unsigned answer = fitrec_plain(in.bytes, in.size, out.bytes, 0, &out.len, &place);
     bool is_refused = answer && answer <= FITREC_TRAILING_BYTES;
     look_at(&place, sizeof place, !is_refused);
-    /* After FITREC_PLAIN_TOO_LONG it may hold anything. */
-    if (answer != FITREC_PLAIN_TOO_LONG)
-        look_at(&out.len, sizeof out.len, is_refused);
+    look_at(&out.len, sizeof out.len, is_refused || answer == FITREC_PLAIN_TOO_LONG);
     look_at_guards(out);
     if (answer == FITREC_PLAIN_NO_ROOM) {
         out = room(out.len);

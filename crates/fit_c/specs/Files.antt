@@ -1,10 +1,11 @@
 -- What the calls over the bytes of a file answer.
-use Rattle.std.specs.Prelude.{◌≡◌, ℕ, ◌+◌, ◌<◌, ◌≤◌, ℤ, Bool, List, length, Ok, Err}
+use Rattle.std.specs.Prelude.{◌≡◌, ℕ, ◌+◌, ◌<◌, ◌≤◌, ℤ, Bool, List, length, true, Ok, Err}
+use Rattle.std.specs.Io.Iter.{u64_saturate}
 use Rattle.fit_activity.specs.declared.activity.Summary.{Summary}
 use Rattle.fit_activity.specs.declared.activity.ActivityFault.{ActivityFault}
 use Rattle.fit_activity.specs.Files.Activity.{activity_in, activity_fault_code}
 use Rattle.fit_grammar.specs.Calls.FaultCode.{kind_code}
-use Rattle.fit_grammar.specs.Calls.PlainForm.{plain_of}
+use Rattle.fit_grammar.specs.Calls.PlainForm.{plain_of, plain_items, is_too_long}
 use Rattle.fit_grammar.specs.Format.Encoding.{encoded}
 use Rattle.fit_grammar.specs.declared.file.fault.FileFault.{FileFault}
 use Rattle.fit_grammar.specs.Format.File.{FileValue, FileOf}
@@ -29,12 +30,12 @@ pub record Shows (utc : Bool) (bytes text : List ℕ) : Type 0 where
   pub is : FileOf bytes file
   pub text_is : text ≡ text_of utc file
 
--- the bytes are a file, whose text has so many bytes, more than there is room for
+-- the bytes are a file, whose text has so many bytes, or more than 2^64 - 1, and more than there is room for
 pub record NeedsRoomToShow (utc : Bool) (bytes : List ℕ) (room needed : ℕ) : Type 0 where
   pub file : FileValue
   pub is : FileOf bytes file
-  pub needed_is : needed ≡ length (text_of utc file)
-  pub short : room < needed
+  pub needed_is : needed ≡ u64_saturate (length (text_of utc file))
+  pub short : room < length (text_of utc file)
 
 -- the bytes are a file, and the text is its JSON
 pub record ShowsJson (utc : Bool) (bytes text : List ℕ) : Type 0 where
@@ -42,12 +43,12 @@ pub record ShowsJson (utc : Bool) (bytes text : List ℕ) : Type 0 where
   pub is : FileOf bytes file
   pub text_is : text ≡ json_of utc file
 
--- the bytes are a file, whose JSON has so many bytes, more than there is room for
+-- the bytes are a file, whose JSON has so many bytes, or more than 2^64 - 1, and more than there is room for
 pub record NeedsRoomForJson (utc : Bool) (bytes : List ℕ) (room needed : ℕ) : Type 0 where
   pub file : FileValue
   pub is : FileOf bytes file
-  pub needed_is : needed ≡ length (json_of utc file)
-  pub short : room < needed
+  pub needed_is : needed ≡ u64_saturate (length (json_of utc file))
+  pub short : room < length (json_of utc file)
 
 -- the bytes are a file, and these are its plain form
 pub record IsPlainOf (bytes plain : List ℕ) : Type 0 where
@@ -61,6 +62,12 @@ pub record NeedsRoomForPlain (bytes : List ℕ) (room needed : ℕ) : Type 0 whe
   pub is : FileOf bytes file
   pub needed_is : needed ≡ length (encoded (plain_of file))
   pub short : room < needed
+
+-- the bytes are a file, whose plain form would be too long
+pub record HasNoPlainForm (bytes : List ℕ) : Type 0 where
+  pub file : FileValue
+  pub is : FileOf bytes file
+  pub too_long : is_too_long 0 (plain_items file.items) ≡ true
 
 -- the bytes are an activity file, and the numbers are those of its summary
 pub record IsActivity (bytes : List ℕ) (numbers : RideSummary) : Type 0 where

@@ -1,9 +1,9 @@
 -- What a save of two files in memory writes and returns.
-use Rattle.std.specs.Prelude.{◌≡◌, ◌⊎◌, ◌<◌, ℕ, List, length}
+use Rattle.std.specs.Prelude.{◌≡◌, ◌⊎◌, ◌<◌, ℕ, List, length, true}
 use Rattle.fit_activity.specs.Files.Finished.{summary_of_list}
 use Rattle.fit_activity.specs.Rides.Recording.{Recorded}
 use Rattle.fit_disk.specs.State.{Contents}
-use Rattle.fit_grammar.specs.Calls.PlainForm.{plain_of}
+use Rattle.fit_grammar.specs.Calls.PlainForm.{plain_of, plain_items, is_too_long}
 use Rattle.fit_grammar.specs.Format.Encoding.{encoded}
 use Rattle.fit_grammar.specs.Format.File.{FileValue}
 use Rattle.fit_files.specs.Printed.Saved.{IsFinishedOf}
@@ -25,6 +25,18 @@ pub record NeedsRoomToSave (before : Contents) (room needed : ℕ) : Type 0 wher
   pub finished : IsFinishedOf before list file
   pub needed_is : needed ≡ length (encoded (plain_of file))
   pub short : room < needed
+
+-- the plain form of that file would be too long
+pub record IsTooLongToSave (before : Contents) : Type 0 where
+  pub list : List Recorded
+  pub file : FileValue
+  pub finished : IsFinishedOf before list file
+  pub too_long : is_too_long 0 (plain_items file.items) ≡ true
+
+-- why that file is not written
+pub record IsNotWritten (code : ℕ) (before : Contents) (room needed : ℕ) : Type 0 where
+  pub no_room : code ≡ 20 → NeedsRoomToSave before room needed
+  pub too_long : code ≡ 21 → IsTooLongToSave before
 
 -- the codes that a save returns
 abbrev pub IsSaveCode : ℕ → Type 0

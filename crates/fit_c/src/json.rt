@@ -1,16 +1,16 @@
 // A file in memory as JSON.
 
-ghost use Rattle.std.specs.Prelude.{◌≡◌, ◌≤◌, ◌<◌, ◌⊎◌, [], length, take, IfOk};
+ghost use Rattle.std.specs.Prelude.{◌≡◌, ◌≤◌, ◌⊎◌, [], length, take};
 ghost use Rattle.fit_text.specs.Json.{json_of};
 ghost use Rattle.fit_c.specs.Files.{IsNoFile, ShowsJson, NeedsRoomForJson};
 
-use crate::room::{NO_ROOM, Room, TOO_LONG};
+use crate::room::Room;
 use fit_grammar::LentFile;
 use fit_text::{ShowFault, show_json};
 
 /// Writes a FIT file as JSON into `out`, as `show_json` of `fit_text` writes it. With `utc`, times are dates. Returns 0, and the length
 /// of the text in `out_len`; 1 to 9 if the bytes are no FIT file (the code of the `FaultKind`), with the place of the fault in
-/// `fault_place`; 20 if the text does not fit into `out`, with its length in `out_len`.
+/// `fault_place`; 20 if the text does not fit into `out`, with its length in `out_len`, or 2^64 - 1 if it is longer.
 #[unsafe(no_mangle)]
 pub extern "C" fn fitrec_json(
     bytes: &[u8],
@@ -19,7 +19,7 @@ pub extern "C" fn fitrec_json(
     out_len: &mut u64,
     fault_place: &mut u64,
 ) -> u8
-    ensures code { (result ≤ 9) ⊎ (result ≡ 20) ⊎ (result ≡ 21) }
+    ensures code { (result ≤ 9) ⊎ (result ≡ 20) }
     ensures ok { result ≡ 0 → ShowsJson utc bytes.now (take out_len.new out.new) }
     ensures within { result ≡ 0 → out_len.new ≤ length out.new }
     ensures no_file { 1 ≤ result → result ≤ 9 → IsNoFile bytes.now result fault_place.new }
@@ -35,20 +35,19 @@ pub extern "C" fn fitrec_json(
         }
     };
     let mut room = Room::new(out);
-    let done = json_in(&file, utc, &mut room);
+    json_in(&file, utc, &mut room);
     *out_len = room.len as u64;
-    match done {
-        Ok(()) if room.len <= room.bytes.len() => 0,
-        Ok(()) => NO_ROOM,
-        Err(_) => TOO_LONG,
-    }
+    room.code()
 }
 
 // Writes the text into the same buffer.
-fn json_in(file: &LentFile<'_>, utc: bool, room: &mut Room<'_>) -> Result<(), ShowFault>
+fn json_in(file: &LentFile<'_>, utc: bool, room: &mut Room<'_>)
     requires empty { room.old.tape.bytes ≡ [] }
     ensures name { room.new.bytes.ghost_name ≡ room.old.bytes.ghost_name }
-    ensures text { IfOk result (λ _. room.new.tape.bytes ≡ json_of utc file.now) }
+    ensures text { room.new.tape.bytes ≡ json_of utc file.now }
 {
-    show_json(file, utc, room)
+    match show_json(file, utc, room) {
+        Ok(()) => {}
+        Err(ShowFault::Write(fault)) => match fault {},
+    }
 }

@@ -1,13 +1,18 @@
 // The plain form of a file in memory.
 
-ghost use Rattle.std.specs.Prelude.{◌≡◌, ◌≤◌, ◌<◌, ◌⊎◌, [], length, take, IfOk, IfSome};
-ghost use Rattle.fit_grammar.specs.Calls.PlainForm.{plain_of, plain_items};
+ghost use Rattle.std.specs.Prelude.{◌≡◌, ◌≤◌, ◌<◌, ◌⊎◌, [], length, take, true, false, OnOk, IfSome, IsSome, IsNone};
+ghost use Rattle.fit_grammar.specs.Calls.PlainForm.{plain_of, plain_items, is_too_long};
+ghost use Rattle.fit_grammar.specs.Calls.PlainWriting.{JudgesFields};
 ghost use Rattle.fit_grammar.specs.Format.Encoding.{encoded, encoded_items};
 ghost use Rattle.fit_grammar.specs.Format.Records.{data_size};
-ghost use Rattle.fit_c.specs.Files.{IsNoFile, IsPlainOf, NeedsRoomForPlain};
+ghost use Rattle.fit_c.specs.Files.{IsNoFile, IsPlainOf, NeedsRoomForPlain, HasNoPlainForm};
 
-use crate::room::{NO_ROOM, Room, TOO_LONG};
+use crate::room::Room;
 use fit_grammar::{LentFile, WritePlainFault, write_plain, write_plain_records};
+use std::convert::Infallible;
+
+// The plain form would be too long.
+const TOO_LONG: u8 = 21;
 
 /// Writes the plain form of a FIT file into `out`, which states the same messages with every time written out. Returns 0, and the length
 /// of that file in `out_len`; 1 to 9 if the bytes are no FIT file (the code of the `FaultKind`), with the place of the fault in
@@ -25,7 +30,8 @@ pub extern "C" fn fitrec_plain(
     ensures within { result ≡ 0 → out_len.new ≤ length out.new }
     ensures no_file { 1 ≤ result → result ≤ 9 → IsNoFile bytes.now result fault_place.new }
     ensures no_room { result ≡ 20 → NeedsRoomForPlain bytes.now (length out.old) out_len.new }
-    ensures unchanged { 1 ≤ result → result ≤ 9
+    ensures too_long { result ≡ 21 → HasNoPlainForm bytes.now }
+    ensures unchanged { ((1 ≤ result) × (result ≤ 9)) ⊎ (result ≡ 21)
         → (out_len.new ≡ out_len.old) × (out.new ≡ out.old) }
     ensures place { (result ≡ 0) ⊎ (20 ≤ result) → fault_place.new ≡ fault_place.old }
 {
@@ -45,6 +51,8 @@ pub fn write_file(file: &LentFile<'_>, out: &mut [u8], out_len: &mut u64) -> u8
     ensures within { result ≡ 0 → out_len.new ≤ length out.new }
     ensures needed { result ≡ 20 → out_len.new ≡ length (encoded (plain_of file.now)) }
     ensures no_room { result ≡ 20 → length out.old < out_len.new }
+    ensures too_long { result ≡ 21 → is_too_long 0 (plain_items file.now.items) ≡ true }
+    ensures unchanged { result ≡ 21 → (out_len.new ≡ out_len.old) × (out.new ≡ out.old) }
 {
     match plain_size(file) {
         Some(size) => write_out(file, size, out, out_len),
@@ -54,51 +62,60 @@ pub fn write_file(file: &LentFile<'_>, out: &mut [u8], out_len: &mut u64) -> u8
 
 // Writes the plain form, whose records have `size` bytes.
 fn write_out(file: &LentFile<'_>, size: u32, out: &mut [u8], out_len: &mut u64) -> u8
-    requires { size ≡ data_size (plain_items file.now.items) }
-    ensures code { (result ≡ 0) ⊎ (result ≡ 20) ⊎ (result ≡ 21) }
+    requires size { size ≡ data_size (plain_items file.now.items) }
+    requires fits { is_too_long 0 (plain_items file.now.items) ≡ false }
+    ensures code { (result ≡ 0) ⊎ (result ≡ 20) }
     ensures ok { result ≡ 0 → take out_len.new out.new ≡ encoded (plain_of file.now) }
     ensures within { result ≡ 0 → out_len.new ≤ length out.new }
     ensures needed { result ≡ 20 → out_len.new ≡ length (encoded (plain_of file.now)) }
     ensures no_room { result ≡ 20 → length out.old < out_len.new }
 {
     let mut room = Room::new(out);
-    let done = write_in(file, size, &mut room);
+    write_in(file, size, &mut room);
     *out_len = room.len as u64;
-    match done {
-        Ok(()) if room.len <= room.bytes.len() => 0,
-        Ok(()) => NO_ROOM,
-        Err(_) => TOO_LONG,
-    }
+    room.code()
 }
 
 // Writes the plain form into the same buffer.
-fn write_in(file: &LentFile<'_>, size: u32, room: &mut Room<'_>) -> Result<(), WritePlainFault>
+fn write_in(file: &LentFile<'_>, size: u32, room: &mut Room<'_>)
     requires empty { room.old.tape.bytes ≡ [] }
     requires size { size ≡ data_size (plain_items file.now.items) }
+    requires fits { is_too_long 0 (plain_items file.now.items) ≡ false }
     ensures name { room.new.bytes.ghost_name ≡ room.old.bytes.ghost_name }
-    ensures file { IfOk result (λ _. room.new.tape.bytes ≡ encoded (plain_of file.now)) }
+    ensures file { room.new.tape.bytes ≡ encoded (plain_of file.now) }
 {
-    write_plain(file, size, room)
+    match write_plain(file, size, room) {
+        Ok(()) => {}
+        Err(WritePlainFault::TooLong) => unreachable!(),
+        Err(WritePlainFault::Write(fault)) => match fault {},
+    }
 }
 
-// How many bytes the records of the plain form have.
+// How many bytes the records of the plain form have, or `None` if it would be too long.
 fn plain_size(file: &LentFile<'_>) -> Option<u32>
-    ensures { IfSome result (λ size. size ≡ data_size (plain_items file.now.items)) }
+    ensures size { IfSome result (λ size. size ≡ data_size (plain_items file.now.items)) }
+    ensures fits { IsSome result → is_too_long 0 (plain_items file.now.items) ≡ false }
+    ensures too_long { IsNone result → is_too_long 0 (plain_items file.now.items) ≡ true }
 {
     let mut nothing = [];
     let mut room = Room::new(&mut nothing);
     let done = write_records(file, &mut room);
     match done {
         Ok(()) if room.len <= u32::MAX as usize => Some(room.len as u32),
-        _ => None,
+        Ok(()) => None,
+        Err(WritePlainFault::TooLong) => None,
+        Err(WritePlainFault::Write(fault)) => match fault {},
     }
 }
 
 // Writes the records of the plain form, which have no room.
-fn write_records(file: &LentFile<'_>, room: &mut Room<'_>) -> Result<(), WritePlainFault>
+fn write_records(
+    file: &LentFile<'_>,
+    room: &mut Room<'_>,
+) -> Result<(), WritePlainFault<Infallible>>
     requires empty { room.old.tape.bytes ≡ [] }
-    ensures records { IfOk result (λ _. room.new.tape.bytes
-        ≡ encoded_items (plain_items file.now.items)) }
+    ensures records { OnOk result (room.new.tape.bytes ≡ encoded_items (plain_items file.now.items)) }
+    ensures fields { JudgesFields (plain_items file.now.items) result }
 {
     write_plain_records(file, room)
 }

@@ -1,17 +1,13 @@
 // Recovers what is readable of a file that has no journal.
 
-ghost use Rattle.std.specs.Prelude.{◌≡◌, ◌+◌, ◌<◌, ◌≤◌, ◌^◌, ◌⊎◌, ◌++◌, [], length, take};
-ghost use Rattle.fit_base.specs.Checksum.{crc_from};
+ghost use Rattle.std.specs.Prelude.{◌≡◌, ◌<◌, ◌≤◌, ◌^◌, ◌⊎◌, [], length, take};
 ghost use Rattle.fit_grammar.specs.Calls.FaultCode.{kind_code};
-ghost use Rattle.fit_grammar.specs.Format.Encoding.{encoded_header};
 ghost use Rattle.fit_grammar.specs.declared.file.fault.FileFault.{FileFault};
 ghost use Rattle.fit_files.specs.Printed.Salvaged.{IsNotSalvaged, saved_file};
 ghost use Rattle.fit_c.specs.Salvaged.{IsSalvaged, NeedsRoomToSalvage};
 
-use crate::room::{NO_ROOM, Room};
-use fit_base::Crc;
+use crate::room::Room;
 use fit_files::{Salvage, salvage_bytes};
-use fit_grammar::{Frame, header_front};
 
 // The input has 4294967296 bytes or more.
 const TOO_LARGE: u8 = 22;
@@ -76,49 +72,19 @@ fn write_out(salvage: &Salvage<'_>, out: &mut [u8], out_len: &mut u64) -> u8
     ensures no_room { result ≡ 20 → length out.old < out_len.new }
 {
     let mut room = Room::new(out);
-    put_file(salvage, &mut room);
+    write_in(salvage, &mut room);
     *out_len = room.len as u64;
-    if room.len <= room.bytes.len() {
-        0
-    } else {
-        NO_ROOM
-    }
+    room.code()
 }
 
-// Puts the file into a buffer: its header, the row, and the checksum of both.
-fn put_file(salvage: &Salvage<'_>, room: &mut Room<'_>)
+// Writes the file into the same buffer.
+fn write_in(salvage: &Salvage<'_>, room: &mut Room<'_>)
     requires { room.old.tape.bytes ≡ [] }
     ensures name { room.new.bytes.ghost_name ≡ room.old.bytes.ghost_name }
     ensures file { room.new.tape.bytes ≡ saved_file salvage.now }
 {
-    let mut checksum = Crc::new();
-    put_header(salvage.frame, salvage.row.len() as u32, room, &mut checksum);
-    put_checked(salvage.row, room, &mut checksum);
-    room.take(&checksum.value().to_le_bytes());
-}
-
-// Puts the header, with its checksum if it has 14 bytes.
-fn put_header(frame: Frame, size: u32, room: &mut Room<'_>, checksum: &mut Crc)
-    requires { room.old.tape.bytes ≡ [] }
-    ensures name { room.new.bytes.ghost_name ≡ room.old.bytes.ghost_name }
-    ensures header { room.new.tape.bytes ≡ encoded_header frame size }
-    ensures checksum { checksum.new ≡ crc_from checksum.old (encoded_header frame size) }
-    ensures short { length room.new.tape.bytes ≤ 14 }
-{
-    let front = header_front(frame, size);
-    put_checked(&front, room, checksum);
-    if frame.header_size == 14 {
-        put_checked(&Crc::of(&front).to_le_bytes(), room, checksum);
+    match salvage.write(room) {
+        Ok(()) => {}
+        Err(fault) => match fault {},
     }
-}
-
-// Puts bytes, and adds them to the checksum.
-fn put_checked(bytes: &[u8], room: &mut Room<'_>, checksum: &mut Crc)
-    requires { length room.old.tape.bytes + length bytes.now < 2 ^ 64 }
-    ensures name { room.new.bytes.ghost_name ≡ room.old.bytes.ghost_name }
-    ensures tape { room.new.tape.bytes ≡ room.old.tape.bytes ++ bytes.now }
-    ensures checksum { checksum.new ≡ crc_from checksum.old bytes.now }
-{
-    room.take(bytes);
-    checksum.add(bytes);
 }

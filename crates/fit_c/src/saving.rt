@@ -3,7 +3,7 @@
 ghost use Rattle.std.specs.Prelude.{◌≡◌, ◌≤◌, ◌<◌, ◌+◌, ◌⊎◌, length, take};
 ghost use Rattle.fit_recorder.specs.Files.Committed.{HasCounted};
 ghost use Rattle.fit_c.specs.Repaired.{AreWithin, IsRefused, IsRepaired, contents_in};
-ghost use Rattle.fit_c.specs.Saved.{IsSaved, IsSaveCode, NeedsRoomToSave};
+ghost use Rattle.fit_c.specs.Saved.{IsSaved, IsSaveCode, IsNotWritten};
 
 use crate::plain::write_file;
 use crate::repairing::{RideSummary, fitrec_repair};
@@ -11,7 +11,7 @@ use fit_grammar::LentFile;
 
 /// Repairs a recording as `fitrec_repair` does, and writes the plain form of its finished file into `out`. Returns 0, and the length of
 /// that file in `out_len`; 7 to 10 as a repair does, with both files as they were; 20 if the file does not fit into `out`, with its
-/// length in `out_len`. After 0 and 20 the recording is repaired, and `summary` is filled.
+/// length in `out_len`; 21 if it would be too long. After 0, 20 and 21 the recording is repaired, and `summary` is filled.
 #[unsafe(no_mangle)]
 pub extern "C" fn fitrec_save(
     data_bytes: &mut [u8],
@@ -28,9 +28,10 @@ pub extern "C" fn fitrec_save(
         (take out_len.new out.new) summary.new × (out_len.new ≤ length out.new) }
     ensures within { (result ≡ 0) ⊎ (20 ≤ result)
         → AreWithin data_bytes.new data_len.new journal_bytes.new journal_len.new }
-    ensures no_room { result ≡ 20
-        → NeedsRoomToSave (contents_in data_bytes.old data_len.old journal_bytes.old journal_len.old)
-        (length out.old) out_len.new }
+    ensures not_written { IsNotWritten result
+        (contents_in data_bytes.old data_len.old journal_bytes.old journal_len.old)
+        (length out.old) out_len.new
+        × (result ≡ 21 → (out_len.new ≡ out_len.old) × (out.new ≡ out.old)) }
     ensures repaired { (result ≡ 0) ⊎ (20 ≤ result)
         → IsRepaired (contents_in data_bytes.old data_len.old journal_bytes.old journal_len.old)
         (contents_in data_bytes.new data_len.new journal_bytes.new journal_len.new) summary.new }

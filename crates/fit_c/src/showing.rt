@@ -1,16 +1,16 @@
 // The text of a file in memory.
 
-ghost use Rattle.std.specs.Prelude.{◌≡◌, ◌≤◌, ◌<◌, ◌⊎◌, [], length, take, IfOk};
+ghost use Rattle.std.specs.Prelude.{◌≡◌, ◌≤◌, ◌⊎◌, [], length, take};
 ghost use Rattle.fit_text.specs.Text.{text_of};
 ghost use Rattle.fit_c.specs.Files.{IsNoFile, Shows, NeedsRoomToShow};
 
-use crate::room::{NO_ROOM, Room, TOO_LONG};
+use crate::room::Room;
 use fit_grammar::LentFile;
 use fit_text::{ShowFault, show};
 
 /// Writes the text of a FIT file into `out`, as `show` of `fit_text` writes it. With `utc`, times are dates. Returns 0, and the length
 /// of the text in `out_len`; 1 to 9 if the bytes are no FIT file (the code of the `FaultKind`), with the place of the fault in
-/// `fault_place`; 20 if the text does not fit into `out`, with its length in `out_len`.
+/// `fault_place`; 20 if the text does not fit into `out`, with its length in `out_len`, or 2^64 - 1 if it is longer.
 #[unsafe(no_mangle)]
 pub extern "C" fn fitrec_show(
     bytes: &[u8],
@@ -19,7 +19,7 @@ pub extern "C" fn fitrec_show(
     out_len: &mut u64,
     fault_place: &mut u64,
 ) -> u8
-    ensures code { (result ≤ 9) ⊎ (result ≡ 20) ⊎ (result ≡ 21) }
+    ensures code { (result ≤ 9) ⊎ (result ≡ 20) }
     ensures ok { result ≡ 0 → Shows utc bytes.now (take out_len.new out.new) }
     ensures within { result ≡ 0 → out_len.new ≤ length out.new }
     ensures no_file { 1 ≤ result → result ≤ 9 → IsNoFile bytes.now result fault_place.new }
@@ -36,20 +36,19 @@ pub extern "C" fn fitrec_show(
         }
     };
     let mut room = Room::new(out);
-    let done = show_in(&file, utc, &mut room);
+    show_in(&file, utc, &mut room);
     *out_len = room.len as u64;
-    match done {
-        Ok(()) if room.len <= room.bytes.len() => 0,
-        Ok(()) => NO_ROOM,
-        Err(_) => TOO_LONG,
-    }
+    room.code()
 }
 
 // Writes the text into the same buffer.
-fn show_in(file: &LentFile<'_>, utc: bool, room: &mut Room<'_>) -> Result<(), ShowFault>
+fn show_in(file: &LentFile<'_>, utc: bool, room: &mut Room<'_>)
     requires empty { room.old.tape.bytes ≡ [] }
     ensures name { room.new.bytes.ghost_name ≡ room.old.bytes.ghost_name }
-    ensures text { IfOk result (λ _. room.new.tape.bytes ≡ text_of utc file.now) }
+    ensures text { room.new.tape.bytes ≡ text_of utc file.now }
 {
-    show(file, utc, room)
+    match show(file, utc, room) {
+        Ok(()) => {}
+        Err(ShowFault::Write(fault)) => match fault {},
+    }
 }

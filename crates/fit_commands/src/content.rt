@@ -6,7 +6,7 @@ ghost use Rattle.fit_grammar.specs.Format.Encoding.{encoded};
 ghost use Rattle.fit_files.specs.Printed.Salvaged.{saved_file};
 
 use fit_files::Salvage;
-use fit_grammar::{EncodeFault, File, encode_file};
+use fit_grammar::{EncodeFault, File, WriteFailed, encode_file};
 use std::io::Write;
 
 /// The content of a file. Its bytes are known before any of them is written.
@@ -29,6 +29,9 @@ impl Content for Salvage<'_> {
     ghost bytes = { λ salvage. saved_file salvage };
 
     fn write_to<W: Write>(&self, out: &mut W) -> Result<(), EncodeFault> {
-        self.write(out)
+        match self.write(out) {
+            Ok(()) => Ok(()),
+            Err(WriteFailed) => Err(EncodeFault::Write),
+        }
     }
 }

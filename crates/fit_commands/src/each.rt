@@ -8,7 +8,7 @@ use crate::input::{MOST_BYTES, fault_of_report, open_file, read_input};
 use crate::table::table_named;
 use fit_activity::Summary;
 use fit_files::{SummaryLine, sum_up_input, table_head};
-use fit_grammar::put;
+use fit_grammar::Sink;
 use fit_table::Layout;
 use fit_words::{Names, ShownWord};
 use std::alloc::{AllocError, Global};
@@ -148,7 +148,7 @@ fn print_named<L: Display, O: Write>(
     let Ok(text) = format!(in alloc; "{front}{}: {line}\n", ShownWord(name)) else {
         return Err(Fault::NoMemory);
     };
-    match put(out, text.as_str().as_bytes()) {
+    match out.put(text.as_str().as_bytes()) {
         Ok(()) => Ok(()),
         Err(_) => Err(Fault::Write("-")),
     }

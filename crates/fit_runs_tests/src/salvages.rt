@@ -3,7 +3,7 @@
 use crate::equality::equal;
 use crate::failing::Failing;
 use fit_files::{Salvage, salvage_bytes};
-use fit_grammar::{EncodeFault, FaultKind, FileFault, encode_file};
+use fit_grammar::{FaultKind, FileFault, WriteFailed, encode_file};
 use std::process::Abort;
 use std::test::Fail;
 
@@ -142,7 +142,7 @@ fn an_output_that_fails_is_reported(rt: HostRuntime) -> Result<(), Fail> {
     for calls in 0..12 {
         let mut out = Failing::new(rt.alloc(), 3, calls);
         let done = salvage.write(&mut out);
-        assert_eq!(rt; done, Err(EncodeFault::Write), "{calls}");
+        assert_eq!(rt; done, Err(WriteFailed), "{calls}");
         assert!(rt; WHOLE.starts_with(&out.held), "{calls}");
     }
     let mut out = Failing::new(rt.alloc(), 3, 20);

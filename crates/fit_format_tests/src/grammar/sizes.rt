@@ -8,7 +8,7 @@ use crate::slow::Slow;
 use arrayvec::ArrayVec;
 use fit_base::Arch;
 use fit_grammar::{
-    Definition, DeveloperFieldDefinition, FieldDefinition, File, decode_file, encode_file, put,
+    Definition, DeveloperFieldDefinition, FieldDefinition, File, Sink, decode_file, encode_file,
 };
 use std::alloc::{AllocError, Global};
 use std::process::Abort;
@@ -145,7 +145,7 @@ fn puts_all_to_a_slow_writer(rt: HostRuntime) -> Result<(), Fail> {
     let text = content_of(rt.alloc(), 100_000)?;
     for step in [1, 2, 7, 99_999, 100_000] {
         let mut out = Slow::new(rt.alloc(), step, usize::MAX);
-        put(&mut out, text.as_slice())?;
+        out.put(text.as_slice())?;
         assert_eq!(rt; out.written(), text.as_slice(), "{step}");
     }
     Ok(())

@@ -6,7 +6,7 @@ ghost use Rattle.fitrec.specs.declared.command.version.TheConstants.{VERSION};
 ghost use Rattle.fit_commands.specs.Reported.{IsOutputReported};
 
 use fit_commands::Fault;
-use fit_grammar::put;
+use fit_grammar::Sink;
 use std::io::Write;
 
 /// The version, the kit that proved it, and the checksum of the logic of its proofs.
@@ -17,7 +17,7 @@ pub fn print_version<'a, O: Write>(out: &mut O) -> Result<(), Fault<'a>>
     ensures text { WritesText (O.contents out.old) (O.contents out.new) result VERSION.now }
     ensures reported { IfErr result IsOutputReported }
 {
-    let Ok(()) = put(out, VERSION.as_bytes()) else {
+    let Ok(()) = out.put(VERSION.as_bytes()) else {
         return Err(Fault::Write("-"));
     };
     match out.flush() {

@@ -26,16 +26,29 @@ returns-clause-ok c = λ done.
       c.write_file.ensures.within done,
     )
 
-pub returns-clause-no_room : goal.returns-clause-no_room
-returns-clause-no_room c = λ short.
-    let repaired = c.fitrec_repair-answer.ensures.ok c.if-answer-ne0.false in
-    record {
-      list = repaired.list;
-      file = c.in-Ok.file;
-      finished = record {
-        stood = repaired.stood;
-        file = subst (λ (bytes : List ℕ). FileOf bytes c.in-Ok.file) repaired.is c.in-Ok.ensures.file;
-      };
-      needed_is = c.write_file.ensures.needed short;
-      short = c.write_file.ensures.no_room short;
-    }
+pub returns-clause-not_written : goal.returns-clause-not_written
+returns-clause-not_written c =
+    let repaired = c.fitrec_repair-answer.ensures.ok c.if-answer-ne0.false in (
+      record {
+        no_room = λ short. record {
+          list = repaired.list;
+          file = c.in-Ok.file;
+          finished = record {
+            stood = repaired.stood;
+            file = subst (λ (bytes : List ℕ). FileOf bytes c.in-Ok.file) repaired.is c.in-Ok.ensures.file;
+          };
+          needed_is = c.write_file.ensures.needed short;
+          short = c.write_file.ensures.no_room short;
+        };
+        too_long = λ long. record {
+          list = repaired.list;
+          file = c.in-Ok.file;
+          finished = record {
+            stood = repaired.stood;
+            file = subst (λ (bytes : List ℕ). FileOf bytes c.in-Ok.file) repaired.is c.in-Ok.ensures.file;
+          };
+          too_long = c.write_file.ensures.too_long long;
+        };
+      },
+      c.write_file.ensures.unchanged,
+    )
