@@ -6,7 +6,7 @@ use Rattle.fit_device.specs.Planned.{Leads}
 use Rattle.fit_device.proofs.Leading.{leads_for, leads_since}
 use Rattle.fit_device.specs.Handle.{handle_story as story_in_handle}
 use Rattle.fit_device.specs.Recovering.{GoesOnWith}
-use Rattle.fit_device.specs.Windowed.{recovery_story, IsRecovery, IsTakenUp, Finds, GoesOn, ReopensOn}
+use Rattle.fit_device.specs.Windowed.{recovery_story, IsRecovery, IsTakenUp, TakesJournalWindow, TakesWindow, ReopensOn}
 use Rattle.fit_device.specs.declared.files.Files.{Files}
 use Rattle.fit_device.specs.declared.handle.Handle.{Handle}
 use Rattle.fit_device.specs.declared.plan.DevicePlan.{DevicePlan}
@@ -19,9 +19,9 @@ use Rattle.fit_disk.specs.declared.disk.Which.TheVariants.{Data, Journal}
 use Rattle.fit_notes.specs.Numbers.{numbers_of}
 use Rattle.fit_plan.specs.declared.plan.Plan.{Plan}
 use Rattle.fit_plan.specs.Plan.{plan_story, plan_since, plan_counts, room_in, whole_room, plan_log, most_planned_calls, most_planned_bytes}
-use Rattle.fit_recorder.specs.Calls.Windows.{AreAt, HasMoved, HasRoom, place_of}
+use Rattle.fit_recorder.specs.Calls.Windows.{AreAt, HasMoved, HasRoomForCalls, place_of}
 use Rattle.fit_recorder.specs.declared.recovery.windows.Recovery.{Recovery}
-use Rattle.fit_notes.specs.Noted.{which_of}
+use Rattle.fit_plan.specs.Carried.{which_of}
 use Rattle.std.proofs.lemmas.List.{take-take}
 use Rattle.fit_recorder.specs.Calls.FaultCode.{fault_code}
 use Rattle.fit_recorder.specs.Files.Committed.{HasCounted}
@@ -78,7 +78,7 @@ is_device fault code is device = is ∙ ap code_of_fault device
 
 -- a plan without calls has room
 pub has_room : (calls bytes : ℕ) (files : Plan) → plan_counts files ≡ no_calls → room_in files ≡ whole_room → calls ≤ most_planned_calls → bytes ≤ most_planned_bytes
-    → HasRoom calls bytes (plan_log files)
+    → HasRoomForCalls calls bytes (plan_log files)
 has_room calls bytes files none room few short =
     let made : (plan_counts files).calls ≡ 0 = ap (λ (counts : Counts). counts.calls) none in
     let for_calls : (room_in files).calls ≡ most_planned_calls = ap (λ (room : Room). room.calls) room in
@@ -95,11 +95,11 @@ counted_for before after earlier later olds news is =
     subst (λ (story : Story). HasCounted (seen_of Journal earlier) (seen_of Data story)) news (subst (λ (story : Story). HasCounted (seen_of Journal story) (seen_of Data after)) olds is)
 
 -- after the window of the journal
-module _ (old new : RecoveryHandle) (plan : DevicePlan) (code : ℕ) (asks : IsRecovery old) (finds : old.phase ≡ 1) (found : Finds old new plan code) where
+module _ (old new : RecoveryHandle) (plan : DevicePlan) (code : ℕ) (asks : IsRecovery old) (finds : old.phase ≡ 1) (found : TakesJournalWindow old new plan code) where
   not_zero : code ≡ 0 → ⊥
   not_zero zero = ⊎_elim (λ wants. let no : ⊥ = omega (arith, wants, zero) in no) (λ answered. never_zero answered.0 code answered.1 zero) found.answers
 
-  pub goes_on : GoesOn old new plan code
+  pub goes_on : TakesWindow old new plan code
   goes_on = record {
     planned = found.planned;
     none = λ no. absurd (no asks);

@@ -6,7 +6,7 @@ use Rattle.fit_activity.specs.Rides.RunningTotals.{AreTotals}
 use Rattle.fit_device.specs.declared.handle.Handle.{Handle}
 use Rattle.fit_device.specs.declared.plan.DevicePlan.{DevicePlan}
 use Rattle.fit_device.specs.Answer.{code_of, code_of_fault}
-use Rattle.fit_device.specs.Handle.{handle_story, HandleNeverFills, WasHanded, Stands}
+use Rattle.fit_device.specs.Handle.{handle_story, HandleNeverFills, HandleWasHanded, HandleStands}
 use Rattle.fit_device.proofs.Leading.{leads_since}
 use Rattle.fit_device.specs.Steps.{PlansStep, IsSame}
 use Rattle.fit_device.specs.Taken.{IsTaken, IsPut}
@@ -73,24 +73,24 @@ module _ (old : Handle) (before : Recorder Plan) (taken : IsTaken old before) wh
       → TakesRoom most bytes Fails (plan_log (disk_of before)) (plan_log (disk_of after)) → Fails → ⊥
   never_device most bytes Fails after = has_room most bytes Fails (disk_of before) (disk_of after) taken.counts taken.room
 
-  pub stood : (list committed : List Recorded) → Stands old list committed → StandsAt true plan_story before list committed
+  pub stood : (list committed : List Recorded) → HandleStands old list committed → StandsAt true plan_story before list committed
   stood list committed stands = is_at list committed _ _ _ _ (sym taken.state) (sym taken.story) stands.at
 
-  pub was_going : (list : List Recorded) → WasHanded old list → has_failed before ≡ false
+  pub was_going : (list : List Recorded) → HandleWasHanded old list → has_failed before ≡ false
   was_going list handed = taken.failed ∙ handed.going
 
-  pub was_handed : (list : List Recorded) → WasHanded old list → AreTotals before.totals list
+  pub was_handed : (list : List Recorded) → HandleWasHanded old list → AreTotals before.totals list
   was_handed list handed = subst (λ totals. AreTotals totals list) (sym (ap (λ (state : RecorderState). state.totals) taken.state)) handed.totals
 
 module _ (new : Handle) (plan : DevicePlan) (after : Recorder Plan) (put : IsPut new plan after) where
-  pub stands : (list committed : List Recorded) → has_failed after ≡ false → StandsAt true plan_story after list committed → Stands new list committed
+  pub stands : (list committed : List Recorded) → has_failed after ≡ false → StandsAt true plan_story after list committed → HandleStands new list committed
   stands list committed going at = record {
     recorder = put.is_recorder;
     going = put.failed ∙ going;
     at = is_at list committed _ _ _ _ (sym put.state) (sym put.story) at;
   }
 
-  pub is_handed : (list : List Recorded) → has_failed after ≡ false → AreTotals after.totals list → WasHanded new list
+  pub is_handed : (list : List Recorded) → has_failed after ≡ false → AreTotals after.totals list → HandleWasHanded new list
   is_handed list going totals = record {
     recorder = put.is_recorder;
     going = put.failed ∙ going;

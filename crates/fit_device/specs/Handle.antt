@@ -23,13 +23,13 @@ abbrev pub HandleNeverFills : Handle → Type 0
 HandleNeverFills h = slots_left (slots_in h.recorder.journal) ≡ None
 
 -- a recorder that was handed this list and has not failed
-pub record WasHanded (h : Handle) (list : List Recorded) : Type 0 where
+pub record HandleWasHanded (h : Handle) (list : List Recorded) : Type 0 where
   pub recorder : IsRecorder h
   pub going : has_failed_in h.recorder ≡ false
   pub totals : AreTotals (totals_in h.recorder.totals) list
 
 -- and of which this prefix of the list is committed
-pub record Stands (h : Handle) (list committed : List Recorded) : Type 0 where
+pub record HandleStands (h : Handle) (list committed : List Recorded) : Type 0 where
   pub recorder : IsRecorder h
   pub going : has_failed_in h.recorder ≡ false
   pub at : StandsFrozen true h.recorder (handle_story h) list committed

@@ -6,7 +6,7 @@ use Rattle.fit_device.specs.declared.plan.DevicePlan.{DevicePlan}
 use Rattle.fit_plan.specs.CutOff.{IsCutOff}
 use Rattle.fit_plan.specs.Plan.{most_planned_calls, most_planned_bytes}
 use Rattle.fit_plan.specs.Planned.{done_by, AllInside}
-use Rattle.fit_plan.specs.Within.{IsWithin}
+use Rattle.fit_plan.specs.Within.{IsCallWithin}
 use Rattle.fit_plan.specs.declared.calls.Call.{Call}
 
 -- the first so many calls, in order
@@ -24,7 +24,7 @@ carried_out plan story = fold (done_by (bytes_in plan)) story (calls_in plan)
 pub record IsWellFormed (plan : DevicePlan) (story : Story) : Type 0 where
   pub few : plan.count ≤ most_planned_calls
   pub short : plan.used ≤ most_planned_bytes
-  pub calls : All (IsWithin (length (bytes_in plan))) (calls_in plan)
+  pub calls : All (IsCallWithin (length (bytes_in plan))) (calls_in plan)
   pub inside : AllInside (bytes_in plan) story (calls_in plan)
 
 -- C can carry out the plan, and it leads from the files before to those after

@@ -5,7 +5,7 @@ use Rattle.fit_activity.specs.Rides.Recording.{Recorded}
 use Rattle.fit_device.specs.declared.handle.Handle.{Handle}
 use Rattle.fit_device.specs.declared.plan.DevicePlan.{DevicePlan}
 use Rattle.fit_device.specs.Answer.{code_of, code_of_fault}
-use Rattle.fit_device.specs.Handle.{handle_story, IsRecorder, Stands}
+use Rattle.fit_device.specs.Handle.{handle_story, IsRecorder, HandleStands}
 use Rattle.fit_device.specs.Planned.{carried_out, IsWellFormed}
 use Rattle.fit_disk.specs.Calls.{IsSound}
 use Rattle.fit_disk.specs.State.{Contents, seen_in}
@@ -36,7 +36,7 @@ AreLent files in_data in_journal =
 -- The answer is that of a recovery, and any part of the plan leaves what the files stood for. After 0 the body that was finished has the
 -- checksum that the journal states. After other codes the plan has no calls, so the files stay. 5 never comes: reads give what is lent, and
 -- the plan has room.
-pub record Recovers (old : Story) (plan : DevicePlan) (code : ℕ) : Type 0 where
+pub record RecoversFiles (old : Story) (plan : DevicePlan) (code : ℕ) : Type 0 where
   pub well_formed : IsWellFormed plan old
   pub answer : Result Summary RecFault
   pub code_is : code ≡ code_of answer
@@ -50,12 +50,12 @@ pub record Recovers (old : Story) (plan : DevicePlan) (code : ℕ) : Type 0 wher
 pub record GoesOnWith (contents : Contents) (new : Handle) : Type 0 where
   pub list : List Recorded
   pub stood : StandsFor list contents
-  pub stands : Stands new list list
+  pub stands : HandleStands new list list
   pub adopted : Adopted (slots_in new.recorder.journal) new.recorder.len contents.in_journal
 
 -- no ride continues, for this reason
-abbrev pub IsRefused : Story → ℕ → Type 0
-IsRefused old code =
+abbrev pub IsNotContinued : Story → ℕ → Type 0
+IsNotContinued old code =
     (fault : RecFault) × (code ≡ code_of_fault fault) × IsRefusedFor (seen_in old.now) fault
 
 -- After 0 the recorder goes on over the files after the plan. After the other answers, which are those of a resume, the handle is none of
@@ -64,7 +64,7 @@ pub record Reopens (old : Story) (new : Handle) (plan : DevicePlan) (code : ℕ)
   pub well_formed : IsWellFormed plan old
   pub ok : code ≡ 0 → (handle_story new ≡ carried_out plan old) × GoesOnWith (seen_in old.now) new
   pub checked : code ≡ 0 → HasCounted (seen_of Journal old) (seen_of Data (handle_story new))
-  pub refused : (code ≡ 0 → ⊥) → IsRefused old code × (IsRecorder new → ⊥) × (plan.count ≡ 0)
+  pub refused : (code ≡ 0 → ⊥) → IsNotContinued old code × (IsRecorder new → ⊥) × (plan.count ≡ 0)
   pub same : (code ≡ 0 → ⊥) → carried_out plan old ≡ old
   pub no_device : code ≡ fault_code Device → ⊥
   pub any_moment : InRecovery old (carried_out plan old)

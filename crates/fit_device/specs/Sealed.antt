@@ -2,7 +2,7 @@
 use Rattle.std.specs.Prelude.{◌≡◌, ℕ, true, false}
 use Rattle.fit_disk.specs.Story.{Story}
 use Rattle.fit_recorder.specs.declared.frozen.FrozenRecorder.{FrozenRecorder}
-use Rattle.fit_recorder.specs.Calls.Frozen.{state_in, has_failed_in, IsPossible, GoesOnAt}
+use Rattle.fit_recorder.specs.Calls.Frozen.{state_in, has_failed_in, IsPossibleRecorder, GoesOnAt}
 use Rattle.fit_device.specs.Seal.{seal_of}
 
 -- the bytes "fitr", low byte first
@@ -14,6 +14,6 @@ IsSealed mark seal recorder data_size = (mark ≡ recorder_mark) × (seal ≡ se
 
 -- a recorder has these numbers, of which no call failed, and goes on
 pub record GoesOnIn (recorder : FrozenRecorder) (story : Story) : Type 0 where
-  pub possible : IsPossible recorder
+  pub possible : IsPossibleRecorder recorder
   pub going : has_failed_in recorder ≡ false
   pub goes_on : GoesOnAt true (state_in recorder) (has_failed_in recorder) story

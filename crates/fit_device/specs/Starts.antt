@@ -5,7 +5,7 @@ use Rattle.fit_activity.specs.Rides.Recording.{Started}
 use Rattle.fit_device.specs.Answer.{code_of_fault}
 use Rattle.fit_device.specs.declared.handle.Handle.{Handle}
 use Rattle.fit_device.specs.declared.plan.DevicePlan.{DevicePlan}
-use Rattle.fit_device.specs.Handle.{handle_story, IsRecorder, HandleNeverFills, Stands}
+use Rattle.fit_device.specs.Handle.{handle_story, IsRecorder, HandleNeverFills, HandleStands}
 use Rattle.fit_device.specs.Planned.{Leads}
 use Rattle.fit_disk.specs.Story.{seen_of}
 use Rattle.fit_disk.specs.declared.disk.Which.TheVariants.{Data}
@@ -21,7 +21,8 @@ use Rattle.fit_recorder.specs.declared.fault.RecFault.TheVariants.{Device, NotEm
 pub record Starts (start : Start) (old new : Handle) (plan : DevicePlan) (code : ℕ) : Type 0 where
   pub planned : Leads plan (handle_story old) (handle_story new)
   pub no_device : code ≡ fault_code Device → ⊥
-  pub ok : code ≡ 0 → Stands new (Started start ∷ []) (Started start ∷ []) × HandleNeverFills new
+  pub ok : code ≡ 0 → HandleStands new (Started start ∷ []) (Started start ∷ [])
+      × HandleNeverFills new
   pub was_empty : code ≡ 0 → seen_of Data (handle_story old) ≡ []
   pub refused : (code ≡ 0 → ⊥)
       → (fault : RecFault) × (code ≡ code_of_fault fault) × StartAnswers start fault

@@ -5,7 +5,7 @@ use Rattle.fit_activity.specs.Rides.Refusal.{has_stopped}
 use Rattle.fit_activity.specs.Rides.Stretch.{end_time, known_distance}
 use Rattle.fit_activity.specs.Rides.Timer.{runs_now}
 use Rattle.fit_device.specs.Answer.{no_recorder}
-use Rattle.fit_device.specs.Handle.{IsRecorder, WasHanded}
+use Rattle.fit_device.specs.Handle.{IsRecorder, HandleWasHanded}
 use Rattle.fit_device.specs.declared.handle.Handle.{Handle}
 use Rattle.fit_device.specs.declared.state.DeviceState.{DeviceState}
 
@@ -18,7 +18,7 @@ pub record IsStateOf (list : List Recorded) (state : DeviceState) : Type 0 where
   pub stopped : state.stopped ≡ (if has_stopped list then 1 else 0)
 
 -- The state of a ride is reported. A handle that is none of a recorder leaves the state as it is.
-pub record Reports (h : Handle) (old new : DeviceState) (code : ℕ) : Type 0 where
+pub record ReportsState (h : Handle) (old new : DeviceState) (code : ℕ) : Type 0 where
   pub none : (IsRecorder h → ⊥) → (code ≡ no_recorder) × (new ≡ old)
   pub known : IsRecorder h → code ≡ 0
-  pub stands : (list : List Recorded) → WasHanded h list → IsStateOf list new
+  pub stands : (list : List Recorded) → HandleWasHanded h list → IsStateOf list new

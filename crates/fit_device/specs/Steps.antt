@@ -6,7 +6,7 @@ use Rattle.fit_activity.specs.Rides.Recording.{Recorded, Added}
 use Rattle.fit_device.specs.declared.handle.Handle.{Handle}
 use Rattle.fit_device.specs.declared.plan.DevicePlan.{DevicePlan}
 use Rattle.fit_device.specs.Answer.{code_of, no_recorder}
-use Rattle.fit_device.specs.Handle.{handle_story, IsRecorder, HandleNeverFills, WasHanded, Stands}
+use Rattle.fit_device.specs.Handle.{handle_story, IsRecorder, HandleNeverFills, HandleWasHanded, HandleStands}
 use Rattle.fit_device.specs.Planned.{Leads}
 use Rattle.fit_disk.specs.Story.{Throughout}
 use Rattle.fit_journal.specs.Frozen.{slots_in}
@@ -40,37 +40,37 @@ pub record PlansStep (old new : Handle) (plan : DevicePlan) (code : ℕ) : Type 
 -- An entry is handed. A host that carries out any part of the plan leaves what was committed.
 pub record HandsEntry (e : Entry) (old new : Handle) (plan : DevicePlan) (code : ℕ) : Type 0 where
   pub steps : PlansStep old new plan code
-  pub answers : (list : List Recorded) → WasHanded old list
+  pub answers : (list : List Recorded) → HandleWasHanded old list
       → AnswersWith (HandAnswers list old.recorder.len e) code
-  pub ok : (list committed : List Recorded) → Stands old list committed → code ≡ 0
-      → Stands new (list ++ Added e ∷ []) committed
+  pub ok : (list committed : List Recorded) → HandleStands old list committed → code ≡ 0
+      → HandleStands new (list ++ Added e ∷ []) committed
   pub never_fills : HandleNeverFills old → HandleNeverFills new
-  pub any_moment : (list committed : List Recorded) → Stands old list committed
+  pub any_moment : (list committed : List Recorded) → HandleStands old list committed
       → Throughout (StandsFor committed) (handle_story old) (handle_story new)
 
 -- All entries are committed. Any part of the plan leaves what was committed before, or all entries.
 pub record CommitsEntries (old new : Handle) (plan : DevicePlan) (code : ℕ) : Type 0 where
   pub steps : PlansStep old new plan code
-  pub answers : (list : List Recorded) → WasHanded old list
+  pub answers : (list : List Recorded) → HandleWasHanded old list
       → AnswersWith (CommitAnswers list (slots_in old.recorder.journal)) code
-  pub ok : (list committed : List Recorded) → Stands old list committed → code ≡ 0
-      → Stands new list list
+  pub ok : (list committed : List Recorded) → HandleStands old list committed → code ≡ 0
+      → HandleStands new list list
   pub never_fills : HandleNeverFills old → HandleNeverFills new
-  pub not_full : (list : List Recorded) → WasHanded old list → HandleNeverFills old
+  pub not_full : (list : List Recorded) → HandleWasHanded old list → HandleNeverFills old
       → code ≡ fault_code JournalFull → ⊥
-  pub any_moment : (list committed : List Recorded) → Stands old list committed
+  pub any_moment : (list committed : List Recorded) → HandleStands old list committed
       → Throughout (λ contents. StandsFor committed contents
       ⊎ StandsFor list contents) (handle_story old) (handle_story new)
 
 -- The recording ends, and its data file is the finished one.
 pub record EndsRide (time : ℕ) (old new : Handle) (plan : DevicePlan) (code : ℕ) : Type 0 where
   pub steps : PlansStep old new plan code
-  pub answers : (list : List Recorded) → WasHanded old list
+  pub answers : (list : List Recorded) → HandleWasHanded old list
       → AnswersWith (StopAnswers list time) code
-  pub ended : (list : List Recorded) → WasHanded old list → code ≡ 0
-      → WasHanded new (list ++ Added (Stop time) ∷ [])
-  pub finished : (list committed : List Recorded) → Stands old list committed → code ≡ 0
+  pub ended : (list : List Recorded) → HandleWasHanded old list → code ≡ 0
+      → HandleWasHanded new (list ++ Added (Stop time) ∷ [])
+  pub finished : (list committed : List Recorded) → HandleStands old list committed → code ≡ 0
       → IsFinished (list ++ Added (Stop time) ∷ []) (handle_story new)
-  pub any_moment : (list committed : List Recorded) → Stands old list committed
+  pub any_moment : (list committed : List Recorded) → HandleStands old list committed
       → Throughout (λ contents. StandsFor committed contents
       ⊎ StandsFor (list ++ Added (Stop time) ∷ []) contents) (handle_story old) (handle_story new)

@@ -5,6 +5,7 @@ use Rattle.fit_disk.specs.State.{BothLeft, seen_in}
 use Rattle.fit_disk.specs.Stored.{at_rest}
 use Rattle.fit_disk.specs.Story.{Story, Throughout, seen_of}
 use Rattle.fit_disk.specs.declared.disk.Which.TheVariants.{Data, Journal}
+use Rattle.fit_plan.specs.Carried.{number_of}
 use Rattle.fit_recorder.specs.Calls.Erasing.{LeftOrErased}
 use Rattle.fit_recorder.specs.Calls.FaultCode.{fault_code}
 use Rattle.fit_recorder.specs.Calls.Recovery.{RecoveryAnswers, Rebuilds}
@@ -16,7 +17,7 @@ use Rattle.fit_recorder.specs.declared.fault.RecFault.{RecFault}
 use Rattle.fit_recorder.specs.declared.resuming.FoundRide.{FoundRide}
 use Rattle.fit_recorder.specs.declared.fault.RecFault.TheVariants.{Device}
 use Rattle.fit_device.specs.Answer.{code_of, code_of_fault, no_recorder, wants}
-use Rattle.fit_device.specs.Asking.{asked_numbers, IsAsking}
+use Rattle.fit_device.specs.Asking.{asked_numbers, finding_phase, IsAsking}
 use Rattle.fit_device.specs.Handle.{handle_story as story_in}
 use Rattle.fit_device.specs.Planned.{carried_out, IsWellFormed, Leads}
 use Rattle.fit_device.specs.Recovering.{GoesOnWith}
@@ -38,30 +39,31 @@ IsRecovery h = IsAsking h.mark h.seal h.reading (asked_of h) × (h.filled ≤ 51
 
 -- it asks for one of the journal
 abbrev pub AsksForJournal : RecoveryHandle → Type 0
-AsksForJournal h = IsRecovery h × (h.phase ≡ 1)
+AsksForJournal h = IsRecovery h × (h.phase ≡ finding_phase)
 
 -- it asks for at most 512 bytes of the data file, which has them
 pub record AsksForBody (h : RecoveryHandle) : Type 0 where
   pub asks : IsRecovery h
-  pub reads : h.phase ≡ 1 → ⊥
-  pub of_data : h.file ≡ 0
+  pub reads : h.phase ≡ finding_phase → ⊥
+  pub of_data : h.file ≡ number_of Data
   pub few : h.count ≤ 512
   pub inside : h.at + h.count ≤ length (seen_of Data (recovery_story h))
 
 -- The next window. If the one of the body before it was filled, it begins at least 416 bytes later.
 pub record AsksOn (old new : RecoveryHandle) : Type 0 where
   pub body : AsksForBody new
-  pub moves : (old.phase ≡ 1 → ⊥) → old.count ≤ old.filled → old.at + 416 ≤ new.at
+  pub moves : (old.phase ≡ finding_phase → ⊥) → old.count ≤ old.filled → old.at + 416 ≤ new.at
 
 -- the window has less than the journal
 abbrev pub LacksJournal : RecoveryHandle → Type 0
-LacksJournal h = (h.phase ≡ 1) × (h.filled < length (seen_of Journal (recovery_story h)))
+LacksJournal h =
+    (h.phase ≡ finding_phase) × (h.filled < length (seen_of Journal (recovery_story h)))
 
 -- A recovery is begun: both files are synced, and then it asks for the start of the journal, or all of it.
-pub record Begins (old new : RecoveryHandle) (plan : DevicePlan) (code : ℕ) : Type 0 where
+pub record BeginsRecovery (old new : RecoveryHandle) (plan : DevicePlan) (code : ℕ) : Type 0 where
   pub planned : Leads plan (recovery_story old) (recovery_story new)
   pub wanted : code ≡ wants
-  pub asks : AsksForJournal new × (new.file ≡ 1) × (new.at ≡ 0)
+  pub asks : AsksForJournal new × (new.file ≡ number_of Journal) × (new.at ≡ 0)
       × (new.count ≡ min 512 (length (seen_of Journal (recovery_story new))))
   pub settled : IsSettled (seen_in (recovery_story old).now) (recovery_story new)
   pub any_moment : Throughout (BothLeft (recovery_story old).now) (recovery_story old)
@@ -69,7 +71,8 @@ pub record Begins (old new : RecoveryHandle) (plan : DevicePlan) (code : ℕ) : 
 
 -- The window of the journal was filled. It asks for the first of the body, or reports why there is none. Nothing is planned, and no call
 -- fails if the window has all of the journal.
-pub record Finds (old new : RecoveryHandle) (plan : DevicePlan) (code : ℕ) : Type 0 where
+pub record TakesJournalWindow (old new : RecoveryHandle) (plan : DevicePlan)
+    (code : ℕ) : Type 0 where
   pub planned : Leads plan (recovery_story old) (recovery_story new)
   pub same : recovery_story new ≡ recovery_story old
   pub asks : code ≡ wants → AsksForBody new
@@ -80,7 +83,7 @@ pub record Finds (old new : RecoveryHandle) (plan : DevicePlan) (code : ℕ) : T
 
 -- A window was filled. It asks for the next, or it has ended, and answers as a recovery does. Nothing is planned unless it answers 0, and then
 -- the body that was finished has the checksum that the journal states. 5 comes only where the window has less than the journal.
-pub record GoesOn (old new : RecoveryHandle) (plan : DevicePlan) (code : ℕ) : Type 0 where
+pub record TakesWindow (old new : RecoveryHandle) (plan : DevicePlan) (code : ℕ) : Type 0 where
   pub planned : Leads plan (recovery_story old) (recovery_story new)
   pub none : (IsRecovery old → ⊥) → (code ≡ no_recorder) × (new ≡ old)
   pub asks : IsRecovery old → code ≡ wants → AsksOn old new

@@ -1,7 +1,8 @@
 // What comes after a power cut, where C reads a window of a file at a time: a recovery, a reopening and an erasing.
 
 ghost use Rattle.std.specs.Prelude.{◌≡◌, length};
-ghost use Rattle.fit_device.specs.Windowed.{Begins, Finds, GoesOn, ReadsRide, ReopensOn, ErasesOn, IsRecovery};
+ghost use Rattle.fit_device.specs.Asking.{finding_phase};
+ghost use Rattle.fit_device.specs.Windowed.{BeginsRecovery, TakesJournalWindow, TakesWindow, ReadsRide, ReopensOn, ErasesOn, IsRecovery};
 
 use crate::answer::{NEEDS_WINDOW, NO_RECORDER, code_of_fault};
 use crate::files::Files;
@@ -13,7 +14,7 @@ use fit_recorder::{FoundRide, RecFault, Recovery, erase_known, settle};
 /// Begins a recovery, a reopening or an erasing: plans a sync of each file, and asks for the journal.
 #[unsafe(no_mangle)]
 pub extern "C" fn fitrec_recover_begin(recovery: &mut RecoveryHandle, plan: &mut DevicePlan) -> u8
-    ensures { Begins recovery.old recovery.new plan.new result }
+    ensures { BeginsRecovery recovery.old recovery.new plan.new result }
 {
     let journal_size = recovery.journal_size;
     let mut files = recovery.take_files();
@@ -35,7 +36,7 @@ pub extern "C" fn fitrec_recover_begin(recovery: &mut RecoveryHandle, plan: &mut
 /// Goes on with the window that was asked for: asks for the next one, or ends as `fitrec_recover` does.
 #[unsafe(no_mangle)]
 pub extern "C" fn fitrec_recover_next(recovery: &mut RecoveryHandle, plan: &mut DevicePlan) -> u8
-    ensures { GoesOn recovery.old recovery.new plan.new result }
+    ensures { TakesWindow recovery.old recovery.new plan.new result }
 {
     if !recovery.is_recovery() {
         plan.clear();
@@ -106,8 +107,8 @@ pub extern "C" fn fitrec_erase_next(recovery: &mut RecoveryHandle, plan: &mut De
 #[inline(never)]
 fn find_body(handle: &mut RecoveryHandle, plan: &mut DevicePlan) -> u8
     requires asks { IsRecovery handle.old }
-    requires finds { handle.old.phase ≡ 1 }
-    ensures { Finds handle.old handle.new plan.new result }
+    requires finds { handle.old.phase ≡ finding_phase }
+    ensures { TakesJournalWindow handle.old handle.new plan.new result }
 {
     let mut recovery = Recovery::idle();
     let journal_size = handle.journal_size;
@@ -131,8 +132,8 @@ fn find_body(handle: &mut RecoveryHandle, plan: &mut DevicePlan) -> u8
 #[inline(never)]
 fn read_body(handle: &mut RecoveryHandle, plan: &mut DevicePlan) -> u8
     requires asks { IsRecovery handle.old }
-    requires reads { handle.old.phase ≡ 1 → ⊥ }
-    ensures { GoesOn handle.old handle.new plan.new result }
+    requires reads { handle.old.phase ≡ finding_phase → ⊥ }
+    ensures { TakesWindow handle.old handle.new plan.new result }
 {
     let mut recovery = Recovery::idle();
     let journal_size = handle.journal_size;
@@ -158,7 +159,7 @@ fn read_body(handle: &mut RecoveryHandle, plan: &mut DevicePlan) -> u8
 #[inline(never)]
 fn read_ride(handle: &mut RecoveryHandle, plan: &mut DevicePlan) -> Result<(FoundRide, Files), u8>
     requires asks { IsRecovery handle.old }
-    requires reads { handle.old.phase ≡ 1 → ⊥ }
+    requires reads { handle.old.phase ≡ finding_phase → ⊥ }
     ensures { ReadsRide handle.old handle.new plan.new result }
 {
     let mut recovery = Recovery::idle();

@@ -1,17 +1,15 @@
-// The two files of a handle, once their calls are in the plan of C.
+// The two files of a handle, without planned calls.
 
 ghost use Rattle.std.specs.Prelude.{◌≡◌, length};
 ghost use Rattle.fit_disk.specs.Calls.{IsSound};
-ghost use Rattle.fit_device.specs.Handle.{handle_story};
 ghost use Rattle.fit_device.specs.Planned.{Leads};
 ghost use Rattle.fit_plan.specs.Plan.{plan_story, plan_since};
 
-use crate::handle::Handle;
 use crate::plan::DevicePlan;
 use fit_notes::Notes;
 use fit_plan::Plan;
 
-/// Two files without planned calls.
+/// Two files of which C has the calls in its plan.
 #[derive(Drop)]
 pub struct Files {
     pub(crate) size: u64,
@@ -21,16 +19,6 @@ pub struct Files {
 }
 
 impl Files {
-    // Those of a handle, once more.
-    pub(crate) fn of(handle: &Handle) -> Files
-        ensures { result.notes.story ≡ handle_story handle.now }
-    {
-        Files {
-            size: handle.data_size,
-            notes: handle.notes.same(),
-        }
-    }
-
     // Puts the calls that are planned into the plan of C, and returns the files.
     // By reference: a plan is large, and each copy takes stack.
     pub(crate) fn after(files: &Plan, plan: &mut DevicePlan) -> Files

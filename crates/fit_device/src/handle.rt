@@ -50,6 +50,16 @@ impl Handle {
         self.mark == MARK && self.seal == seal_of(&self.recorder, self.data_size)
     }
 
+    // Its two files, once more.
+    pub(crate) fn files(&self) -> Files
+        ensures { result.notes.story ≡ handle_story self.now }
+    {
+        Files {
+            size: self.data_size,
+            notes: self.notes.same(),
+        }
+    }
+
     // Takes the two files out of the handle, which is none of a recorder then.
     pub(crate) fn take_files(&mut self) -> Plan
         ensures story { plan_story result ≡ handle_story self.old }

@@ -1,8 +1,8 @@
 // What comes after a power cut, over files that C lends: a recovery, a reopening and an erasing.
 
 ghost use Rattle.std.specs.Prelude.{◌≡◌, ◌+◌, ◌-◌, ◌≤◌, min, length, Err, IfErr, IfOk, IsErrOf, OnOk};
-ghost use Rattle.fit_device.specs.Lending.{Begun, IsFound};
-ghost use Rattle.fit_device.specs.Recovering.{SoundFiles, AreLent, Recovers, Reopens, Erases};
+ghost use Rattle.fit_device.specs.Lending.{Begun, SyncsAndFinds};
+ghost use Rattle.fit_device.specs.Recovering.{SoundFiles, AreLent, RecoversFiles, Reopens, Erases};
 ghost use Rattle.fit_disk.specs.Calls.{IsSound};
 ghost use Rattle.fit_disk.specs.State.{seen_in};
 ghost use Rattle.fit_disk.specs.Story.{Story, seen_of};
@@ -36,7 +36,7 @@ pub extern "C" fn fitrec_recover(
 ) -> u8
     ghost before: { SoundFiles }
     ensures { AreLent before data_bytes.now journal_bytes.now
-        → Recovers before.story plan.new result }
+        → RecoversFiles before.story plan.new result }
 {
     let mut files = lent(data_bytes, journal_bytes);
     match recover(&mut files, data_bytes, journal_bytes) {
@@ -160,7 +160,7 @@ fn take_up(files: &mut Plan, data_bytes: &[u8], journal_bytes: &[u8]) -> Result<
 fn find(files: &mut Plan, journal_bytes: &[u8], recovery: &mut Recovery) -> Result<(), RecFault>
     requires begun { Begun files.old }
     requires lent { seen_of Journal (plan_story files.old) ≡ journal_bytes.now }
-    ensures found { OnOk result (IsFound files.old files.new recovery.new) }
+    ensures found { OnOk result (SyncsAndFinds files.old files.new recovery.new) }
     ensures refused { IfErr result (λ fault.
         RecoveryAnswers (seen_in (plan_story files.old).now) (plan_story files.new) (Err fault)) }
     ensures no_device { IsErrOf result faults.Device → ⊥ }

@@ -9,7 +9,6 @@ ghost use Rattle.fit_journal.specs.Turn.{are_checked};
 ghost use Rattle.fit_recorder.specs.Calls.Frozen.{state_in};
 
 use crate::answer::{NO_RECORDER, NO_SPORT, code_of, code_of_fault};
-use crate::files::Files;
 use crate::handle::{Handle, no_files};
 use crate::plan::DevicePlan;
 use fit_activity::{Sport, Start};
@@ -42,7 +41,7 @@ pub extern "C" fn fitrec_start(
         serial,
         sport,
     };
-    let before = Files::of(handle);
+    let before = handle.files();
     let mut recorder = Recorder::idle(handle.take_files());
     match recorder.begin(&start, true) {
         Ok(()) => {

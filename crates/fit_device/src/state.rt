@@ -1,7 +1,7 @@
 // Where the ride of a recorder in the memory of C stands.
 
 ghost use Rattle.std.specs.Prelude.{◌≡◌};
-ghost use Rattle.fit_device.specs.State.{Reports};
+ghost use Rattle.fit_device.specs.State.{ReportsState};
 
 use crate::answer::NO_RECORDER;
 use crate::handle::Handle;
@@ -25,7 +25,7 @@ pub struct DeviceState {
 /// Reports where the ride of a recorder stands, such as after a reopening.
 #[unsafe(no_mangle)]
 pub extern "C" fn fitrec_state_of(handle: &Handle, state: &mut DeviceState) -> u8
-    ensures { Reports handle.now state.old state.new result }
+    ensures { ReportsState handle.now state.old state.new result }
 {
     if !handle.is_recorder() {
         return NO_RECORDER;

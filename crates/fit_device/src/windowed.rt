@@ -1,14 +1,14 @@
 // A recovery by windows in the memory of C.
 
-ghost use Rattle.std.specs.Prelude.{◌≡◌, ◌↔◌, ◌-◌, ◌<◌, ◌≤◌, true, false, ◌==◌, if◌then◌else◌, min, length, take, IsTrue};
+ghost use Rattle.std.specs.Prelude.{◌≡◌, ◌↔◌, ◌-◌, ◌<◌, ◌≤◌, true, false, min, length, take, IsTrue};
 ghost use Rattle.fit_disk.specs.Calls.{IsSound};
 ghost use Rattle.fit_disk.specs.Story.{seen_of};
-ghost use Rattle.fit_notes.specs.Noted.{which_of};
+ghost use Rattle.fit_plan.specs.Carried.{which_of};
 ghost use Rattle.fit_disk.specs.State.{seen_in};
 ghost use Rattle.fit_recorder.specs.Files.Settled.{IsSettled};
 ghost use Rattle.fit_recorder.specs.Calls.FrozenRecovery.{ReadsOnIn};
 ghost use Rattle.fit_recorder.specs.Calls.Windows.{AreAt};
-ghost use Rattle.fit_device.specs.Asking.{IsAsking, IsPlaced, asked_numbers, ReadsBy};
+ghost use Rattle.fit_device.specs.Asking.{IsAsking, IsPlaced, asked_numbers, file_in_phase, finding_phase, ReadsBy};
 ghost use Rattle.fit_disk.specs.Counts.{no_calls};
 ghost use Rattle.fit_disk.specs.declared.disk.Which.TheVariants.{Data, Journal};
 ghost use Rattle.fit_plan.specs.Lent.{IsLentWhole, lent_story};
@@ -61,16 +61,16 @@ pub struct RecoveryHandle {
         (asked_numbers data_size journal_size at file phase count)
         → IsPlaced reading journal_size at file phase count },
     ghost settled: { IsAsking mark seal reading
-        (asked_numbers data_size journal_size at file phase count) → phase ≡ 1
+        (asked_numbers data_size journal_size at file phase count) → phase ≡ finding_phase
         → IsSettled (seen_in notes.story.now) notes.story },
     ghost believed: { IsAsking mark seal reading
-        (asked_numbers data_size journal_size at file phase count) → (phase ≡ 1 → ⊥)
+        (asked_numbers data_size journal_size at file phase count) → (phase ≡ finding_phase → ⊥)
         → ∥ ReadsOnIn reading notes.story ∥₁ },
 }
 
 impl RecoveryHandle {
     ghost use Rattle.fit_device.specs.Windowed.{recovery_story, asked_of, IsRecovery, AsksForBody, AsksForJournal};
-    ghost use Rattle.fit_recorder.specs.Calls.Windows.{CanReadOn, ReadsOn, place_of};
+    ghost use Rattle.fit_recorder.specs.Calls.Windows.{CanReadOn, ReadsBodyOn, place_of};
 
     // Whether it asks for a window.
     pub(crate) fn is_recovery(&self) -> bool
@@ -122,8 +122,8 @@ impl RecoveryHandle {
     #[inline(never)]
     pub(crate) fn take_reading(&mut self, recovery: &mut Recovery) -> Plan
         requires asks { IsRecovery self.old }
-        requires reads { self.old.phase ≡ 1 → ⊥ }
-        ensures reads { CanReadOn recovery.new × ReadsOn (plan_story result) recovery.new }
+        requires reads { self.old.phase ≡ finding_phase → ⊥ }
+        ensures reads { CanReadOn recovery.new × ReadsBodyOn (plan_story result) recovery.new }
         ensures window { (self.new.filled ≡ self.old.filled) × (self.new.window ≡ self.old.window) }
         ensures given { (self.old.filled ≤ 512) × AreAt (place_of recovery.new)
             (take self.old.filled self.old.window) (seen_of Data (plan_story result)) }
@@ -196,7 +196,7 @@ impl RecoveryHandle {
     // Asks for the next window of the body of these files.
     pub(crate) fn ask_for_body(&mut self, files: Files, journal_size: u64, recovery: &Recovery)
         requires size { journal_size ≡ length files.notes.story.now.journal_file.seen }
-        requires reads { CanReadOn recovery.now × ReadsOn files.notes.story recovery.now }
+        requires reads { CanReadOn recovery.now × ReadsBodyOn files.notes.story recovery.now }
         ensures asks { AsksForBody self.new }
         ensures at { self.new.at ≡ place_of recovery.now }
         ensures story { recovery_story self.new ≡ files.notes.story }
@@ -211,10 +211,10 @@ impl RecoveryHandle {
     pub(crate) fn ask(&mut self, files: Files, journal_size: u64, phase: u8, at: u64, count: u16)
         requires size { journal_size ≡ length files.notes.story.now.journal_file.seen }
         requires reads { ReadsBy phase self.old.reading files.notes.story }
-        requires placed { IsPlaced self.old.reading journal_size at (if phase == 1
-            then 1 else 0) phase count }
+        requires placed { IsPlaced self.old.reading journal_size at (file_in_phase phase)
+            phase count }
         ensures asks { IsRecovery self.new }
-        ensures window { (self.new.file ≡ (if phase == 1 then 1 else 0)) × (self.new.at ≡ at)
+        ensures window { (self.new.file ≡ file_in_phase phase) × (self.new.at ≡ at)
             × (self.new.count ≡ count) × (self.new.phase ≡ phase) }
         ensures story { recovery_story self.new ≡ files.notes.story }
     {

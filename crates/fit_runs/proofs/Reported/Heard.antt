@@ -13,8 +13,7 @@ use Rattle.fit_runs.specs.declared.recording.listener.Listener.{Listener}
 use Rattle.fit_runs.specs.declared.recording.session.Session.{Session}
 use Rattle.fit_files.specs.Printed.Shown.{IsOutputFault}
 use Rattle.fit_runs.specs.Rides.Listening.{CanHear, HasHeard, BreaksOffAt}
-use Rattle.fit_runs.specs.Rides.Played.{LeavesAfter}
-use Rattle.fit_runs.specs.Rides.Turns.{Turn, turns_text, events_in, replies_in, refused_in, rides_after, times_after, IsAnswer, AnswersLine, AnswersLines, AnswersAll, AnswersUpTo, AnswersSome, CommitsIfDue, TakesLine, PrintsPart, Prints, RepliesToAll, BrokenOff, Finishes, SoFar, LeavesByTurns}
+use Rattle.fit_runs.specs.Rides.Turns.{Turn, turns_text, refused_in, rides_after, times_after, IsAnswer, AnswersLine, AnswersLines, AnswersAll, AnswersUpTo, AnswersSome, CommitsIfDue, TakesLine, PrintsPart, Prints, RepliesToAll, BrokenOff, Finishes, SoFar, LeavesByTurns}
 use Rattle.fit_runs.specs.Rides.Heard.{IsHeld, line_of, lines_in, last_line, lines_heard_in}
 use Rattle.fit_runs.proofs.Reported.Recorded.{answers_more, cut_after, newline_heard, other_heard, prints_then}
 

@@ -18,7 +18,6 @@ use Rattle.fit_runs.specs.declared.recording.session.Session.{Session}
 use Rattle.fit_histories.specs.declared.reply.Reply.{Reply}
 use Rattle.fit_histories.specs.Histories.Table.{History, Idle, Step, ended, Riding}
 use Rattle.fit_runs.specs.Rides.Dues.{Shows, times_on}
-use Rattle.fit_runs.specs.Rides.Played.{GoesTo, LeavesAfter}
 use Rattle.fit_histories.specs.Rides.Replies.{MayReply, MayReplyAll, is_ok, rides_on}
 use Rattle.fit_histories.specs.Rides.Ride.{is_riding, Handed}
 use Rattle.fit_histories.specs.Rides.Standing.{StandsIn, TakesStepFrom, LeavesAllowed, content_of, outcome}

@@ -19,7 +19,6 @@ use Rattle.fit_histories.specs.Histories.Table.{History, Idle, Riding, Step, end
 use Rattle.fit_runs.specs.Printed.FaultyLines.{faulty_text}
 use Rattle.fit_runs.specs.Printed.ReplyLines.{line_text}
 use Rattle.fit_runs.specs.Rides.Dues.{Shows, times_on, is_due}
-use Rattle.fit_runs.specs.Rides.Played.{GoesTo, LeavesAfter}
 use Rattle.fit_histories.specs.Rides.Replies.{MayReplyAll, is_ok, rides_on}
 use Rattle.fit_histories.specs.Rides.Ride.{is_riding}
 use Rattle.fit_histories.specs.Rides.Standing.{StandsIn, LeavesAllowed, outcome}

@@ -1,6 +1,6 @@
 // The bytes of a line that has not ended.
 
-ghost use Rattle.std.specs.Prelude.{◌≡◌, ◌≢◌, ◌++◌, ◌∷◌, ◌<◌, List, ℕ, [], length, true, false, IfSome, IsNone};
+ghost use Rattle.std.specs.Prelude.{◌≡◌, ◌≢◌, ◌++◌, ◌∷◌, ◌<◌, List, ℕ, [], length, true, false, IfSome};
 ghost use Rattle.fit_runs.specs.Rides.Heard.{IsHeld, line_of, without_return};
 
 use arrayvec::ArrayVec;

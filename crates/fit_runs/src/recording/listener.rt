@@ -1,6 +1,6 @@
 // A session that is fed bytes.
 
-ghost use Rattle.std.specs.Prelude.{◌≡◌, ◌<◌, ◌≤◌, ◌+◌, ◌^◌, ◌++◌, ◌∷◌, [], List, ℕ, Option, IfErr, OnOk, OnErr, length};
+ghost use Rattle.std.specs.Prelude.{◌≡◌, ◌<◌, ◌+◌, ◌^◌, ◌++◌, ◌∷◌, [], List, ℕ, Option, IfErr, OnOk, OnErr, length};
 ghost use Rattle.fit_disk.specs.Story.{Story};
 ghost use Rattle.fit_files.specs.Printed.Shown.{IsOutputFault};
 ghost use Rattle.fit_runs.specs.Rides.Turns.{BrokenOff, Finishes};

@@ -6,7 +6,7 @@ use Rattle.fit_disk.specs.Story.{Story, seen_of}
 use Rattle.fit_disk.specs.declared.disk.Which.TheVariants.{Journal}
 use Rattle.fit_plan.proofs.Lending.{no_failure}
 use Rattle.fit_recorder.specs.Calls.Counts.{finding_calls}
-use Rattle.fit_recorder.specs.Calls.Windows.{AreAt, FindsBody, ReadsOn}
+use Rattle.fit_recorder.specs.Calls.Windows.{AreAt, FindsBody, ReadsBodyOn}
 use Rattle.fit_recorder.specs.Files.Settled.{IsSettled}
 use Rattle.fit_recorder.specs.declared.fault.RecFault.TheVariants.{Device}
 use Rattle.fit_device.proofs.ByWindows.{led, answers_for, journal_front, never_wants}
@@ -27,7 +27,7 @@ ask_for_body-requires-clause-reads c =
     let lent = c.lend-journal.ensures.story in
     let here = settled _ _ (sym (lent ∙ c.take_files-files.ensures.story)) (c.args.handle.now.settled c.requires.asks.0 c.requires.finds) in
     let found = subst (FindsBody _ c.begin-answer.new.self) c.in-Ok.is (c.begin-answer.ensures.found refl here) in
-    (c.in-Ok.ensures.goes_on, subst (λ (story : Story). ReadsOn story c.begin-answer.new.self) (lent ∙ sym c.after-files.ensures.story) found)
+    (c.in-Ok.ensures.goes_on, subst (λ (story : Story). ReadsBodyOn story c.begin-answer.new.self) (lent ∙ sym c.after-files.ensures.story) found)
 
 pub returns-in-Ok : goal.returns-in-Ok
 returns-in-Ok c =

@@ -9,7 +9,7 @@ use Rattle.fit_recorder.specs.Private.State.{RecorderState}
 use Rattle.fit_recorder.specs.Calls.Counts.{commit_bytes, most_commit_calls}
 use Rattle.fit_device.proofs.Stepping.{never_device, still_going, stood, was_going, was_handed, stands, steps, throughout, never_fills, on_ok}
 use Rattle.fit_device.proofs.NeverFull.{after_commit, never_full}
-use Rattle.fit_device.specs.Handle.{WasHanded}
+use Rattle.fit_device.specs.Handle.{HandleWasHanded}
 use Rattle.fit_activity.specs.Rides.Recording.{Recorded}
 use Rattle.fit_journal.specs.Frozen.{slots_in}
 use Rattle.fit_recorder.specs.declared.fault.RecFault.TheVariants.{Device}
@@ -28,7 +28,7 @@ returns c =
     let put = c.put.ensures in
     let never : IsErrOf c.commit-answer.result Device → ⊥ =
     never_device old before taken most_commit_calls commit_bytes _ after (omega arith) (omega arith) did.ran.room in
-    let answers : (list : List Recorded) → WasHanded old list → CommitAnswers list (slots_in old.recorder.journal) c.commit-answer.result = λ list handed.
+    let answers : (list : List Recorded) → HandleWasHanded old list → CommitAnswers list (slots_in old.recorder.journal) c.commit-answer.result = λ list handed.
     subst (λ (slots : Slots). CommitAnswers list slots c.commit-answer.result) (ap (λ (state : RecorderState). state.journal_slots) taken.state)
     (did.answers list (was_handed old before taken list handed) (was_going old before taken list handed)) in
     record {

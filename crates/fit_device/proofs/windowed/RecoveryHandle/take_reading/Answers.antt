@@ -4,9 +4,9 @@ use mathlib.Core.Bool.{Bool-set}
 use mathlib.Core.Logic.{∥∥₁_elim}
 use Rattle.fit_disk.specs.Story.{Story, seen_of}
 use Rattle.fit_disk.specs.declared.disk.Which.TheVariants.{Data}
-use Rattle.fit_notes.specs.Noted.{which_of}
+use Rattle.fit_plan.specs.Carried.{which_of}
 use Rattle.fit_recorder.specs.Calls.FrozenRecovery.{ReadsOnIn}
-use Rattle.fit_recorder.specs.Calls.Windows.{AreAt, ReadsOn, place_of}
+use Rattle.fit_recorder.specs.Calls.Windows.{AreAt, ReadsBodyOn, place_of}
 use Rattle.fit_recorder.specs.Private.BodyRead.{Reading}
 use Rattle.fit_recorder.proofs.Windowed.{can_read_on, reads_on}
 use Rattle.fit_device.proofs.windowed.RecoveryHandle.take_reading.Goals as goal
@@ -19,7 +19,7 @@ invariant_of-reveal c =
       reads_on = ∥∥₁_map (old.believed c.requires.asks.0 c.requires.reads) (λ (on : ReadsOnIn old.reading old.notes.story).
           let is = thawed.possible on.possible in (
             can_read_on c.thaw.new.self _ _ (thawed.reading is) (thawed.replay is) (thawed.journal is) on,
-            subst (λ (s : Story). ReadsOn s c.thaw.new.self) (sym c.take_files-files.ensures.story) (reads_on c.thaw.new.self _ _ (thawed.reading is) (thawed.replay is) (thawed.journal is) on),
+            subst (λ (s : Story). ReadsBodyOn s c.thaw.new.self) (sym c.take_files-files.ensures.story) (reads_on c.thaw.new.self _ _ (thawed.reading is) (thawed.replay is) (thawed.journal is) on),
           ));
     }
 
