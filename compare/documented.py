@@ -148,17 +148,17 @@ def cited_commands(fitrec, name, text):
 def script(fitrec):
     """The script of docs/PROGRAM.md: each line is answered ok."""
     lines = section(page("docs/PROGRAM.md"), "replay")[0]
-    want = "".join("%d %s: ok\n" % (number, line.split()[0]) for number, line in enumerate(lines, 1) if line[0] != "#")
+    expected = "".join("%d %s: ok\n" % (number, line.split()[0]) for number, line in enumerate(lines, 1) if line[0] != "#")
     said, _ = scratch(fitrec, lambda here: here.replayed("\n".join(lines) + "\n"))
-    yield "the script of docs/PROGRAM.md", differs(said, (0, want, ""))
+    yield "the script of docs/PROGRAM.md", differs(said, (0, expected, ""))
 
 
 def spelled(fitrec):
     """The bytes of the ride of docs/FORMAT.md, after the 86 of its header and its start."""
-    want = bytes_in(section(page("docs/FORMAT.md"), "What is written")[0])
+    expected = bytes_in(section(page("docs/FORMAT.md"), "What is written")[0])
     ride = RIDE.splitlines()[0] + "\nsample 1000000031 hr=100\nsample 1000000063 hr=101\nsample 1000000063 hr=102\ncommit\n"
     _, (data, _) = scratch(fitrec, lambda here: here.replayed(ride))
-    yield "the ride of docs/FORMAT.md", differs(data[86:].hex(" "), want.hex(" "))
+    yield "the ride of docs/FORMAT.md", differs(data[86:].hex(" "), expected.hex(" "))
 
 
 def torn_slots(text):
