@@ -94,8 +94,8 @@ class Scratch:
         said = self.program(["repair", "pair"])
         self.program(["plain", "pair/activity.fit", "plain"])
         count = uncommitted(data, journal)
-        is_told = saved == (*said[:2], said[2] + LEFT_OUT % count * bool(count))
-        is_saved = is_told and bytes_of(self.folder / "saved") == bytes_of(self.folder / "plain")
+        is_reported = saved == (*said[:2], said[2] + LEFT_OUT % count * bool(count))
+        is_saved = is_reported and bytes_of(self.folder / "saved") == bytes_of(self.folder / "plain")
         return said, holds(self.folder / "pair")[0], is_saved
 
 

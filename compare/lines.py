@@ -258,8 +258,8 @@ def of_the_example(fitrec):
     client = [sys.executable, EXAMPLES / "heart_rate.py"]
     for words in ([], ["a", "b", "c", "d"]):
         said = run(*client, *words)
-        is_told = said[:2] == (1, "") and "heart_rate.py FOLDER [SECONDS [PACE]]" in said[2] and "Traceback" not in said[2]
-        yield "the client of a strap, with no words or too many", unless(is_told, said, "status 1, and how it is used")
+        is_refused = said[:2] == (1, "") and "heart_rate.py FOLDER [SECONDS [PACE]]" in said[2] and "Traceback" not in said[2]
+        yield "the client of a strap, with no words or too many", unless(is_refused, said, "status 1, and how it is used")
     with tempfile.TemporaryDirectory() as above:
         folder = above + "/new"
         words = [*client, folder, "1000", "0.001"]
