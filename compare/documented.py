@@ -33,6 +33,7 @@ SIZES = {("fit_recorder/src/limits.rt", "MOST_RECORDS"): ["RECORDING", "JOURNAL-
          ("fit_grammar/src/item/writing.rt", "LONGEST_DEFINITION"): ["FORMAT", "DECISIONS"],
          ("fit_files/src/reading.rt", "CHUNK"): ["ARCHITECTURE"],
          ("fit_commands/src/input.rt", "MOST_BYTES"): ["PROGRAM", "DECISIONS"],
+         ("fit_commands/src/chosen.rt", "MOST_COLUMNS"): ["PROGRAM"],
          ("fit_runs_tests/src/random.rt", "HISTORIES"): ["PROOFS"]}
 
 
@@ -224,6 +225,9 @@ def sizes():
         value = int(re.search(r"const %s: \w+ = ([\d_]+)" % name, page("crates/" + file))[1])
         for it in names:
             yield "%s in docs/%s.md" % (name, it), differs("{:,}".format(value) in page("docs/%s.md" % it), True)
+    names = int(re.search(r"const NAMES: u32 = (\d+)", page("crates/fit_commands/src/beside.rt"))[1])
+    stated = re.search(r"the next free number up to (\d+)", page("docs/PROGRAM.md"))
+    yield "the names beside OUT in docs/PROGRAM.md", differs(stated and int(stated[1]), names - 1)
     for name, about in re.findall(r"`release/(\w+\.a)` [^.]*?some (\d+) KB", page("docs/EMBEDDING.md")):
         size = (ROOT / "release" / name).stat().st_size
         yield "the size of " + name, unless(abs(size / 1000 - int(about)) < 3, size, "about %s KB" % about)

@@ -20,6 +20,8 @@ from tools.rides import body_unread, recording, script_of
 from tools.traced import ERRORS, tracing
 
 NEEDS = ("fitrec", "cc")
+# How many names a new file may have beside OUT.
+NAMES = 100
 
 
 def not_written(out):
@@ -259,16 +261,17 @@ def other_things(command):
 
 
 def taken_names(command):
-    """A name beside OUT that is taken is passed over. There are a hundred names."""
+    """A name beside OUT that is taken is passed over."""
     with place_of(command.given) as place:
-        taken = [place.folder / (".fitrec-new-%d" % number) for number in range(100)]
+        taken = [place.folder / (".fitrec-new-%d" % number) for number in range(NAMES)]
         for path in taken:
             path.write_bytes(OLD)
         before = place.left()
         yield "each name is taken", differs((command.run(place.source, place.out), place.left()), (not_written(place.out), before))
-        taken[57].unlink()
+        free = taken[NAMES // 2]
+        free.unlink()
         said = command.run(place.source, place.out)
-        yield "one name is free", differs((said, place.left()), (command.done, (command.made, sorted(set(before[1]) - {".fitrec-new-57"}))))
+        yield "one name is free", differs((said, place.left()), (command.done, (command.made, sorted(set(before[1]) - {free.name}))))
         yield "what has the others stays", differs({bytes_of(path) for path in taken}, {OLD, None})
 
 
