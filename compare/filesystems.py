@@ -58,18 +58,19 @@ def of_disks(fitrec, seed):
         yield "what file systems keep", missing(*NEEDS[1:])
         return
     none, some = range(1), range(1, 1000)
+    # A repair may have to write where the table of a FAT disk has no cluster, or on a card that is read only since a save met that place.
+    repairs = 'repair prints "fitrec: Device"', 'repair prints "fitrec: cannot open'
     with guest(fitrec, seed) as it:
-        for case in ("ext4", "xfs", "btrfs", "vfat"):
-            # A length that the system has written back before the sync is lost on vfat, so there it does not.
-            kept = {"writeback": 0} if case == "vfat" else {}
-            yield "the rules on " + case, judge(it, "rules", case, 600, none, **kept)
-            yield "a ride on " + case, judge(it, "ride", case, 150, none, **kept)
+        for case in ("ext4", "xfs", "btrfs"):
+            yield "the rules on " + case, judge(it, "rules", case, 600, none)
+            yield "a ride on " + case, judge(it, "ride", case, 150, none)
+        # On vfat a length is lost that the system wrote back before the sync. So it writes nothing back by itself, or only lengths are lost.
+        yield "the rules on vfat", judge(it, "rules", "vfat", 600, none, writeback=0)
         yield "nothing but a length is lost on vfat", judge(it, "rules", "vfat", 300, none, ["rule 4: "], delay=250)
+        yield "a ride on vfat", judge(it, "ride", "vfat", 150, none, repairs, writeback=0)
         # A replacement that is cut off in the middle may lose the old file and the new name. Its bytes are in the file beside it.
         yield "files that are saved on vfat", judge(it, "saves", "vfat", 800, range(9))
-        # A repair may have to write where the table has no cluster, or on a card that is read only since a save met that place.
         tails = {"sector": 512, "still": 1, "torn": fats_of(it.image("vfat"))}
-        repairs = 'repair prints "fitrec: Device"', 'repair prints "fitrec: cannot open'
         yield "tails that cannot be read", judge(it, "ride", "vfat", 150, none, repairs, **tails)
         yield "a disk that ignores flushes loses something", judge(it, "rules", "vfat", 60, some, unsure=120)
         yield "a mount without barriers loses something", judge(it, "rules", "ext4-no-barrier", 60, some)
