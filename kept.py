@@ -35,7 +35,7 @@ def link_or_copy(source, to):
 
 def tree_of(to, names, changed=()):
     """Makes a tree of these crates and all below them, with what is kept: of a library its proved form, of a static library the proofs. The lines
-    of crates in it are changed as told."""
+    of crates in it are those of `changed`, where it has them."""
     wanted = list(dict.fromkeys(it for name in names for it in below(name)))
     for name in wanted:
         for part in ("src", "specs", "proofs", "out/incremental" if " staticlib:" in crates()[name] else "out/rlib"):

@@ -1,9 +1,28 @@
-"""A step of a recorder in a device, by the static library for C, without carrying out its plan."""
+"""A step of a recorder in a device, by the static library for C, without carrying out its plan; and what a linker keeps of the object files
+of release/ for some calls. That needs Debian's gcc-arm-none-eabi and gcc-riscv64-unknown-elf."""
 
 import re
 import shutil
 
 from tools import ROOT, compiled, kept, run
+
+RECORDING = ["start", "add_sample", "add_lap", "pause_timer", "resume_timer", "commit", "stop"]
+BY_WINDOWS = [*RECORDING, "recover_begin", "recover_next", "reopen_next", "erase_next"]
+ALL = [*BY_WINDOWS, "state_of", "recover", "reopen", "erase"]
+# The compiler that links for a processor.
+LINKERS = {"cortex-m4": ["arm-none-eabi-gcc", "-mthumb", "-mcpu=cortex-m4"],
+           "cortex-m0plus": ["arm-none-eabi-gcc", "-mthumb", "-mcpu=cortex-m0plus"],
+           "rv32imac": ["riscv64-unknown-elf-gcc", "-march=rv32imac", "-mabi=ilp32"]}
+SECTION = re.compile(r"(?m)^ \.(?:text|rodata|data|bss)\S*\s+0x[0-9a-f]+\s+0x([0-9a-f]+) (\S+)")
+
+
+def code_of(work, processor, calls):
+    """The bytes of code and constants that these calls keep of the object file."""
+    words = ["-nostdlib", "-Wl,--gc-sections,--unresolved-symbols=ignore-all,-Map=%s" % (work / "map"), "-Wl,-e,fitrec_" + calls[0]]
+    words += ["-Wl,-u,fitrec_" + it for it in calls]
+    run(*LINKERS[processor], *words, ROOT / ("release/fitrec-%s.o" % processor), "-lgcc", "-o", work / "linked")
+    kept_parts = (work / "map").read_text().partition("Linker script and memory map")[2]
+    return sum(int(size, 16) for size, file in SECTION.findall(kept_parts) if file.endswith("fitrec-%s.o" % processor))
 
 
 def figures(work):
@@ -13,3 +32,7 @@ def figures(work):
     said = run(compiled(work, "device", "main", "-I", ROOT / "include", crate / "out/libfit_device.a"))
     sample, commit = (int(it) / 1000 for it in re.findall(r"(\d+) ns", said))
     yield "a step in a device, here, without carrying out: sample (one), commit", "%.1f, %.1f µs" % (sample, commit)
+    for processor, (compiler, *_) in LINKERS.items():
+        sizes = [code_of(work, processor, it) / 1000 for it in (RECORDING, BY_WINDOWS, ALL)] if shutil.which(compiler) else None
+        figure = "%.1f; %.1f; %.1f KB" % tuple(sizes) if sizes else "not here: " + compiler
+        yield "code of recording; with all by windows; of all calls: " + processor, figure

@@ -75,7 +75,7 @@ static void carry_out_plan(struct pair *files, const struct fitrec_plan *plan) {
         carry_out(files, &plan->calls[k], plan->bytes + plan->calls[k].start);
 }
 
-/* Recovers the files where they lie. */
+/* Recovers the files in place. */
 static uint8_t recover(struct pair *files) {
     static struct fitrec_plan plan;
     const struct file *data = &files->of[0], *journal = &files->of[1];

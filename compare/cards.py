@@ -96,12 +96,12 @@ def with_the_commit_before(fitrec):
         refused = ((1, "", CHANGED), None)
         (said, made), left_out = saved(before), counted[1] - counted[0]
         earlier = (said[0], said[1], "fitrec: %d bytes of the last commit are left out, since what it counts has changed\n" % left_out), made
-        for place, want in ((14 + counted[1] - 1, earlier), (14 + counted[0] - 1, refused)):
+        for place, expected in ((14 + counted[1] - 1, earlier), (14 + counted[0] - 1, refused)):
             changed = bytearray(data)
             changed[place] ^= 4
             (last / NAMES[0]).write_bytes(changed)
             yield "a changed byte", differs(saved(last), refused)
-            yield "a changed byte, by --earlier", differs(saved(last, "--earlier"), want)
+            yield "a changed byte, by --earlier", differs(saved(last, "--earlier"), expected)
 
 
 def check(given):

@@ -192,7 +192,7 @@ static void carry_out_plan(void) {
     }
 }
 
-static void look_at_guards(void) {
+static void check_guards(void) {
     for (size_t at = 0; at < GUARD; at++)
         if (room.before[at] != 0xA5 || room.between[at] != 0xA5 || room.after[at] != 0xA5 || room.end[at] != 0xA5)
             fail("a byte outside was written");
@@ -223,7 +223,7 @@ static uint8_t hand_sample(uint32_t time, char *rest) {
     return fitrec_add_sample(&room.recorder, &sample, &room.plan);
 }
 
-/* A step that reads both files where they lie. */
+/* A step that reads both files in place. */
 static uint8_t step_over_files(const char *word) {
     static uint8_t read[2][MOST];
     const uint8_t *bytes[2] = {memory[0].now, memory[1].now};
@@ -305,7 +305,7 @@ static int turn_over(const char *word, uint8_t *answer) {
 
 /* Over whole files the answer, the recorder and the calls are the same. A recovery and a reopening begin with two syncs more, unless they
    refuse. */
-static void look_at_whole_files(const char *word, uint8_t answer) {
+static void check_whole_files(const char *word, uint8_t answer) {
     static struct fitrec_recorder recorder;
     static struct fitrec_plan plan;
     recorder = room.recorder, plan = room.plan;
@@ -324,7 +324,7 @@ static void look_at_whole_files(const char *word, uint8_t answer) {
 }
 
 /* The mark of a struct stands where the header ends it: the last 8 bytes are the mark, the check code, and two that are unused. */
-static void look_at_mark(const void *whole, size_t size, const char *mark) {
+static void check_mark(const void *whole, size_t size, const char *mark) {
     if (memcmp((const uint8_t *)whole + size - 8, mark, 4))
         fail("a struct of another size than in the header");
 }
@@ -336,7 +336,7 @@ static uint8_t step_by_windows(const char *word) {
     it->data_size = size_of_data();
     it->journal_size = in_flash ? in_area.journal_len : in_memory ? memory[1].len : (uint64_t)file_size(&files, FITREC_JOURNAL_FILE);
     uint8_t answer = fitrec_recover_begin(it, &room.plan);
-    look_at_mark(it, sizeof *it, "fitw");
+    check_mark(it, sizeof *it, "fitw");
     for (uint32_t most = 2; answer == FITREC_NEEDS_WINDOW; most = 0) {
         for (uint32_t k = 0; k < room.plan.count; k++)
             if (k >= most || room.plan.calls[k].kind != FITREC_SYNC)
@@ -357,7 +357,7 @@ static uint8_t step_by_windows(const char *word) {
     if (is_too_long)
         return step_over_files(word);
     if (rule == 0)
-        look_at_whole_files(word, answer);
+        check_whole_files(word, answer);
     return answer;
 }
 
@@ -405,7 +405,7 @@ static struct fitrec_state stands, committed;
 static int is_begun;
 
 /* The state of the recorder after a line: that of all lines, or after a reopening that of the committed ones. */
-static void look_at_state(const char *line, const char *word, uint8_t answer) {
+static void check_state(const char *line, const char *word, uint8_t answer) {
     static const struct fitrec_state none = {1, 2, 3, 4, 5};
     struct fitrec_state found = none;
     unsigned time = 0;
@@ -452,14 +452,14 @@ static void play(const char *script) {
             continue;
         strcpy(whole, line);
         uint8_t answer = step(line, word);
-        look_at_state(whole, word, answer);
+        check_state(whole, word, answer);
         if (rule == 3)
             report(number, word, answer);
         carry_out_plan();
         if (rule != 3)
             report(number, word, answer);
         if (!answer && strstr("start reopen commit", word)) {
-            look_at_mark(&room.recorder, sizeof room.recorder, "fitr");
+            check_mark(&room.recorder, sizeof room.recorder, "fitr");
             start_without_a_sport();
         }
     }
@@ -540,7 +540,7 @@ int main(int count, char **words) {
     if (count > 2 && !strcmp(words[1], "random")) {
         chance_state = strtoull(words[2], NULL, 10);
         refuse_random();
-        look_at_guards();
+        check_guards();
         return 0;
     }
     if (count < 5)
@@ -566,7 +566,7 @@ int main(int count, char **words) {
             fail("cannot open the files");
     }
     play(words[2]);
-    look_at_guards();
+    check_guards();
     if (in_memory) {
         if (left < 0) {
             keep_all(&memory[0]);

@@ -119,8 +119,8 @@ def of_rides(fitrec, program, count, seed):
         for at, text in enumerate([*LONG, *LONG, *scripts(count, seed)]):
             script.write_text(text)
             mine, its = new(), new()
-            found, want = run(program, "play", script, mine, seed + at), run(fitrec, "replay", "--checked", script, its)
-            answers = re.sub(r"ok records.*", "ok", want[1])
+            found, expected = run(program, "play", script, mine, seed + at), run(fitrec, "replay", "--checked", script, its)
+            answers = re.sub(r"ok records.*", "ok", expected[1])
             yield "a ride by plan", differs((found[0], found[1], holds(mine)), (0, answers, holds(its)))
 
 
@@ -138,8 +138,8 @@ def of_rows_of_slots(fitrec, program, seed):
                 for folder in (mine, its):
                     (folder / "activity.fit").write_bytes(data)
                     (folder / "activity.frj").write_bytes(row_of(*[len(data) - 14] * (size // 8 - 2 + size % 8 // 4))[:size])
-                found, want = run(program, "play", script, mine, seed + at), run(fitrec, "replay", script, its)
-                answers = re.sub(r"ok records.*", "ok", want[1])
+                found, expected = run(program, "play", script, mine, seed + at), run(fitrec, "replay", script, its)
+                answers = re.sub(r"ok records.*", "ok", expected[1])
                 yield "a row of slots of %d bytes" % size, differs((found[0], found[1], holds(mine)), (0, answers, holds(its)))
 
 
@@ -188,14 +188,14 @@ def of_erasings(fitrec, program, seed):
         later.write_text("erase\n")
         ride = new()
         run(program, "play", script, ride, seed)
-        want = run(fitrec, "repair", shutil.copytree(ride, ride + "-repaired"))
+        expected = run(fitrec, "repair", shutil.copytree(ride, ride + "-repaired"))
         for call in range(11):
             for times in range(8):
                 folder = shutil.copytree(ride, "%s-%d-%d" % (ride, call, times))
                 answers = run(program, "cut", later, folder, call, seed + 8 * call + times, 0)
                 done = run(fitrec, "repair", folder)
                 is_gone = done[2] == "fitrec: NothingRecorded\n"
-                is_right = answers[0] == 0 and (is_gone if "1 erase: ok\n" in answers[1] else is_gone or done == want)
+                is_right = answers[0] == 0 and (is_gone if "1 erase: ok\n" in answers[1] else is_gone or done == expected)
                 yield "a power cut in an erasing", unless(is_right, (call, answers, done), "nothing recorded, or the ride as it was")
 
 
@@ -261,10 +261,10 @@ def of_32_bits(fitrec, count, seed):
                 script.write_text(text)
                 mine, its = new(), new()
                 shutil.copy(script, mine + "/script.txt")
-                found, want = run(*emulator, program, cwd=mine, stdin=subprocess.DEVNULL), run(fitrec, "replay", "--checked", script, its)
+                found, expected = run(*emulator, program, cwd=mine, stdin=subprocess.DEVNULL), run(fitrec, "replay", "--checked", script, its)
                 # Semihosting may have one console for all output.
                 said, _, used = (found[1] + found[2]).rpartition("stack: ")
-                answers = re.sub(r"ok records.*", "ok", want[1])
+                answers = re.sub(r"ok records.*", "ok", expected[1])
                 yield "a ride by 32 bits, " + form, differs((said, holds(mine)), (answers, holds(its)))
                 most = [max(pair) for pair in zip(most, map(int, re.findall(r"\d+", used)))]
             allowed = OF_C if form.startswith("in C") else OF_OBJECT
@@ -313,8 +313,8 @@ def of_host(fitrec, program, lines):
                 host.kill()
             if most >= 10:
                 mine, its = (shutil.copytree(ride, ride + name) for name in ("-mine", "-its"))
-                found, want = run(program, mine, input=""), run(fitrec, "repair", its)
-                yield "the host of examples/device recovers", differs((found, holds(mine)), ((want[0], "recovered: 0\n", ""), holds(its)))
+                found, expected = run(program, mine, input=""), run(fitrec, "repair", its)
+                yield "the host of examples/device recovers", differs((found, holds(mine)), ((expected[0], "recovered: 0\n", ""), holds(its)))
             done = run(program, ride, input="".join(lines[most:]))
             found = re.match(r"ok records=(\d+) ", run(fitrec, "check", ride + "/activity.fit")[1])
             kept = 30 - most + most // 10 * 10
@@ -360,13 +360,13 @@ def of_interrupted_calls(fitrec, program, lines):
             left = [bytes_of(pathlib.Path(folder, name)) for name in NAMES]
             return [said for said, _ in (*runs, again)], left, [log for _, log in (*runs, again)]
 
-        want = ride()
+        expected = ride()
         for kind in ("open", "lock", "sync", "write", "cut", "read"):
-            calls = max(sum(line.startswith(kind) for line in log) for log in want[2])
-            yield "the calls of the host of examples/device: " + kind, unless(calls, want[2], "some")
+            calls = max(sum(line.startswith(kind) for line in log) for log in expected[2])
+            yield "the calls of the host of examples/device: " + kind, unless(calls, expected[2], "some")
             for number in range(1, calls + 1):
                 found = ride(call=kind, number=number, errno=errno.EINTR)
-                yield "the host of examples/device, interrupted", differs(found[:2], want[:2])
+                yield "the host of examples/device, interrupted", differs(found[:2], expected[:2])
 
 
 def of_locked_files(fitrec, program, lines):

@@ -11,7 +11,7 @@ from tools.checks import differs, unless
 from tools.program import ROOT, bytes_of, holds, run
 from tools.rides import LEFT_OUT, uncommitted
 
-NEEDS = ("fitrec",)
+NEEDS = "fitrec", "cc"
 
 # A ride that is cut off after its commit.
 RIDE = "start 1000000000 7 running\nsample 1000000001 hr=100\nlap 1000000002\ncommit\nsample 1000000003 hr=101\n"
@@ -33,6 +33,7 @@ SIZES = {("fit_recorder/src/limits.rt", "MOST_RECORDS"): ["RECORDING", "JOURNAL-
          ("fit_grammar/src/item/writing.rt", "LONGEST_DEFINITION"): ["FORMAT", "DECISIONS"],
          ("fit_files/src/reading.rt", "CHUNK"): ["ARCHITECTURE"],
          ("fit_commands/src/input.rt", "MOST_BYTES"): ["PROGRAM", "DECISIONS"],
+         ("fit_commands/src/chosen.rt", "MOST_COLUMNS"): ["PROGRAM"],
          ("fit_runs_tests/src/random.rt", "HISTORIES"): ["PROOFS"]}
 
 
@@ -94,8 +95,8 @@ class Scratch:
         said = self.program(["repair", "pair"])
         self.program(["plain", "pair/activity.fit", "plain"])
         count = uncommitted(data, journal)
-        is_told = saved == (*said[:2], said[2] + LEFT_OUT % count * bool(count))
-        is_saved = is_told and bytes_of(self.folder / "saved") == bytes_of(self.folder / "plain")
+        is_reported = saved == (*said[:2], said[2] + LEFT_OUT % count * bool(count))
+        is_saved = is_reported and bytes_of(self.folder / "saved") == bytes_of(self.folder / "plain")
         return said, holds(self.folder / "pair")[0], is_saved
 
 
@@ -148,17 +149,17 @@ def cited_commands(fitrec, name, text):
 def script(fitrec):
     """The script of docs/PROGRAM.md: each line is answered ok."""
     lines = section(page("docs/PROGRAM.md"), "replay")[0]
-    want = "".join("%d %s: ok\n" % (number, line.split()[0]) for number, line in enumerate(lines, 1) if line[0] != "#")
+    expected = "".join("%d %s: ok\n" % (number, line.split()[0]) for number, line in enumerate(lines, 1) if line[0] != "#")
     said, _ = scratch(fitrec, lambda here: here.replayed("\n".join(lines) + "\n"))
-    yield "the script of docs/PROGRAM.md", differs(said, (0, want, ""))
+    yield "the script of docs/PROGRAM.md", differs(said, (0, expected, ""))
 
 
 def spelled(fitrec):
     """The bytes of the ride of docs/FORMAT.md, after the 86 of its header and its start."""
-    want = bytes_in(section(page("docs/FORMAT.md"), "What is written")[0])
+    expected = bytes_in(section(page("docs/FORMAT.md"), "What is written")[0])
     ride = RIDE.splitlines()[0] + "\nsample 1000000031 hr=100\nsample 1000000063 hr=101\nsample 1000000063 hr=102\ncommit\n"
     _, (data, _) = scratch(fitrec, lambda here: here.replayed(ride))
-    yield "the ride of docs/FORMAT.md", differs(data[86:].hex(" "), want.hex(" "))
+    yield "the ride of docs/FORMAT.md", differs(data[86:].hex(" "), expected.hex(" "))
 
 
 def torn_slots(text):
@@ -224,9 +225,35 @@ def sizes():
         value = int(re.search(r"const %s: \w+ = ([\d_]+)" % name, page("crates/" + file))[1])
         for it in names:
             yield "%s in docs/%s.md" % (name, it), differs("{:,}".format(value) in page("docs/%s.md" % it), True)
+    names = int(re.search(r"const NAMES: u32 = (\d+)", page("crates/fit_commands/src/beside.rt"))[1])
+    stated = re.search(r"the next free number up to (\d+)", page("docs/PROGRAM.md"))
+    yield "the names beside OUT in docs/PROGRAM.md", differs(stated and int(stated[1]), names - 1)
+    for name, about in re.findall(r"`release/(\w+\.a)` [^.]*?some (\d+) KB", page("docs/EMBEDDING.md")):
+        size = (ROOT / "release" / name).stat().st_size
+        yield "the size of " + name, unless(abs(size / 1000 - int(about)) < 3, size, "about %s KB" % about)
     for file, lines in re.findall(r"`(examples/device/\w+\.c)`\s[^`]*?of (\d+)\b", page("docs/EMBEDDING.md")):
         yield "the lines of " + file, unless(
             abs(page(file).count("\n") - int(lines)) <= 5, page(file).count("\n"), "%s and 5 more or less" % lines)
+
+
+def structs():
+    """The sizes of the structs in the pages, and the number of calls for a device, are those of the header."""
+    names = "recorder", "plan", "recovery"
+    with tempfile.TemporaryDirectory() as folder:
+        source = "".join('printf("%%zu\\n", sizeof(struct fitrec_%s));' % it for it in names)
+        pathlib.Path(folder, "sizes.c").write_text("#include <stdio.h>\n#include <fitrec.h>\nint main(void) { %s }\n" % source)
+        run("cc", "-I", ROOT / "include", "-o", folder + "/sizes", folder + "/sizes.c")
+        found = dict(zip(names, map(int, run(folder + "/sizes")[1].split())))
+    text = page("docs/EMBEDDING.md")
+    stated = {it: re.search(r"static struct fitrec_\w+ %s; +/\* ([\d,]+) bytes" % it, text)[1] for it in names}
+    yield "the structs of docs/EMBEDDING.md", differs(stated, {it: "{:,}".format(size) for it, size in found.items()})
+    whole = "The other RAM is\n{:,} bytes: handle {:,}, plan {:,}, a recovery by windows\n{:,}.".format(sum(found.values()), *found.values())
+    yield "their sum in docs/EMBEDDING.md", differs(whole.replace("\n", " ") in text.replace("\n", " "), True)
+    yield "the structs of docs/PERFORMANCE.md", differs("| {:,}; {:,}; {:,} bytes |".format(*found.values()) in page("docs/PERFORMANCE.md"), True)
+    short = "The recorder takes %.1f KB, a plan %.1f KB;" % (found["recorder"] / 1000, found["plan"] / 1000)
+    yield "the structs of README.md", differs(short in page("README.md"), True)
+    calls = re.findall(r"^uint8_t fitrec_\w+\(", page("include/fitrec.h").partition("/* A recorder in a device.")[2], re.M)
+    yield "the calls for a device in docs/EMBEDDING.md", differs((len(calls), "fifteen calls" in text), (15, True))
 
 
 def of_pages(fitrec):
@@ -239,5 +266,5 @@ def of_pages(fitrec):
 def check(given):
     for group in (of_pages, script, spelled, torn_pair):
         yield from given.checks(group, given.fitrec)
-    for group in (messages, sizes):
+    for group in (messages, sizes, structs):
         yield from given.checks(group)

@@ -21,13 +21,13 @@ from tools.rides import committed
 
 HERE = ROOT / "compare/embedded"
 FATFS = ['-DFFCONF_H="ffconf.h"', "-DMICROPY_FATFS_EXFAT=1", "-DMICROPY_FATFS_ENABLE_LFN=2"]
-CACHED, DEAF = ["-DCACHED=1"], ["-DIS_DEAF=1"]
+CACHED, NO_SYNC = ["-DCACHED=1"], ["-DHAS_NO_SYNC=1"]
 # The words for the compiler.
 DISKS = {"littlefs": [], "FatFs, FAT16, 4096": ["-DFORMAT=FM_FAT", "-DCLUSTER=4096"], "FatFs, FAT32, 512": ["-DFORMAT=FM_FAT32", "-DCLUSTER=512"],
          "FatFs, exFAT, 4096": ["-DFORMAT=FM_EXFAT", "-DCLUSTER=4096"]}
 FORMS = DISKS | {name + ", a card that caches": [*words, *CACHED] for name, words in DISKS.items() if words}
 # A host that breaks a rule, and has to lose something.
-CONTROLS = {name + ", without syncs": [*words, *DEAF] for name, words in DISKS.items()}
+CONTROLS = {name + ", without syncs": [*words, *NO_SYNC] for name, words in DISKS.items()}
 
 
 def compiled(form, source, archive, folder):

@@ -99,8 +99,8 @@ def before_an_opening(traced):
             folder = new()
             os.mkfifo(pathlib.Path(folder) / name)
             said, log = traced.run("replay", script, folder)
-            want = (1, "", "fitrec: cannot open %s\n" % folder), calls
-            yield "a pipe is not opened", differs((said, calls_of(log)), want)
+            expected = (1, "", "fitrec: cannot open %s\n" % folder), calls
+            yield "a pipe is not opened", differs((said, calls_of(log)), expected)
 
 
 # How many syncs each line of a script makes, after the three of opening, and its answer if none has failed before it.
@@ -138,12 +138,12 @@ def failed_syncs(traced):
                 folder = new()
                 said, log = traced.run("replay", script, folder, call="sync", number=number, errno=error)
                 line = "NoMemory" if error == errno.ENOMEM else "cannot open " + folder
-                want = (1, "", "fitrec: %s\n" % line)
+                expected = (1, "", "fitrec: %s\n" % line)
                 if number > 3:
                     wanted = answers_after(number)
                     refused = sum(not re.search(": ok( |$)", line) for line in wanted)
-                    want = (1, answers(*wanted), "fitrec: %d refused\n" % refused)
-                yield "a sync that failed", differs(said, want)
+                    expected = (1, answers(*wanted), "fitrec: %d refused\n" % refused)
+                yield "a sync that failed", differs(said, expected)
                 yield "no call after a sync that failed", differs([line.endswith(" failed") for line in log[-1:]], [True])
                 _, kept, handed = committed(said[1].splitlines())
                 again = run(traced.fitrec, "repair", folder)
@@ -213,13 +213,13 @@ def calls_that_go_wrong(traced):
                 return folder, said, log
 
             folder, _, whole = anew()
-            want = operation.done, holds(folder)
+            expected = operation.done, holds(folder)
             for at, line in enumerate(whole):
                 kind, is_opening = line.split()[0], at < len(OPENING) + 2
                 number = sum(other.startswith(kind) for other in whole[:at + 1])
                 if kind != "size":
                     folder, said, _ = anew(call=kind, number=number, errno=errno.EINTR)
-                    yield "%s: an interrupted %s" % (operation.words[0], kind), differs((said, holds(folder)), want)
+                    yield "%s: an interrupted %s" % (operation.words[0], kind), differs((said, holds(folder)), expected)
                 for error in [*ERRORS, *[errno.ENOLCK, errno.EWOULDBLOCK] * (kind == "lock")]:
                     folder, said, log = anew(call=kind, number=number, errno=error)
                     no_file = "fitrec: NoMemory\n" if error == errno.ENOMEM else "fitrec: cannot open %s\n" % folder
@@ -230,7 +230,7 @@ def calls_that_go_wrong(traced):
             for kind in ("read", "write"):
                 for most in (1, 3):
                     folder, said, _ = anew(call=kind, number=0, most=most)
-                    yield "each %s of at most a few bytes" % kind, differs((said, holds(folder)), want)
+                    yield "each %s of at most a few bytes" % kind, differs((said, holds(folder)), expected)
 
 
 class Verified:
@@ -257,33 +257,34 @@ class Verified:
 
 
 DEVICE = 1, "", "fitrec: Device\n"
-# The calls of a verified repair after those of opening, and whether a lie of each has to be found. Each byte is read with one bit
+# The calls of a verified repair after those of opening, and whether a silent fault of each has to be found. Each byte is read with one bit
 # changed. Only the last sync of the data file has something to lose. The cut is to the length that the file already has.
-LIES = [("sync data", False), ("sync journal", False), ("size data", True), ("read journal 0 24", True),
+SILENT_FAULTS = [("sync data", False), ("sync journal", False), ("size data", True), ("read journal 0 24", True),
         ("read data 14 83", True), ("write data 97 254", True), ("cut data 351", False), ("write data 0 14", True), ("sync data", True),
         ("read data 0 4096", True), ("read data 351 3745", False), ("read journal 0 4096", True), ("read journal 24 4072", False)]
 
 
-def calls_that_lie(traced):
-    """With --verify both files are read before and after the repair. A call that lies is found, or does no harm."""
+def silent_faults(traced):
+    """With --verify both files are read before and after the repair. A call that reports success and does something else is found, or does no
+    harm."""
     with room(*CUT_OFF) as (script, new):
         verified = Verified(traced, script, new)
         folder, said, log = verified.run()
         yield "a verified repair", differs((said, holds(folder)), verified.well)
-        yield "its calls", differs([line for line, _, _ in verified.calls()], [line for line, _ in LIES])
-        for (line, kind, number), (_, is_found) in zip(verified.calls(), LIES):
-            folder, said, _ = verified.run(call=kind, number=number, lies=1)
-            yield "a %s that lies" % kind, differs((line, said), (line, DEVICE if is_found else verified.well[0]))
+        yield "its calls", differs([line for line, _, _ in verified.calls()], [line for line, _ in SILENT_FAULTS])
+        for (line, kind, number), (_, is_found) in zip(verified.calls(), SILENT_FAULTS):
+            folder, said, _ = verified.run(call=kind, number=number, silent=1)
+            yield "a silently wrong %s" % kind, differs((line, said), (line, DEVICE if is_found else verified.well[0]))
             if not is_found:
-                yield "a %s whose lie does no harm" % kind, differs((line, holds(folder)), (line, verified.well[1]))
+                yield "a silently wrong %s that does no harm" % kind, differs((line, holds(folder)), (line, verified.well[1]))
             said = run(traced.fitrec, "repair", "--verify", folder)
-            yield "a verified repair after a %s that lied" % kind, differs((line, said, holds(folder)), (line, *verified.well))
+            yield "a verified repair after a silently wrong %s" % kind, differs((line, said, holds(folder)), (line, *verified.well))
         # The first reading takes the whole file. The first byte of the data file is written anew; that of the journal is read again.
-        for number, want in ((1, verified.well[0]), (3, DEVICE)):
-            folder, said, _ = verified.run(call="read", number=number, lies=1)
-            yield "a first reading that lies", differs(said, want)
+        for number, expected in ((1, verified.well[0]), (3, DEVICE)):
+            folder, said, _ = verified.run(call="read", number=number, silent=1)
+            yield "a silently wrong first reading", differs(said, expected)
             said = run(traced.fitrec, "repair", "--verify", folder)
-            yield "a verified repair after a first reading that lied", differs((said, holds(folder)), verified.well)
+            yield "a verified repair after a silently wrong first reading", differs((said, holds(folder)), verified.well)
 
 
 def second_reading(folder):
@@ -300,8 +301,8 @@ LONG = [START] + ["sample %d hr=%d" % (1000000000 + 40 * number, 60 + number % 9
 
 
 def verified_rides(traced):
-    """With --verify both files are read whole after the last sync, over 4,096 bytes too, and also after a start alone. A call that lies
-    is found or does no harm; one that fails is Device."""
+    """With --verify both files are read whole after the last sync, over 4,096 bytes too, and also after a start alone. A call that is
+    silently wrong is found or does no harm; one that fails is Device."""
     for ride in ([START], LONG + ["commit", "sample 1000030000 hr=60"]):
         with room(*ride) as (script, new):
             verified = Verified(traced, script, new)
@@ -310,9 +311,9 @@ def verified_rides(traced):
             syncs = [at for at, line in enumerate(log) if line.startswith("sync ")]
             yield "both files are read again", differs(log[syncs[-1] + 1:], list(second_reading(folder)))
             for line, kind, number in verified.calls():
-                folder, said, _ = verified.run(call=kind, number=number, lies=1)
+                folder, said, _ = verified.run(call=kind, number=number, silent=1)
                 well = said == DEVICE or (said, holds(folder)) == verified.well
-                yield "any %s that lies" % kind, unless(well, (len(ride), line, said), "Device, or a repair as by honest calls")
+                yield "any silently wrong %s" % kind, unless(well, (len(ride), line, said), "Device, or a repair as by calls without a fault")
                 folder, said, log = verified.run(call=kind, number=number, errno=errno.EIO)
                 yield "any %s that fails" % kind, differs((said, log[-1]), (DEVICE, line + " failed"))
                 said = run(traced.fitrec, "repair", "--verify", folder)
@@ -358,7 +359,7 @@ def first_readings_that_fail(traced):
         yield "no write before", differs([line for line in log if line.startswith(("write", "cut", "sync"))], [])
 
 
-def looks_that_fail(traced):
+def failing_status_calls(traced):
     """If the program cannot find out whether a file exists, it opens and makes none, and reports nothing as recorded."""
     with room(*CUT_OFF) as (script, new):
         cut_off = new()
@@ -367,18 +368,18 @@ def looks_that_fail(traced):
             for error in (errno.EACCES, errno.EIO, errno.ENOMEM):
                 for number in itertools.count(1):
                     folder = shutil.copytree(cut_off, new(), dirs_exist_ok=True)
-                    said, log = traced.run(*words, folder, call="look", number=number, errno=error)
+                    said, log = traced.run(*words, folder, call="stat", number=number, errno=error)
                     if not any(line.endswith(" failed") for line in log):
                         break
                     line = "NoMemory" if error == errno.ENOMEM else "cannot open %s" % folder
-                    want = (1, "", "fitrec: %s\n" % line), holds(cut_off)
-                    yield words[0] + ": a look that failed", differs((said, holds(folder)), want)
-                yield words[0] + ": looks at both files", unless(number > 2, number, "more than 2")
+                    expected = (1, "", "fitrec: %s\n" % line), holds(cut_off)
+                    yield words[0] + ": a status call that failed", differs((said, holds(folder)), expected)
+                yield words[0] + ": asks for the status of both files", unless(number > 2, number, "more than 2")
 
 
 def check(given):
     with tracing(given.fitrec) as traced:
         for group in (the_calls, reads_of_a_body, before_an_opening, failed_syncs, failing_calls_of_a_ride,
-                      calls_that_go_wrong, calls_that_lie, verified_rides, failing_calls_of_a_verified_repair,
-                      first_readings_that_fail, looks_that_fail):
+                      calls_that_go_wrong, silent_faults, verified_rides, failing_calls_of_a_verified_repair,
+                      first_readings_that_fail, failing_status_calls):
             yield from given.checks(group, traced)

@@ -25,9 +25,9 @@ def made_files(given):
             data, utc = row
             path = place.parent / ("%d.fit" % number)
             path.write_bytes(data)
-            said, want = run(given.fitrec, "show", *["--utc"] * utc, path), wanted(data, utc)
+            said, expected = run(given.fitrec, "show", *["--utc"] * utc, path), wanted(data, utc)
             path.unlink()
-            return kind_of(want[2], "shown with dates" if utc else "shown"), differs(said, want, data)
+            return kind_of(expected[2], "shown with dates" if utc else "shown"), differs(said, expected, data)
 
         yield from given.judged(judge, inputs)
 

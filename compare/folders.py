@@ -35,12 +35,12 @@ def at_each_size(fitrec):
 def with_closed_streams(fitrec):
     """Nothing that is meant for a closed stream ends up in a file. The first answer is not written, and none after it."""
     with room(*STOPPED) as (script, new):
-        for closed, told in ((">&-", "fitrec: cannot write -\n"), ("<&- >&- 2>&-", ""), ("<&- >&-", "fitrec: cannot write -\n")):
+        for closed, line in ((">&-", "fitrec: cannot write -\n"), ("<&- >&- 2>&-", ""), ("<&- >&-", "fitrec: cannot write -\n")):
             folder = new()
             said = run("sh", "-c", 'exec "$@" ' + closed, "sh", fitrec, "replay", script, folder)
-            yield "closed streams: replayed", differs(said, (1, "", told))
+            yield "closed streams: replayed", differs(said, (1, "", line))
             said = run("sh", "-c", 'exec "$@" ' + closed, "sh", fitrec, "repair", folder)
-            yield "closed streams: repaired", differs(said, (1, "", told))
+            yield "closed streams: repaired", differs(said, (1, "", line))
             said = run(fitrec, "check", folder + "/activity.fit")
             yield "closed streams: kept", differs(said, (0, ALONE, ""))
 
@@ -105,8 +105,8 @@ def without_a_name(fitrec):
         said = run(fitrec, "repair", "", cwd=folder)
         yield "a folder without a name: nothing recorded", differs((said, os.listdir(folder)), ((1, "", "fitrec: NothingRecorded\n"), []))
         said = run(fitrec, "replay", script, "", cwd=folder)
-        want = answers("start: ok", "sample: ok", "commit: ok", "sample: ok", "stop: ok")
-        yield "a folder without a name: replayed", differs(said, (0, want, ""))
+        expected = answers("start: ok", "sample: ok", "commit: ok", "sample: ok", "stop: ok")
+        yield "a folder without a name: replayed", differs(said, (0, expected, ""))
         for words in (["check", folder + "/activity.fit"], ["repair", ""]):
             yield "a folder without a name: " + words[0], differs(run(fitrec, *words, cwd=folder), (0, TWO, ""))
 
@@ -130,8 +130,8 @@ def of_other_users(fitrec):
             for words in (["replay", script], ["repair"]):
                 said = run(own, *words, folder, preexec_fn=as_nobody)
                 is_none = modes is None and words == ["repair"]
-                want = 1, "", "fitrec: NothingRecorded\n" if is_none else "fitrec: cannot open %s\n" % folder
-                yield "what the user may not open", differs(said, want)
+                expected = 1, "", "fitrec: NothingRecorded\n" if is_none else "fitrec: cannot open %s\n" % folder
+                yield "what the user may not open", differs(said, expected)
             folder.chmod(0o755)
             yield "what the user may not open stays", differs(holds(folder) if modes else os.listdir(folder), before)
 
@@ -144,9 +144,9 @@ def with_large_files(fitrec):
             with open(folder + "/activity.fit", "wb") as file:
                 file.truncate(size)
             said = run(fitrec, "replay", script, folder)
-            want = answers("start: NotEmpty", "sample: NoRecorder", "commit: NoRecorder", "sample: NoRecorder")
+            expected = answers("start: NotEmpty", "sample: NoRecorder", "commit: NoRecorder", "sample: NoRecorder")
             left = os.path.getsize(folder + "/activity.fit"), os.path.getsize(folder + "/activity.frj")
-            yield "a start over a file of %d bytes" % size, differs((said, left), ((1, want, "fitrec: 4 refused\n"), (size, 0)))
+            yield "a start over a file of %d bytes" % size, differs((said, left), ((1, expected, "fitrec: 4 refused\n"), (size, 0)))
             folder = new()
             run(fitrec, "replay", script, folder)
             os.truncate(folder + "/activity.fit", size + 97)
@@ -182,8 +182,8 @@ def of_the_longest_body(fitrec):
                 slots = bytes.fromhex("A5 48 00 00 00 00 00 00 A5") + size.to_bytes(4, "little") + bytes(3)
                 (folder / "activity.frj").write_bytes(b"FRJ2\0\0\0\0" + slots)
                 said, left = run(fitrec, "repair", folder), os.path.getsize(folder / "activity.fit")
-                want = ((0, LINE % (samples, 0, 0), ""), 14 + size + closing + 2) if size == most else ((1, "", "fitrec: Damaged\n"), 14 + size)
-                yield "a body of %d bytes" % size, differs((said, left), want)
+                expected = ((0, LINE % (samples, 0, 0), ""), 14 + size + closing + 2) if size == most else ((1, "", "fitrec: Damaged\n"), 14 + size)
+                yield "a body of %d bytes" % size, differs((said, left), expected)
 
 
 def of_a_row_of_slots(fitrec):
@@ -204,8 +204,8 @@ def of_a_row_of_slots(fitrec):
             (folder / "activity.frj").write_bytes(row_of(*[72] * 4090))
             script.write_text("\n".join(lines + end))
             said = run(fitrec, "replay", script, folder)
-            want = 1, answers(*said_well, *["stop: ok"] * len(end)), "fitrec: 2 refused\n"
-            yield "a row of slots: answers", differs(said, want)
+            expected = 1, answers(*said_well, *["stop: ok"] * len(end)), "fitrec: 2 refused\n"
+            yield "a row of slots: answers", differs(said, expected)
             yield "a row of slots: its slots", differs(holds(folder)[1].count(b"\xA5"), 4095 + len(end))
             yield "a row of slots: repaired", differs(run(fitrec, "repair", folder), (0, line, ""))
         script.write_text("reopen")

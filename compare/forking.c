@@ -22,9 +22,9 @@ static double seconds(struct timeval time) { return time.tv_sec + time.tv_usec /
 
 static double busy(const struct rusage *used) { return seconds(used->ru_utime) + seconds(used->ru_stime); }
 
-static void tell(int status, long memory, double time) {
+static void report_end(int status, long memory, double time) {
     struct end end = {status, memory, time};
-    if (write(TOLD_END, &end, sizeof end) != sizeof end)
+    if (write(REPORTED, &end, sizeof end) != sizeof end)
         _exit(2);
 }
 
@@ -40,7 +40,7 @@ static void calls(int count, char **words, char **settings) {
         int status = program(count, words, settings);
         *is_running = 0;
         getrusage(RUSAGE_SELF, &after);
-        tell((status & 255) << 8, after.ru_maxrss, busy(&after) - busy(&before));
+        report_end((status & 255) << 8, after.ru_maxrss, busy(&after) - busy(&before));
     }
     _exit(0);
 }
@@ -57,7 +57,7 @@ static int stand(int count, char **words, char **settings) {
             return 2;
         if (*is_running) {
             *is_running = 0;
-            tell(status, used.ru_maxrss, busy(&used));
+            report_end(status, used.ru_maxrss, busy(&used));
         } else if (status) {
             return 0;
         }

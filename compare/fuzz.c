@@ -180,23 +180,23 @@ static void limit(int what, rlim_t most) {
 }
 
 /* Each row has a process of the program. Its `main` is called for each run (forking.c). */
-static struct run { const char *command, *file, *to; int orders, ends, told; } runs[] = {
+static struct run { const char *command, *file, *to; int orders, ends, errors; } runs[] = {
     {"show", in, NULL}, {"check", in, NULL}, {"salvage", in, out}, {"show", out, NULL}, {"salvage", out, again},
 };
 enum { SHOW, CHECK, SALVAGE, SHOW_OUT, SALVAGE_AGAIN, RUNS };
 
 static void begin(struct run *run) {
     const char *words[] = {program, run->command, run->file, run->to, NULL};
-    int orders[2], told[2], end[2];
-    if (pipe2(orders, O_CLOEXEC) || pipe2(told, O_CLOEXEC) || pipe2(end, O_CLOEXEC))
+    int orders[2], errors[2], end[2];
+    if (pipe2(orders, O_CLOEXEC) || pipe2(errors, O_CLOEXEC) || pipe2(end, O_CLOEXEC))
         fail("pipe");
     pid_t child = fork();
     if (child < 0)
         fail("fork");
     if (!child) {
-        dup2(told[1], 2);
+        dup2(errors[1], 2);
         dup2(orders[0], ORDERS);
-        dup2(end[1], TOLD_END);
+        dup2(end[1], REPORTED);
         limit(RLIMIT_AS, MEMORY);
         limit(RLIMIT_CPU, SECONDS);
         limit(RLIMIT_CORE, 0);
@@ -204,12 +204,12 @@ static void begin(struct run *run) {
         execv(program, (char **)words);
         _exit(127);
     }
-    fcntl(told[0], F_SETFL, O_NONBLOCK);
+    fcntl(errors[0], F_SETFL, O_NONBLOCK);
     run->orders = orders[1];
     run->ends = end[0];
-    run->told = told[0];
+    run->errors = errors[0];
     close(orders[0]);
-    close(told[1]);
+    close(errors[1]);
     close(end[1]);
 }
 
@@ -220,10 +220,10 @@ static int run(int which) {
     struct end end;
     if (write(run->orders, "", 1) != 1 || read(run->ends, &end, sizeof end) != sizeof end)
         fail(run->command);
-    size_t told = 0;
-    for (ssize_t more; told < sizeof line - 1 && (more = read(run->told, line + told, sizeof line - 1 - told)) > 0;)
-        told += more;
-    line[told] = 0;
+    size_t length = 0;
+    for (ssize_t more; length < sizeof line - 1 && (more = read(run->errors, line + length, sizeof line - 1 - length)) > 0;)
+        length += more;
+    line[length] = 0;
     int status = end.status;
     most_memory = end.memory > most_memory ? end.memory : most_memory;
     most_time = end.time > most_time ? end.time : most_time;
@@ -284,7 +284,7 @@ int main(int count, char **words) {
         source_count += sources[source_count].size > 0;
     }
     int null = open("/dev/null", O_RDWR);
-    int told = fcntl(1, F_DUPFD_CLOEXEC, 3);
+    int output = fcntl(1, F_DUPFD_CLOEXEC, 3);
     dup2(null, 0);
     dup2(null, 1);
     for (int which = 0; which < RUNS; which++)
@@ -301,7 +301,7 @@ int main(int count, char **words) {
         }
     }
     for (int at = 0; at < ENDS && ends[at].name[0]; at++)
-        dprintf(told, "%lu %s\n", ends[at].count, ends[at].name);
-    dprintf(told, "files %lu bad %lu memory %ld time %.3f\n", done, bad, most_memory, most_time);
+        dprintf(output, "%lu %s\n", ends[at].count, ends[at].name);
+    dprintf(output, "files %lu bad %lu memory %ld time %.3f\n", done, bad, most_memory, most_time);
     return bad != 0;
 }

@@ -42,15 +42,15 @@ def limits(fitrec):
 def of_large_files(fitrec, large):
     for count, is_too_large in ((MOST, False), (MOST + 1, True)):
         for words, refusal in READERS:
-            want = 1, "", "fitrec: %s\n" % ("TooLarge" if is_too_large else refusal)
+            expected = 1, "", "fitrec: %s\n" % ("TooLarge" if is_too_large else refusal)
             with open(large, "wb") as file:
                 file.truncate(count)
-            yield "%d bytes in a file: %s" % (count, words), differs(run(fitrec, *words.split(), cwd=large.parent), want)
+            yield "%d bytes in a file: %s" % (count, words), differs(run(fitrec, *words.split(), cwd=large.parent), expected)
             large.unlink()
             os.mkfifo(large)
             writer = threading.Thread(target=feed, args=(large, count))
             writer.start()
-            yield "%d bytes in a pipe: %s" % (count, words), differs(run(fitrec, *words.split(), cwd=large.parent), want)
+            yield "%d bytes in a pipe: %s" % (count, words), differs(run(fitrec, *words.split(), cwd=large.parent), expected)
             writer.join()
             large.unlink()
     yield "nothing is made", differs([name for name in os.listdir(large.parent) if name.startswith((".fitrec", "out", "activity"))], [])
@@ -59,9 +59,9 @@ def of_large_files(fitrec, large):
         file.truncate(MOST - 1)
         file.seek(MOST - 1)
         file.write(b"\x0F")
-    want = 1, "", "fitrec: UndefinedLocal(15) at %d\n" % (MOST - 1)
+    expected = 1, "", "fitrec: UndefinedLocal(15) at %d\n" % (MOST - 1)
     for words in ("show large", "check large", "plain large out.fit"):
-        yield "the last place of the largest file: " + words, differs(run(fitrec, *words.split(), cwd=large.parent), want)
+        yield "the last place of the largest file: " + words, differs(run(fitrec, *words.split(), cwd=large.parent), expected)
 
 
 def calls_that_go_wrong(traced, small):
@@ -77,17 +77,17 @@ def calls_that_go_wrong(traced, small):
                 said, log = traced.run(command, folder / "in.fit", *[ride] * (command == "replay"), **wrong)
                 return said, log, folder / "in.fit", os.listdir(ride)
 
-            want, log, _, made = anew()
+            expected, log, _, made = anew()
             calls = [line for line in log if line.endswith(" in")]
             for most in (1, 3):
                 said, _, _, left = anew(call="read", number=0, most=most)
-                yield command + ": each read of at most a few bytes", differs((said, left), (want, made))
+                yield command + ": each read of at most a few bytes", differs((said, left), (expected, made))
             for at, line in enumerate(calls):
                 kind, number = line.split()[0], calls[:at + 1].count(line)
                 for error in [*ERRORS, errno.EINTR]:
                     said, _, file, left = anew(call=kind, number=number, errno=error)
                     is_well = kind == "size" or error == errno.EINTR
-                    wanted_so = (want, made) if is_well else ((1, "", "fitrec: cannot %s %s\n" % (kind, file)), [])
+                    wanted_so = (expected, made) if is_well else ((1, "", "fitrec: cannot %s %s\n" % (kind, file)), [])
                     yield "%s: a %s that failed" % (command, kind), differs((said, left), wanted_so)
 
 
@@ -104,18 +104,18 @@ def tails_that_cannot_be_read(traced):
             out = pathlib.Path(new(), "out.fit")
             said, _ = traced.run("save", ride, out, end=end)
             if end < counts:
-                want = (1, "", "fitrec: %s\n" % body_unread(end)), None
-                yield "a body that cannot be read: save", differs((said, bytes_of(out)), want, end)
+                expected = (1, "", "fitrec: %s\n" % body_unread(end)), None
+                yield "a body that cannot be read: save", differs((said, bytes_of(out)), expected, end)
             else:
                 count = uncommitted(data[:end], journal)
-                want = (0, line, UNREAD_FROM % ("activity.fit", end) + LEFT_OUT % count * bool(count)), whole.read_bytes()
-                yield "a tail that cannot be read: save", differs((said, bytes_of(out)), want, end)
+                expected = (0, line, UNREAD_FROM % ("activity.fit", end) + LEFT_OUT % count * bool(count)), whole.read_bytes()
+                yield "a tail that cannot be read: save", differs((said, bytes_of(out)), expected, end)
             copy = pathlib.Path(new())
             for name, content in zip(NAMES, (data, journal)):
                 (copy / name).write_bytes(content)
             said, _ = traced.run("repair", copy, end=end)
-            want = (0, line, "") if end >= counts else (1, "", "fitrec: Device\n")
-            yield "a tail that cannot be read: repair", differs(said, want, end)
+            expected = (0, line, "") if end >= counts else (1, "", "fitrec: Device\n")
+            yield "a tail that cannot be read: repair", differs(said, expected, end)
             file = copy / "in.fit"
             file.write_bytes(data)
             for words in ((), ("--all",), ("--plain",)):
@@ -125,8 +125,8 @@ def tails_that_cannot_be_read(traced):
                 else:
                     (_, kept, fault), content = wanted_salvage(data[:end], "--all" in words)
                     content = plained(content)[1] if words == ("--plain",) else content
-                    want = (0, kept, UNREAD_FROM % (file, end) + fault), content
-                    yield "a tail that cannot be read: salvage", differs((said, bytes_of(out)), want, end)
+                    expected = (0, kept, UNREAD_FROM % (file, end) + fault), content
+                    yield "a tail that cannot be read: salvage", differs((said, bytes_of(out)), expected, end)
             for command in ("show", "check", "plain"):
                 said, _ = traced.run(command, file, *[out] * (command == "plain"), end=end)
                 yield "a tail that cannot be read: " + command, differs((said[0], said[2]), (1, "fitrec: cannot read %s\n" % file), end)

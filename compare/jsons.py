@@ -65,8 +65,8 @@ def made_files(given):
             except ValueError as error:
                 said = "no JSON", str(error)
             path.unlink()
-            want = wanted(data, utc)
-            return kind_of(want[2], "shown with dates" if utc else "shown"), differs(said, want, data)
+            expected = wanted(data, utc)
+            return kind_of(expected[2], "shown with dates" if utc else "shown"), differs(said, expected, data)
 
         yield from given.judged(judge, inputs)
 

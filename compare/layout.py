@@ -67,8 +67,8 @@ def of_the_header():
     structs, constants = rattle()
     for name, field, place in of_c():
         size, _, places = layout(STRUCTS[name], structs, constants)
-        want = size if field == "size" else places.get(OTHER_NAMES.get(field, field))
-        yield "the layout of the header", differs((name, field, int(place)), (name, field, want))
+        expected = size if field == "size" else places.get(OTHER_NAMES.get(field, field))
+        yield "the layout of the header", differs((name, field, int(place)), (name, field, expected))
 
 
 def check(given):

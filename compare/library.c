@@ -54,7 +54,7 @@ static struct buffer file_at(const char *path, size_t spare) {
 }
 
 /* Checks that nothing was written outside the buffer. */
-static void look_at_guards(struct buffer it) {
+static void check_guards(struct buffer it) {
     for (size_t at = 0; at < GUARD; at++)
         if (it.all[at] != FILLED || it.bytes[it.size + at] != FILLED)
             fail("a byte outside a buffer was written");
@@ -73,7 +73,7 @@ static void fill(void *numbers, size_t size) {
 }
 
 /* Checks that they still hold them, or not. */
-static void look_at(const void *numbers, size_t size, bool stays) {
+static void check_numbers(const void *numbers, size_t size, bool stays) {
     const uint8_t *bytes = numbers;
     bool same = true;
     for (size_t at = 0; at < size; at++)
@@ -84,13 +84,13 @@ static void look_at(const void *numbers, size_t size, bool stays) {
 
 /* Checks that both files lie in their buffers, that the journal is the file at this path, and that a refusal kept the length of the
    data file. */
-static void look_at_recording(unsigned answer, struct buffer data, uint64_t data_len, struct buffer journal, const char *path) {
+static void check_recording(unsigned answer, struct buffer data, uint64_t data_len, struct buffer journal, const char *path) {
     struct buffer was = file_at(path, 0);
     if (data.len > data.size || (answer >= FITREC_NOTHING_RECORDED && answer <= FITREC_NO_CLOSING_ROOM && data.len != data_len))
         fail("another length of the data file");
     if (journal.len != was.len || memcmp(journal.bytes, was.bytes, was.size))
         fail("the journal is not as it was");
-    look_at_guards(was);
+    check_guards(was);
 }
 
 static void or_dash(const char *name, uint32_t number) {
@@ -115,14 +115,14 @@ static void repair(char **words) {
     uint64_t data_len = data.len;
     fill(&sum, sizeof sum);
     unsigned answer = fitrec_repair(data.bytes, data.size, &data.len, journal.bytes, journal.size, &journal.len, &sum);
-    look_at(&sum, sizeof sum, answer != FITREC_REPAIRED);
-    look_at_recording(answer, data, data_len, journal, words[2]);
+    check_numbers(&sum, sizeof sum, answer != FITREC_REPAIRED);
+    check_recording(answer, data, data_len, journal, words[2]);
     printf("%u\n", answer);
     if (answer == FITREC_REPAIRED)
         print_summary(sum);
     keep(data, words[3]);
-    look_at_guards(data);
-    look_at_guards(journal);
+    check_guards(data);
+    check_guards(journal);
 }
 
 /* Saves the recording of these files into a buffer of so many bytes. */
@@ -136,12 +136,12 @@ static unsigned save_in(char **words, size_t size, struct buffer *data, struct b
     unsigned answer = fitrec_save(data->bytes, data->size, &data->len, journal.bytes, journal.size, &journal.len, out->bytes, out->size, &out->len,
                                   sum);
     bool is_refused = answer != FITREC_SAVED && answer != FITREC_SAVE_NO_ROOM;
-    look_at(sum, sizeof *sum, is_refused);
-    look_at(&out->len, sizeof out->len, is_refused);
+    check_numbers(sum, sizeof *sum, is_refused);
+    check_numbers(&out->len, sizeof out->len, is_refused);
     if (is_refused)
-        look_at(out->bytes, out->size, true);
-    look_at_recording(answer, *data, data_len, journal, words[1]);
-    look_at_guards(journal);
+        check_numbers(out->bytes, out->size, true);
+    check_recording(answer, *data, data_len, journal, words[1]);
+    check_guards(journal);
     return answer;
 }
 
@@ -149,35 +149,35 @@ static void save(char **words) {
     struct buffer data, out, plain;
     struct fitrec_summary sum;
     unsigned answer = save_in(words, 0, &data, &out, &sum);
-    look_at_guards(out);
+    check_guards(out);
     if (answer == FITREC_SAVE_NO_ROOM) {
         uint64_t needed = out.len, place;
         plain = room(needed);
         if (fitrec_plain(data.bytes, data.len, plain.bytes, plain.size, &plain.len, &place) != FITREC_PLAIN || plain.len != needed)
             fail("another plain form of the repaired file");
-        look_at_guards(data);
+        check_guards(data);
         if (save_in(words, needed - 1, &data, &out, &sum) != FITREC_SAVE_NO_ROOM || out.len != needed)
             fail("another answer to a buffer that lacks one byte");
-        look_at_guards(data);
-        look_at_guards(out);
+        check_guards(data);
+        check_guards(out);
         answer = save_in(words, needed, &data, &out, &sum);
         if (answer != FITREC_SAVED || memcmp(plain.bytes, out.bytes, needed))
             fail("another file in a larger buffer");
         keep(out, words[2]);
-        look_at_guards(out);
-        look_at_guards(plain);
+        check_guards(out);
+        check_guards(plain);
     }
     printf("%u\n", answer);
     if (answer == FITREC_SAVED)
         print_summary(sum);
-    look_at_guards(data);
+    check_guards(data);
 }
 
 static void uncommitted(char **words) {
     struct buffer data = file_at(words[0], 0), journal = file_at(words[1], 0);
     printf("%llu\n", (unsigned long long)fitrec_uncommitted(data.bytes, data.size, journal.bytes, journal.size));
-    look_at_guards(data);
-    look_at_guards(journal);
+    check_guards(data);
+    check_guards(journal);
 }
 
 static void earlier(char **words) {
@@ -187,7 +187,7 @@ static void earlier(char **words) {
     uint64_t left_out;
     fill(&left_out, sizeof left_out);
     unsigned answer = fitrec_leave_changed(data.bytes, data.len, journal.bytes, journal.size, &left_out);
-    look_at(&left_out, sizeof left_out, answer != FITREC_LEFT_OUT);
+    check_numbers(&left_out, sizeof left_out, answer != FITREC_LEFT_OUT);
     if (answer == FITREC_NOT_LEFT && memcmp(was.bytes, journal.bytes, was.size))
         fail("the journal is not as it was");
     printf("%u\n", answer);
@@ -199,10 +199,10 @@ static void earlier(char **words) {
         print_summary(sum);
         keep(out, words[2]);
     }
-    look_at_guards(data);
-    look_at_guards(journal);
-    look_at_guards(was);
-    look_at_guards(out);
+    check_guards(data);
+    check_guards(journal);
+    check_guards(was);
+    check_guards(out);
 }
 
 static void plain(char **words) {
@@ -212,19 +212,19 @@ static void plain(char **words) {
     fill(&out.len, sizeof out.len);
     unsigned answer = fitrec_plain(in.bytes, in.size, out.bytes, 0, &out.len, &place);
     bool is_refused = answer && answer <= FITREC_TRAILING_BYTES;
-    look_at(&place, sizeof place, !is_refused);
-    look_at(&out.len, sizeof out.len, is_refused || answer == FITREC_PLAIN_TOO_LONG);
-    look_at_guards(out);
+    check_numbers(&place, sizeof place, !is_refused);
+    check_numbers(&out.len, sizeof out.len, is_refused || answer == FITREC_PLAIN_TOO_LONG);
+    check_guards(out);
     if (answer == FITREC_PLAIN_NO_ROOM) {
         out = room(out.len);
         answer = fitrec_plain(in.bytes, in.size, out.bytes, out.size, &out.len, &place);
         keep(out, words[1]);
-        look_at_guards(out);
+        check_guards(out);
     }
     printf("%u\n", answer);
     if (is_refused)
         printf("at %llu\n", (unsigned long long)place);
-    look_at_guards(in);
+    check_guards(in);
 }
 
 static void check(char **words) {
@@ -234,14 +234,14 @@ static void check(char **words) {
     fill(&sum, sizeof sum);
     fill(&place, sizeof place);
     unsigned answer = fitrec_check(in.bytes, in.size, &sum, &place);
-    look_at(&sum, sizeof sum, answer != FITREC_ACTIVITY);
-    look_at(&place, sizeof place, !answer || answer > FITREC_TRAILING_BYTES);
+    check_numbers(&sum, sizeof sum, answer != FITREC_ACTIVITY);
+    check_numbers(&place, sizeof place, !answer || answer > FITREC_TRAILING_BYTES);
     printf("%u\n", answer);
     if (answer == FITREC_ACTIVITY)
         print_summary(sum);
     else if (answer <= FITREC_TRAILING_BYTES)
         printf("at %llu\n", (unsigned long long)place);
-    look_at_guards(in);
+    check_guards(in);
 }
 
 typedef uint8_t shower(const uint8_t *, size_t, bool, uint8_t *, size_t, uint64_t *, uint64_t *);
@@ -253,8 +253,8 @@ static unsigned show_in(shower *call, struct buffer in, bool utc, size_t size, s
     fill(&out->len, sizeof out->len);
     unsigned answer = call(in.bytes, in.size, utc, out->bytes, out->size, &out->len, place);
     bool is_refused = answer && answer <= FITREC_TRAILING_BYTES;
-    look_at(place, sizeof *place, !is_refused);
-    look_at(&out->len, sizeof out->len, is_refused);
+    check_numbers(place, sizeof *place, !is_refused);
+    check_numbers(&out->len, sizeof out->len, is_refused);
     return answer;
 }
 
@@ -263,20 +263,20 @@ static void show_by(shower *call, char **words) {
     bool utc = words[1][0] == '1';
     uint64_t place;
     unsigned answer = show_in(call, in, utc, 0, &out, &place);
-    look_at_guards(out);
+    check_guards(out);
     if (answer == FITREC_SHOW_NO_ROOM) {
         uint64_t needed = out.len;
         if (show_in(call, in, utc, needed - 1, &out, &place) != FITREC_SHOW_NO_ROOM || out.len != needed)
             fail("another answer to a buffer that lacks one byte");
-        look_at_guards(out);
+        check_guards(out);
         answer = show_in(call, in, utc, needed, &out, &place);
         keep(out, words[2]);
-        look_at_guards(out);
+        check_guards(out);
     }
     printf("%u\n", answer);
     if (answer)
         printf("at %llu\n", (unsigned long long)place);
-    look_at_guards(in);
+    check_guards(in);
 }
 
 static void show(char **words) {
@@ -300,10 +300,10 @@ static unsigned columns_in(struct buffer in, char **words, size_t room_for, size
     unsigned answer = fitrec_columns(in.bytes, in.size, (uint16_t)atoi(words[1]), fields, count, room_for, (int64_t *)out->bytes, values,
                                      rows, place);
     bool is_refused = answer && answer <= FITREC_TRAILING_BYTES;
-    look_at(place, sizeof *place, !is_refused);
-    look_at(rows, sizeof *rows, answer != FITREC_COLUMNS && answer != FITREC_COLUMNS_NO_ROOM);
+    check_numbers(place, sizeof *place, !is_refused);
+    check_numbers(rows, sizeof *rows, answer != FITREC_COLUMNS && answer != FITREC_COLUMNS_NO_ROOM);
     if (is_refused || answer == FITREC_COLUMNS_SHORT)
-        look_at(out->bytes, out->size, true);
+        check_numbers(out->bytes, out->size, true);
     out->len = count;
     return answer;
 }
@@ -312,15 +312,15 @@ static void columns(char **words) {
     struct buffer in = file_at(words[0], 0), out;
     uint64_t rows, place;
     unsigned answer = columns_in(in, words, 0, 0, &out, &rows, &place);
-    look_at_guards(out);
+    check_guards(out);
     if (answer == FITREC_COLUMNS_NO_ROOM) {
         uint64_t needed = rows;
         if (columns_in(in, words, needed - 1, out.len * (needed - 1), &out, &rows, &place) != FITREC_COLUMNS_NO_ROOM || rows != needed)
             fail("another answer to a buffer that lacks one row");
-        look_at_guards(out);
+        check_guards(out);
         if (columns_in(in, words, needed, out.len * needed - 1, &out, &rows, &place) != FITREC_COLUMNS_SHORT)
             fail("another answer to a buffer that lacks one value");
-        look_at_guards(out);
+        check_guards(out);
         answer = columns_in(in, words, needed, out.len * needed, &out, &rows, &place);
         printf("%u\n", answer);
         for (uint64_t row = 0; row < rows; row++)
@@ -330,12 +330,12 @@ static void columns(char **words) {
                     printf("%lld", (long long)value);
                 printf(k + 1 < out.len ? "," : "\n");
             }
-        look_at_guards(out);
+        check_guards(out);
     } else
         printf("%u\n", answer);
     if (answer)
         printf("at %llu\n", (unsigned long long)place);
-    look_at_guards(in);
+    check_guards(in);
 }
 
 static void salvage(char **words) {
@@ -345,18 +345,18 @@ static void salvage(char **words) {
     fill(&out.len, sizeof out.len);
     unsigned answer = fitrec_salvage(in.bytes, in.size, words[3][0] == '1', out.bytes, out.size, &out.len, &counts);
     bool is_refused = answer != FITREC_SALVAGED && answer != FITREC_SALVAGE_NO_ROOM;
-    look_at(&counts, sizeof counts, is_refused);
-    look_at(&out.len, sizeof out.len, is_refused);
+    check_numbers(&counts, sizeof counts, is_refused);
+    check_numbers(&out.len, sizeof out.len, is_refused);
     if (is_refused)
-        look_at(out.bytes, out.size, true);
+        check_numbers(out.bytes, out.size, true);
     printf("%u\n", answer);
     if (answer == FITREC_SALVAGED) {
         printf("kept %llu of %llu, %llu not looked at\n", (unsigned long long)counts.kept, (unsigned long long)counts.looked_at,
                (unsigned long long)counts.not_looked_at);
         keep(out, words[2]);
     }
-    look_at_guards(in);
-    look_at_guards(out);
+    check_guards(in);
+    check_guards(out);
 }
 
 static void lengths(char **words) {
@@ -370,12 +370,12 @@ static void lengths(char **words) {
     printf(" %u", fitrec_repair(data.bytes, data.size, &none[0], nothing.bytes, nothing.size, &none[1], &sum));
     printf(" %u", fitrec_save(data.bytes, data.size, &long_data, journal.bytes, journal.size, &journal.len, nothing.bytes, 0, &none[0], &sum));
     printf(" %u", fitrec_save(data.bytes, data.size, &data.len, journal.bytes, journal.size, &most, nothing.bytes, 0, &none[0], &sum));
-    look_at(&sum, sizeof sum, true);
+    check_numbers(&sum, sizeof sum, true);
     if (long_data != data.size + 1 || long_journal != journal.size + 1 || most != UINT64_MAX || none[0] || none[1])
         fail("a length was changed");
-    look_at_guards(nothing);
-    look_at_guards(data);
-    look_at_guards(journal);
+    check_guards(nothing);
+    check_guards(data);
+    check_guards(journal);
     printf("\n");
 }
 

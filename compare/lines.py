@@ -120,8 +120,8 @@ def of_odd_bytes(fitrec):
     for text, answers in ODD:
         with tempfile.TemporaryDirectory() as folder:
             refused = sum(not line.endswith(" ok") for line in answers)
-            want = (bool(refused), "".join(line + "\n" for line in answers), "fitrec: %d refused\n" % refused * bool(refused))
-            yield "odd bytes", differs(record(fitrec, folder, text), want)
+            expected = (bool(refused), "".join(line + "\n" for line in answers), "fitrec: %d refused\n" % refused * bool(refused))
+            yield "odd bytes", differs(record(fitrec, folder, text), expected)
 
 
 def by_itself(fitrec):
@@ -129,37 +129,37 @@ def by_itself(fitrec):
     other number, and none if that is 0. A reopening goes back to the last commit, and the seconds count from there."""
     for given in (None, 0, 1, 5, 30, 4294967295):
         every = 10 if given is None else given
-        pick, second, last, lines, want = random.Random(every), 0, 0, ["start 1000000000 7 running"], ["1 start: ok"]
+        pick, second, last, lines, expected = random.Random(every), 0, 0, ["start 1000000000 7 running"], ["1 start: ok"]
         for number in range(2, 60):
             word = pick.choice(["sample", "sample", "sample", "lap", "commit", "reopen", "sample 1 x"])
             # the time of the ride is that of its last entry
             second += pick.choice([0, 1, 1, 2, 9]) * (word in ("sample", "lap"))
             lines.append("%s %d" % (word, 1000000000 + second) if word in ("sample", "lap") else word)
             if word == "sample 1 x":
-                want.append("%d line: UnknownKey" % number)
+                expected.append("%d line: UnknownKey" % number)
                 continue
-            want.append("%d %s: ok" % (number, word))
+            expected.append("%d %s: ok" % (number, word))
             if word == "commit":
                 last = second
             elif word == "reopen":
                 second = last
             elif every and second - last >= every:
-                want.append("%d commit: ok" % number)
+                expected.append("%d commit: ok" % number)
                 last = second
         lines.append("stop %d" % (1000000000 + second))
-        want.append("%d stop: ok" % len(lines))
+        expected.append("%d stop: ok" % len(lines))
         with tempfile.TemporaryDirectory() as folder:
             words = [] if given is None else ["--commit", str(given)]
             said = record(fitrec, folder, "\n".join(lines) + "\n", *words)
-            yield "commits by itself", differs(said[1].splitlines(), want)
+            yield "commits by itself", differs(said[1].splitlines(), expected)
     # a second recording reopens the ride of the first, which ended at its start or 4 seconds later
     for begun, last in (("", 0), ("sample 1000000004\n", 4)):
         for after, commits in ((9, ""), (10, "2 commit: ok\n")):
             with tempfile.TemporaryDirectory() as folder:
                 record(fitrec, folder, "start 1000000000 7 running\n" + begun)
                 said = record(fitrec, folder, "reopen\nsample %d\n" % (1000000000 + last + after))
-                want = "1 reopen: ok\n2 sample: ok\n%s3 commit: ok\n" % commits
-                yield "commits by itself after a reopening", differs(said, (0, want, ""))
+                expected = "1 reopen: ok\n2 sample: ok\n%s3 commit: ok\n" % commits
+                yield "commits by itself after a reopening", differs(said, (0, expected, ""))
     with tempfile.TemporaryDirectory() as folder:
         for word in ("x", "", "-1", "4294967296"):
             status, out, err = record(fitrec, folder, "start 1000000000 7 running\n", "--commit=" + word)
@@ -258,8 +258,8 @@ def of_the_example(fitrec):
     client = [sys.executable, EXAMPLES / "heart_rate.py"]
     for words in ([], ["a", "b", "c", "d"]):
         said = run(*client, *words)
-        is_told = said[:2] == (1, "") and "heart_rate.py FOLDER [SECONDS [PACE]]" in said[2] and "Traceback" not in said[2]
-        yield "the client of a strap, with no words or too many", unless(is_told, said, "status 1, and how it is used")
+        is_refused = said[:2] == (1, "") and "heart_rate.py FOLDER [SECONDS [PACE]]" in said[2] and "Traceback" not in said[2]
+        yield "the client of a strap, with no words or too many", unless(is_refused, said, "status 1, and how it is used")
     with tempfile.TemporaryDirectory() as above:
         folder = above + "/new"
         words = [*client, folder, "1000", "0.001"]

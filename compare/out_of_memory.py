@@ -75,7 +75,7 @@ def place_of(said):
     return int(found[1] or 0) if found and said[:2] == (1, "") else None
 
 
-def readings(traced, words, data, want):
+def readings(traced, words, data, expected):
     """Nothing is shown of a file, and the want is reported at the item that made the request. Requests of the program itself come first."""
     places = [0]
     with tempfile.NamedTemporaryFile() as file:
@@ -83,7 +83,7 @@ def readings(traced, words, data, want):
         file.flush()
         for number, said, _ in each(traced, "memory", *words, file.name):
             if not number:
-                yield "nothing wanting", differs(said, want)
+                yield "nothing wanting", differs(said, expected)
                 continue
             place = place_of(said)
             well = place is not None and places[-1] <= place and is_of_reading(traced, number, words, place, data)

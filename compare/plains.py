@@ -36,13 +36,13 @@ def judge(fitrec, folder, number, data):
     source, out, again = (pathlib.Path(folder) / ("%d.%s" % (number, name)) for name in ("in", "out", "again"))
     source.write_bytes(data)
     said, file = said_of(data)
-    is_, want = [(run(fitrec, "plain", source, out), bytes_of(out))], [(said, file)]
+    is_, expected = [(run(fitrec, "plain", source, out), bytes_of(out))], [(said, file)]
     if file is not None:
         is_ += [messages_of(fitrec, out), run(fitrec, "plain", out, again), bytes_of(again)]
-        want += [messages_of(fitrec, source), said, file]
+        expected += [messages_of(fitrec, source), said, file]
     for path in (source, out, again):
         path.unlink(missing_ok=True)
-    return "made" if file is not None else kind_of(said[2], ""), differs(is_, want, data)
+    return "made" if file is not None else kind_of(said[2], ""), differs(is_, expected, data)
 
 
 def made_files(given):
@@ -74,8 +74,8 @@ def limits(fitrec):
             yield "long content", judge(fitrec, folder, size, long_content(size))[1]
         place = Place(folder, widest(255))
         said = run(fitrec, "plain", place.source, place.out)
-        want = (1, "", "fitrec: TooLong at 2062\n"), (OLD, ["in.fit", "out.fit"])
-        yield "refused, and nothing made", differs((said, place.left()), want)
+        expected = (1, "", "fitrec: TooLong at 2062\n"), (OLD, ["in.fit", "out.fit"])
+        yield "refused, and nothing made", differs((said, place.left()), expected)
         data = many_messages(1000000)
         place = Place(folder, data)
         said = run(fitrec, "plain", place.source, place.out)
@@ -87,7 +87,7 @@ def limits(fitrec):
 
 def little_memory(fitrec):
     """With more and more memory: nothing is made and one line reports why, until the file is made."""
-    data, told, limit = many_messages(300000), set(), 1 << 20
+    data, reported, limit = many_messages(300000), set(), 1 << 20
     while True:
         limit += 1 << 16
         with tempfile.TemporaryDirectory() as folder:
@@ -95,11 +95,11 @@ def little_memory(fitrec):
             status, text, fault = run(fitrec, "plain", place.source, place.out,
                                       preexec_fn=may_take(limit))
             if status == 0:
-                return differs((text, bytes_of(place.out) == data, told), ("messages 300000\n", True, {"at once", "at an item"}))
+                return differs((text, bytes_of(place.out) == data, reported), ("messages 300000\n", True, {"at once", "at an item"}))
             line = re.fullmatch(r"fitrec: (?:NoMemory|Memory at (\d+))\n", fault)
             # Without memory for the program itself, it does not start, or the system ends it.
             if status == 1:
-                told.add("at an item" if line and line[1] not in (None, "0") else "at once")
+                reported.add("at an item" if line and line[1] not in (None, "0") else "at once")
                 if not line or text or place.left() != (OLD, ["in.fit", "out.fit"]):
                     return unless(False, (limit, status, text, fault, place.left()), "one line on the want of memory")
 

@@ -167,8 +167,8 @@ def outputs(fitrec, small):
 def memory(fitrec):
     """With more and more memory: nothing is shown and one line reports why, at places that never decrease, until the file is shown."""
     data = many_messages(300000)
-    name, want = fitrec.write("many.fit", data), wanted(data)
-    place, limit, told = 0, 1 << 20, set()
+    name, expected = fitrec.write("many.fit", data), wanted(data)
+    place, limit, reported = 0, 1 << 20, set()
     while True:
         limit += 1 << 15
         said = fitrec.run("show", name, preexec_fn=may_take(limit))
@@ -180,11 +180,11 @@ def memory(fitrec):
         line = re.fullmatch(r"fitrec: (?:(NoMemory)|Memory at (\d+))\n", said[2])
         good = line and said[1] == "" and int(line[2] or 0) >= place
         place = int(line[2] or 0) if line else place
-        told.add("at an item" if place else "at once")
+        reported.add("at an item" if place else "at once")
         if not good:
             yield "memory of %d bytes" % limit, differs(said, "one line on the want of memory")
-    yield "memory enough", differs(said, want)
-    yield "want of memory", differs(told, {"at once", "at an item"})
+    yield "memory enough", differs(said, expected)
+    yield "want of memory", differs(reported, {"at once", "at an item"})
 
 
 def check(given):

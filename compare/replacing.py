@@ -20,6 +20,8 @@ from tools.rides import body_unread, recording, script_of
 from tools.traced import ERRORS, tracing
 
 NEEDS = ("fitrec", "cc")
+# How many names a new file may have beside OUT.
+NAMES = 100
 
 
 def not_written(out):
@@ -38,7 +40,7 @@ class Command:
     def run(self, source, out, **how):
         return run(self.traced.fitrec, *self.words, source, out, **how)
 
-    def tell(self, source, out, **how):
+    def traced_run(self, source, out, **how):
         """What it prints, and its calls."""
         return self.traced.run(*self.words, source, out, **how)
 
@@ -142,7 +144,7 @@ def its_calls(command):
                 if old is not None:
                     place.out.chmod(0o640)
                 out = name.replace("%s", place.folder.name) if name else place.out
-                said, log = command.tell(place.source, out, how={"cwd": place.folder})
+                said, log = command.traced_run(place.source, out, how={"cwd": place.folder})
                 yield "its calls", differs((said, calls_of(log)), (command.done, calls))
                 yield "what it leaves", differs(place.left(), (command.made, ["in.fit", "out.fit"]))
                 is_held = "close out" not in log or log.index("close out") > log.index("move beside")
@@ -173,33 +175,33 @@ def failing_calls(command):
     """If a call fails OUT is as before, or the new file if that was moved already, and nothing is left beside it."""
     for old in (OLD, None):
         with place_of(command.given, old) as place:
-            _, log = command.tell(place.source, place.out)
+            _, log = command.traced_run(place.source, place.out)
         for at, line in enumerate(log):
             kind = line.split()[0]
             number = sum(other.startswith(kind) for other in log[:at + 1])
             errors = [*ERRORS, errno.EINTR, *[errno.ENOLCK, errno.EWOULDBLOCK] * (kind == "lock")]
             for error in errors if kind != "close" else ():
                 with place_of(command.given, old) as place:
-                    said, _ = command.tell(place.source, place.out, call=kind, number=number, errno=error)
+                    said, _ = command.traced_run(place.source, place.out, call=kind, number=number, errno=error)
                     may_be = ends(command, place, old, line, error, log[:at])
                     is_ = said, place.left()
                     well = is_ in may_be and laid(place.source) == command.given
                     yield "a %s that failed" % kind, unless(well, (line, errno.errorcode[error], is_), may_be)
 
 
-def looks_that_fail(command):
+def failing_status_calls(command):
     """If the program cannot find out what has the name of OUT, nothing is replaced."""
     for error in (errno.EIO, errno.EACCES, errno.ENOMEM):
         for number in itertools.count(1):
             with place_of(command.given) as place:
-                said, log = command.tell(place.source, place.out, call="look", number=number, errno=error)
+                said, log = command.traced_run(place.source, place.out, call="stat", number=number, errno=error)
                 failed = [line.split()[1] for line in log if line.endswith(" failed")]
                 if not failed:
                     break
                 is_in = failed[0] in ("in", "data", "journal")
                 line = "cannot %s" % ("open %s" % place.source if is_in else "write %s" % place.out)
                 well = said in [(1, "", "fitrec: %s\n" % it) for it in (line, "NoMemory")] and place.left() == (OLD, ["in.fit", "out.fit"])
-                yield "a look that failed", unless(well, (said, place.left(), log), line)
+                yield "a status call that failed", unless(well, (said, place.left(), log), line)
 
 
 def short_calls(command):
@@ -207,10 +209,10 @@ def short_calls(command):
     for kind in ("read", "stream"):
         for most in (1, 3):
             with place_of(command.given) as place:
-                said, _ = command.tell(place.source, place.out, call=kind, number=0, most=most)
+                said, _ = command.traced_run(place.source, place.out, call=kind, number=0, most=most)
                 yield "each %s of at most a few bytes" % kind, differs((said, bytes_of(place.out)), (command.done, command.made))
     with place_of(command.given) as place:
-        said, _ = command.tell(place.source, place.out, call="stream", number=0, most=0)
+        said, _ = command.traced_run(place.source, place.out, call="stream", number=0, most=0)
         yield "writes of nothing", differs((said, place.left()), (not_written(place.out), (OLD, ["in.fit", "out.fit"])))
 
 
@@ -221,8 +223,8 @@ def without_room(command):
     for size in range(len(command.made)):
         with place_of(command.given) as place:
             said = command.run(place.source, place.out, preexec_fn=may_not_grow(size))
-            want = not_written(place.out), (OLD, ["in.fit", "out.fit"])
-            yield "a file of at most some bytes", differs((said, place.left()), want)
+            expected = not_written(place.out), (OLD, ["in.fit", "out.fit"])
+            yield "a file of at most some bytes", differs((said, place.left()), expected)
     with tempfile.TemporaryDirectory() as folder, tempfile.TemporaryDirectory() as elsewhere, small_disk(folder) as mounted:
         if not mounted:
             yield "a full disk", Skipped("no disk can be mounted")
@@ -259,16 +261,17 @@ def other_things(command):
 
 
 def taken_names(command):
-    """A name beside OUT that is taken is passed over. There are a hundred names."""
+    """A name beside OUT that is taken is passed over."""
     with place_of(command.given) as place:
-        taken = [place.folder / (".fitrec-new-%d" % number) for number in range(100)]
+        taken = [place.folder / (".fitrec-new-%d" % number) for number in range(NAMES)]
         for path in taken:
             path.write_bytes(OLD)
         before = place.left()
         yield "each name is taken", differs((command.run(place.source, place.out), place.left()), (not_written(place.out), before))
-        taken[57].unlink()
+        free = taken[NAMES // 2]
+        free.unlink()
         said = command.run(place.source, place.out)
-        yield "one name is free", differs((said, place.left()), (command.done, (command.made, sorted(set(before[1]) - {".fitrec-new-57"}))))
+        yield "one name is free", differs((said, place.left()), (command.done, (command.made, sorted(set(before[1]) - {free.name}))))
         yield "what has the others stays", differs({bytes_of(path) for path in taken}, {OLD, None})
 
 
@@ -284,10 +287,10 @@ def modes(command):
                         os.chown(path, *(-1, -1) if is_root or os.getuid() else (NOBODY, NOBODY))
                     said = command.run(place.source, place.out, umask=mask, preexec_fn=user)
                     is_made = mode is None or is_root or bool(mode & 0o200)
-                    want = command.done if is_made else not_written(place.out), 0o666 & ~mask if mode is None else mode
-                    yield "the mode of the file", differs((said, place.out.stat().st_mode & 0o7777), want)
-                    want = command.made if is_made else OLD, ["in.fit", "out.fit"]
-                    yield "the file of this mode", differs(place.left(), want)
+                    expected = command.done if is_made else not_written(place.out), 0o666 & ~mask if mode is None else mode
+                    yield "the mode of the file", differs((said, place.out.stat().st_mode & 0o7777), expected)
+                    expected = command.made if is_made else OLD, ["in.fit", "out.fit"]
+                    yield "the file of this mode", differs(place.left(), expected)
 
 
 def folders_of_others(command):
@@ -396,7 +399,7 @@ def order_of_faults(command):
                 yield "the order of faults", differs((said, place.left()), ((1, "", "fitrec: %s\n" % line), before))
 
 
-GROUPS = [its_calls, failing_calls, looks_that_fail, short_calls, without_room, without_output, other_things, taken_names, modes,
+GROUPS = [its_calls, failing_calls, failing_status_calls, short_calls, without_room, without_output, other_things, taken_names, modes,
           folders_of_others, with_a_lock, recordings, a_ride_under_way, while_it_waits, order_of_faults]
 
 

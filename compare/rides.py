@@ -82,7 +82,7 @@ def with_full_output(fitrec):
         for words in (["replay", script.name, folder], ["repair", folder], ["check", file], ["simulate", script.name]):
             with open("/dev/full", "w") as full:
                 done = subprocess.run([fitrec, *words], stdout=full, stderr=subprocess.PIPE, text=True)
-            yield "full output: told", differs((done.returncode, done.stderr), (1, "fitrec: cannot write -\n"))
+            yield "full output: reported", differs((done.returncode, done.stderr), (1, "fitrec: cannot write -\n"))
         # The event whose answer failed was run, and none after it.
         line = "ok records=0 laps=1 sessions=1 start=1000000000 elapsed_ms=0 timer_ms=0 distance_cm=-\n"
         yield "full output: kept", differs(run(fitrec, "repair", folder), (0, line, ""))
@@ -98,16 +98,16 @@ def with_closed_output(fitrec):
             answers = [running.stdout.readline() for _ in range(1000)]
             running.stdout.close()
             said = running.stderr.read()
-        yield "closed output: told", differs((running.returncode, said), (1, "fitrec: cannot write -\n"))
+        yield "closed output: reported", differs((running.returncode, said), (1, "fitrec: cannot write -\n"))
         kept = committed(map(str.rstrip, answers))[1]
         records = re.match(r"ok records=(\d+) ", run(fitrec, "repair", folder)[1])
-        yield "closed output of a simulation: told", differs(run_unread(fitrec, "simulate", script.name), (1, "fitrec: cannot write -\n"))
+        yield "closed output of a simulation: reported", differs(run_unread(fitrec, "simulate", script.name), (1, "fitrec: cannot write -\n"))
         yield "closed output: kept", unless(records and kept <= int(records[1]) < 20000, records, "%d to 19999 records" % kept)
 
 
 def with_little_memory(fitrec):
     """With more and more memory: nothing is recorded and one line reports why, until everything is."""
-    told, last = set(), 0
+    reported, last = set(), 0
     with tempfile.TemporaryDirectory() as folder, tempfile.NamedTemporaryFile("w") as script:
         script.write(script_of(5000, 5000))
         script.flush()
@@ -122,17 +122,17 @@ def with_little_memory(fitrec):
                 line = re.fullmatch(r"fitrec: (NoMemory|line (\d+): Memory)\n", err)
                 last = max(last, int(line[2]) if line and line[2] else 0)
                 recorded = out != "" or file.exists() and file.stat().st_size > 0
-                told.add(line and (line[1] or "start").split()[0])
+                reported.add(line and (line[1] or "start").split()[0])
                 if recorded or not line:
                     yield f"memory of {limit} bytes: nothing is recorded", unless(False, (out, err), "one line on the want of memory")
         yield "little memory: at the line that wants it", unless(last > 1, last, "a line after the first")
-        yield "little memory: told", differs(told, {"NoMemory", "line"})
+        yield "little memory: reported", differs(reported, {"NoMemory", "line"})
         yield "little memory: enough", differs((status, out.count(" ok\n"), err), (0, 5002, ""))
 
 
 def with_little_memory_simulated(fitrec):
     """With more and more memory: no answer is printed and one line reports why, until all are."""
-    told = set()
+    reported = set()
     with tempfile.NamedTemporaryFile("w") as script:
         script.write(script_of(5000, 1000) + "power\nrecover\n")
         script.flush()
@@ -144,10 +144,10 @@ def with_little_memory_simulated(fitrec):
             # Without memory for the program itself, it does not start.
             if status == 1:
                 line = re.fullmatch(r"fitrec: (NoMemory|line \d+: Memory)\n", err)
-                told.add(line and (line[1] or "start").split()[0])
+                reported.add(line and (line[1] or "start").split()[0])
                 if out or not line:
                     yield f"memory of {limit} bytes: nothing is simulated", unless(False, (out, err), "one line on the want of memory")
-        yield "little memory, simulated: told", differs(told, {"NoMemory", "line"})
+        yield "little memory, simulated: reported", differs(reported, {"NoMemory", "line"})
         records = out.splitlines()[-1:] == ["5008 recover: ok records=5000 laps=1 sessions=1 start=1000000000 elapsed_ms=4999000 timer_ms=4999000 distance_cm=3499300"]
         yield "little memory, simulated: enough", differs((status, out.count(": ok\n"), records, err), (0, 5007, True, ""))
 
@@ -175,8 +175,8 @@ def of_room_and_commits(fitrec):
     with tempfile.TemporaryDirectory() as folder, tempfile.NamedTemporaryFile("w") as script:
         script.write("\n".join(lines))
         script.flush()
-        want = (1, "".join("%d %s\n" % row for row in enumerate(answers, 1)), "fitrec: 2 refused\n")
-        yield "no room: answers", differs(run(fitrec, "replay", script.name, folder), want)
+        expected = (1, "".join("%d %s\n" % row for row in enumerate(answers, 1)), "fitrec: 2 refused\n")
+        yield "no room: answers", differs(run(fitrec, "replay", script.name, folder), expected)
         file = pathlib.Path(folder) / "activity.fit"
         # After the header come the records, the stop under the definition of the start, the closing messages and the checksum.
         yield "no room: size", differs(file.stat().st_size, 14 + length + 7 + 230 + 2)
@@ -188,13 +188,13 @@ def of_room_and_commits(fitrec):
         script.write("start 1000000000 7 running\n" + "commit\n" * len(commits) + "stop 1000000001\n")
         script.flush()
         answers = ["start: ok", *commits, "stop: ok"]
-        want = (0, "".join("%d %s\n" % row for row in enumerate(answers, 1)), "")
-        yield "many commits: answers", differs(run(fitrec, "replay", script.name, folder), want)
+        expected = (0, "".join("%d %s\n" % row for row in enumerate(answers, 1)), "")
+        yield "many commits: answers", differs(run(fitrec, "replay", script.name, folder), expected)
         said = run(fitrec, "repair", folder)
         yield "many commits: repaired", differs(said[1].split()[:2], ["ok", "records=0"])
 
 
-def told_speed(speeds):
+def speed_text(speeds):
     """How a summary shows the greatest of some speeds."""
     return str(max(speeds)) if speeds and max(speeds) <= 65534 else "-"
 
@@ -222,11 +222,11 @@ def of_greatest_speeds(fitrec):
             file = pathlib.Path(folder) / "activity.fit"
             status, shown, err = run(fitrec, "show", file)
             yield "greatest speeds: shown", differs((status, shown, err), (0, reader.show(file.read_bytes()), ""))
-            want = [told_speed(speeds) for speeds in laps] + [told_speed(sum(laps, []))]
-            yield "greatest speeds: of each lap and of the ride", differs(re.findall(r" max_speed=(\S+)", shown), want)
+            expected = [speed_text(speeds) for speeds in laps] + [speed_text(sum(laps, []))]
+            yield "greatest speeds: of each lap and of the ride", differs(re.findall(r" max_speed=(\S+)", shown), expected)
 
 
-def told_rates(rates):
+def rate_texts(rates):
     """How a summary shows the average and the greatest of some heart rates."""
     return (str(sum(rates) // len(rates)), str(max(rates))) if rates else ("-", "-")
 
@@ -271,9 +271,9 @@ def of_rides_that_go_on(fitrec):
             yield "rides that go on: checked", differs(run(fitrec, "check", file), (0, line, ""))
             shown = run(fitrec, "show", file)
             yield "rides that go on: shown", differs(shown, (0, reader.show(file.read_bytes()), ""))
-            want = [told_rates(rates) for rates in laps] + [told_rates(sum(laps, []))]
-            told = re.findall(r" avg_heart_rate=(\S+) max_heart_rate=(\S+)", shown[1])
-            yield "rides that go on: of each lap and of the ride", differs(told, want)
+            expected = [rate_texts(rates) for rates in laps] + [rate_texts(sum(laps, []))]
+            found = re.findall(r" avg_heart_rate=(\S+) max_heart_rate=(\S+)", shown[1])
+            yield "rides that go on: of each lap and of the ride", differs(found, expected)
 
 
 def of_longer_fields(fitrec):

@@ -27,18 +27,18 @@ def judge(fitrec, folder, number, data, everything):
     source.write_bytes(data)
     (status, line, fault), file = wanted_salvage(data, everything)
     words = ["salvage", *["--all"] * everything, source]
-    is_, want = [(run(fitrec, *words, out), bytes_of(out))], [((status, line, fault), file)]
+    is_, expected = [(run(fitrec, *words, out), bytes_of(out))], [((status, line, fault), file)]
     is_.append((run(fitrec, *words, "--plain", plain), bytes_of(plain)))
-    want.append(plain_of(*want[0]))
+    expected.append(plain_of(*expected[0]))
     if file is not None:
         is_ += [run(fitrec, "show", out), run(fitrec, "salvage", out, again), bytes_of(again)]
         size = len(file) - 16
         # The new file is shown, not refused.
-        want += [(0, *wanted(file)[1:]), (0, "kept %d of %d\n" % (size, size or 2), ""), file]
+        expected += [(0, *wanted(file)[1:]), (0, "kept %d of %d\n" % (size, size or 2), ""), file]
     for path in (source, out, plain, again):
         path.unlink(missing_ok=True)
     kind = ("kept, not all read" if fault else "kept") if status == 0 else kind_of(fault, "")
-    return kind, differs(is_, want, data)
+    return kind, differs(is_, expected, data)
 
 
 def made_files(given):
@@ -73,8 +73,8 @@ def limits(fitrec):
             file.write(bytes(4))
             file.truncate(MOST)
         said = run(fitrec, "salvage", place.source, place.out)
-        want = (0, "kept %d of %d\n" % (MOST - 14, MOST - 14), ""), MOST + 2
-        yield "the largest file", differs((said, place.out.stat().st_size), want)
+        expected = (0, "kept %d of %d\n" % (MOST - 14, MOST - 14), ""), MOST + 2
+        yield "the largest file", differs((said, place.out.stat().st_size), expected)
 
 
 def check(given):

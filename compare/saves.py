@@ -69,7 +69,7 @@ def lack(folder):
     return "fitrec: activity.frj %s; salvage copies what is readable of activity.fit\n" % why
 
 
-def want(fitrec, folder):
+def expected(fitrec, folder):
     """What a save has to print, and what OUT has to hold: from a repair of a copy, and the plain form of its result."""
     with tempfile.TemporaryDirectory() as scratch:
         copy, plain = scratch + "/copy", pathlib.Path(scratch, "plain.fit")
@@ -91,7 +91,7 @@ def judge(fitrec, folder, **how):
     with tempfile.TemporaryDirectory() as scratch:
         os.chmod(scratch, 0o777)
         out = pathlib.Path(scratch, "out.fit")
-        wanted, before = want(fitrec, folder), state(folder)
+        wanted, before = expected(fitrec, folder), state(folder)
         said = run(fitrec, "save", folder, out, **how)
         return differs((said, bytes_of(out), state(folder)), (*wanted, before))
 
@@ -134,7 +134,7 @@ def of_rides(fitrec):
         folder = pathlib.Path(new())
         run(fitrec, "replay", script, folder)
         yield "a ride that was cut off", judge(fitrec, folder)
-        wanted, before = want(fitrec, folder), state(folder)
+        wanted, before = expected(fitrec, folder), state(folder)
         said = run(fitrec, "save", folder, folder / "saved.fit"), bytes_of(folder / "saved.fit")
         (folder / "saved.fit").unlink()
         yield "OUT in the folder", differs((said, state(folder)), (wanted, before))
@@ -209,7 +209,7 @@ def without_a_name(fitrec):
 def in_capitals(fitrec):
     """Names in capitals, as a FAT card shows them, are found, and kept from becoming OUT. Files under the usual names come first."""
     with recorded(fitrec) as (folder, out):
-        wanted = want(fitrec, folder)
+        wanted = expected(fitrec, folder)
         whole = {name: (folder / name).read_bytes() for name in NAMES}
         for name in NAMES:
             (folder / name).rename(folder / name.upper())

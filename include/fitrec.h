@@ -8,8 +8,8 @@
    - A buffer has as many bytes as its size argument says, and all of them may be read.
 
    The library takes no memory, keeps none between calls, and calls nothing but memcpy, memmove and memset. So calls on different buffers
-   may run at the same time in any threads. On x86-64 a repair and a save need 40 KB of stack, a text 80 KB, and the other
-   calls 16 KB. */
+   may run at the same time in any threads. On x86-64 a repair and a save need 40 KB of stack, a text and JSON 84 KB,
+   columns 50 KB, and the other calls 16 KB. */
 
 #ifndef FITREC_H
 #define FITREC_H

@@ -6,8 +6,8 @@
    Each answer is printed as `fitrec replay` prints it. Standard error has the number of calls of the disk. */
 #include "small.h"
 
-#ifndef IS_DEAF
-#define IS_DEAF 0 /* a host that breaks a rule: its syncs do nothing */
+#ifndef HAS_NO_SYNC
+#define HAS_NO_SYNC 0 /* a host that breaks a rule: its syncs do nothing */
 #endif
 enum { SAMPLES = 400, EVERY = 7 };
 
@@ -42,7 +42,7 @@ static int carry_out_one(const struct fitrec_call *call) {
     case FITREC_CUT:
         return fs_cut(call->file, call->at);
     default:
-        return IS_DEAF ? 0 : fs_sync(call->file);
+        return HAS_NO_SYNC ? 0 : fs_sync(call->file);
     }
 }
 

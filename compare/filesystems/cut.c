@@ -53,14 +53,14 @@ static enum way way_of(const struct entry *it, int kind, size_t number, size_t c
 
 /* The power goes when the disk has received these entries. */
 void cut(const struct log *log, size_t from, size_t to, int kind) {
-    uint32_t sector = (uint32_t)number_of("sector", 4096), lies = number_of("lie", 0) > 0;
+    uint32_t sector = (uint32_t)number_of("sector", 4096), flushes_late = number_of("unsure", 0) > 0;
     size_t chosen = chance((uint32_t)pending(log, from, to)), number = 0;
     for (size_t k = from; k < to; k++) {
         const struct entry *it = &log->entry[k];
         if (it->type != WRITE)
             continue;
         enum way way = way_of(it, kind, number++, chosen);
-        if (it->is_sure && !lies && (k + 1 < to || chance(2)))
+        if (it->is_sure && !flushes_late && (k + 1 < to || chance(2)))
             way = WHOLE;
         for (uint32_t at = 0; at < it->len; at += sector)
             if (way == WHOLE || (way == TORN && chance(2)))

@@ -56,9 +56,9 @@ static void boot(void) {
             die("%s", path);
         close(file);
     }
-    /* The system writes back soon, and says only what this process says. */
+    /* The system writes back soon, if at all, and says only what this process says. */
     put("/proc/sys/vm/dirty_expire_centisecs", "10");
-    put("/proc/sys/vm/dirty_writeback_centisecs", "5");
+    put("/proc/sys/vm/dirty_writeback_centisecs", setting("writeback", "5"));
     put("/proc/sys/kernel/panic_on_oops", "1");
     put("/proc/sys/kernel/printk", "1");
 }

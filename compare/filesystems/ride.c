@@ -27,8 +27,8 @@ static void read_lines(void) {
     int number = 0;
     for (char *text = strtok((char *)script.at, "\n"); text; text = strtok(NULL, "\n")) {
         struct line *it = &lines[++number];
-        *it = (struct line){text, 0, !strncmp(text, "stop", 4) || !strcmp(text, "recover"), read_file("%s/want/%d.fit", share, number),
-                            read_file("%s/want/%d.plain", share, number)};
+        *it = (struct line){text, 0, !strncmp(text, "stop", 4) || !strcmp(text, "recover"), read_file("%s/expected/%d.fit", share, number),
+                            read_file("%s/expected/%d.plain", share, number)};
         it->promises = it->repaired.at != NULL;
     }
 }

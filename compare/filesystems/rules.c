@@ -50,8 +50,11 @@ static struct step any_step(const uint32_t len[2]) {
 }
 
 static int do_step(const struct step *it, int file) {
-    if (it->kind == SYNC)
-        return number_of("deaf", 0) ? 0 : fdatasync(file);
+    if (it->kind == SYNC) {
+        if (number_of("delay", 0) && !chance(3))
+            usleep(chance(1000 * (uint32_t)number_of("delay", 0)));
+        return number_of("unsynced", 0) ? 0 : fdatasync(file);
+    }
     if (it->kind == SHORTEN)
         return ftruncate(file, it->at);
     return pwrite(file, it->bytes, it->len, it->at) != (ssize_t)it->len;
@@ -63,7 +66,7 @@ static void record(void) {
     for (int k = 0; k < 2; k++)
         if ((file[k] = open(names[k], O_RDWR | O_CREAT | O_CLOEXEC, 0644)) < 0)
             die("%s", names[k]);
-    if (!number_of("deaf", 0) && (fsync(folder) || fdatasync(file[0]) || fdatasync(file[1])))
+    if (!number_of("unsynced", 0) && (fsync(folder) || fdatasync(file[0]) || fdatasync(file[1])))
         die("sync");
     for (int k = 0; k < STEPS; k++) {
         struct step it = any_step(len);

@@ -98,12 +98,12 @@ static void try_state(size_t at) {
     }
 }
 
-/* How many entries are sure once the disk has received so many. A disk that lies about flushes writes when it pleases: here, so many
+/* How many entries are sure once the disk has received so many. A disk that does not do its flushes writes at any time: here, so many
  * entries later. */
 static size_t sure_of(size_t at) {
-    size_t lie = (size_t)number_of("lie", 0);
-    if (lie)
-        return at > lie ? at - lie : 0;
+    size_t unsure = (size_t)number_of("unsure", 0);
+    if (unsure)
+        return at > unsure ? at - unsure : 0;
     while (at > 0 && recording->entry[at - 1].type != FLUSH)
         at--;
     return at;
@@ -115,9 +115,9 @@ static int is_place(size_t at) {
 }
 
 /* The states are spread over these places: so many at each, or one where all is sure. */
-void try_all(const struct story *told, const struct log *log) {
+void try_all(const struct story *judged, const struct log *log) {
     size_t begin = 0, places = 1;
-    story = told, recording = log;
+    story = judged, recording = log;
     while (recording->entry[begin].type != ASKED)
         begin++;
     for (size_t at = begin + 1; at <= recording->count; at++)
@@ -138,7 +138,7 @@ void try_all(const struct story *told, const struct log *log) {
     printf("DONE states %ld, second cuts %ld, wrong %ld\n", states, seconds, reports);
 }
 
-void judge_one(const struct story *told) {
-    story = told;
+void judge_one(const struct story *judged) {
+    story = judged;
     printf("JUDGED: %s\n", is_wrong(0) ? text : "well");
 }

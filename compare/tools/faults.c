@@ -1,15 +1,17 @@
 /* A library that is loaded before the program (LD_PRELOAD). It reports the program's calls on the two files of a recording, on the
    files IN and OUT of a command (in.fit and out.fit), on a file that is made beside OUT, and on their folder. It lets some of them
-   fail, fall short or be interrupted. On request it also reports looks at a name, requests for memory and writes to standard output:
+   fail, fall short or be interrupted. On request it also reports requests for the status of a name and for memory, and writes to standard
+   output:
 
      FAULTS_LOG      the file that gets a line for each call: its kind, what it is about, and its numbers
      FAULTS_CALL     the kind of call that goes wrong: open, lock, sync, size, read, write, stream, cut, mode, move, remove, close,
-                     look, memory or print; or peak, which reports at the end how many bytes of memory were held at most
+                     stat, memory or print; or peak, which reports at the end how many bytes of memory were held at most
      FAULTS_NUMBER   which one of that kind, from 1 on, or 0 for each
      FAULTS_AFTER   if it is 1, each call after that one too
      FAULTS_ERRNO    the call fails with this error, and nothing is done; or
-     FAULTS_LIES     if it is 1, the call answers well and lies: a read has one bit changed, a size is one more, a write writes the
-                     first half of its bytes, a cut cuts nothing, and a sync takes back what was done since the last one; or
+     FAULTS_SILENT   if it is 1, the call reports success and does something else: a read has one bit changed, a size is one
+                     more, a write writes the first half of its bytes, a cut cuts nothing, and a sync takes back what was done since
+                     the last one; or
      FAULTS_MOST     the call moves at most so many bytes; if the kind is memory or peak, each read of IN does
      FAULTS_END      the bytes of the data file and of IN cannot be read from this place on; a read that begins before it falls short
      FAULTS_KILLS    if it is 1, the program is killed before the call, or in a write after FAULTS_MOST bytes */
@@ -33,7 +35,7 @@ static const char *names[DESCRIPTORS];
 static struct stat folder;
 static const char *kind = "";
 static unsigned long number, after, seen;
-static int error, most = -1, kills, told = -1, lies, is_lie;
+static int error, most = -1, kills, log_file = -1, silent, is_silent;
 static long long ends = -1;
 
 static const char *said(const char *word, const char *otherwise) {
@@ -46,18 +48,18 @@ __attribute__((constructor)) static void begin(void) {
     number = strtoul(said("FAULTS_NUMBER", "0"), NULL, 10);
     after = strtoul(said("FAULTS_AFTER", "0"), NULL, 10);
     error = atoi(said("FAULTS_ERRNO", "0"));
-    lies = atoi(said("FAULTS_LIES", "0"));
+    silent = atoi(said("FAULTS_SILENT", "0"));
     most = atoi(said("FAULTS_MOST", "-1"));
     kills = atoi(said("FAULTS_KILLS", "0"));
     ends = atoll(said("FAULTS_END", "-1"));
     int log = syscall(SYS_openat, AT_FDCWD, said("FAULTS_LOG", "/dev/null"), O_WRONLY | O_CREAT | O_APPEND, 0666);
     /* Low descriptors stay as free as the program finds them without this. */
-    told = syscall(SYS_fcntl, log, F_DUPFD_CLOEXEC, ABOVE_ALL_OTHERS);
+    log_file = syscall(SYS_fcntl, log, F_DUPFD_CLOEXEC, ABOVE_ALL_OTHERS);
     syscall(SYS_close, log);
 }
 
 /* Remembers the folder of the file at this path. */
-static void lies_in_folder(const char *path) {
+static void note_folder(const char *path) {
     char above[4096];
     const char *slash = strrchr(path, '/');
     snprintf(above, sizeof above, "%.*s", slash ? (int)(slash + 1 - path) : 1, slash ? path : ".");
@@ -78,7 +80,7 @@ static const char *named(const char *path) {
         is = "beside";
     if (is) {
         if (strcmp(is, "in"))
-            lies_in_folder(path);
+            note_folder(path);
         return is;
     }
     if (stat(path, &found) || !S_ISDIR(found.st_mode))
@@ -98,13 +100,14 @@ static void name(int file, const char *as) {
 /* Reports a call. Returns whether it has to go wrong. */
 static int goes_wrong(const char *call, const char *about, const char *numbers) {
     char line[128];
-    is_lie = 0;
+    is_silent = 0;
     if (!about)
         return 0;
     int wrong = !strcmp(call, kind) && (++seen == number || !number || (after && seen > number));
-    is_lie = wrong && lies;
-    int length = snprintf(line, sizeof line, "%s %s%s%s\n", call, about, numbers, wrong && error ? " failed" : is_lie ? " lied" : "");
-    syscall(SYS_write, told, line, length);
+    is_silent = wrong && silent;
+    const char *how = wrong && error ? " failed" : is_silent ? " silently" : "";
+    int length = snprintf(line, sizeof line, "%s %s%s%s\n", call, about, numbers, how);
+    syscall(SYS_write, log_file, line, length);
     if (wrong && kills && most < 0)
         syscall(SYS_kill, getpid(), SIGKILL);
     return wrong;
@@ -142,7 +145,7 @@ static struct { char *bytes; off_t length; } kept[DESCRIPTORS];
 
 static void keep(int file) {
     const char *is = name_of(file);
-    if (!lies || !is_kind("sync") || !is || (strcmp(is, "data") && strcmp(is, "journal")))
+    if (!silent || !is_kind("sync") || !is || (strcmp(is, "data") && strcmp(is, "journal")))
         return;
     off_t length = syscall(SYS_lseek, file, 0, SEEK_END);
     char *bytes = malloc(length > 0 ? length : 1);
@@ -207,11 +210,11 @@ int flock(int file, int operation) {
 }
 
 int fsync(int file) {
-    return fails("sync", name_of(file), "") ? -1 : is_lie ? take_back(file) : synced(file, syscall(SYS_fsync, file));
+    return fails("sync", name_of(file), "") ? -1 : is_silent ? take_back(file) : synced(file, syscall(SYS_fsync, file));
 }
 
 int fdatasync(int file) {
-    return fails("sync", name_of(file), "") ? -1 : is_lie ? take_back(file) : synced(file, syscall(SYS_fdatasync, file));
+    return fails("sync", name_of(file), "") ? -1 : is_silent ? take_back(file) : synced(file, syscall(SYS_fdatasync, file));
 }
 
 int fchmod(int file, mode_t mode) {
@@ -227,17 +230,17 @@ int chmod(const char *path, mode_t mode) {
 }
 
 int statx(int file, const char *path, int flags, unsigned mask, struct statx *into) {
-    is_lie = 0;
-    int is_refused = *path ? fails_if_asked("look", named(path)) : fails("size", name_of(file), "");
+    is_silent = 0;
+    int is_refused = *path ? fails_if_asked("stat", named(path)) : fails("size", name_of(file), "");
     int answer = is_refused ? -1 : syscall(SYS_statx, file, path, flags, mask, into);
-    into->stx_size += is_lie;
+    into->stx_size += is_silent;
     return answer;
 }
 
 int ftruncate(int file, off_t length) {
     char numbers[32];
     snprintf(numbers, sizeof numbers, " %lld", (long long)length);
-    return fails("cut", name_of(file), numbers) ? -1 : is_lie ? 0 : syscall(SYS_ftruncate, file, length);
+    return fails("cut", name_of(file), numbers) ? -1 : is_silent ? 0 : syscall(SYS_ftruncate, file, length);
 }
 
 static ssize_t moved_at(const char *call, int file, size_t count, off_t at) {
@@ -246,9 +249,9 @@ static ssize_t moved_at(const char *call, int file, size_t count, off_t at) {
     return moved(call, file, count, numbers);
 }
 
-/* The number of bytes that were read. If the call lies, one bit of the first is changed. */
-static ssize_t told_as(void *into, ssize_t bytes) {
-    if (is_lie && bytes > 0)
+/* The number of bytes that were read. If the call is silently wrong, one bit of the first is changed. */
+static ssize_t read_as(void *into, ssize_t bytes) {
+    if (is_silent && bytes > 0)
         *(char *)into ^= 1;
     return bytes;
 }
@@ -268,12 +271,12 @@ static ssize_t readable(int file, size_t count, off_t at) {
 ssize_t pread(int file, void *into, size_t count, off_t at) {
     ssize_t bytes = readable(file, count, at);
     bytes = bytes < 0 ? -1 : moved_at("read", file, bytes, at);
-    return bytes < 0 ? -1 : told_as(into, syscall(SYS_pread64, file, into, bytes, at));
+    return bytes < 0 ? -1 : read_as(into, syscall(SYS_pread64, file, into, bytes, at));
 }
 
 ssize_t pwrite(int file, const void *from, size_t count, off_t at) {
     ssize_t bytes = moved_at("write", file, count, at);
-    if (is_lie)
+    if (is_silent)
         return syscall(SYS_pwrite64, file, from, bytes / 2, at) < 0 ? -1 : bytes;
     ssize_t done = bytes < 0 ? -1 : syscall(SYS_pwrite64, file, from, bytes, at);
     if (kills && bytes >= 0 && (size_t)bytes < count)
@@ -286,7 +289,7 @@ ssize_t read(int file, void *into, size_t count) {
         return syscall(SYS_read, file, into, most >= 0 && (size_t)most < count ? (size_t)most : count);
     ssize_t bytes = ends < 0 ? (ssize_t)count : readable(file, count, syscall(SYS_lseek, file, 0, SEEK_CUR));
     bytes = bytes < 0 ? -1 : moved("read", file, bytes, "");
-    return bytes < 0 ? -1 : told_as(into, syscall(SYS_read, file, into, bytes));
+    return bytes < 0 ? -1 : read_as(into, syscall(SYS_read, file, into, bytes));
 }
 
 int rename(const char *from, const char *to) {
@@ -358,7 +361,7 @@ void free(void *from) {
 __attribute__((destructor)) static void end(void) {
     char line[64];
     if (is_kind("peak"))
-        syscall(SYS_write, told, line, snprintf(line, sizeof line, "peak %zu\n", peak));
+        syscall(SYS_write, log_file, line, snprintf(line, sizeof line, "peak %zu\n", peak));
 }
 
 int open64(const char *path, int flags, ...) __attribute__((alias("open")));

@@ -63,7 +63,7 @@ def script(seed):
 
 def write_wanted(fitrec, lines, share):
     """What is recovered of a ride that ends with each line that promises something, and the folders of some, to be saved."""
-    for folder in ("want", "rides"):
+    for folder in ("expected", "rides"):
         (share / folder).mkdir()
     (share / "script").write_text("\n".join(lines) + "\n")
     commits = [number for number, line in enumerate(lines, 1) if line == "commit"]
@@ -75,14 +75,14 @@ def write_wanted(fitrec, lines, share):
             pathlib.Path(folder, "script").write_text("\n".join(lines[:number]) + "\n")
             ride = share / "rides" / str(saved.index(number)) if number in saved else pathlib.Path(folder, "ride")
             ride.mkdir()
-            copy, want = folder + "/copy", share / "want" / str(number)
+            copy, expected = folder + "/copy", share / "expected" / str(number)
             subprocess.run([fitrec, "replay", folder + "/script", ride], check=True, capture_output=True)
-            subprocess.run([fitrec, "save", ride, "%s.plain" % want], check=True, capture_output=True)
+            subprocess.run([fitrec, "save", ride, "%s.plain" % expected], check=True, capture_output=True)
             shutil.copytree(ride, copy)
             subprocess.run([fitrec, "repair", copy], check=True, capture_output=True)
-            shutil.copy(copy + "/activity.fit", "%s.fit" % want)
+            shutil.copy(copy + "/activity.fit", "%s.fit" % expected)
             if number in saved:
-                shutil.copy("%s.plain" % want, "%s.fit" % ride)
+                shutil.copy("%s.plain" % expected, "%s.fit" % ride)
 
 
 def modules():
@@ -115,7 +115,7 @@ class Guest:
 
     def run(self, mode, case, **settings):
         """The lines that it prints. It gets the settings as its environment."""
-        if mode != "rules" and not (self.share / "want").exists():
+        if mode != "rules" and not (self.share / "expected").exists():
             write_wanted(self.program, script(self.seed), self.share)
         driver, _, _, options = CASES[case]
         known = {"mode": mode, "fs": driver, "options": options, "image": self.image(case), "seed": self.seed}
@@ -142,9 +142,14 @@ class Outcome:
         self.states, self.seconds = map(int, done.groups()) if done else (0, 0)
         self.failed = None if done else lines[-20:]
 
+    @staticmethod
+    def faults(line):
+        """The faults of a disk that is wrong."""
+        return re.search(r": (.*?) \[cut at", line)[1].split("; ")
+
     def kinds(self):
         """What was wrong first in each, without the numbers, and how often."""
-        kinds = [re.sub(r"(?<!rule )\d+", "N", re.search(r": (.*?)(;| \[cut at)", line)[1]) for line in self.wrong]
+        kinds = [re.sub(r"(?<!rule )\d+", "N", self.faults(line)[0]) for line in self.wrong]
         return sorted(((kinds.count(it), it) for it in set(kinds)), reverse=True)
 
     def __str__(self):

@@ -35,8 +35,8 @@ def repaired(fitrec, program, folder, spare=CLOSING):
         shutil.copytree(folder, copy)
         mine = run(program, "repair", spare, *[pathlib.Path(folder, name) for name in NAMES], out)
         said = run(fitrec, "repair", copy)
-        want = 0, "%d\n%s" % (answer_of(said), said[1]), ""
-        return differs((mine, bytes_of(out)), (want, bytes_of(pathlib.Path(copy, "activity.fit"))))
+        expected = 0, "%d\n%s" % (answer_of(said), said[1]), ""
+        return differs((mine, bytes_of(out)), (expected, bytes_of(pathlib.Path(copy, "activity.fit"))))
 
 
 def saved(fitrec, program, folder):
@@ -120,8 +120,8 @@ def of_files(fitrec, program, count, seed):
                 kept = re.match(r"\d+\n(kept \d+ of \d+), (\d+) not looked at\n$", said[1]) or ["", said[1], "0"]
                 left = re.match(r"fitrec: (\d+) bytes after", wanted[2]) if wanted[0] == 0 else None
                 found = said[1].split("\n")[0], kept[1] + "\n" if wanted[0] == 0 else "", int(kept[2]), bytes_of(mine)
-                want = str(answer_of(wanted)), wanted[1], int(left[1]) if left else 0, bytes_of(its)
-                yield "a salvage", differs(found, want)
+                expected = str(answer_of(wanted)), wanted[1], int(left[1]) if left else 0, bytes_of(its)
+                yield "a salvage", differs(found, expected)
                 mine.unlink(missing_ok=True)
                 its.unlink(missing_ok=True)
         source.write_bytes(made(pick))
@@ -130,8 +130,8 @@ def of_files(fitrec, program, count, seed):
         yield "a salvage of a whole file needs two bytes more", differs(said[1].split("\n")[0], "0")
 
 
-def looked_at(fitrec, program, source, mine):
-    """What differs between looking at a file by the library and by the program: its text and its JSON, with dates and without, and its
+def answers_that_differ(fitrec, program, source, mine):
+    """What differs between the answers of the library and of the program about a file: its text and its JSON, with dates and without, and its
     check."""
     for words, part in (((), "show"), (("--utc",), "show"), (("--json",), "json"), (("--json", "--utc"), "json"), ((), "check")):
         wanted = run(fitrec, "check" if part == "check" else "show", *words, source)
@@ -179,8 +179,8 @@ def of_shown_and_checked(fitrec, program, count, seed):
         files += [ride[:length] for length in range(0, len(ride), max(1, len(ride) // 60))] + [ride, ride + b"\0", b""]
         for content in files:
             source.write_bytes(content)
-            for part, difference in looked_at(fitrec, program, source, mine):
-                yield "a file that is looked at by " + part, difference
+            for part, difference in answers_that_differ(fitrec, program, source, mine):
+                yield "a file by the library: " + part, difference
             yield "columns of records", in_columns(fitrec, program, source, 20, [253, 3, 0, 13])
             yield "a plain form", plainly(fitrec, program, source, mine, folder / "its.fit")
         yield "its version", differs(run(program, "version"), (0, "1\n", ""))

@@ -5,6 +5,8 @@
 #[cfg(test)]
 mod base;
 #[cfg(test)]
+mod definitions;
+#[cfg(test)]
 mod equality;
 #[cfg(test)]
 mod grammar;

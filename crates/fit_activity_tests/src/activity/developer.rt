@@ -11,10 +11,8 @@ use fit_base::Arch;
 use fit_grammar::{Definition, DeveloperFieldDefinition, FieldDefinition, File};
 use std::test::Fail;
 
-// A definition of these fields and developer fields. Each triple is number, size, and base type or index.
-fn definition(global: u16, fields: &[[u8; 3]], developer: &[[u8; 3]]) -> Result<Definition, Fail>
-    ensures { IfOk result (λ d. d.local ≡ 0) }
-{
+// Field definitions. Each triple is number, size and base type.
+fn own(fields: &[[u8; 3]]) -> Result<ArrayVec<FieldDefinition, 255>, Fail> {
     let mut own = ArrayVec::new();
     for [number, size, base] in fields {
         own.try_push(FieldDefinition {
@@ -23,20 +21,32 @@ fn definition(global: u16, fields: &[[u8; 3]], developer: &[[u8; 3]]) -> Result<
             base: *base,
         })?;
     }
+    Ok(own)
+}
+
+// Definitions of developer fields. Each triple is number, size and index.
+fn more(fields: &[[u8; 3]]) -> Result<ArrayVec<DeveloperFieldDefinition, 255>, Fail> {
     let mut more = ArrayVec::new();
-    for [number, size, index] in developer {
+    for [number, size, index] in fields {
         more.try_push(DeveloperFieldDefinition {
             number: *number,
             size: *size,
             index: *index,
         })?;
     }
+    Ok(more)
+}
+
+// A definition of these fields and developer fields.
+fn definition(global: u16, fields: &[[u8; 3]], developer: &[[u8; 3]]) -> Result<Definition, Fail>
+    ensures { IfOk result (λ d. d.local ≡ 0) }
+{
     Ok(Definition {
         local: 0,
         arch: Arch::Little,
         global,
-        fields: own,
-        developer: more,
+        fields: own(fields)?,
+        developer: more(developer)?,
     })
 }
 

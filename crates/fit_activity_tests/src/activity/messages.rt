@@ -6,7 +6,7 @@ use fit_activity::{
     Entry, Sample, Speech, SpokenMessage, Sport, Start, entry_of, file_id_of, speak_closing,
     speak_start, sport_of,
 };
-use fit_grammar::{File, Frame, Message, PutFault};
+use fit_grammar::{Definition, File, Frame, Message, PutFault};
 use std::alloc::{AllocError, Global};
 use std::process::Abort;
 use std::test::Fail;
@@ -40,13 +40,18 @@ fn values(alloc: Global, file: &File) -> Result<Vec<u64>, AllocError> {
     let mut values = Vec::new(alloc);
     for message in file.messages() {
         values.push(u64::from(message.global()))?;
-        for field in message.fields() {
-            if field.value.count() == 1 {
-                values.push(field.value.unsigned(0))?;
-            }
-        }
+        push_values(&mut values, &message)?;
     }
     Ok(values)
+}
+
+fn push_values(values: &mut Vec<u64>, message: &Message) -> Result<(), AllocError> {
+    for field in message.fields() {
+        if field.value.count() == 1 {
+            values.push(field.value.unsigned(0))?;
+        }
+    }
+    Ok(())
 }
 
 const NO_U8: u64 = 0xFF;
@@ -57,18 +62,48 @@ const NO_U32: u64 = 0xFFFF_FFFF;
 
 const AT: u64 = 1_000_000_000;
 
+fn contents(alloc: Global, messages: &[SpokenMessage]) -> Result<Vec<u8>, AllocError> {
+    let mut bytes = Vec::new(alloc);
+    for message in messages {
+        bytes.extend_from_slice(message.content())?;
+    }
+    Ok(bytes)
+}
+
+// Number, size and base type of each field.
+fn field_definitions(alloc: Global, messages: &[SpokenMessage]) -> Result<Vec<u8>, AllocError> {
+    let mut triples = Vec::new(alloc);
+    for message in messages {
+        push_triples(&mut triples, &message.definition())?;
+    }
+    Ok(triples)
+}
+
+fn push_triples(triples: &mut Vec<u8>, definition: &Definition) -> Result<(), AllocError> {
+    for field in &definition.fields {
+        triples.extend_from_slice(&[field.number, field.size, field.base])?;
+    }
+    Ok(())
+}
+
+// Local and global number.
+fn heads(alloc: Global, messages: &[SpokenMessage]) -> Result<Vec<(u8, u16)>, AllocError> {
+    let mut heads = Vec::new(alloc);
+    for message in messages {
+        heads.push((message.local(), message.definition().global))?;
+    }
+    Ok(heads)
+}
+
 #[test]
 fn states_a_start(rt: HostRuntime) -> Result<(), AllocError> {
     let mut speech = Speech::new();
     speak_start(&START, &mut speech);
-    equal(&rt, speech.messages().len(), 3);
-    let mut bytes = Vec::new(rt.alloc());
-    for message in speech.messages() {
-        bytes.extend_from_slice(message.content())?;
-    }
+    let messages = speech.messages();
+    equal(&rt, messages.len(), 3);
     equal(
         &rt,
-        bytes.as_slice(),
+        contents(rt.alloc(), messages)?.as_slice(),
         [
             0x04, 0xFF, 0x00, 0x01, 0x00, 0x07, 0x00, 0x00, 0x00, 0x00, 0xCA, 0x9A, 0x3B, 0x01,
             0x00, 0x00, 0xCA, 0x9A, 0x3B, 0x00, 0x00,
@@ -76,18 +111,10 @@ fn states_a_start(rt: HostRuntime) -> Result<(), AllocError> {
         .as_slice(),
     );
 
-    // The fields of file_id, sport and event: number, size, base type.
-    let mut fields = Vec::new(rt.alloc());
-    for message in speech.messages() {
-        for field in &message.definition().fields {
-            fields.push(field.number)?;
-            fields.push(field.size)?;
-            fields.push(field.base)?;
-        }
-    }
+    // The fields of file_id, sport and event.
     equal(
         &rt,
-        fields.as_slice(),
+        field_definitions(rt.alloc(), messages)?.as_slice(),
         [
             0x00, 0x01, 0x00, 0x01, 0x02, 0x84, 0x02, 0x02, 0x84, 0x03, 0x04, 0x8C, 0x04, 0x04,
             0x86, 0x00, 0x01, 0x00, 0x01, 0x01, 0x00, 0xFD, 0x04, 0x86, 0x00, 0x01, 0x00, 0x01,
@@ -95,11 +122,11 @@ fn states_a_start(rt: HostRuntime) -> Result<(), AllocError> {
         ]
         .as_slice(),
     );
-    let mut heads = Vec::new(rt.alloc());
-    for message in speech.messages() {
-        heads.push((message.local(), message.definition().global))?;
-    }
-    equal(&rt, heads.as_slice(), [(4, 0), (5, 12), (6, 21)].as_slice());
+    equal(
+        &rt,
+        heads(rt.alloc(), messages)?.as_slice(),
+        [(4, 0), (5, 12), (6, 21)].as_slice(),
+    );
     Ok(())
 }
 

@@ -215,29 +215,35 @@ fn hears_starts(rt: HostRuntime) -> Result<(), PutFault> {
     Ok(())
 }
 
+// Whether the messages of a ride are heard if these follow.
+fn hears_after(
+    rt: &impl Abort,
+    alloc: Global,
+    entries: &[Entry],
+    speech: &Speech,
+) -> Result<bool, PutFault>
+    requires { length entries.now < 2 ^ 31 }
+{
+    let mut file = reported(rt, alloc, entries)?;
+    put(&mut file, speech)?;
+    Ok(replay(&file).is_some())
+}
+
 #[test]
 fn refuses_what_may_not_come_next(rt: HostRuntime) -> Result<(), PutFault> {
     let mut speech = Speech::new();
-    let mut file = reported(&rt, rt.alloc(), &[])?;
     speak_start(&START, &mut speech);
-    put(&mut file, &speech)?;
-    assert!(rt; replay(&file).is_none());
+    assert!(rt; !hears_after(&rt, rt.alloc(), &[], &speech)?);
 
-    let mut file = reported(&rt, rt.alloc(), &[Entry::Pause(T + 5)])?;
     spell(&rt, &[], Entry::Pause(T + 6), &mut speech);
-    put(&mut file, &speech)?;
-    assert!(rt; replay(&file).is_none());
+    assert!(rt; !hears_after(&rt, rt.alloc(), &[Entry::Pause(T + 5)], &speech)?);
 
-    let mut file = reported(&rt, rt.alloc(), &[with_distance(T + 5, 100)])?;
     spell(&rt, &[], Entry::Sample(Sample::new(T + 4)), &mut speech);
-    put(&mut file, &speech)?;
-    assert!(rt; replay(&file).is_none());
+    assert!(rt; !hears_after(&rt, rt.alloc(), &[with_distance(T + 5, 100)], &speech)?);
 
     // The lap that closes a recording encodes no entry.
     let stopped = [Entry::Stop(T + 1)];
-    let mut file = reported(&rt, rt.alloc(), &stopped)?;
     speak_closing(&ride(&rt, &stopped), &mut speech);
-    put(&mut file, &speech)?;
-    assert!(rt; replay(&file).is_none());
+    assert!(rt; !hears_after(&rt, rt.alloc(), &stopped, &speech)?);
     Ok(())
 }

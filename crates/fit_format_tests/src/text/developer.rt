@@ -2,11 +2,11 @@
 
 ghost use Rattle.std.specs.Prelude.{◌≡◌, IfOk};
 
+use crate::definitions::definition_of;
 use crate::equality::equal;
 use crate::known_files::empty_file;
-use arrayvec::ArrayVec;
 use fit_base::Arch;
-use fit_grammar::{Definition, DeveloperFieldDefinition, FieldDefinition};
+use fit_grammar::Definition;
 use fit_text::show;
 use std::test::Fail;
 
@@ -18,29 +18,7 @@ fn definition(
 ) -> Result<Definition, Fail>
     ensures { IfOk result (λ d. d.local ≡ local) }
 {
-    let mut own = ArrayVec::new();
-    for (number, size, base) in fields {
-        own.try_push(FieldDefinition {
-            number: *number,
-            size: *size,
-            base: *base,
-        })?;
-    }
-    let mut more = ArrayVec::new();
-    for (number, size, index) in developer {
-        more.try_push(DeveloperFieldDefinition {
-            number: *number,
-            size: *size,
-            index: *index,
-        })?;
-    }
-    Ok(Definition {
-        local,
-        arch: Arch::Big,
-        global: 20,
-        fields: own,
-        developer: more,
-    })
+    definition_of(local, Arch::Big, 20, fields, developer)
 }
 
 // A developer field is never shown as a date, whatever its number is. Its bytes are shown as they are.

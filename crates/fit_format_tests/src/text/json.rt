@@ -2,12 +2,12 @@
 
 ghost use Rattle.std.specs.Prelude.{◌≡◌, IfOk};
 
+use crate::definitions::definition_of;
 use crate::equality::equal;
 use crate::known_files::empty_file;
 use crate::slow::Slow;
-use arrayvec::ArrayVec;
 use fit_base::Arch;
-use fit_grammar::{Definition, DeveloperFieldDefinition, FieldDefinition, File, PutFault};
+use fit_grammar::{Definition, File, PutFault};
 use fit_text::show_json;
 use std::alloc::Global;
 use std::test::Fail;
@@ -21,29 +21,7 @@ fn definition(
 ) -> Result<Definition, Fail>
     ensures { IfOk result (λ d. d.local ≡ 0) }
 {
-    let mut own = ArrayVec::new();
-    for (number, size, base) in fields {
-        own.try_push(FieldDefinition {
-            number: *number,
-            size: *size,
-            base: *base,
-        })?;
-    }
-    let mut more = ArrayVec::new();
-    for (number, size, index) in developer {
-        more.try_push(DeveloperFieldDefinition {
-            number: *number,
-            size: *size,
-            index: *index,
-        })?;
-    }
-    Ok(Definition {
-        local: 0,
-        arch: Arch::Little,
-        global,
-        fields: own,
-        developer: more,
-    })
+    definition_of(0, Arch::Little, global, fields, developer)
 }
 
 // A file of one message with one field.
