@@ -1,139 +1,196 @@
 #!/usr/bin/env -S python3 -B
 """Compares the page and its WebAssembly module with the program: the module under Node, as the library for C is compared, and the page in
-headless Chromium, for each kind of input and each refusal. It makes web/out/fitrec.html first.
+headless Chromium, wide and narrow, light and dark. It makes web/out/fitrec.html first.
 
     compare/page.py FOLDER
 
-puts a screenshot of each visit into a new folder, to be looked at: wide and light, narrow and dark."""
+makes no page, and puts a screenshot of each visit into a new folder, to be looked at."""
 
-import json
+import itertools
 import os
 import pathlib
+import random
+import re
 import shutil
 import subprocess
 import sys
 import tempfile
+import zipfile
 
+from columns import refusal_of, rows_of
 from tools import release
 from tools.checks import differs, unless
+from tools.fit_files import damaged, made
 from tools.library_calls import of_files, of_recordings, of_shown_and_checked
 from tools.needs import missing
-from tools.program import FITREC, NAMES, ROOT, bytes_of, holds, run
+from tools.pages import (PAGE, START, WINDOWS, ascent_of, both, columns_of, copy, drawn_of, facts_of, recorded, rounded, rows, series_of, tour,
+                         visits)
+from tools.program import FITREC, NAMES, ROOT, bytes_of, run
+from tools.reader import salvaged
 from tools.rides import uncommitted
 
 NEEDS = ("fitrec", "rt", "node", "wasm-opt", "chromium")
 WEB, MODULE = ROOT / "web", ROOT / "compare/module.mjs"
+NOTHING, READABLE, SAVED = "Nothing could be saved", "The readable part is saved", "The ride is saved"
+# The most bytes of the page.
+MOST = 160_000
 
-# A ride with positions and everything that is drawn.
+# A ride of five minutes with positions and everything that is drawn.
 RIDE = ["start 1000000000 7 cycling"] + [
     "sample %d lat=%d long=%d alt=%d hr=%d dist=%d speed=%d power=%d" % (
         1000000000 + at, (47 + at / 5000) * 2**31 / 180, (8 + (at - 150) ** 2 / 4e6) * 2**31 / 180, 2700 + at, 110 + at % 60, at * 780, 7800 + at % 500,
         150 + at % 120) for at in range(300)] + ["commit"]
+DRAWN = ["Track", "Speed", "Heart rate", "Altitude", "Power"]
 
-NOTHING = "Nothing could be saved"
+
+class Browser:
+    """Visits that are collected, and made all at once in one browser."""
+
+    def __init__(self, folder, shots):
+        self.folder, self.shots, self.asked, self.judges = folder, shots, [], []
+
+    def visit(self, name, steps, judge, **how):
+        """A visit, and what judges its answer: it yields names and differences."""
+        if self.shots:
+            steps = [*steps, {"screenshot": self.shots / (re.sub(r"\W+", "-", name) + ".png")}]
+        self.asked.append(how | {"steps": steps})
+        self.judges.append((name, judge, how.get("address", "file://%s" % PAGE)))
+
+    def outcomes(self):
+        for (name, judge, address), answer in zip(self.judges, visits(self.folder, self.asked)):
+            yield name + ": nothing is logged", differs(answer["logged"], [])
+            allowed = lambda it: it == "blob:" or it.startswith(address) or it.startswith("http") and it.startswith(address.rpartition("/")[0])
+            yield name + ": no request", differs([it for it in answer["requests"] if not allowed(it)], [])
+            if answer["logged"]:
+                continue
+            for it in answer["shown"]:
+                yield name + ": fits the window, and all is named", differs((it["wide"], it["unnamed"]), (False, 0))
+            for what, outcome in judge(answer["shown"], answer["made"]):
+                yield "%s: %s" % (name, what), outcome
 
 
 def inputs(fitrec, folder):
-    """Chosen files of each kind, each with what the page has to show: its heading, words of its reason, and the file that it offers; and,
-    if activity.fit cannot be read to its end, the first byte that cannot."""
-    torn, script = folder / "torn", folder / "script"
-    torn.mkdir()
-    script.write_text("\n".join(RIDE))
-    run(fitrec, "replay", script, torn)
-    longer = folder / "longer"
-    longer.mkdir()
-    script.write_text("\n".join([*RIDE, "sample 1000000300 hr=100", "commit"]))
-    run(fitrec, "replay", script, longer)
-    ride, journal = (torn / name for name in NAMES)
+    """Chosen files of each kind, each with what the page has to show: its heading, words of its reason, the file that it offers, and the
+    buttons; and, if activity.fit cannot be read to its end, the first byte that cannot."""
+    torn = recorded(fitrec, folder / "torn", RIDE)
+    longer = recorded(fitrec, folder / "longer", [*RIDE, "sample 1000000300 hr=100", "commit"])
+    ride, journal = both(torn)
     run(fitrec, "repair", shutil.copytree(torn, folder / "mended"))
     run(fitrec, "save", torn, folder / "ride.fit")
     whole = (folder / "mended/activity.fit").read_bytes()
     made = lambda name, content: [(folder / name, (folder / name).write_bytes(content))[0]]
     run(fitrec, "salvage", "--plain", ride, folder / "salvaged.fit")
-    salvaged = (folder / "salvaged.fit").read_bytes()
+    salvage = (folder / "salvaged.fit").read_bytes()
     run(fitrec, "salvage", "--plain", *made("cut.fit", whole[:3000]), folder / "kept.fit")
     cut = (folder / "kept.fit").read_bytes()
-    wrong = bytes([*whole[:-1], whole[-1] ^ 1])
-    run(fitrec, "salvage", "--plain", *made("wrong.fit", wrong), folder / "mended.fit")
-    yield "a recording", [ride, journal], "The ride is saved", "confirmed", (folder / "ride.fit").read_bytes()
-    more = folder / "more"
-    more.mkdir()
-    script.write_text("\n".join([*RIDE, *("sample %d hr=100 power=200 dist=%d" % (1000000300 + at, 240000 + at) for at in range(120))]))
-    run(fitrec, "replay", script, more)
-    script.write_text("\n".join([*RIDE, "sample 1000000300 hr=100", "commit"]))
-    changed = folder / "changed"
-    changed.mkdir()
-    run(fitrec, "replay", "--checked", script, changed)
+    run(fitrec, "salvage", "--plain", *made("wrong.fit", bytes([*whole[:-1], whole[-1] ^ 1])), folder / "mended.fit")
+    more = recorded(fitrec, folder / "more", [*RIDE, *("sample %d hr=100 power=200 dist=%d" % (1000000300 + at, 240000 + at) for at in range(120))])
+    changed = recorded(fitrec, folder / "changed", [*RIDE, "sample 1000000300 hr=100", "commit"], "--checked")
     bytes_there = bytearray((changed / "activity.fit").read_bytes())
     bytes_there[-1] ^= 1
     (changed / "activity.fit").write_bytes(bytes_there)
-    both = lambda where: [where / name for name in NAMES]
-    count, left_out = uncommitted(*holds(more)), len(bytes_there) - ride.stat().st_size
-    saved = (folder / "ride.fit").read_bytes()
-    yield "a recording and more messages", both(more), "The ride is saved", "%s bytes of whole messages" % f"{count:,}", saved
-    yield "a recording with a changed byte", both(changed), "An earlier part", "the last %d bytes" % left_out, saved
+    count, left_out = uncommitted(*(it.read_bytes() for it in both(more))), len(bytes_there) - ride.stat().st_size
+    saved, end = (folder / "ride.fit").read_bytes(), ride.stat().st_size
+    alone, the_end = ["Save what is readable of the ride file alone"], ["Save with the unconfirmed end, without a summary"]
+    yield "a recording", both(torn), SAVED, "confirmed", saved, []
+    yield "a recording and more messages", both(more), SAVED, "%s bytes of whole messages" % f"{count:,}", saved, the_end
+    yield "a recording with a changed byte", both(changed), "An earlier part", "the last %d bytes" % left_out, saved, alone
     bytes_there[100] ^= 1
-    all_over = [*made("activity.fit", bytes(bytes_there)), changed / "activity.frj"]
-    yield "a recording changed all over", all_over, NOTHING, "have changed", None
-    end = ride.stat().st_size
-    yield "a tail that cannot be read", both(more), "The ride is saved", "from byte %s on" % f"{end:,}", saved, end
-    yield "a body that cannot be read", both(more), NOTHING, "from byte 4,096 on", None, 4096
-    yield "a whole file", made("whole.fit", whole), "The file is whole", "checksum is right", None
-    yield "a file that was cut off", made("cut.fit", whole[:3000]), "The readable part is saved", "ends too soon", cut
-    yield "a ride without its journal", [ride], "The readable part is saved", "checksum of the file is wrong", salvaged
-    yield "a wrong checksum", [folder / "wrong.fit"], "The readable part is saved", "checksum of the file is wrong", (folder / "mended.fit").read_bytes()
-    yield "a file without a summary", [folder / "salvaged.fit"], "The file is readable", "no lap", None
-    yield "no FIT file", made("notes.fit", b"notes of a ride"), NOTHING, "not a FIT file", None
-    yield "an empty file", made("empty.fit", b""), NOTHING, "not a FIT file", None
-    yield "files of two rides", [ride, longer / "activity.frj"], NOTHING, "do not fit together", None
-    yield "a journal of nothing", [ride, *made("none.frj", b"")], NOTHING, "not confirmed anything", None
-    yield "a journal alone", [journal], NOTHING, "no ride in it", None
-    yield "two FIT files", [ride, folder / "whole.fit"], NOTHING, "either one FIT file", None
+    yield "a recording changed all over", [*made("activity.fit", bytes(bytes_there)), changed / NAMES[1]], NOTHING, "have changed", None, alone
+    yield "a tail that cannot be read", both(more), SAVED, "from byte %s on" % f"{end:,}", saved, [], end
+    yield "a body that cannot be read", both(more), NOTHING, "from byte 4,096 on", None, alone, 4096
+    yield "a whole file", made("whole.fit", whole), "The file is whole", "checksum is right", None, []
+    yield "a file that was cut off", made("cut.fit", whole[:3000]), READABLE, "ends too soon", cut, []
+    yield "a ride without its journal", [ride], READABLE, "checksum of the file is wrong", salvage, []
+    yield "a wrong checksum", [folder / "wrong.fit"], READABLE, "checksum of the file is wrong", (folder / "mended.fit").read_bytes(), []
+    yield "a file without a summary", [folder / "salvaged.fit"], "The file is readable", "no lap", None, []
+    yield "no FIT file", made("notes.fit", b"notes of a ride"), NOTHING, "notes.fit is not a FIT file", None, []
+    yield "an empty file", made("empty.fit", b""), NOTHING, "empty.fit is empty", None, []
+    yield "files of two rides", [ride, longer / NAMES[1]], NOTHING, "do not fit together", None, alone
+    yield "a journal of nothing", [ride, *made("activity.frj", b"FRJC" + bytes(20))], NOTHING, "not confirmed anything", None, alone
+    yield "a journal alone", [journal], NOTHING, "no ride in it", None, []
 
 
-def visits(cases, shots):
-    """Each input by the file input on a wide window, and by a drop on a narrow and dark one; the first one by keys too."""
-    for name, files, heading, reason, content, *unread in cases:
-        for drop in (False, True):
-            shot = shots and str(shots / ("%s-%s.png" % (name.replace(" ", "-"), "narrow" if drop else "wide")))
-            how = {"drop": drop, "width": 360 if drop else 900, "dark": drop, "keyboard": not drop, "unread": sum(unread)}
-            yield (name, drop), (heading, reason, content), {"files": [str(it) for it in files], "screenshot": shot, **how}
+def of_inputs(fitrec, folder, shots=None):
+    """Each kind of input, chosen on a wide window and dropped on a narrow and dark one; what is offered is saved by keys and by a click."""
+    browser = Browser(folder, shots)
+
+    def judged(heading, reason, content, offers):
+        def judge(shown, made):
+            last = shown[-1]
+            is_right = last["heading"].startswith(heading) and reason in last["reason"]
+            yield "what it says", unless(is_right, (last["heading"], last["reason"]), (heading, reason))
+            yield "the focus", differs(shown[0]["focus"], "result")
+            yield "the file", differs(bytes_of(pathlib.Path(made[2])) if content else last["download"] or None, content)
+            yield "offers", differs(last["offers"], offers)
+            yield "pictures", differs(last["pictures"], DRAWN if content or heading.startswith("The file") else [])
+            if heading in (SAVED, "The file is whole", READABLE) and "cut" not in heading and reason != "ends too soon":
+                numbers = {"Duration": "0:04:59", "Without pauses": "0:04:59", "Distance": "2.33 km", "Samples": "300", "Laps": "1"}
+                yield "numbers", differs({it: last["numbers"].get(it) for it in numbers}, numbers)
+        return judge
+
+    for name, files, heading, reason, content, offers, *unread in inputs(fitrec, folder):
+        judge = judged(heading, reason, content, offers)
+        chosen = [{"files": files}, {"keys": ["Tab"]}, *([{"download": "Enter"}] if content else [])]
+        browser.visit(name + ", chosen", chosen, judge, unread=sum(unread))
+        dropped = [{"files": files, "drop": True}, {"wait": 1}, *([{"download": "#save"}] if content else [])]
+        browser.visit(name + ", dropped", dropped, judge, unread=sum(unread), **WINDOWS["narrow and dark"])
+    yield from browser.outcomes()
 
 
-def of_page(fitrec, folder, shots=None):
-    """The page in a browser."""
-    planned = list(visits(list(inputs(fitrec, folder)), shots))
-    words = [ROOT / "compare/browser.mjs", WEB / "out/fitrec.html", folder]
-    status, out, err = run(*words, input=json.dumps([it for _, _, it in planned]), timeout=600)
-    yield "opened", differs((status, err), (0, ""))
-    for ((name, drop), (heading, reason, content), _), answer in zip(planned, json.loads(out or "[]")):
-        how = "%s, %s" % (name, "dropped" if drop else "chosen")
-        is_right = answer["heading"].startswith(heading) and reason in answer["reason"]
-        yield how, unless(is_right, (answer["heading"], answer["reason"]), (heading, reason))
-        yield how + ": the file", differs(bytes_of(pathlib.Path(answer.get("file", "/-"))), content)
-        yield how + ": no request", differs([it for it in answer["requests"] if it != "blob:"], ["file://%s" % (WEB / "out/fitrec.html")])
-        yield how + ": nothing is logged", differs(answer["logged"], [])
-        yield how + ": fits the window, and all is named", differs((answer["wide"], answer["unnamed"], answer["focus"] != ""), (False, 0, True))
-        drawn = ["Track", "Heart rate", "Speed", "Altitude", "Power"] if content or heading.startswith("The file") else []
-        yield how + ": pictures", differs(answer["pictures"], drawn)
-        if heading in ("The ride is saved", "The file is whole"):
-            numbers = {"Duration": "0:04:59", "Distance": "2.33 km", "Samples": "300", "Laps": "1"}
-            yield how + ": numbers", differs({it: answer["numbers"].get(it) for it in numbers}, numbers)
+def of_numbers(fitrec, folder, shots=None):
+    """Numbers and lines of every series, from all samples."""
+    browser, places = Browser(folder, shots), {"a tour": tour(), "a tour over 180 degrees": tour(1500, longitude=179.995)}
+    outline = {"evaluate": "document.querySelector('.map .casing').getAttribute('d')"}
+
+    def judged(found, breaks):
+        def judge(shown, made):
+            last = shown[0]
+            yield "facts", differs(last["captions"], {name: facts_of(found, name) for name in last["captions"]})
+            yield "ascent", differs(last["numbers"]["Ascent"], rounded(ascent_of(found), 0) + " m")
+            for name, curve in last["curves"].items():
+                pairs = [it for it in series_of(found, name) if it[1] < 60000]
+                wanted, drawn = columns_of(pairs), drawn_of(curve)
+                room = (float(curve["high"]) - float(curve["low"])) / 500
+                far = [k for k in wanted if k not in drawn or max(abs(a - b) for a, b in zip(drawn[k], wanted[k])) > room]
+                yield name + ": each column draws its least and its greatest", differs((far, sorted(drawn)), ([], sorted(wanted)))
+                yield name + ": breaks", differs(curve["line"].count("M"), breaks)
+            yield "a wrong value does not flatten the rest", unless(float(last["curves"]["Power"]["high"]) <= 400, last["curves"]["Power"]["high"], 400)
+            yield "a note on it", differs([it for it in last["notes"]], ["1 value is far from all others, and is not drawn."])
+            xs = [float(it) for it in re.findall(r"[ML]([\d.-]+) ", made[1])]
+            ys = [float(it) for it in re.findall(r"[ML][\d.-]+ ([\d.-]+)", made[1])]
+            steps = [abs(a - b) for a, b in itertools.pairwise(xs)]
+            yield "one track", unless(0 <= min(xs) and max(xs) <= 1000 and max(steps) < 300, (min(xs), max(xs), max(steps)), "0 to 1000 in small steps")
+            yield "it fills its picture", unless(max(xs) - min(xs) > 890 or max(ys) - min(ys) > 650, (min(xs), max(xs), min(ys), max(ys)), "full")
+        return judge
+
+    for (name, lines), window in itertools.product(places.items(), WINDOWS):
+        where = folder / name.replace(" ", "-")
+        if not where.exists():
+            run(fitrec, "save", recorded(fitrec, where, lines), where.with_suffix(".fit"))
+        found = rows(where.with_suffix(".fit").read_bytes())
+        browser.visit("%s, %s" % (name, window), [{"files": both(where)}, outline], judged(found, 3), **WINDOWS[window])
+    yield from browser.outcomes()
+
+
+def in_a_browser(fitrec, group):
+    if missing("chromium"):
+        yield "the page in a browser", missing("chromium")
+        return
+    with tempfile.TemporaryDirectory() as folder:
+        yield from group(fitrec, pathlib.Path(folder))
+
+
+GROUPS = of_inputs, of_numbers
 
 
 def proved_and_built():
     ran = subprocess.run([WEB / "build"], stdout=subprocess.PIPE, stderr=subprocess.STDOUT, text=True)
     yield "proved and built", unless(ran.returncode == 0, ran.stdout[-2000:], "status 0")
     if ran.returncode == 0:
-        yield release.same("fitrec.html", WEB / "out/fitrec.html")
-
-
-def in_a_browser(fitrec):
-    if missing("chromium"):
-        yield "the page in a browser", missing("chromium")
-        return
-    with tempfile.TemporaryDirectory() as folder:
-        yield from of_page(fitrec, pathlib.Path(folder))
+        yield release.same("fitrec.html", PAGE)
+        size = PAGE.stat().st_size
+        yield "its size", unless(size <= MOST, size, "at most %d bytes" % MOST)
 
 
 def check(given):
@@ -148,11 +205,25 @@ def check(given):
     count = given.files // 250
     for group, many in ((of_recordings, count), (of_files, count // 2), (of_shown_and_checked, count // 4)):
         yield from given.checks(group, given.fitrec, MODULE, many, given.seed, under="module")
-    yield from given.checks(in_a_browser, given.fitrec)
+    for group in GROUPS:
+        yield from given.checks(named(group), given.fitrec)
+
+
+def named(group):
+    """A group in a browser, under its own name."""
+    def in_browser(fitrec):
+        yield from in_a_browser(fitrec, group)
+    in_browser.__name__ = group.__name__
+    return in_browser
 
 
 if __name__ == "__main__":
     to = pathlib.Path(sys.argv[1]).resolve()
     to.mkdir()
-    with tempfile.TemporaryDirectory() as scratch:
-        print(sum(outcome is not None for _, outcome in of_page(FITREC, pathlib.Path(scratch), to)), "differences")
+    for group in GROUPS:
+        if len(sys.argv) > 2 and group.__name__ not in sys.argv[2:]:
+            continue
+        with tempfile.TemporaryDirectory() as scratch:
+            for name, outcome in group(pathlib.Path(os.environ.get("FITREC", FITREC)), pathlib.Path(scratch), to):
+                if outcome is not None:
+                    print(group.__name__, name, str(outcome)[:1500], sep=": ")
