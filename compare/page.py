@@ -173,6 +173,169 @@ def of_numbers(fitrec, folder, shots=None):
     yield from browser.outcomes()
 
 
+def of_choosing(fitrec, folder, shots=None):
+    """Files one after the other, folders, other names, and what is offered for files that are not saved at once."""
+    browser, torn = Browser(folder, shots), recorded(fitrec, folder / "torn", RIDE)
+    ride, journal = both(torn)
+    made = lambda name, content: [(folder / name, (folder / name).write_bytes(content))[0]]
+    by = lambda name, *words: (run(fitrec, *words, folder / name), (folder / name).read_bytes())[1]
+    saved, alone = by("ride.fit", "save", torn), by("alone.fit", "salvage", "--plain", ride)
+
+    def last(heading, content, reason="", next="", offers=()):
+        def judge(shown, made):
+            it = shown[-1]
+            yield "what it says", unless((it["heading"], reason in it["reason"], next in it["next"]) == (heading, True, True),
+                                         (it["heading"], it["reason"], it["next"]), (heading, reason, next))
+            yield "the file", differs(bytes_of(pathlib.Path(made[-1] if not shots else made[-2])) if content else it["download"] or None, content)
+            yield "offers", differs(it["offers"], list(offers))
+        return judge
+
+    for window in WINDOWS:
+        take = [{"download": "#save"}]
+        for name, order in (("the ride first", [ride, journal]), ("the journal first", [journal, ride])):
+            browser.visit("%s, %s" % (name, window), [{"files": [it]} for it in order] + take, last(SAVED, saved), **WINDOWS[window])
+        browser.visit("the ride alone, %s" % window, [{"files": [ride]}, *take], last(READABLE, alone, next="If activity.frj is beside it"),
+                      **WINDOWS[window])
+    deep = folder / "card/GARMIN/ACTIVITY"
+    deep.parent.mkdir(parents=True)
+    copy(both(torn), deep, ["ACTIVITY.FIT", "ACTIVITY.FRJ"])
+    (folder / "card/notes.txt").write_text("notes")
+    browser.visit("a card", [{"files": [folder / "card"], "drop": True}, {"download": "#save"}], last(SAVED, saved))
+    renamed = copy(both(torn), folder / "renamed", ["ride.bin", "other.dat"])
+    browser.visit("renamed files", [{"files": renamed}, {"download": "#save"}], last(SAVED, saved))
+
+    # What is offered, and what the program makes.
+    whole = by("whole.fit", "save", torn)
+    longer = made("longer.fit", whole + whole[14:2000])
+    browser.visit("bytes after the end", [{"files": longer}, {"download": "#save"}],
+                  last(READABLE, by("kept.fit", "salvage", "--plain", *longer), "goes on after its end", offers=["Read the bytes after that length too"]))
+    browser.visit("bytes after the end, read", [{"files": longer}, {"click": "#offers button"}, {"download": "#save"}],
+                  last(READABLE, by("all.fit", "salvage", "--all", "--plain", *longer)))
+    more = recorded(fitrec, folder / "more", [*RIDE, *("sample %d hr=100 power=200 dist=%d" % (1000000300 + at, 240000 + at) for at in range(120))])
+    browser.visit("the end that was not confirmed", [{"files": both(more)}, {"click": "#offers button"}, {"download": "#save"}],
+                  last(READABLE, by("end.fit", "salvage", "--all", "--plain", more / NAMES[0]), next="fitrec salvage --finish"))
+    other = recorded(fitrec, folder / "other", [*RIDE, "sample 1000000300 hr=100", "commit"])
+    browser.visit("a journal of another ride", [{"files": [ride, other / NAMES[1]]}, {"click": "#offers button"}, {"download": "#save"}],
+                  last(READABLE, alone))
+    spoiled = made("spoiled.fit", whole[:3000] + bytes(80 * [0x0F]) + whole[3080:])
+    browser.visit("a damaged middle", [{"files": spoiled}, {"download": "#save"}],
+                  last(READABLE, by("spoiled-kept.fit", "salvage", "--plain", *spoiled), next="fitrec salvage --skip"))
+    browser.visit("an empty ride with its journal", [{"files": [*made("activity.fit", b""), journal]}],
+                  last(NOTHING, None, "activity.fit is empty: it has no bytes."))
+    browser.visit("an empty journal", [{"files": [ride, *made("activity.frj", b"")]}],
+                  last(NOTHING, None, "activity.frj is empty", offers=["Save what is readable of the ride file alone"]))
+    yield from browser.outcomes()
+
+
+def of_looking(fitrec, folder, shots=None):
+    """What people look for: laps, the values at a time, colours, the summary of a salvage, and several rides at once."""
+    browser, where = Browser(folder, shots), recorded(fitrec, folder / "tour", tour())
+    run(fitrec, "save", where, folder / "tour.fit")
+    data = (folder / "tour.fit").read_bytes()
+    found, laps = rows(data), rows(data, 19)
+
+    def at(share):
+        """The values of the sample whose time is nearest."""
+        begin, end = found[0]["timestamp"], found[-1]["timestamp"]
+        return min(found, key=lambda it: abs(it["timestamp"] - begin - share * (end - begin)))
+
+    def values_of(sample, zone):
+        hour, rest = divmod(sample["timestamp"] - START + 8 * 3600, 3600)
+        clock = "%d:%02d:%02d AM %s" % (hour + (zone == "GMT+1"), *divmod(rest, 60), zone)
+        return [clock, rounded(sample["distance"] / 1e5, 2) + " km", "Speed %s km/h" % rounded(sample["speed"] * 0.0036, 1),
+                "Heart rate %d bpm" % sample["heart_rate"], "Altitude %s m" % rounded(sample["altitude"] / 5 - 500, 0),
+                "Power %s W" % rounded(sample["power"], 0), "Cadence %d rpm" % sample["cadence"], "Temperature %d °C" % sample["temperature"]]
+
+    def near(sample, values, zone):
+        """Whether values are those of a sample that is at most two columns of a window from it."""
+        k, room = found.index(sample), 12
+        return values in [values_of(it, zone) for it in found[max(0, k - room):k + room]]
+
+    def judged(zone, touch):
+        def judge(shown, made):
+            first, pointed, moved, begun, _, slid = shown[:6]
+            count, spoken, begins, colours, marks = made[6:11]
+            yield "its name", differs(first["download"], "2024-11-08-ride.fit")
+            yield "the start", unless(first["numbers"]["Start"].endswith("%d:00 AM %s" % (8 + (zone == "GMT+1"), zone)), first["numbers"]["Start"], zone)
+            yield "a hint", differs(first["values"][0].split(" ")[0], "Tap" if touch else "Point")
+            yield "the values under the pointer", unless(near(at(0.6), pointed["values"], zone), pointed["values"], values_of(at(0.6), zone))
+            yield "in another picture", unless(near(at(0.1), moved["values"], zone), moved["values"], values_of(at(0.1), zone))
+            yield "at the start of the track", unless(near(found[0], begun["values"], zone), begun["values"], values_of(found[0], zone))
+            yield "the cursors", differs(count, [len(first["curves"]), False])
+            yield "by keys", differs(slid["values"], values_of(found[-1], zone))
+            yield "for a reader", differs(spoken, ", ".join(values_of(found[-1], zone)))
+            wanted = [["Lap", "Begins", "Without pauses", "Distance", "Average speed", "Average heart rate", "Highest heart rate", "Average power"]]
+            for i, lap in enumerate(laps):
+                begin, end = lap["start_time"], lap["timestamp"] + (i == len(laps) - 1)
+                own = [it for it in found if begin <= it["timestamp"] < end]
+                mean = lambda field: rounded(sum(it[field] for it in own) / len(own), 0)
+                wanted.append([str(i + 1), begins[i], "0:%02d:%02d" % divmod(lap["total_timer_time"] // 1000, 60),
+                               rounded(lap["total_distance"] / 1e5, 2) + " km",
+                               rounded(lap["total_distance"] / 100 / (lap["total_timer_time"] / 1000) * 3.6, 1) + " km/h",
+                               mean("heart_rate") + " bpm", "%d bpm" % max(it["heart_rate"] for it in own), mean("power") + " W"])
+            yield "laps", differs(first["laps"], wanted)
+            yield "colours", differs(colours, [8, 8, 1])
+            yield "marks of the axis", differs(marks, [True, zone])
+        return judge
+
+    cursors = "[document.querySelectorAll('.cursor:not([hidden])').length, document.querySelector('.here').hidden]"
+    begins = "[%s].map(t => new Date((t + 631065600) * 1000).toLocaleTimeString('en-US'))" % ", ".join(str(it["start_time"]) for it in laps)
+    colours = """['speed', 'heart', 'plain'].map(it => {
+        const choice = document.getElementById('colour');
+        choice.value = it;
+        choice.dispatchEvent(new Event('change'));
+        return document.querySelectorAll('.map path').length - 1;
+      })"""
+    marks = """[[...document.querySelectorAll('.chart')].every(it => [...it.querySelectorAll('.time')].length >= 3
+      && /^\\d+:\\d[05] AM$/.test(it.querySelector('.time').innerText)), document.querySelector('.zone').innerText]"""
+    for window, (zone, shown) in itertools.product(WINDOWS, (("UTC", "UTC"), ("Europe/Berlin", "GMT+1"))):
+        touch = "touchAt" if WINDOWS[window].get("touch") else "point"
+        steps = [{"files": both(where)}, {touch: [".plot", 60]}, {touch: [".chart:last-child .plot", 10]}, {touch: [".map .begin"]},
+                 {"evaluate": "document.getElementById('moment').focus()"}, {"keys": ["End"]}, *({"evaluate": it} for it in (
+                     cursors, "document.getElementById('moment').ariaValueText", begins, colours, marks))]
+        browser.visit("looking, %s, %s" % (window, shown), steps, judged(shown, touch == "touchAt"), zone=zone, **WINDOWS[window])
+
+    # A ride that was cut off in its third lap: its summary is of its samples.
+    (folder / "cut.fit").write_bytes(data[:len(data) * 3 // 4])
+    run(fitrec, "salvage", "--plain", folder / "cut.fit", folder / "kept.fit")
+    kept = rows((folder / "kept.fit").read_bytes())
+
+    def of_cut(shown, made):
+        seconds = kept[-1]["timestamp"] - kept[0]["timestamp"]
+        clock = lambda n: "%d:%02d:%02d" % (n // 3600, n // 60 % 60, n % 60)
+        numbers = {"Duration": clock(seconds), "Without pauses": clock(seconds - 600), "Distance": rounded(kept[-1]["distance"] / 1e5, 2) + " km",
+                   "Samples": f"{len(kept):,}", "Laps": "3", "Ascent": rounded(ascent_of(kept), 0) + " m"}
+        yield "numbers", differs({it: shown[0]["numbers"].get(it) for it in numbers}, numbers)
+        yield "laps", differs([it[0] for it in shown[0]["laps"]], ["Lap", "1", "2", "3*"])
+
+    for window in WINDOWS:
+        browser.visit("a salvage, %s" % window, [{"files": [folder / "cut.fit"]}], of_cut, **WINDOWS[window])
+
+    # Several rides: each in its folder, one of them whole, and a note.
+    rides = folder / "rides"
+    rides.mkdir()
+    for name, lines in (("a", tour(600)), ("b", RIDE), ("c", tour(900))):
+        run(fitrec, "save", recorded(fitrec, rides / name, lines), folder / (name + ".fit"))
+        (rides / name).with_suffix(".script").unlink()
+    shutil.copy(folder / "b.fit", rides / "whole.fit")
+    (rides / "notes.txt").write_text("notes")
+
+    def of_several(shown, made):
+        yield "the list", differs(shown[0]["listHeading"], "4 rides, 3 of them saved")
+        yield "its rides", differs([(it[0], it[4]) for it in shown[0]["list"]], [
+            ("rides/whole.fit", "The file is whole"), *(("rides/%s/activity.fit" % it, SAVED) for it in "abc")])
+        with zipfile.ZipFile(made[1]) as them:
+            wanted = {name: (folder / it).read_bytes() for name, it in (
+                ("2024-11-08-ride.fit", "a.fit"), ("2021-09-08-ride.fit", "b.fit"), ("2024-11-08-ride-2.fit", "c.fit"))}
+            yield "all in one file", differs({it: them.read(it) for it in them.namelist()}, wanted)
+        yield "one of them", differs((shown[2]["heading"], shown[2]["download"]), (SAVED, "2021-09-08-ride.fit"))
+
+    for window in WINDOWS:
+        steps = [{"files": [rides], "drop": True}, {"download": "#saveAll"}, {"click": "#rides tbody tr:nth-child(3) button"}]
+        browser.visit("several rides, %s" % window, steps, of_several, **WINDOWS[window])
+    yield from browser.outcomes()
+
+
 def in_a_browser(fitrec, group):
     if missing("chromium"):
         yield "the page in a browser", missing("chromium")
@@ -181,7 +344,7 @@ def in_a_browser(fitrec, group):
         yield from group(fitrec, pathlib.Path(folder))
 
 
-GROUPS = of_inputs, of_numbers
+GROUPS = of_inputs, of_numbers, of_choosing, of_looking
 
 
 def proved_and_built():

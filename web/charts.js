@@ -48,7 +48,7 @@ function timeMarks(begin, end, wanted) {
 
 // A picture for each series.
 function chartsOf(ride) {
-  const begin = ride.time[0], end = ride.time[ride.time.length - 1], marks = timeMarks(begin, end, matchMedia('(max-width: 40rem)').matches ? 4 : 8);
+  const begin = ride.time[0], end = ride.time[ride.time.length - 1], marks = timeMarks(begin, end, matchMedia('(max-width: 40rem)').matches ? 5 : 9);
   return ride.series.filter(it => it.curve).map(it => chartOf(it, marks, ride));
 }
 
@@ -80,8 +80,7 @@ function readerOf(ride, pictures) {
   if (!(seconds > 0)) return null;
   const values = make('p', { className: 'values' }), cursors = [...pictures.querySelectorAll('.cursor')];
   const slider = make('input', { type: 'range', min: 0, max: seconds, step: 1, value: 0, id: 'moment', ariaLabel: text('moment') });
-  const hint = text(matchMedia('(pointer: coarse)').matches ? 'readTap' : 'readPoint');
-  values.textContent = hint;
+  values.append(make('span', {}, text(matchMedia('(pointer: coarse)').matches ? 'readTap' : 'readPoint')));
   const show = t => {
     const i = nearest(time, t), parts = [momentText(time[i])];
     if (distance[i] >= 0) parts.push(text('km', { n: numberText(distance[i] / 1000, 2) }));

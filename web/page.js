@@ -90,11 +90,11 @@ async function choose(ride, how) {
 
 // The name of a new file: by the day on which the ride began, where the browser is.
 function name(ride, answer) {
-  const start = startOf(answer), day = isDated(start) ? dayText(start) : '';
-  const base = day ? `${day}-ride` : ride.name.replace(/\.[^.]*$/, '') + '-saved', taken = rides.filter(it => it !== ride).map(it => it.saved);
-  let count = 1;
-  while (taken.includes(base + (count > 1 ? '-' + count : '') + '.fit')) count++;
-  ride.saved = base + (count > 1 ? '-' + count : '') + '.fit';
+  if (!answer.file) return;
+  const start = startOf(answer), base = isDated(start) ? dayText(start) + '-ride' : ride.name.replace(/\.[^.]*$/, '') + '-saved';
+  const taken = rides.filter(it => it !== ride).map(it => it.saved);
+  ride.saved = base + '.fit';
+  for (let count = 2; taken.includes(ride.saved); count++) ride.saved = `${base}-${count}.fit`;
   answer.name = ride.saved;
 }
 

@@ -1,27 +1,34 @@
 // What is chosen or dropped: files, folders and cards. They are known by their first bytes, and two files of one recording are one ride.
 
-// Files with their folders, of a list of files or of a drop, in which folders are entries.
+// Files with their folders, of a list of files or of a drop. Chromium reads dropped folders by handles, where the page lies on a disk by them
+// alone, and other browsers by entries. A drop lends both only as long as its event lasts.
 async function filesOf({ files, items }) {
-  const entries = [...(items || [])].map(it => it.webkitGetAsEntry && it.webkitGetAsEntry()), found = [];
+  const dropped = [...(items || [])], found = [];
+  const handles = dropped.map(it => it.getAsFileSystemHandle && it.getAsFileSystemHandle());
+  const entries = dropped.map(it => it.webkitGetAsEntry && it.webkitGetAsEntry());
   if (!entries.some(it => it && it.isDirectory)) {
     return [...files].map(file => ({ file, folder: (file.webkitRelativePath || '').replace(/[^/]*$/, '') }));
   }
-  const walk = async (entry, folder) => {
-    if (!entry) return;
-    if (entry.isFile) found.push({ file: await new Promise((done, fail) => entry.file(done, fail)), folder });
-    else for (const it of await entriesIn(entry)) await walk(it, `${folder}${entry.name}/`);
-  };
-  for (const it of entries) await walk(it, '');
+  for (const [i, entry] of entries.entries()) {
+    const handle = await handles[i];
+    if (handle) await walk(handle, '', found);
+    else if (entry) await walkEntry(entry, '', found);
+  }
   return found;
 }
 
-async function entriesIn(folder) {
-  const reader = folder.createReader(), found = [];
-  for (;;) {
-    const some = await new Promise((done, fail) => reader.readEntries(done, fail));
-    if (!some.length) return found;
-    found.push(...some);
+async function walk(handle, folder, found) {
+  if (handle.kind === 'file') found.push({ file: await handle.getFile(), folder });
+  else for await (const it of handle.values()) await walk(it, `${folder}${handle.name}/`, found);
+}
+
+async function walkEntry(entry, folder, found) {
+  if (entry.isFile) return found.push({ file: await new Promise((done, fail) => entry.file(done, fail)), folder });
+  const reader = entry.createReader();
+  for (let some; (some = await new Promise((done, fail) => reader.readEntries(done, fail))).length;) {
+    for (const it of some) await walkEntry(it, `${folder}${entry.name}/`, found);
   }
+  return found;
 }
 
 // A file with its kind: 'fit', 'journal' or 'other'. `isOpen` is of a recording that was not closed.
@@ -37,9 +44,10 @@ async function known({ file, folder }) {
   return { file, folder, kind, base: file.name.replace(/\.[^.]*$/, '').toLowerCase(), isOpen: text.slice(4, 8) === '\0\0\0\0' };
 }
 
-// The rides of some files, each with `data` and `journal` or one of them, and how many files are none.
+// The rides of some files, in the order of their folders, each with `data` and `journal` or one of them, and how many files are none.
 async function ridesOf(files) {
   const found = [], rides = [];
+  files.sort((a, b) => a.folder < b.folder ? -1 : a.folder > b.folder ? 1 : 0);
   for (const it of files) found.push(await known(it));
   const ours = found.filter(it => it.kind !== 'other'), folders = new Set(ours.map(it => it.folder));
   if (!ours.length) return { rides: found.slice(0, 1).map(it => rideFrom(it)), others: 0 };

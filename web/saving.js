@@ -16,7 +16,8 @@ const unreadOf = ({ name, unread }) => unread === undefined ? [] : [['unreadFrom
 
 // The two files of a recording.
 async function ofRecording(fitrec, ride) {
-  const { data, journal } = ride, unread = unreadOf(ride);
+  const { data, journal, journalName } = ride, unread = unreadOf(ride);
+  if (!journal.length) return nothing(['emptyFile', { name: journalName }], 'nothingRecordedNext', ['data']);
   try {
     const saved = await fitrec.save(data, journal), count = await fitrec.uncommitted(data, journal);
     const more = count ? [['uncommitted', { count }]] : [];
