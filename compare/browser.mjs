@@ -9,11 +9,14 @@
 //     { files, drop }     paths are chosen by the file input, or dropped on the page, which takes folders too
 //     { click }           a selector is clicked
 //     { keys }            such as ["Tab", "Enter"]
-//     { point }           a selector, and the place in it in hundredths of its width and height: the pointer or a finger goes there
+//     { point }           a selector, and the place in it in hundredths of its width and height: the pointer goes there
+//     { touchAt }         the same for a finger
 //     { evaluate }        what an expression is
 //     { download }        by a click on the selector, or by the key Enter
 //     { screenshot }      a path
 //     { wait }            milliseconds
+//     { installed }       what keeps it from being installed as an app
+//     { reload }          opens it anew, without a network
 //
 // Where a ride is asked for, it waits for the answer. An answer has what the page shows after each step, what each `evaluate` was, the paths of
 // the downloads, each request that was made, and each line that the browser logged.
@@ -45,10 +48,10 @@ function send(method, params = {}, sessionId) {
 }
 
 async function until(holds) {
-  for (let tries = 0; tries < 600; tries++) {
+  for (let tries = 0; tries < 3000; tries++) {
     const found = await holds();
     if (found) return found;
-    await new Promise(done => setTimeout(done, 50));
+    await new Promise(done => setTimeout(done, 10));
   }
   throw new Error('waited too long');
 }
@@ -155,7 +158,7 @@ class Visit {
   }
 
   // Does a step, and answers what it made, if anything.
-  async step({ files, drop, click, keys, point, touchAt, evaluate, download, screenshot, wait }) {
+  async step({ files, drop, click, keys, point, touchAt, evaluate, download, screenshot, wait, installed, reload }) {
     if (files) {
       const begun = Date.now();
       await this.choose(files, drop);
@@ -190,6 +193,13 @@ class Visit {
       const { data } = await this.call('Page.captureScreenshot', { captureBeyondViewport: true, clip: {
         x: 0, y: 0, width: this.width, height: await this.evaluate('document.documentElement.scrollHeight'), scale: 1 } });
       return writeFileSync(screenshot, Buffer.from(data, 'base64'));
+    }
+    if (installed) return (await this.call('Page.getInstallabilityErrors')).installabilityErrors.map(it => it.errorId);
+    if (reload) {
+      await this.call('Network.emulateNetworkConditions', { offline: true, latency: 0, downloadThroughput: -1, uploadThroughput: -1 });
+      await this.evaluate('document.title = "fitrec"');
+      await this.call('Page.reload');
+      return until(() => this.evaluate('document.readyState === "complete" && document.title !== "fitrec"').catch(() => false));
     }
     if (wait) return new Promise(done => setTimeout(done, wait));
     return this.evaluate(evaluate);

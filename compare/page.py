@@ -6,6 +6,7 @@ headless Chromium, wide and narrow, light and dark. It makes web/out/fitrec.html
 
 makes no page, and puts a screenshot of each visit into a new folder, to be looked at."""
 
+import http.server
 import itertools
 import os
 import pathlib
@@ -15,6 +16,7 @@ import shutil
 import subprocess
 import sys
 import tempfile
+import threading
 import zipfile
 
 from columns import refusal_of, rows_of
@@ -34,6 +36,8 @@ WEB, MODULE = ROOT / "web", ROOT / "compare/module.mjs"
 NOTHING, READABLE, SAVED = "Nothing could be saved", "The readable part is saved", "The ride is saved"
 # The most bytes of the page.
 MOST = 160_000
+# The most milliseconds of a ride of 16 MB, and between two turns of the page, on a machine that others use too.
+MOST_MS, MOST_STILL_MS = 8000, 500
 
 # A ride of five minutes with positions and everything that is drawn.
 RIDE = ["start 1000000000 7 cycling"] + [
@@ -336,6 +340,185 @@ def of_looking(fitrec, folder, shots=None):
     yield from browser.outcomes()
 
 
+# The text and the lines of pictures that do not stand out enough from what is behind them.
+FAINT = """(() => {
+  const parts = it => it.match(/[\\d.]+/g).map(Number), light = ([r, g, b]) => [r, g, b].map(n => n / 255)
+    .map(n => n <= 0.04045 ? n / 12.92 : ((n + 0.055) / 1.055) ** 2.4).reduce((sum, n, i) => sum + n * [0.2126, 0.7152, 0.0722][i], 0);
+  const contrast = (a, b) => (Math.max(light(a), light(b)) + 0.05) / (Math.min(light(a), light(b)) + 0.05), faint = [];
+  const behind = it => {
+    for (; it; it = it.parentElement) {
+      const found = parts(getComputedStyle(it).backgroundColor);
+      if (found.length === 3 || found[3] > 0) return found;
+    }
+  };
+  for (const it of document.querySelectorAll('body *')) {
+    if (!it.checkVisibility() || it.closest('script') || it.matches('option')) continue;
+    const style = getComputedStyle(it), text = [...it.childNodes].some(node => node.nodeType === 3 && node.data.trim());
+    const line = it.matches('.curve, .map path:not(.casing)') ? parts(style.stroke) : null, least = line ? 3 : 4.5;
+    const found = text && it.namespaceURI.endsWith('xhtml') ? contrast(parts(style.color), behind(it)) : line ? contrast(line, behind(it.closest('div'))) : 21;
+    if (found < least) faint.push([it.tagName, it.className.baseVal ?? it.className, it.textContent.slice(0, 20), found]);
+  }
+  return faint;
+})()"""
+FOCUSED = """[document.activeElement.id || document.activeElement.className || document.activeElement.tagName, (it =>
+  getComputedStyle(it.matches('.unseen') ? it.nextElementSibling : it).outlineStyle)(document.activeElement)]"""
+# The words for a number in each language, for a ride of 2.33 km, and of a button; and a word for a tap.
+SPOKEN = {"en-GB": ("2.33 km", "Choose files", "Tap"), "de-DE": ("2,33 km", "Dateien wählen", "Tippe"), "de-CH": ("2.33 km", "Dateien wählen", "Tippe"),
+          "fr-FR": ("2,33 km", "Choisir des fichiers", "Touchez"), "es-ES": ("2,33 km", "Elegir archivos", "Toca"),
+          "it-IT": ("2,33 km", "Scegli i file", "Tocca"), "ja-JP": ("2.33 km", "Choose files", "Tap")}
+
+
+def of_everybody(fitrec, folder, shots=None):
+    """Languages, contrast, keys, texts for readers, right to left, and print."""
+    browser, torn = Browser(folder, shots), recorded(fitrec, folder / "torn", RIDE)
+    where, faint = recorded(fitrec, folder / "tour", tour(900)), {"evaluate": FAINT}
+    rides = folder / "rides"
+    rides.mkdir()
+    shutil.copytree(torn, rides / "a")
+    shutil.copytree(where, rides / "b")
+
+    def spoken(language, distance, choose, tap, touch):
+        def judge(shown, made):
+            short = language.split("-")[0] if language != "ja-JP" else "en"
+            yield "its language", differs(made[1][:2], [short, choose])
+            yield "a tap where fingers are", unless(made[1][2].startswith(tap) == touch, made[1][2], tap)
+            distances = [it for it in shown[0]["numbers"].values() if it.endswith(" km")]
+            yield "its numbers", differs(distances, [distance])
+            yield "each picture has a text", differs([bool(it and re.search(r"\d", it)) for it in shown[0]["labels"]], 5 * [True])
+            yield "the name of the file", differs(shown[0]["download"], "2021-09-08-ride.fit")
+        return judge
+
+    for (language, words), window in itertools.product(SPOKEN.items(), ("wide", "narrow and dark")):
+        asked = "[document.documentElement.lang, document.querySelector('label').innerText, document.getElementById('hint').innerText]"
+        touch = bool(WINDOWS[window].get("touch"))
+        browser.visit("%s, %s" % (language, window), [{"files": both(torn)}, {"evaluate": asked}], spoken(language, *words, touch),
+                      languages=language, **WINDOWS[window])
+
+    def of_contrast(shown, made):
+        yield "contrast", differs([it for it in made if isinstance(it, list)], 4 * [[]])
+
+    for window in WINDOWS:
+        steps = [faint, {"files": both(torn)}, faint, {"files": [folder / "tour.script"]}, faint, {"files": [rides], "drop": True},
+                 {"click": "#rides tbody button"}, {"point": [".plot"]}, faint]
+        browser.visit("contrast, %s" % window, steps, of_contrast, **WINDOWS[window])
+
+    order = ["files", "folder", "save", "moment", "colour", "scrolled"]
+
+    def of_keys(shown, made):
+        yield "the order of keys, with a visible focus", differs([it for it in made if it], [[it, "solid"] for it in order])
+        yield "a choice by keys", differs(shown[-1]["heading"], SAVED)
+
+    steps = [{"files": both(torn)}, {"evaluate": "document.activeElement.blur(), scrollTo(0, 0), document.querySelector('h1').setAttribute('tabindex', -1), document.querySelector('h1').focus()"}]
+    browser.visit("keys", [*steps, *(it for _ in order for it in ({"keys": ["Tab"]}, {"evaluate": FOCUSED}))],
+                  lambda shown, made: of_keys(shown, made[2:]))
+
+    def of_right_to_left(shown, made):
+        yield "lines of time stay as they are", differs(made[1], True)
+
+    for window in WINDOWS:
+        turned = {"evaluate": """(document.documentElement.dir = 'rtl', [...document.querySelectorAll('.axes')].every(it => {
+            const [first, ...rest] = [...it.querySelectorAll('.time')].map(mark => mark.getBoundingClientRect().left);
+            return rest.every(left => left > first) && it.querySelector('.heights').getBoundingClientRect().left < first;
+          }))"""}
+        browser.visit("right to left, %s" % window, [{"files": both(where)}, turned], of_right_to_left, **WINDOWS[window])
+
+    def of_print(shown, made):
+        yield "on paper: no buttons, and light", differs(made[1], [0, "rgb(255, 255, 255)", 5])
+
+    for dark in (False, True):
+        paper = """[[...document.querySelectorAll('button, .button, input, select')].filter(it => it.checkVisibility()).length,
+            getComputedStyle(document.body).backgroundColor, [...document.querySelectorAll('figure')].filter(it => it.checkVisibility()).length]"""
+        browser.visit("print%s" % (dark and ", dark" or ""), [{"files": both(torn)}, {"evaluate": paper}], of_print, print=True, dark=dark, width=700)
+
+    # Each language has the same texts, with the same places for what is filled in, and each is used.
+    whole = """Object.fromEntries(Object.entries(TEXTS).map(([language, texts]) => [language,
+        Object.fromEntries(Object.entries(texts).map(([key, text]) => [key, (text.match(/\\{\\w+\\}/g) || []).sort()]))]))"""
+
+    def of_texts(shown, made):
+        yield "languages", differs(sorted(made[0]), ["de", "en", "es", "fr", "it"])
+        for language, texts in made[0].items():
+            yield "%s is whole" % language, differs(texts, made[0]["en"])
+        sources = "".join((WEB / name).read_text() for name in os.listdir(WEB) if name.endswith((".js", ".html")) and name != "texts.js")
+        words = set(re.findall(r"'(\w+)'|\"(\w+)\"|(\w+):", sources))
+        known = {it for found in words for it in found} | {"fault" + it for it in FAULTS}
+        yield "no text is left over", differs([it for it in made[0]["en"] if it not in known and not it.startswith("offer_")], [])
+
+    browser.visit("texts", [{"evaluate": whole}], of_texts)
+    yield from browser.outcomes()
+
+
+FAULTS = ("Truncated", "HeaderSize", "Magic", "Protocol", "HeaderCrc", "UndefinedLocal", "SplitMessage", "FileCrc", "TrailingBytes", "NoFileId",
+          "NotActivity", "NoLap", "NoSession", "NoActivity")
+
+
+class Server(http.server.SimpleHTTPRequestHandler):
+    """Gives the files of web/out, and logs nothing."""
+
+    def __init__(self, *given):
+        super().__init__(*given, directory=str(PAGE.parent))
+
+    def log_message(self, *words):
+        pass
+
+
+def of_an_app(fitrec, folder, shots=None):
+    """The page is installed where it is served, and saves a ride without a connection."""
+    torn = recorded(fitrec, folder / "torn", RIDE)
+    run(fitrec, "save", torn, folder / "ride.fit")
+    server = http.server.ThreadingHTTPServer(("127.0.0.1", 0), Server)
+    threading.Thread(target=server.serve_forever, daemon=True).start()
+    browser = Browser(folder, shots)
+
+    def judge(shown, made):
+        yield "it is installed", differs(made[1], [])
+        yield "without a connection", differs(shown[4]["heading"], SAVED)
+        yield "the file", differs(bytes_of(pathlib.Path(made[5])), (folder / "ride.fit").read_bytes())
+
+    ready = {"evaluate": "navigator.serviceWorker.ready.then(it => new Promise(done => setTimeout(() => done(it.active.state), 500)))"}
+    for window in WINDOWS:
+        steps = [ready, {"installed": True}, {"reload": True}, {"wait": 1}, {"files": both(torn)}, {"download": "#save"}]
+        browser.visit("an app, %s" % window, steps, judge, address="http://127.0.0.1:%d/fitrec.html" % server.server_port, **WINDOWS[window])
+    yield from browser.outcomes()
+    server.shutdown()
+
+
+def of_speed(fitrec, folder, shots=None):
+    """A long ride does not let the page stand still, and shows how far it is."""
+    lines = ["start %d 7 cycling" % START]
+    for i in range(700_000):
+        lines.append("sample %d lat=%d long=%d ealt=%d hr=%d cad=%d dist=%d speed=%d power=%d temp=%d" % (
+            START + i, 566012345 + i, 102345678 + i % 1000, 2700 + i % 3000, 110 + i % 60, 80 + i % 9, 20 * i, 7800 + i % 500, 150 + i % 120, 20))
+    where = recorded(fitrec, folder / "long", [*lines, "commit"])
+    watch = """(() => {
+        const seen = window.seen = { gap: 0, progress: null }, began = () => { seen.began = performance.now(); };
+        let last = performance.now();
+        document.getElementById('files').addEventListener('change', began, true);
+        setInterval(() => {
+          const now = performance.now(), isBusy = document.body.classList.contains('busy');
+          if (seen.began && !seen.ended) {
+            seen.gap = Math.max(seen.gap, now - last);
+            if (seen.progress === null && document.getElementById('progress').checkVisibility()) seen.progress = now - seen.began;
+            if (!isBusy && !document.getElementById('result').hidden) seen.ended = now - seen.began;
+          }
+          last = now;
+        }, 5);
+      })()"""
+    browser = Browser(folder, shots)
+
+    def judge(shown, made):
+        seen = made[3]
+        yield "it is saved and drawn", differs((shown[-1]["heading"], len(shown[-1]["curves"])), (SAVED, 6))
+        # On a quiet machine docs/PERFORMANCE.md has the figure. Here others may run.
+        yield "in time", unless(seen["ended"] < MOST_MS, seen, "at most %d ms" % MOST_MS)
+        yield "it never stands still", unless(seen["gap"] < MOST_STILL_MS, seen, "at most %d ms" % MOST_STILL_MS)
+        yield "progress from 0.3 s on", unless(seen["progress"] is not None and 250 < seen["progress"] < 300 + MOST_STILL_MS, seen, "about 300 ms")
+
+    for window in ("wide", "narrow and dark"):
+        steps = [{"evaluate": watch}, {"files": both(where)}, {"wait": 100}, {"evaluate": "window.seen"}]
+        browser.visit("a long ride, %s" % window, steps, judge, **WINDOWS[window])
+    yield from browser.outcomes()
+
+
 def in_a_browser(fitrec, group):
     if missing("chromium"):
         yield "the page in a browser", missing("chromium")
@@ -344,7 +527,7 @@ def in_a_browser(fitrec, group):
         yield from group(fitrec, pathlib.Path(folder))
 
 
-GROUPS = of_inputs, of_numbers, of_choosing, of_looking
+GROUPS = of_inputs, of_numbers, of_choosing, of_looking, of_everybody, of_an_app, of_speed
 
 
 def proved_and_built():

@@ -17,9 +17,16 @@ function gridOf(from, to, least) {
   return { low, high, lines };
 }
 
+// The column of each sample.
+function columnsOf(time) {
+  const begin = time[0], perSecond = COLUMNS / (time[time.length - 1] - begin || 1), found = new Uint16Array(time.length);
+  for (let i = 0; i < time.length; i++) found[i] = Math.min((time[i] - begin) * perSecond, COLUMNS - 1);
+  return found;
+}
+
 // A curve: a line through the average of each column, and for each column with several values a bar from its least to its greatest.
-function curveOf(time, { values, breaks, from, to, least }) {
-  const grid = gridOf(from, to, least), begin = time[0], perSecond = COLUMNS / (time[time.length - 1] - begin || 1);
+function curveOf(columns, { values, breaks, from, to, least }) {
+  const grid = gridOf(from, to, least);
   const y = n => ((grid.high - n) / (grid.high - grid.low) * CURVE).toFixed(1);
   let line = '', bars = '', pen = 'M', column = -1, low, high, sum, count;
   const end = isLast => {
@@ -30,7 +37,7 @@ function curveOf(time, { values, breaks, from, to, least }) {
   for (let i = 0; i < values.length; i++) {
     const n = values[i];
     if (!(n >= from && n <= to)) continue;
-    const x = Math.min(Math.floor((time[i] - begin) * perSecond), COLUMNS - 1);
+    const x = columns[i];
     if (x === column && !breaks[i]) {
       if (n < low) low = n;
       if (n > high) high = n;
@@ -59,31 +66,26 @@ function trackOf({ lat, long, series, breaks }) {
       last = long[i];
     }
   }
-  const across = plausible(long, 0.002), up = plausible(lat, 0.002);
+  const across = plausible(long, rangeOf(long), 0.002), up = plausible(lat, rangeOf(lat), 0.002);
   if (!(across.to >= across.from && up.to >= up.from)) return null;
   const narrow = Math.max(0.01, Math.cos((up.from + up.to) / 2 * Math.PI / 180)), wide = Math.max((across.to - across.from) * narrow, 2e-4);
   const tall = Math.max(up.to - up.from, 2e-4), { width, least, most, edge } = TRACK;
   const scale = Math.min((width - 2 * edge) / wide, (most - 2 * edge) / tall), height = Math.max(least, tall * scale + 2 * edge);
   const frame = { width, height, scale, narrow, middleX: (across.from + across.to) / 2, middleY: (up.from + up.to) / 2 };
   const colours = series.filter(it => it.name === 'speed' || it.name === 'heart'), points = [];
-  let count = 0;
+  let count = 0, lastX = 0, lastY = 0;
   for (let i = 0, isBroken = 1; i < lat.length; i++) {
     isBroken |= breaks[i];
     if (!(long[i] >= across.from && long[i] <= across.to && lat[i] >= up.from && lat[i] <= up.to)) continue;
-    const [x, y] = placeIn(frame, lat[i], long[i]), before = points[points.length - 1];
+    const x = width / 2 + (long[i] - frame.middleX) * narrow * scale, y = height / 2 + (frame.middleY - lat[i]) * scale;
     count++;
-    if (!isBroken && Math.abs(x - before.x) + Math.abs(y - before.y) < 1) continue;
+    if (!isBroken && Math.abs(x - lastX) + Math.abs(y - lastY) < 1) continue;
     points.push({ i, x: x.toFixed(1), y: y.toFixed(1), isBroken });
-    isBroken = 0;
+    [lastX, lastY, isBroken] = [x, y, 0];
   }
   const first = points[0].i, finish = long.findLastIndex(n => n >= across.from && n <= across.to);
   const paths = [{ name: 'plain', paths: classesOf(points, () => 0, 1) }, ...colours.map(it => colouredBy(points, it))];
   return { ...frame, count, first, finish, paths, metres: 111194.9 / scale };
-}
-
-// The place of a position in the picture of a track.
-function placeIn({ width, height, scale, narrow, middleX, middleY }, lat, long) {
-  return [width / 2 + (long - middleX) * narrow * scale, height / 2 + (middleY - lat) * scale];
 }
 
 function colouredBy(points, { name, values, from, to }) {

@@ -211,7 +211,7 @@ for (const kind of ['dragover', 'dragleave', 'drop']) {
   });
 }
 if (location.protocol.startsWith('http')) {
-  document.head.append(make('link', { rel: 'manifest', href: 'manifest.webmanifest' }));
+  document.head.append(make('link', { rel: 'manifest', href: 'manifest.webmanifest' }), make('link', { rel: 'icon', href: 'icon.svg' }));
   if (navigator.serviceWorker) navigator.serviceWorker.register('service-worker.js').catch(() => {});
 }
 document.title = text('title');

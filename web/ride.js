@@ -18,21 +18,27 @@ const FIELDS = [TIME, 0, 1, 5, ...SERIES.flatMap(it => it.fields)];
 async function rideOf(fitrec, file, expected) {
   const [time, lat, long, distance, ...values] = inTime(await fitrec.columns(file, RECORD, FIELDS, expected || 4096));
   const [eventTime, event, kind] = await fitrec.columns(file, EVENT, [TIME, 0, 1]);
-  const pauses = pausesOf(eventTime, event, kind), resumed = pauses.map(([, to]) => sampleAt(time, to)), series = [];
+  const pauses = pausesOf(eventTime, event, kind), resumed = pauses.map(([, to]) => sampleAt(time, to)), breaks = breaksOf(time, time, resumed);
+  const series = [];
   let at = 0;
   for (const { name, fields, scale, offset, least, reach } of SERIES) {
     const raws = values.slice(at, at += fields.length), found = seriesOf(raws, scale, offset);
-    if (found) series.push({ name, least, ...found, ...plausible(found.values, reach), breaks: breaksOf(time, found.values, resumed) });
+    if (!found) continue;
+    const own = found.count < time.length ? breaksOf(time, found.values, resumed) : breaks;
+    series.push({ name, least, ...found, ...plausible(found.values, found, reach), breaks: own });
   }
-  for (const it of [lat, long]) it.forEach((raw, i) => { it[i] = raw * SEMICIRCLE; });
-  distance.forEach((raw, i) => { distance[i] = raw / 100; });
+  for (let i = 0; i < time.length; i++) {
+    lat[i] *= SEMICIRCLE;
+    long[i] *= SEMICIRCLE;
+    distance[i] /= 100;
+  }
   const ride = { time, lat, long, distance, series, pauses, breaks: breaksOf(time, lat, resumed) };
   return { ...ride, ...totalsOf(ride), laps: await lapsOf(fitrec, file, ride) };
 }
 
 // The columns in the order of their times, without samples whose time is missing or far from all others.
 function inTime(columns) {
-  const [time] = columns, { from, to } = plausible(time, 86400);
+  const [time] = columns, { from, to } = plausible(time, rangeOf(time), 86400);
   let last = -Infinity, isInOrder = true;
   for (const t of time) {
     isInOrder = isInOrder && t >= last && t >= from && t <= to;
@@ -44,29 +50,39 @@ function inTime(columns) {
 }
 
 // The values in their unit, with their least, greatest and average; null if there is none.
-function seriesOf([first, second], scale, offset) {
-  let low = Infinity, high = -Infinity, sum = 0, count = 0;
-  for (let i = 0; i < first.length; i++) {
-    const raw = second && first[i] !== first[i] ? second[i] : first[i];
-    first[i] = raw * scale + offset;
-    if (raw !== raw) continue;
-    if (raw < low) low = raw;
-    if (raw > high) high = raw;
-    sum += raw;
-    count++;
-  }
-  if (!count) return null;
-  return { values: first, count, low: low * scale + offset, high: high * scale + offset, average: sum / count * scale + offset };
+function seriesOf([values, others], scale, offset) {
+  if (others) values.forEach((raw, i) => { if (raw !== raw) values[i] = others[i]; });
+  const range = rangeOf(values);
+  if (!range.count) return null;
+  for (let i = 0; i < values.length; i++) values[i] = values[i] * scale + offset;
+  const { low, high, average } = range;
+  return { values, count: range.count, low: low * scale + offset, high: high * scale + offset, average: average * scale + offset };
 }
 
-// The range that is drawn. A value counts as a fault if it is far beyond 99 of 100 others: by more than four times their distance from the
-// median, and four times `reach`. `from` and `to` are the least and the greatest of the rest, and `faults` how many there are.
-function plausible(values, reach) {
+// The least, the greatest and the average of values, and how many there are; from one place to another, if these are given.
+function rangeOf(values, first = 0, last = values.length) {
+  let low = Infinity, high = -Infinity, sum = 0, count = 0;
+  for (let i = first; i < last; i++) {
+    const n = values[i];
+    if (n !== n) continue;
+    if (n < low) low = n;
+    if (n > high) high = n;
+    sum += n;
+    count++;
+  }
+  return { low, high, average: sum / count, count };
+}
+
+// The range that is drawn of values with this least and greatest. A value counts as a fault if it is far beyond 99 of 100 others: by more than
+// four times their distance from the median, and four times `reach`. `from` and `to` are the least and the greatest of the rest, and `faults`
+// how many there are.
+function plausible(values, { low, high }, reach) {
   const step = Math.ceil(values.length / 20000), some = [];
   for (let i = 0; i < values.length; i += step) if (values[i] === values[i]) some.push(values[i]);
   const sorted = Float64Array.from(some).sort(), cut = Math.min(Math.max(1, Math.floor(sorted.length / 100)), Math.floor((sorted.length - 1) / 2));
   const median = sorted[sorted.length >> 1], bottom = sorted[cut], top = sorted[sorted.length - 1 - cut];
   const lowest = bottom - 4 * Math.max(median - bottom, reach), highest = top + 4 * Math.max(top - median, reach);
+  if (low >= lowest && high <= highest) return { from: low, to: high, faults: 0 };
   let from = Infinity, to = -Infinity, faults = 0;
   for (const n of values) {
     if (n < lowest || n > highest) faults++;
@@ -126,7 +142,7 @@ function breaksOf(time, values, resumed) {
 function totalsOf({ time, distance, series, pauses }) {
   const start = time.length ? time[0] : null, end = time.length ? time[time.length - 1] : null;
   const paused = pauses.reduce((sum, [from, to]) => sum + Math.max(0, Math.min(to, end) - Math.max(from, start)), 0);
-  const farthest = distance.reduce((high, n) => n > high ? n : high, -Infinity), height = series.find(it => it.name === 'height');
+  const farthest = rangeOf(distance).high, height = series.find(it => it.name === 'height');
   const added = { records: time.length, start, elapsed: start === null ? null : (end - start) * 1000,
     timer: start === null ? null : (end - start - paused) * 1000, distance: farthest >= 0 ? farthest * 100 : null };
   return { added, ascent: height ? ascentOf(height) : null };
@@ -144,6 +160,11 @@ function ascentOf({ values, from, to }) {
     }
   }
   return ascent + (high - low >= 2 ? high - low : 0);
+}
+
+function partOf(values, first, last) {
+  const range = rangeOf(values, first, last);
+  return range.count ? range : null;
 }
 
 // The laps that the file has, and what its samples say of each; after them the rest of a ride that was cut off.
@@ -164,17 +185,4 @@ async function lapsOf(fitrec, file, { time, distance, series, pauses }) {
   const ended = laps.length ? laps[laps.length - 1].to : time[0], finished = time[time.length - 1];
   if (finished > ended) laps.push({ to: finished, ...of(ended, finished, { isLast: true, isOpen: true }) });
   return laps;
-}
-
-function partOf(values, first, last) {
-  let low = Infinity, high = -Infinity, sum = 0, count = 0;
-  for (let i = first; i < last; i++) {
-    const n = values[i];
-    if (n !== n) continue;
-    if (n < low) low = n;
-    if (n > high) high = n;
-    sum += n;
-    count++;
-  }
-  return count ? { low, high, average: sum / count } : null;
 }

@@ -14,13 +14,13 @@ onmessage = async ({ data: { number, ride, how } }) => {
     report(2);
     const found = await rideOf(await fitrec, file, answer.summary && answer.summary.records);
     report(3);
-    for (const it of found.series) it.curve = found.time.length > 1 ? curveOf(found.time, it) : null;
+    const columns = columnsOf(found.time);
+    for (const it of found.series) it.curve = found.time.length > 1 ? curveOf(columns, it) : null;
     found.track = trackOf(found);
-    const { file: saved, ...rest } = answer;
-    delete rest.shown;
-    const lent = [found.time, found.lat, found.long, found.distance, ...found.series.map(it => it.values)].map(it => it.buffer);
-    found.breaks = found.series.forEach(it => { delete it.breaks; });
-    postMessage({ number, answer: { ...rest, file: saved && new Blob([saved], { type: 'application/octet-stream' }), ride: found } }, lent);
+    const { shown, file: saved, ...rest } = answer, { breaks, series, ...drawn } = found;
+    drawn.series = series.map(({ breaks: own, ...it }) => it);
+    const lent = [drawn.time, drawn.lat, drawn.long, drawn.distance, ...series.map(it => it.values)].map(it => it.buffer);
+    postMessage({ number, answer: { ...rest, file: saved && new Blob([saved], { type: 'application/octet-stream' }), ride: drawn } }, lent);
   } catch (error) {
     postMessage({ number, failed: error instanceof RangeError ? 'tooLarge' : 'unexpected' });
   }
