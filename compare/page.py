@@ -8,6 +8,7 @@ makes no page, and puts a screenshot of each visit into a new folder, to be look
 
 import http.server
 import itertools
+import json
 import os
 import pathlib
 import random
@@ -20,7 +21,7 @@ import threading
 import zipfile
 
 from columns import refusal_of, rows_of
-from tools import release
+from tools import reader, release
 from tools.checks import differs, unless
 from tools.fit_files import damaged, made
 from tools.library_calls import of_files, of_recordings, of_shown_and_checked
@@ -28,7 +29,6 @@ from tools.needs import missing
 from tools.pages import (PAGE, START, WINDOWS, ascent_of, both, columns_of, copy, drawn_of, facts_of, recorded, rounded, rows, series_of, tour,
                          visits)
 from tools.program import FITREC, NAMES, ROOT, bytes_of, run
-from tools.reader import salvaged
 from tools.rides import uncommitted
 
 NEEDS = ("fitrec", "rt", "node", "wasm-opt", "chromium")
@@ -519,6 +519,45 @@ def of_speed(fitrec, folder, shots=None):
     yield from browser.outcomes()
 
 
+def of_calls(fitrec, many, seed):
+    """The calls for JavaScript under Node: columns, texts and refusals by the second reader, and rides by the program."""
+    pick, asked, wanted = random.Random(seed), [], []
+    with tempfile.TemporaryDirectory() as scratch:
+        folder = pathlib.Path(scratch)
+        for at in range(many):
+            data, path = damaged(pick, made(pick)) if at % 3 == 0 else made(pick), folder / ("%d.fit" % at)
+            path.write_bytes(data)
+            refusal = refusal_of(data)
+            kind, _, place = (refusal or "").partition(" at ")
+            refused = {"kind": kind, "place": int(place)} if refusal else None
+            found = [] if refusal else [number for number, _, _ in reader.messages(data, False, lambda *it: it)[3]]
+            for message in sorted({20, *found}):
+                fields = [253, *pick.sample(range(256), 5), *range(9)]
+                asked.append({"name": "columns", "files": [path], "more": [message, fields, pick.choice([0, 1, 64])]})
+                wanted.append(refused or [[row.get(field) for row in rows_of(data, message)] for field in fields])
+            asked.append({"name": "show", "files": [path]})
+            wanted.append(refused or reader.show(data).encode().hex())
+        torn = recorded(fitrec, folder / "torn", tour(400))
+        other = recorded(fitrec, folder / "other", RIDE)
+        line = run(fitrec, "save", torn, folder / "ride.fit")[1]
+        names = "records", "laps", "sessions", "start", "elapsed", "timer", "distance"
+        summary = dict(zip(names, (int(it) for it in re.findall(r"=(\d+)", line))))
+        run(fitrec, "salvage", torn / NAMES[0], folder / "kept.fit")
+        shutil.copytree(torn, folder / "mended")
+        run(fitrec, "repair", folder / "mended")
+        ride = (folder / "ride.fit").read_bytes()
+        rest = [("save", both(torn), {"file": ride.hex(), "summary": summary}),
+                ("repair", both(torn), {"file": (folder / "mended" / NAMES[0]).read_bytes().hex(), "summary": summary}),
+                ("save", [torn / NAMES[0], other / NAMES[1]], {"kind": "Damaged"}), ("check", [folder / "ride.fit"], summary),
+                ("check", [folder / "kept.fit"], {"kind": "NoSession"}), ("plain", [folder / "mended" / NAMES[0]], ride.hex()),
+                ("uncommitted", both(torn), 0), ("leaveChanged", both(torn), None), ("salvage", [torn / NAMES[1]], {"kind": "HeaderSize"})]
+        asked += [{"name": name, "files": files} for name, files, _ in rest]
+        status, out, err = run(ROOT / "compare/calls.mjs", input=json.dumps(asked, default=str))
+        yield "called", differs((status, err), (0, ""))
+        for it, answer, right in zip(asked, json.loads(out or "[]"), [*wanted, *(it for _, _, it in rest)]):
+            yield it["name"], differs(answer, right, it["files"])
+
+
 def in_a_browser(fitrec, group):
     if missing("chromium"):
         yield "the page in a browser", missing("chromium")
@@ -551,6 +590,7 @@ def check(given):
     count = given.files // 250
     for group, many in ((of_recordings, count), (of_files, count // 2), (of_shown_and_checked, count // 4)):
         yield from given.checks(group, given.fitrec, MODULE, many, given.seed, under="module")
+    yield from given.checks(of_calls, given.fitrec, given.files // 60, given.seed)
     for group in GROUPS:
         yield from given.checks(named(group), given.fitrec)
 

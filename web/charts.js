@@ -8,7 +8,7 @@ const valueText = (name, n) => text(UNITS[name], { n: numberText(n, DIGITS[name]
 function make(name, attributes = {}, ...children) {
   const made = document.createElement(name);
   for (const [key, value] of Object.entries(attributes)) {
-    if (key in made && key !== 'list') made[key] = value; else made.setAttribute(key, value);
+    if (key in made) made[key] = value; else made.setAttribute(key, value);
   }
   made.append(...children.filter(it => it !== null && it !== undefined));
   return made;
@@ -48,7 +48,8 @@ function timeMarks(begin, end, wanted) {
 
 // A picture for each series.
 function chartsOf(ride) {
-  const begin = ride.time[0], end = ride.time[ride.time.length - 1], marks = timeMarks(begin, end, matchMedia('(max-width: 40rem)').matches ? 5 : 9);
+  const begin = ride.time[0], end = ride.time[ride.time.length - 1], isNarrow = matchMedia('(max-width: 40rem)').matches;
+  const marks = timeMarks(begin, end, isNarrow ? 5 : 9);
   return ride.series.filter(it => it.curve).map(it => chartOf(it, marks, ride));
 }
 
@@ -69,8 +70,9 @@ function chartOf({ name, low, high, average, faults, curve }, marks, ride) {
   const facts = text('facts', { low: numberText(low, digits), average: numberText(average, digits), high: shown[2] });
   return make('figure', { className: 'chart' },
     make('figcaption', {}, make('strong', { className: name }, text(name)), make('span', {}, facts)),
-    make('div', { className: 'axes' }, make('div', { className: 'heights', ariaHidden: true }, ...heights), plot,
-      make('div', { className: 'zone', ariaHidden: true }, zoneText(ride.time[0])), make('div', { className: 'times', ariaHidden: true }, ...times)),
+    make('div', { className: 'axes' }, make('div', { className: 'heights', 'aria-hidden': true }, ...heights), plot,
+      make('div', { className: 'zone', 'aria-hidden': true }, zoneText(ride.time[0])),
+      make('div', { className: 'times', 'aria-hidden': true }, ...times)),
     faults ? make('p', { className: 'note' }, text(faults === 1 ? 'oneFault' : 'faults', { count: faults })) : null);
 }
 
@@ -79,7 +81,7 @@ function readerOf(ride, pictures) {
   const { time, series, distance } = ride, begin = time[0], seconds = time[time.length - 1] - begin;
   if (!(seconds > 0)) return null;
   const values = make('p', { className: 'values' }), cursors = [...pictures.querySelectorAll('.cursor')];
-  const slider = make('input', { type: 'range', min: 0, max: seconds, step: 1, value: 0, id: 'moment', ariaLabel: text('moment') });
+  const slider = make('input', { type: 'range', min: 0, max: seconds, step: 1, value: 0, id: 'moment', 'aria-label': text('moment') });
   values.append(make('span', {}, text(matchMedia('(pointer: coarse)').matches ? 'readTap' : 'readPoint')));
   const show = t => {
     const i = nearest(time, t), parts = [momentText(time[i])];
@@ -90,7 +92,7 @@ function readerOf(ride, pictures) {
     }
     values.replaceChildren(...parts.map(it => make('span', {}, it)));
     slider.value = time[i] - begin;
-    slider.ariaValueText = parts.join(', ');
+    slider.setAttribute('aria-valuetext', parts.join(', '));
     for (const it of cursors) placed(it, (time[i] - begin) / seconds * 100, null).hidden = false;
     pointAt(ride, pictures, i);
   };

@@ -24,39 +24,44 @@ function columnsOf(time) {
   return found;
 }
 
-// A curve: a line through the average of each column, and for each column with several values a bar from its least to its greatest.
+// A curve: a line through the average of each column, and for each column with several values a bar from its least to its greatest. After a
+// break in a column its values are a part of their own.
 function curveOf(columns, { values, breaks, from, to, least }) {
-  const grid = gridOf(from, to, least);
-  const y = n => ((grid.high - n) / (grid.high - grid.low) * CURVE).toFixed(1);
-  let line = '', bars = '', pen = 'M', column = -1, low, high, sum, count;
-  const end = isLast => {
-    if (column < 0) return;
-    line += `${pen}${column} ${y(sum / count)}${pen === 'M' && isLast ? 'h1' : ''}`;
-    if (low < high) bars += `M${column} ${y(low)}V${y(high)}`;
-  };
+  const parts = [];
+  let column = -1, low = 0, high = 0, sum = 0, count = 0, isBegin = 1;
   for (let i = 0; i < values.length; i++) {
     const n = values[i];
     if (!(n >= from && n <= to)) continue;
-    const x = columns[i];
-    if (x === column && !breaks[i]) {
+    if (columns[i] === column && !breaks[i]) {
       if (n < low) low = n;
       if (n > high) high = n;
       sum += n;
       count++;
       continue;
     }
-    end(breaks[i]);
-    pen = breaks[i] || column < 0 ? 'M' : 'L';
-    column = x;
+    if (count) parts.push({ column, low, high, average: sum / count, isBegin });
+    isBegin = count ? breaks[i] : 1;
+    column = columns[i];
     low = high = sum = n;
     count = 1;
   }
-  end(true);
-  return { ...grid, line, bars };
+  parts.push({ column, low, high, average: sum / count, isBegin });
+  return { ...gridOf(from, to, least), ...linesOf(parts, gridOf(from, to, least)) };
 }
 
-// The track, with a path for each class of each series that can colour it, and what leads from degrees to its picture. North is up. Longitudes
-// go on beyond 180 degrees; `ride.long` is changed to them.
+function linesOf(parts, grid) {
+  const y = n => ((grid.high - n) / (grid.high - grid.low) * CURVE).toFixed(1);
+  let line = '', bars = '';
+  parts.forEach(({ column, low, high, average, isBegin }, k) => {
+    const isAlone = isBegin && (k + 1 === parts.length || parts[k + 1].isBegin);
+    line += `${isBegin ? 'M' : 'L'}${column} ${y(average)}${isAlone ? 'h1' : ''}`;
+    if (low < high) bars += `M${column} ${y(low)}V${y(high)}`;
+  });
+  return { line, bars };
+}
+
+// The track, with a path for each class of each series that can colour it, and what leads from degrees to its picture. North is up.
+// Longitudes go on beyond 180 degrees; `long` is changed to them.
 function trackOf({ lat, long, series, breaks }) {
   let last = NaN;
   for (let i = 0; i < long.length; i++) {

@@ -11,8 +11,8 @@
 const CLOSING_ROOM = 254, FRAME_ROOM = 16, ABSENT = 0xFFFFFFFF, NO_ROOM = 20, PAGE = 65536;
 
 // Why bytes are no FIT file; why a file is no activity; why a ride is not saved or salvaged.
-const FAULTS = { 1: 'Truncated', 2: 'HeaderSize', 3: 'Magic', 4: 'Protocol', 5: 'HeaderCrc', 6: 'UndefinedLocal', 7: 'SplitMessage', 8: 'FileCrc',
-  9: 'TrailingBytes' };
+const FAULTS = { 1: 'Truncated', 2: 'HeaderSize', 3: 'Magic', 4: 'Protocol', 5: 'HeaderCrc', 6: 'UndefinedLocal', 7: 'SplitMessage',
+  8: 'FileCrc', 9: 'TrailingBytes' };
 const CHECKED = { ...FAULTS, 11: 'NoFileId', 12: 'NotActivity', 13: 'NoLap', 14: 'NoSession', 15: 'NoActivity' };
 const SAVED = { 7: 'NothingRecorded', 8: 'Damaged', 16: 'Changed' };
 const SALVAGED = { 1: 'Truncated', 2: 'HeaderSize', 3: 'Magic', 4: 'Protocol', 22: 'TooLarge' };
@@ -103,6 +103,14 @@ export async function open(source) {
       if (code === NO_ROOM) return { file: await fitrec.plain(it.copy(atData, it.long(length))), summary: it.summary(summary) };
       refuseUnless0(code, SAVED);
       return { file: it.copy(out, it.long(outLength)), summary: it.summary(summary) };
+    },
+
+    // The same with the times in the short form of recorders.
+    async repair(data, journal) {
+      const it = await memory(), room = data.length + CLOSING_ROOM, atData = it.put(data, CLOSING_ROOM), length = it.number(data.length);
+      const atJournal = it.put(journal), journalLength = it.number(journal.length), summary = it.room(28);
+      refuseUnless0(it.call('fitrec_repair', atData, room, length, atJournal, journal.length, journalLength, summary), SAVED);
+      return { file: it.copy(atData, it.long(length)), summary: it.summary(summary) };
     },
 
     // How many bytes of whole messages follow the last commit of a recording.

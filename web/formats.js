@@ -6,7 +6,8 @@ const LOCALE = navigator.languages.find(it => it.split('-')[0] in TEXTS) || 'en-
 
 // The text with what is filled in.
 function text(key, values = {}) {
-  return TEXTS[LANGUAGE][key].replace(/\{(\w+)\}/g, (_, name) => typeof values[name] === 'number' ? numberText(values[name]) : values[name]);
+  const shown = name => typeof values[name] === 'number' ? numberText(values[name]) : values[name];
+  return TEXTS[LANGUAGE][key].replace(/\{(\w+)\}/g, (_, name) => shown(name));
 }
 
 function numberText(n, decimals = 0) {
@@ -21,11 +22,17 @@ function durationText(ms) {
 // A time in seconds since 1989-12-31 00:00 UTC is a date from FIRST_DATE on, and below counts from when the device was switched on.
 const isDated = t => t >= FIRST_DATE && t < 0xFFFFFFFF;
 const dateOf = t => new Date((t + EPOCH) * 1000);
-const shownDate = (t, how) => dateOf(t).toLocaleString(LOCALE, how);
+const MINUTE = { hour: 'numeric', minute: '2-digit' }, SECOND = { ...MINUTE, second: '2-digit' }, ZONE = { timeZoneName: 'short' };
+const DAY = { day: 'numeric', month: 'long', year: 'numeric' };
+const shownTime = (t, how) => isDated(t) ? dateOf(t).toLocaleString(LOCALE, how) : durationText(1000 * t);
 
 // With the zone, which is the browser's.
-const startText = t => isDated(t) ? shownDate(t, { day: 'numeric', month: 'long', year: 'numeric', hour: 'numeric', minute: '2-digit', timeZoneName: 'short' })
-  : durationText(1000 * t);
+const startText = t => shownTime(t, { ...DAY, ...MINUTE, ...ZONE }), momentText = t => shownTime(t, { ...SECOND, ...ZONE });
+
+function zoneText(t) {
+  if (!isDated(t)) return '';
+  return new Intl.DateTimeFormat(LOCALE, ZONE).formatToParts(dateOf(t)).find(it => it.type === 'timeZoneName').value;
+}
 
 function dayText(t) {
   const date = dateOf(t), two = n => String(n).padStart(2, '0');
@@ -34,10 +41,5 @@ function dayText(t) {
 
 // A mark of the axis: the hour and minute, and seconds where the steps need them.
 function clockText(t, begin, step) {
-  if (!isDated(t)) return durationText(1000 * (t - begin));
-  return shownDate(t, { hour: 'numeric', minute: '2-digit', ...(step < 60 ? { second: '2-digit' } : {}) });
+  return isDated(t) ? shownTime(t, step < 60 ? SECOND : MINUTE) : durationText(1000 * (t - begin));
 }
-
-const momentText = t => isDated(t) ? shownDate(t, { hour: 'numeric', minute: '2-digit', second: '2-digit', timeZoneName: 'short' }) : durationText(1000 * t);
-
-const zoneText = t => isDated(t) ? new Intl.DateTimeFormat(LOCALE, { timeZoneName: 'short' }).formatToParts(dateOf(t)).find(it => it.type === 'timeZoneName').value : '';

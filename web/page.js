@@ -1,20 +1,29 @@
 // What a person chooses, and what is shown of it.
 const byId = id => document.getElementById(id);
 
-// ---- questions to the worker
+// ---- questions to the workers
 
-const worker = new Worker(URL.createObjectURL(new Blob([byId('worker').textContent], { type: 'text/javascript' })));
-const asked = new Map();
-worker.onmessage = ({ data: { number, step, answer, failed } }) => {
-  if (step) progress(step);
-  else asked.get(number)(answer || failure(failed));
+const source = URL.createObjectURL(new Blob([byId('worker').textContent], { type: 'text/javascript' }));
+const [saver, painter] = [new Worker(source), new Worker(source)], asked = new Map();
+for (const it of [saver, painter]) it.onmessage = ({ data: { number, step, answer, failed } }) => {
+  if (step) return progress(step);
+  asked.get(number)(answer || { failed });
+  asked.delete(number);
 };
+
+let count = 0;
+function question(worker, about, lent = []) {
+  return new Promise(done => {
+    asked.set(++count, done);
+    worker.postMessage({ number: count, ...about }, lent);
+  });
+}
 
 function failure(reason) {
   return { heading: 'nothing', reasons: [[reason]], next: [], offers: [] };
 }
 
-// The answer to a ride, or to one of its offers.
+// The answer to a ride, or to one of its offers. A recording is drawn while it is saved.
 async function ask(ride, how) {
   progress(0);
   let given;
@@ -24,11 +33,15 @@ async function ask(ride, how) {
     return failure(error instanceof RangeError ? 'tooLarge' : 'unread');
   }
   progress(1);
-  const lent = [given.data, given.journal].filter(it => it && it.length).map(it => it.buffer);
-  return new Promise(done => {
-    asked.set(asked.size, done);
-    worker.postMessage({ number: asked.size - 1, ride: given, how }, lent);
-  });
+  const { data, journal } = given, ahead = data && journal && !how ? question(painter, { recording: { data, journal } }) : null;
+  const answer = await question(saver, { ride: given, how }, [data, journal].filter(it => it && it.length).map(it => it.buffer));
+  if (answer.failed) return failure(answer.failed);
+  const { file, shown, ...said } = answer, bytes = file || shown;
+  if (!bytes) return said;
+  const isAhead = ahead && said.heading === 'saved', records = said.summary && said.summary.records;
+  const drawn = await (isAhead ? ahead : question(painter, { file: bytes, records }));
+  if (drawn.failed) return failure(drawn.failed);
+  return { ...said, file: file && new Blob([file], { type: 'application/octet-stream' }), ride: drawn };
 }
 
 // ---- progress, from 0.3 s on
@@ -52,7 +65,8 @@ function work(isBusy) {
 
 // ---- what was chosen
 
-let rides = [], current = null;
+// Each choice has a number: the answer to an earlier one is not shown.
+let rides = [], current = null, turn = 0;
 
 // With what is shown, if that lacks the one file that is chosen.
 function completed(found) {
@@ -64,33 +78,33 @@ function completed(found) {
 }
 
 async function take(files) {
+  const mine = ++turn;
   work(true);
   byId('list').hidden = byId('result').hidden = true;
   try {
-    const chosen = await files, { rides: found, others } = await ridesOf(chosen);
+    const { rides: found, others } = await ridesOf(await files);
+    if (mine !== turn) return;
     rides = completed(found);
-    if (rides.length > 1) await presentAll(others);
-    else await choose(rides[0] || null);
+    await (rides.length > 1 ? presentAll(others, mine) : choose(rides[0] || null));
   } catch (error) {
     present(failure('unread'));
+    work(false);
   }
-  queue = '';
-  work(false);
 }
 
 async function choose(ride, how) {
+  const mine = ++turn;
   current = ride;
-  if (!ride) return present(failure('noFile'));
   work(true);
-  const answer = await ask(ride, how);
-  name(ride, answer);
+  const answer = ride ? await ask(ride, how) : failure('noFile');
+  if (mine !== turn) return;
+  if (answer.file) name(ride, answer);
   present(answer);
   work(false);
 }
 
 // The name of a new file: by the day on which the ride began, where the browser is.
 function name(ride, answer) {
-  if (!answer.file) return;
   const start = startOf(answer), base = isDated(start) ? dayText(start) + '-ride' : ride.name.replace(/\.[^.]*$/, '') + '-saved';
   const taken = rides.filter(it => it !== ride).map(it => it.saved);
   ride.saved = base + '.fit';
@@ -102,13 +116,15 @@ const startOf = ({ summary, ride }) => summary && summary.start !== null ? summa
 
 // ---- several rides
 
-async function presentAll(others) {
+async function presentAll(others, mine) {
   const rows = [];
+  current = null;
   for (const [i, ride] of rides.entries()) {
     queue = ' ' + text('ofMany', { n: i + 1, all: rides.length });
     if (!byId('progress').hidden) byId('busy').textContent = text('busy') + queue;
     const answer = await ask(ride);
-    name(ride, answer);
+    if (mine !== turn) return;
+    if (answer.file) name(ride, answer);
     rows.push({ ride, heading: answer.heading, file: answer.file, name: answer.name, numbers: numbersOf(answer) });
   }
   const saved = rows.filter(it => it.file);
@@ -119,10 +135,12 @@ async function presentAll(others) {
   link(byId('saveAll'), saved.length ? await zipOf(saved) : null, 'rides.zip', text('downloadAll', { count: saved.length }));
   byId('list').hidden = false;
   byId('list').focus();
+  queue = '';
+  work(false);
 }
 
 function rowOf({ ride, heading, numbers }) {
-  const show = make('button', { type: 'button', ariaLabel: text('show') + ' ' + ride.folder + ride.name }, text('show'));
+  const show = make('button', { type: 'button', 'aria-label': text('show') + ' ' + ride.folder + ride.name }, text('show'));
   show.addEventListener('click', () => choose(ride));
   return make('tr', {}, make('th', { scope: 'row' }, ride.folder + ride.name),
     ...['start', 'duration', 'distance'].map(it => make('td', {}, numbers[it] || '')), make('td', {}, text(heading)), make('td', {}, show));

@@ -1,7 +1,7 @@
 // What is chosen or dropped: files, folders and cards. They are known by their first bytes, and two files of one recording are one ride.
 
-// Files with their folders, of a list of files or of a drop. Chromium reads dropped folders by handles, where the page lies on a disk by them
-// alone, and other browsers by entries. A drop lends both only as long as its event lasts.
+// Files with their folders, of a list of files or of a drop. Chromium reads dropped folders by handles, and by nothing else where the page
+// lies on a disk. Other browsers read them by entries. A drop lends both only as long as its event lasts.
 async function filesOf({ files, items }) {
   const dropped = [...(items || [])], found = [];
   const handles = dropped.map(it => it.getAsFileSystemHandle && it.getAsFileSystemHandle());
@@ -52,7 +52,7 @@ async function ridesOf(files) {
   const ours = found.filter(it => it.kind !== 'other'), folders = new Set(ours.map(it => it.folder));
   if (!ours.length) return { rides: found.slice(0, 1).map(it => rideFrom(it)), others: 0 };
   for (const folder of folders) {
-    const here = ours.filter(it => it.folder === folder), fits = here.filter(it => it.kind === 'fit'), journals = here.filter(it => it.kind === 'journal');
+    const of = kind => ours.filter(it => it.folder === folder && it.kind === kind), fits = of('fit'), journals = of('journal');
     const taken = new Map();
     for (const it of journals) {
       const own = fits.find(data => data.base === it.base && !taken.has(data));

@@ -2,8 +2,8 @@
 
 const TIME = 253, RECORD = 20, LAP = 19, EVENT = 21, DATED = 0x10000000, SEMICIRCLE = 180 / 2 ** 31;
 
-// A field of each series, and one that counts where the first is missing; in its unit a value is raw * scale + offset. `least` is the smallest
-// range of its picture, and `reach` a distance that is usual for it.
+// A field of each series, and one that counts where the first is missing; in its unit a value is raw * scale + offset. `least` is the
+// smallest range of its picture, and `reach` a distance that is usual for it.
 const SERIES = [
   { name: 'speed', fields: [73, 6], scale: 0.0036, offset: 0, least: 1, reach: 10 },
   { name: 'heart', fields: [3], scale: 1, offset: 0, least: 5, reach: 50 },
@@ -18,8 +18,8 @@ const FIELDS = [TIME, 0, 1, 5, ...SERIES.flatMap(it => it.fields)];
 async function rideOf(fitrec, file, expected) {
   const [time, lat, long, distance, ...values] = inTime(await fitrec.columns(file, RECORD, FIELDS, expected || 4096));
   const [eventTime, event, kind] = await fitrec.columns(file, EVENT, [TIME, 0, 1]);
-  const pauses = pausesOf(eventTime, event, kind), resumed = pauses.map(([, to]) => sampleAt(time, to)), breaks = breaksOf(time, time, resumed);
-  const series = [];
+  const pauses = pausesOf(eventTime, event, kind), resumed = pauses.map(([, to]) => sampleAt(time, to));
+  const breaks = breaksOf(time, time, resumed), series = [];
   let at = 0;
   for (const { name, fields, scale, offset, least, reach } of SERIES) {
     const raws = values.slice(at, at += fields.length), found = seriesOf(raws, scale, offset);
@@ -73,14 +73,14 @@ function rangeOf(values, first = 0, last = values.length) {
   return { low, high, average: sum / count, count };
 }
 
-// The range that is drawn of values with this least and greatest. A value counts as a fault if it is far beyond 99 of 100 others: by more than
-// four times their distance from the median, and four times `reach`. `from` and `to` are the least and the greatest of the rest, and `faults`
-// how many there are.
+// The range that is drawn of values with this least and greatest. A value counts as a fault if it is far beyond 99 of 100 others: by more
+// than four times their distance from the median, and four times `reach`. `from` and `to` are the least and the greatest of the rest, and
+// `faults` is how many there are.
 function plausible(values, { low, high }, reach) {
   const step = Math.ceil(values.length / 20000), some = [];
   for (let i = 0; i < values.length; i += step) if (values[i] === values[i]) some.push(values[i]);
-  const sorted = Float64Array.from(some).sort(), cut = Math.min(Math.max(1, Math.floor(sorted.length / 100)), Math.floor((sorted.length - 1) / 2));
-  const median = sorted[sorted.length >> 1], bottom = sorted[cut], top = sorted[sorted.length - 1 - cut];
+  const sorted = Float64Array.from(some).sort(), size = sorted.length, cut = Math.min(Math.max(1, Math.floor(size / 100)), (size - 1) >> 1);
+  const median = sorted[size >> 1], bottom = sorted[cut], top = sorted[size - 1 - cut];
   const lowest = bottom - 4 * Math.max(median - bottom, reach), highest = top + 4 * Math.max(top - median, reach);
   if (low >= lowest && high <= highest) return { from: low, to: high, faults: 0 };
   let from = Infinity, to = -Infinity, faults = 0;

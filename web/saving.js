@@ -1,7 +1,7 @@
 // What can be saved of the files of a ride. What is said of it is named by keys of texts.js, each with its values.
 
-// `data` and `journal` are bytes or missing, `name` is that of the data file, and `unread` the first byte of it that cannot be read, if there
-// is one. `how` is empty, or one of the offers of an earlier answer.
+// `data` and `journal` are bytes or missing, `name` is that of the data file, and `unread` the first byte of it that cannot be read, if
+// there is one. `how` is empty, or one of the offers of an earlier answer.
 async function answerTo(fitrec, ride, how) {
   if (!ride.data) return nothing(ride.journal.length ? ['journalAlone'] : ['emptyFile', { name: ride.journalName }], 'journalAloneNext');
   if (!ride.data.length) return nothing(['emptyFile', { name: ride.name }], ride.journal ? 'emptyNext' : 'emptyAloneNext');
@@ -36,8 +36,8 @@ async function ofEarlier(fitrec, ride) {
   const left = await fitrec.leaveChanged(ride.data, ride.journal);
   try {
     if (!left) throw new FitError('Changed');
-    const saved = await fitrec.save(ride.data, left.journal), reasons = [['changed'], ['earlierWhy', { count: left.count }], ...unreadOf(ride)];
-    return { heading: 'earlier', reasons, next: [['copyNext']], offers: ['data'], ...saved };
+    const saved = await fitrec.save(ride.data, left.journal), why = ['earlierWhy', { count: left.count }];
+    return { heading: 'earlier', reasons: [['changed'], why, ...unreadOf(ride)], next: [['copyNext']], offers: ['data'], ...saved };
   } catch (error) {
     if (!error.kind) throw error;
     return { ...nothing(['changed'], 'copyNext', ['data']), reasons: [['changed'], ...unreadOf(ride)] };
@@ -52,7 +52,8 @@ async function ofFile(fitrec, ride, how) {
     const { summary, kind, place } = await judged(fitrec, data);
     if (!kind && !how) return { heading: 'whole', reasons: [['wholeWhy']], next: [], offers: [], shown: data, summary };
     if (kind in NO_ACTIVITY) {
-      return { heading: 'noActivity', reasons: [['fault' + kind]], next: NO_ACTIVITY[kind] ? [['finishNext']] : [], offers: [], shown: data };
+      const next = NO_ACTIVITY[kind] ? [['finishNext']] : [];
+      return { heading: 'noActivity', reasons: [['fault' + kind]], next, offers: [], shown: data };
     }
     why = kind ? [['fault' + kind, { place }]] : [];
   }

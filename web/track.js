@@ -2,7 +2,8 @@
 
 function trackPicture(track) {
   const { width, height, count, paths, metres } = track, at = ([x, y], element) => placed(element, x / width * 100, y / height * 100);
-  const drawn = svg({ viewBox: `0 0 ${width} ${height.toFixed(1)}`, role: 'img', 'aria-label': text('trackLabel', { n: numberText(count) }) });
+  const label = text('trackLabel', { n: count });
+  const drawn = svg({ viewBox: `0 0 ${width} ${height.toFixed(1)}`, role: 'img', 'aria-label': label });
   const map = make('div', { className: 'map' }, drawn,
     at(track.finishAt, make('span', { className: 'mark finish', title: text('finish') })),
     at(track.startAt, make('span', { className: 'mark begin', title: text('start') })),
@@ -12,8 +13,8 @@ function trackPicture(track) {
     const { paths: own, from, to } = paths.find(it => it.name === name);
     drawn.replaceChildren(path('casing', own.join('')), ...own.map((d, k) => path(name === 'plain' ? 'plain' : 'class' + k, d)));
     const classes = own.map((_, k) => make('span', { className: 'class' + k }));
-    legend.replaceChildren(...(name === 'plain' ? [] : [valueText(name, from), make('span', { className: 'ramp', ariaHidden: true }, ...classes),
-      valueText(name, to)]));
+    const ramp = make('span', { className: 'ramp', 'aria-hidden': true }, ...classes);
+    legend.replaceChildren(...(name === 'plain' ? [] : [valueText(name, from), ramp, valueText(name, to)]));
   };
   const choice = make('select', { id: 'colour' }, ...[...paths].reverse().map(it => make('option', { value: it.name }, text(it.name))));
   choice.addEventListener('change', () => colour(choice.value));
@@ -21,9 +22,9 @@ function trackPicture(track) {
   colour(choice.value);
   const keys = make('div', { className: 'keys' }, make('span', {}, make('i', { className: 'mark begin' }), text('start')),
     make('span', {}, make('i', { className: 'mark finish' }), text('finish')), make('span', {}, text('north')));
-  return make('figure', { className: 'track' },
-    make('figcaption', {}, make('strong', {}, text('track')), paths.length > 1 ? make('label', {}, text('colourBy') + ' ', choice) : null), map,
-    make('div', { className: 'under' }, keys, legend));
+  const chooser = paths.length > 1 ? make('label', {}, text('colourBy') + ' ', choice) : null;
+  const caption = make('figcaption', {}, make('strong', {}, text('track')), chooser);
+  return make('figure', { className: 'track' }, caption, map, make('div', { className: 'under' }, keys, legend));
 }
 
 // A line of a round length.

@@ -1,4 +1,4 @@
-// The worker: it judges, saves and draws, so that the page never stands still. A question has the files of a ride; an answer is what is shown.
+// What the workers do, so that the page never stands still: one judges and saves, while the other reads and draws. Both are of this source.
 
 const fitrec = (async () => {
   const packed = Uint8Array.from(atob('@MODULE@'), c => c.charCodeAt(0));
@@ -6,22 +6,27 @@ const fitrec = (async () => {
   return open(await new Response(unpacked).arrayBuffer());
 })();
 
-onmessage = async ({ data: { number, ride, how } }) => {
+onmessage = async ({ data: { number, ride, how, file, records, recording } }) => {
   const report = step => postMessage({ number, step });
   try {
-    const answer = await answerTo(await fitrec, ride, how), file = answer.file || answer.shown;
-    if (!file) return postMessage({ number, answer });
+    if (ride) {
+      const answer = await answerTo(await fitrec, ride, how), bytes = answer.file || answer.shown;
+      return postMessage({ number, answer }, bytes ? [bytes.buffer] : []);
+    }
+    const found = recording ? await (await fitrec).repair(recording.data, recording.journal) : { file, summary: { records } };
     report(2);
-    const found = await rideOf(await fitrec, file, answer.summary && answer.summary.records);
-    report(3);
-    const columns = columnsOf(found.time);
-    for (const it of found.series) it.curve = found.time.length > 1 ? curveOf(columns, it) : null;
-    found.track = trackOf(found);
-    const { shown, file: saved, ...rest } = answer, { breaks, series, ...drawn } = found;
-    drawn.series = series.map(({ breaks: own, ...it }) => it);
-    const lent = [drawn.time, drawn.lat, drawn.long, drawn.distance, ...series.map(it => it.values)].map(it => it.buffer);
-    postMessage({ number, answer: { ...rest, file: saved && new Blob([saved], { type: 'application/octet-stream' }), ride: drawn } }, lent);
+    const answer = await drawn(await fitrec, found.file, found.summary.records, () => report(3));
+    const lent = [answer.time, answer.lat, answer.long, answer.distance, ...answer.series.map(it => it.values)];
+    postMessage({ number, answer }, lent.map(it => it.buffer));
   } catch (error) {
-    postMessage({ number, failed: error instanceof RangeError ? 'tooLarge' : 'unexpected' });
+    postMessage({ number, failed: error instanceof RangeError ? 'tooLarge' : error.kind || 'unexpected' });
   }
 };
+
+// What the page shows of a file's ride.
+async function drawn(fitrec, file, records, report) {
+  const { breaks, ...ride } = await rideOf(fitrec, file, records), columns = columnsOf(ride.time);
+  report();
+  const curves = ride.series.map(it => ride.time.length > 1 ? curveOf(columns, it) : null), track = trackOf({ ...ride, breaks });
+  return { ...ride, track, series: ride.series.map(({ breaks: own, ...it }, k) => ({ ...it, curve: curves[k] })) };
+}
