@@ -3,8 +3,8 @@
 //
 //     browser.mjs PAGE FOLDER    reads a list of visits from standard input, and writes a list of answers
 //
-// A visit has `width`, `dark`, `languages` (such as "de-CH"), `zone` (such as "Europe/Berlin"), `touch`, `print`, `unread` (from which byte on
-// activity.fit cannot be read), `address` (of the page, if it is not the file PAGE), and `steps`. A step is one of
+// A visit has `width`, `dark`, `languages` (such as "de-CH"), `zone` (such as "Europe/Berlin"), `touch`, `print`, `unread` (from which byte
+// on activity.fit cannot be read), `address` (of the page, if it is not the file PAGE), and `steps`. A step is one of
 //
 //     { files, drop }     paths are chosen by the file input, or dropped on the page, which takes folders too
 //     { click }           a selector is clicked
@@ -18,15 +18,16 @@
 //     { installed }       what keeps it from being installed as an app
 //     { reload }          opens it anew, without a network
 //
-// Where a ride is asked for, it waits for the answer. An answer has what the page shows after each step, what each `evaluate` was, the paths of
-// the downloads, each request that was made, and each line that the browser logged.
+// Where a ride is asked for, it waits for the answer. An answer has what the page shows after each step, what each step made (the value of
+// an expression, the path of a download), each request, and each line that the browser logged.
 
 import { spawn } from 'node:child_process';
 import { mkdtempSync, readFileSync, readdirSync, writeFileSync } from 'node:fs';
 import { join } from 'node:path';
 
 const [page, folder] = process.argv.slice(2);
-const words = ['--headless=new', '--no-sandbox', '--disable-gpu', '--remote-debugging-pipe', '--user-data-dir=' + join(folder, 'profile'), 'about:blank'];
+const profile = '--user-data-dir=' + join(folder, 'profile');
+const words = ['--headless=new', '--no-sandbox', '--disable-gpu', '--remote-debugging-pipe', profile, 'about:blank'];
 const browser = spawn('chromium', words, { stdio: ['ignore', 'ignore', 'ignore', 'pipe', 'pipe'] });
 const waiting = new Map(), listeners = [];
 let received = '', sent = 0;
@@ -60,15 +61,17 @@ const SHOWN = `(() => {
   const text = id => document.getElementById(id).innerText, all = (selector, of) => [...document.querySelectorAll(selector)].map(of);
   const visible = it => it.checkVisibility() && !it.closest('[hidden]');
   const named = [...document.querySelectorAll('input, a, button, select, svg, table, progress')].filter(visible);
-  const nameOf = it => it.getAttribute('aria-label') || it.ariaLabel || it.innerText || (it.caption || {}).innerText || (it.labels && it.labels[0] || {}).innerText || '';
+  const nameOf = it => it.getAttribute('aria-label') || it.getAttribute('aria-labelledby') || it.innerText
+    || (it.labels && it.labels[0] || {}).innerText || '';
   return { heading: text('heading'), reason: text('reason'), next: text('next'), focus: document.activeElement.id,
-    list: document.getElementById('list').hidden ? null : all('#rides tbody tr', row => [...row.cells].map(it => it.innerText)), listHeading: text('listHeading'),
+    list: all('#rides tbody tr', row => [...row.cells].map(it => it.innerText)), listHeading: text('listHeading'),
     numbers: Object.fromEntries(all('dl > div', it => [it.children[0].innerText, it.children[1].innerText])),
     pictures: all('figure', it => it.querySelector('figcaption strong').innerText),
     captions: Object.fromEntries(all('figure.chart figcaption', it => [it.children[0].innerText, it.children[1].innerText])),
     labels: all('svg', it => it.getAttribute('aria-label')), notes: all('.note', it => it.innerText),
-    curves: Object.fromEntries(all('figure.chart', it => [it.querySelector('strong').innerText, { line: it.querySelector('.curve').getAttribute('d'),
-      bars: it.querySelector('.bars').getAttribute('d'), ...it.querySelector('svg').dataset }])),
+    curves: Object.fromEntries(all('figure.chart', it => [it.querySelector('strong').innerText, {
+      line: it.querySelector('.curve').getAttribute('d'), bars: it.querySelector('.bars').getAttribute('d'),
+      ...it.querySelector('svg').dataset }])),
     laps: all('#laps tr', row => [...row.cells].map(it => it.innerText)), offers: all('#offers button', it => it.innerText),
     values: all('.values span', it => it.innerText),
     download: document.getElementById('save').hidden ? '' : document.getElementById('save').download,
@@ -100,7 +103,7 @@ class Visit {
       if (from !== sessionId) return;
       if (method === 'Network.requestWillBeSent') this.requests.push(params.request.url.replace(/^(blob|data):.*/, '$1:'));
       if (method === 'Log.entryAdded') this.logged.push(params.entry.text);
-      if (method === 'Runtime.exceptionThrown') this.logged.push(params.exceptionDetails.exception.description || params.exceptionDetails.text);
+      if (method === 'Runtime.exceptionThrown') this.logged.push(JSON.stringify(params.exceptionDetails));
     });
   }
 
@@ -115,7 +118,8 @@ class Visit {
     this.width = width;
     await this.call('Emulation.setDeviceMetricsOverride', { width, height: 900, deviceScaleFactor: 1, mobile: touch });
     if (touch) await this.call('Emulation.setTouchEmulationEnabled', { enabled: true });
-    await this.call('Emulation.setEmulatedMedia', { media: print ? 'print' : '', features: [{ name: 'prefers-color-scheme', value: dark ? 'dark' : 'light' }] });
+    const features = [{ name: 'prefers-color-scheme', value: dark ? 'dark' : 'light' }];
+    await this.call('Emulation.setEmulatedMedia', { media: print ? 'print' : '', features });
     await this.call('Emulation.setTimezoneOverride', { timezoneId: zone });
     await this.call('Emulation.setUserAgentOverride', { userAgent: await this.evaluate('navigator.userAgent'), acceptLanguage: languages });
     await this.call('Page.navigate', { url: address || 'file://' + page });
@@ -154,7 +158,8 @@ class Visit {
   }
 
   async answered() {
-    await until(() => this.evaluate('!document.body.classList.contains("busy") && !(document.getElementById("result").hidden && document.getElementById("list").hidden)'));
+    const isShown = `!document.body.classList.contains('busy') && ['result', 'list'].some(it => !document.getElementById(it).hidden)`;
+    await until(() => this.evaluate(isShown));
   }
 
   // Does a step, and answers what it made, if anything.

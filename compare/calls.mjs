@@ -1,6 +1,7 @@
 #!/usr/bin/env node
-// Calls web/fitrec.mjs for compare/page.py: reads a list of calls from standard input, each a name, paths of files and other arguments, and writes
-// what each answers. The module's path is in FITREC_MODULE. Bytes are written as hexadecimal digits, and what is refused as its kind and place.
+// Calls web/fitrec.mjs for compare/page.py: reads a list of calls from standard input, each a name, paths of files and other arguments, and
+// writes what each answers. The module's path is in FITREC_MODULE. Bytes are written as hexadecimal digits, what is refused as its kind and
+// place.
 
 import { readFileSync } from 'node:fs';
 import { open } from '../web/fitrec.mjs';

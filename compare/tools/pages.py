@@ -1,19 +1,21 @@
-"""Rides for the page, what the second reader says of them, and visits of the page in a browser."""
+"""Rides for the page, and what the second reader says of them."""
 
-import json
 import math
 import pathlib
 import re
 
 from tools import reader
-from tools.program import NAMES, ROOT, run
+from tools.program import NAMES, run
 
-BROWSER, PAGE = ROOT / "compare/browser.mjs", ROOT / "web/out/fitrec.html"
-WINDOWS = {"wide": {"width": 1280}, "narrow": {"width": 390, "touch": True},
-           "wide and dark": {"width": 1280, "dark": True}, "narrow and dark": {"width": 390, "touch": True, "dark": True}}
 # 2024-11-08 08:00 UTC.
 START = 1100000000 - 1100000000 % 86400 + 8 * 3600
 SEMICIRCLE = 2**31 / 180
+
+# A ride of five minutes with positions and everything that is drawn, but cadence and temperature.
+RIDE = ["start 1000000000 7 cycling"] + [
+    "sample %d lat=%d long=%d alt=%d hr=%d dist=%d speed=%d power=%d" % (
+        1000000000 + at, (47 + at / 5000) * SEMICIRCLE, (8 + (at - 150) ** 2 / 4e6) * SEMICIRCLE, 2700 + at, 110 + at % 60, at * 780,
+        7800 + at % 500, 150 + at % 120) for at in range(300)] + ["commit"]
 
 
 def recorded(fitrec, folder, lines, *words):
@@ -120,14 +122,6 @@ def drawn_of(curve):
     for x, first, last in re.findall(r"M(\d+) ([\d.-]+)V([\d.-]+)", curve["bars"]):
         found[int(x)] = value(first), value(last)
     return found
-
-
-def visits(folder, asked, limit=900):
-    """What the browser answers to some visits; what it prints on standard error is an error here."""
-    status, out, err = run(BROWSER, PAGE, folder, input=json.dumps(asked, default=str), timeout=limit)
-    if (status, err) != (0, ""):
-        raise RuntimeError("the browser ended with %s: %s" % (status, err[-2000:]))
-    return json.loads(out)
 
 
 def copy(files, folder, names):
