@@ -23,7 +23,7 @@ NEEDS = ("fitrec", "node", "dpkg")
 MOST = 3_000_000
 # What is taken as it stands in the tree.
 COPIED = ["include/fitrec.h", "docs/fitrec.1", "completions/fitrec.bash", "completions/_fitrec", "completions/fitrec.fish"]
-MADE = ["fitrec", "fitrec.html", "libfit_c.a", "libfit_device.a", *OBJECTS]
+MADE = ["fitrec", "fitrec.html", "manifest.webmanifest", "service-worker.js", "icon.svg", "libfit_c.a", "libfit_device.a", *OBJECTS]
 # What the launcher needs of a system.
 TOOLS = ["sh", "dirname", "readlink", "find", "sort", "xargs", "sha256sum", "grep"]
 
