@@ -151,18 +151,23 @@ export async function open(source) {
 
     // The whole numbers of some fields in the messages with a global number: a Float64Array for each field, NaN where there is none.
     // `expected` is how many messages there may be; with more the call is made twice.
-    async columns(file, message, fields, expected = 64) {
-      for (let room = expected; ;) {
-        const it = await memory(), at = it.put(file), atFields = it.put(fields), out = it.room(8 * fields.length * room);
-        const rows = it.number(), place = it.number();
-        const size = fields.length * room;
-        const code = it.call('fitrec_columns', at, file.length, new Number(message), atFields, fields.length, room, out, size, rows, place);
-        if (code !== NO_ROOM) {
-          refuseUnless0(code, FAULTS, it.long(place));
-          return fields.map((_, k) => numbersAt(it, out + 8 * k * room, it.long(rows)));
+    columns: async (file, message, fields, expected) => (await fitrec.tables(file, [[message, fields, expected]]))[0],
+
+    // The same for several messages of a file.
+    async tables(file, asked) {
+      const it = await memory(), at = it.put(file), rows = it.number(), place = it.number(), free = it.end;
+      return asked.map(([message, fields, expected = 64]) => {
+        for (let room = expected; ;) {
+          it.end = free;
+          const atFields = it.put(fields), size = fields.length * room, out = it.room(8 * size);
+          const code = it.call('fitrec_columns', at, file.length, new Number(message), atFields, fields.length, room, out, size, rows, place);
+          if (code !== NO_ROOM) {
+            refuseUnless0(code, FAULTS, it.long(place));
+            return fields.map((_, k) => numbersAt(it, out + 8 * k * room, it.long(rows)));
+          }
+          room = it.long(rows);
         }
-        room = it.long(rows);
-      }
+      });
     },
   };
   return fitrec;

@@ -16,9 +16,9 @@ const FIELDS = [TIME, 0, 1, 5, ...SERIES.flatMap(it => it.fields)];
 
 // The ride of a file. Times are seconds since 1989-12-31 00:00 UTC.
 async function rideOf(fitrec, file, expected) {
-  const [time, lat, long, distance, ...values] = inTime(await fitrec.columns(file, RECORD, FIELDS, expected || 4096));
-  const [eventTime, event, kind] = await fitrec.columns(file, EVENT, [TIME, 0, 1]);
-  const pauses = pausesOf(eventTime, event, kind), resumed = pauses.map(([, to]) => sampleAt(time, to));
+  const asked = [[RECORD, FIELDS, expected || 4096], [EVENT, [TIME, 0, 1]], [LAP, [TIME, 2, 7, 8, 9], 1024]];
+  const [records, events, laps] = await fitrec.tables(file, asked), [time, lat, long, distance, ...values] = inTime(records);
+  const pauses = pausesOf(...events), resumed = pauses.map(([, to]) => sampleAt(time, to));
   const breaks = breaksOf(time, time, resumed), series = [];
   let at = 0;
   for (const { name, fields, scale, offset, least, reach } of SERIES) {
@@ -33,7 +33,7 @@ async function rideOf(fitrec, file, expected) {
     distance[i] /= 100;
   }
   const ride = { time, lat, long, distance, series, pauses, breaks: breaksOf(time, lat, resumed) };
-  return { ...ride, ...totalsOf(ride), laps: await lapsOf(fitrec, file, ride) };
+  return { ...ride, ...totalsOf(ride), laps: lapsOf(laps, ride) };
 }
 
 // The columns in the order of their times, without samples whose time is missing or far from all others.
@@ -54,7 +54,7 @@ function seriesOf([values, others], scale, offset) {
   if (others) values.forEach((raw, i) => { if (raw !== raw) values[i] = others[i]; });
   const range = rangeOf(values);
   if (!range.count) return null;
-  for (let i = 0; i < values.length; i++) values[i] = values[i] * scale + offset;
+  if (scale !== 1) for (let i = 0; i < values.length; i++) values[i] = values[i] * scale + offset;
   const { low, high, average } = range;
   return { values, count: range.count, low: low * scale + offset, high: high * scale + offset, average: average * scale + offset };
 }
@@ -168,8 +168,8 @@ function partOf(values, first, last) {
 }
 
 // The laps that the file has, and what its samples say of each; after them the rest of a ride that was cut off.
-async function lapsOf(fitrec, file, { time, distance, series, pauses }) {
-  const [end, start, elapsed, timer, length] = await fitrec.columns(file, LAP, [TIME, 2, 7, 8, 9], 1024), laps = [];
+function lapsOf([end, start, elapsed, timer, length], { time, distance, series, pauses }) {
+  const laps = [];
   const of = (from, to, given) => {
     const first = sampleAt(time, from), last = Math.min(sampleAt(time, to + (given.isLast ? 1 : 0)), time.length), part = {};
     for (const { name, values } of series) part[name] = partOf(values, first, last);

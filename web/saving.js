@@ -80,10 +80,10 @@ async function judged(fitrec, file) {
 async function salvaged(fitrec, ride, why, { kept, looked, more, file }, how) {
   const isOpen = new DataView(ride.data.buffer, ride.data.byteOffset).getUint32(4, true) === 0;
   const beside = isOpen && !ride.journal ? [['journalBeside']] : [];
-  if (!kept) return { ...nothing(why[0] || ['noMessage'], 'notFitNext'), next: beside };
+  if (!kept) return { ...nothing(why[0] || ['noMessage'], 'notFitNext'), reasons: [...(why.length ? why : [['noMessage']]), ...beside] };
   const plain = await fitrec.plain(file).catch(error => { if (error.kind) return file; throw error; });
   const { summary } = await judged(fitrec, plain);
-  const reasons = [...why, ['salvagedWhy', { kept, looked }], ...(more ? [['salvagedMore', { more }]] : [])];
-  const next = [...beside, ...(kept < looked ? [['skipNext']] : []), ...(summary ? [] : [['finishNext']])];
+  const reasons = [...why, ['salvagedWhy', { kept, looked }], ...(more ? [['salvagedMore', { more }]] : []), ...beside];
+  const next = [...(kept < looked ? [['skipNext']] : []), ...(summary ? [] : [['finishNext']])];
   return { heading: 'salvaged', reasons, next, offers: more && how !== 'all' ? ['all'] : [], file: plain, summary };
 }

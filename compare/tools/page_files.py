@@ -105,7 +105,7 @@ def of_choosing(fitrec, folder, shots=None):
         take = [{"download": "#save"}]
         for name, order in (("the ride first", [ride, journal]), ("the journal first", [journal, ride])):
             browser.visit("%s, %s" % (name, window), [{"files": [it]} for it in order] + take, last(SAVED, saved), **WINDOWS[window])
-        browser.visit("the ride alone, %s" % window, [{"files": [ride]}, *take], last(READABLE, alone, next="If activity.frj is beside it"),
+        browser.visit("the ride alone, %s" % window, [{"files": [ride]}, *take], last(READABLE, alone, "If activity.frj is beside it"),
                       **WINDOWS[window])
     deep = folder / "card/GARMIN/ACTIVITY"
     deep.parent.mkdir(parents=True)
