@@ -19,8 +19,8 @@ function gridOf(from, to, least) {
 
 // The column of each sample.
 function columnsOf(time) {
-  const begin = time[0], perSecond = COLUMNS / (time[time.length - 1] - begin || 1), found = new Uint16Array(time.length);
-  for (let i = 0; i < time.length; i++) found[i] = Math.min((time[i] - begin) * perSecond, COLUMNS - 1);
+  const begin = time[0], seconds = time[time.length - 1] - begin || 1, found = new Uint16Array(time.length);
+  for (let i = 0; i < time.length; i++) found[i] = Math.min((time[i] - begin) * COLUMNS / seconds, COLUMNS - 1);
   return found;
 }
 

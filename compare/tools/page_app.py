@@ -14,10 +14,22 @@ MOST_MS, MOST_STILL_MS = 8000, 500
 
 
 class Server(http.server.SimpleHTTPRequestHandler):
-    """Gives the files of web/out, and logs nothing."""
+    """Gives the files of web/out, and logs nothing. The page is given twice: to be opened, and to be kept."""
 
-    def __init__(self, *given):
-        super().__init__(*given, directory=str(PAGE.parent))
+    given = 0
+
+    def __init__(self, *words):
+        super().__init__(*words, directory=str(PAGE.parent))
+
+    def do_GET(self):
+        Server.given += self.path == "/fitrec.html"
+        if self.path == "/fitrec.html" and Server.given > 2:
+            return self.send_error(503)
+        return super().do_GET()
+
+    def end_headers(self):
+        self.send_header("Cache-Control", "no-store")
+        super().end_headers()
 
     def log_message(self, *words):
         pass
@@ -27,6 +39,7 @@ def of_an_app(fitrec, folder, shots=None):
     """The page is installed where it is served, and saves a ride without a connection."""
     torn = recorded(fitrec, folder / "torn", RIDE)
     run(fitrec, "save", torn, folder / "ride.fit")
+    Server.given = 0
     server = http.server.ThreadingHTTPServer(("127.0.0.1", 0), Server)
     threading.Thread(target=server.serve_forever, daemon=True).start()
     browser, address = Browser(folder, shots), "http://127.0.0.1:%d/fitrec.html" % server.server_port

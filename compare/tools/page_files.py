@@ -124,6 +124,9 @@ def of_choosing(fitrec, folder, shots=None):
     browser.visit("bytes after the end, read", [{"files": longer}, {"click": "#offers button"}, {"download": "#save"}],
                   last(READABLE, by("all.fit", "salvage", "--all", "--plain", *longer)))
     more = recorded(fitrec, folder / "more", [*RIDE, *NOT_COMMITTED])
+    # A header that gives what was committed: until the ride is finished its bytes are free.
+    data = (more / NAMES[0]).read_bytes()
+    (more / NAMES[0]).write_bytes(data[:4] + (ride.stat().st_size - 14).to_bytes(4, "little") + data[8:])
     browser.visit("the end that was not confirmed", [{"files": both(more)}, {"click": "#offers button"}, {"download": "#save"}],
                   last(READABLE, by("end.fit", "salvage", "--all", "--plain", more / NAMES[0]), next="fitrec salvage --finish"))
     other = recorded(fitrec, folder / "other", [*RIDE, "sample 1000000300 hr=100", "commit"])

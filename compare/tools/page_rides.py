@@ -45,7 +45,7 @@ def of_numbers(fitrec, folder, shots=None):
         if not where.exists():
             run(fitrec, "save", recorded(fitrec, where, lines), where.with_suffix(".fit"))
         found = rows(where.with_suffix(".fit").read_bytes())
-        browser.visit("%s, %s" % (name, window), [{"files": both(where)}, outline], judged(found, 3), **WINDOWS[window])
+        browser.visit("%s, %s" % (name, window), [{"files": both(where)}, outline], judged(found, 4), **WINDOWS[window])
     yield from browser.outcomes()
 
 
@@ -128,7 +128,7 @@ def of_looking(fitrec, folder, shots=None):
     def of_cut(shown, made):
         seconds = kept[-1]["timestamp"] - kept[0]["timestamp"]
         clock = lambda n: "%d:%02d:%02d" % (n // 3600, n // 60 % 60, n % 60)
-        numbers = {"Duration": clock(seconds), "Without pauses": clock(seconds - 600),
+        numbers = {"Duration": clock(seconds), "Without pauses": clock(seconds - 605),
                    "Distance": rounded(kept[-1]["distance"] / 1e5, 2) + " km", "Samples": f"{len(kept):,}", "Laps": "3",
                    "Ascent": rounded(ascent_of(kept), 0) + " m"}
         yield "numbers", differs({it: shown[0]["numbers"].get(it) for it in numbers}, numbers)

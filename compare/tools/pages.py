@@ -32,12 +32,15 @@ def both(folder):
 
 
 def tour(seconds=3000, begin=START, longitude=8.5):
-    """A ride with everything that is drawn: a pause, a gap, two laps, noise, and one wrong value of power."""
+    """A ride with everything that is drawn: a long and a short pause, a gap, two laps, noise, and one wrong value of power."""
     lines, at, distance = ["start %d 7 cycling" % begin], begin, 0
     for i in range(seconds):
         if i == seconds // 4:
             lines += ["pause %d" % at, "resume %d" % (at + 600)]
             at += 600
+        if i == 5 * seconds // 8:
+            lines += ["pause %d" % at, "resume %d" % (at + 5)]
+            at += 5
         if i in (seconds // 3, 2 * seconds // 3):
             lines.append("lap %d" % at)
         if i == 3 * seconds // 4:
@@ -107,7 +110,7 @@ def columns_of(pairs, count=1200):
     """The least and the greatest value in each column of a picture."""
     begin, end, found = pairs[0][0], pairs[-1][0], {}
     for time, value in pairs:
-        column = min(int((time - begin) / ((end - begin) or 1) * count), count - 1)
+        column = min((time - begin) * count // ((end - begin) or 1), count - 1)
         low, high = found.get(column, (value, value))
         found[column] = min(low, value), max(high, value)
     return found
