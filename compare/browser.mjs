@@ -3,16 +3,31 @@
 //
 //     browser.mjs PAGE FOLDER    reads a list of visits from standard input, and writes a list of answers
 //
-// A visit has `files` (paths), `drop` (or chosen by the file input), `width`, `dark`, `keyboard` (the download is reached and taken by
-// keys), `unread` (from which byte on activity.fit cannot be read) and `screenshot` (a path, or none). An answer has the texts of the page,
-// the downloaded file, each request that was made, each line that the browser logged, and whether the page is wider than the window.
+// A visit has `width`, `dark`, `languages` (such as "de-CH"), `zone` (such as "Europe/Berlin"), `touch`, `print`, `unread` (from which byte
+// on activity.fit cannot be read), `address` (of the page, if it is not the file PAGE), and `steps`. A step is one of
+//
+//     { files, drop }     paths are chosen by the file input, or dropped on the page, which takes folders too
+//     { click }           a selector is clicked
+//     { keys }            such as ["Tab", "Enter"]
+//     { point }           a selector, and the place in it in hundredths of its width and height: the pointer goes there
+//     { touchAt }         the same for a finger
+//     { evaluate }        what an expression is
+//     { download }        by a click on the selector, or by the key Enter
+//     { screenshot }      a path
+//     { wait }            milliseconds
+//     { installed }       what keeps it from being installed as an app
+//     { reload }          opens it anew, without a network
+//
+// Where a ride is asked for, it waits for the answer. An answer has what the page shows after each step, what each step made (the value of
+// an expression, the path of a download), each request, and each line that the browser logged.
 
 import { spawn } from 'node:child_process';
 import { mkdtempSync, readFileSync, readdirSync, writeFileSync } from 'node:fs';
-import { basename, join } from 'node:path';
+import { join } from 'node:path';
 
 const [page, folder] = process.argv.slice(2);
-const words = ['--headless=new', '--no-sandbox', '--disable-gpu', '--remote-debugging-pipe', '--user-data-dir=' + join(folder, 'profile'), 'about:blank'];
+const profile = '--user-data-dir=' + join(folder, 'profile');
+const words = ['--headless=new', '--no-sandbox', '--disable-gpu', '--remote-debugging-pipe', profile, 'about:blank'];
 const browser = spawn('chromium', words, { stdio: ['ignore', 'ignore', 'ignore', 'pipe', 'pipe'] });
 const waiting = new Map(), listeners = [];
 let received = '', sent = 0;
@@ -34,23 +49,33 @@ function send(method, params = {}, sessionId) {
 }
 
 async function until(holds) {
-  for (let tries = 0; tries < 600; tries++) {
+  for (let tries = 0; tries < 3000; tries++) {
     const found = await holds();
     if (found) return found;
-    await new Promise(done => setTimeout(done, 50));
+    await new Promise(done => setTimeout(done, 10));
   }
   throw new Error('waited too long');
 }
 
 const SHOWN = `(() => {
-  const text = id => document.getElementById(id).textContent;
-  const names = [...document.querySelectorAll('input, a:not([hidden]), svg')].map(it =>
-    it.getAttribute('aria-label') || it.textContent || (it.labels && it.labels[0].textContent) || '');
+  const text = id => document.getElementById(id).innerText, all = (selector, of) => [...document.querySelectorAll(selector)].map(of);
+  const visible = it => it.checkVisibility() && !it.closest('[hidden]');
+  const named = [...document.querySelectorAll('input, a, button, select, svg, table, progress')].filter(visible);
+  const nameOf = it => it.getAttribute('aria-label') || it.getAttribute('aria-labelledby') || it.innerText
+    || (it.labels && it.labels[0] || {}).innerText || '';
   return { heading: text('heading'), reason: text('reason'), next: text('next'), focus: document.activeElement.id,
-    numbers: Object.fromEntries([...document.querySelectorAll('dl > div')].map(it => [it.children[0].textContent, it.children[1].textContent])),
-    pictures: [...document.querySelectorAll('figure')].map(it => it.querySelector('figcaption span').textContent),
+    list: all('#rides tbody tr', row => [...row.cells].map(it => it.innerText)), listHeading: text('listHeading'),
+    numbers: Object.fromEntries(all('dl > div', it => [it.children[0].innerText, it.children[1].innerText])),
+    pictures: all('figure', it => it.querySelector('figcaption strong').innerText),
+    captions: Object.fromEntries(all('figure.chart figcaption', it => [it.children[0].innerText, it.children[1].innerText])),
+    labels: all('svg', it => it.getAttribute('aria-label')), notes: all('.note', it => it.innerText),
+    curves: Object.fromEntries(all('figure.chart', it => [it.querySelector('strong').innerText, {
+      line: it.querySelector('.curve').getAttribute('d'), bars: it.querySelector('.bars').getAttribute('d'),
+      ...it.querySelector('svg').dataset }])),
+    laps: all('#laps tr', row => [...row.cells].map(it => it.innerText)), offers: all('#offers button', it => it.innerText),
+    values: all('.values span', it => it.innerText),
     download: document.getElementById('save').hidden ? '' : document.getElementById('save').download,
-    unnamed: names.filter(it => !it.trim()).length, wide: document.documentElement.scrollWidth > innerWidth };
+    unnamed: named.filter(it => !nameOf(it).trim()).length, wide: document.documentElement.scrollWidth > innerWidth };
 })()`;
 
 // From this byte on activity.fit cannot be read.
@@ -67,69 +92,144 @@ const unreadFrom = place => `(() => {
   };
 })()`;
 
-async function visit({ files, drop, width = 900, dark = false, keyboard = false, screenshot, unread }) {
-  const { targetId } = await send('Target.createTarget', { url: 'about:blank' });
-  const { sessionId } = await send('Target.attachToTarget', { targetId, flatten: true });
-  const call = (method, params) => send(method, params, sessionId);
-  const evaluate = async expression => (await call('Runtime.evaluate', { expression, awaitPromise: true, returnByValue: true })).result.value;
-  const requests = [], logged = [];
-  listeners.push(({ sessionId: from, method, params }) => {
-    if (from !== sessionId) return;
-    if (method === 'Network.requestWillBeSent') requests.push(params.request.url.replace(/^(blob|data):.*/, '$1:'));
-    if (method === 'Log.entryAdded') logged.push(params.entry.text);
-    if (method === 'Runtime.exceptionThrown') logged.push(params.exceptionDetails.text);
-  });
-  for (const part of ['Page', 'DOM', 'Runtime', 'Network', 'Log']) await call(part + '.enable');
-  await call('Emulation.setDeviceMetricsOverride', { width, height: 900, deviceScaleFactor: 1, mobile: width < 600 });
-  await call('Emulation.setEmulatedMedia', { features: [{ name: 'prefers-color-scheme', value: dark ? 'dark' : 'light' }] });
-  await call('Page.navigate', { url: 'file://' + page });
-  await until(() => evaluate('document.readyState === "complete" && document.title !== "fitrec"'));
-  if (unread) await evaluate(unreadFrom(unread));
-  const begun = Date.now();
-  if (drop) {
-    const made = files.map(it => `file(${JSON.stringify(readFileSync(it).toString('base64'))}, ${JSON.stringify(basename(it))})`);
-    await evaluate(`(() => {
-      const file = (bytes, name) => new File([Uint8Array.from(atob(bytes), c => c.charCodeAt(0))], name);
-      const dataTransfer = new DataTransfer();
-      for (const it of [${made}]) dataTransfer.items.add(it);
-      document.body.dispatchEvent(new DragEvent('drop', { dataTransfer, bubbles: true, cancelable: true }));
+const KEYS = { Tab: 9, Enter: 13, ' ': 32, ArrowLeft: 37, ArrowUp: 38, ArrowRight: 39, ArrowDown: 40, End: 35, Home: 36 };
+
+class Visit {
+  constructor(sessionId) {
+    this.requests = [];
+    this.logged = [];
+    this.call = (method, params) => send(method, params, sessionId);
+    listeners.push(({ sessionId: from, method, params }) => {
+      if (from !== sessionId) return;
+      if (method === 'Network.requestWillBeSent') this.requests.push(params.request.url.replace(/^(blob|data):.*/, '$1:'));
+      if (method === 'Log.entryAdded') this.logged.push(params.entry.text);
+      if (method === 'Runtime.exceptionThrown') this.logged.push(JSON.stringify(params.exceptionDetails));
+    });
+  }
+
+  async evaluate(expression) {
+    const { result, exceptionDetails } = await this.call('Runtime.evaluate', { expression, awaitPromise: true, returnByValue: true });
+    if (exceptionDetails) throw new Error(expression.slice(0, 200) + ': ' + (exceptionDetails.exception || {}).description);
+    return result.value;
+  }
+
+  async open({ width = 1280, dark = false, languages = 'en-US', zone = 'UTC', touch = false, print = false, unread, address }) {
+    for (const part of ['Page', 'DOM', 'Runtime', 'Network', 'Log']) await this.call(part + '.enable');
+    this.width = width;
+    await this.call('Emulation.setDeviceMetricsOverride', { width, height: 900, deviceScaleFactor: 1, mobile: touch });
+    if (touch) await this.call('Emulation.setTouchEmulationEnabled', { enabled: true });
+    const features = [{ name: 'prefers-color-scheme', value: dark ? 'dark' : 'light' }];
+    await this.call('Emulation.setEmulatedMedia', { media: print ? 'print' : '', features });
+    await this.call('Emulation.setTimezoneOverride', { timezoneId: zone });
+    await this.call('Emulation.setUserAgentOverride', { userAgent: await this.evaluate('navigator.userAgent'), acceptLanguage: languages });
+    await this.call('Page.navigate', { url: address || 'file://' + page });
+    await until(() => this.evaluate('document.readyState === "complete" && document.title !== "fitrec"'));
+    if (unread) await this.evaluate(unreadFrom(unread));
+  }
+
+  async placeOf(selector, across = 50, down = 50) {
+    return this.evaluate(`(() => {
+      const it = document.querySelector(${JSON.stringify(selector)});
+      it.scrollIntoView({ block: 'center' });
+      const { left, top, width, height } = it.getBoundingClientRect();
+      return { x: left + width * ${across} / 100, y: top + height * ${down} / 100 };
     })()`);
-  } else {
-    const { root } = await call('DOM.getDocument');
-    const { nodeId } = await call('DOM.querySelector', { nodeId: root.nodeId, selector: '#files' });
-    await call('DOM.setFileInputFiles', { nodeId, files });
   }
-  await until(() => evaluate('!document.getElementById("result").hidden && document.getElementById("busy").textContent === ""'));
-  const answer = { ...await evaluate(SHOWN), ms: Date.now() - begun };
-  if (answer.download) answer.file = await downloaded(call, evaluate, keyboard);
-  if (screenshot) {
-    const { data } = await call('Page.captureScreenshot', { captureBeyondViewport: true, clip: {
-      x: 0, y: 0, width, height: await evaluate('document.documentElement.scrollHeight'), scale: 1 } });
-    writeFileSync(screenshot, Buffer.from(data, 'base64'));
+
+  async click(selector) {
+    await this.evaluate(`document.querySelector(${JSON.stringify(selector)}).click()`);
   }
-  await send('Target.closeTarget', { targetId });
-  return { ...answer, requests, logged };
+
+  async press(key) {
+    const it = { key, code: key === ' ' ? 'Space' : key, windowsVirtualKeyCode: KEYS[key], text: { Enter: '\r', ' ': ' ' }[key] };
+    await this.call('Input.dispatchKeyEvent', { type: 'keyDown', ...it });
+    await this.call('Input.dispatchKeyEvent', { type: 'keyUp', ...it });
+  }
+
+  async choose(files, drop) {
+    if (drop) {
+      const data = { items: [], files, dragOperationsMask: 1 };
+      for (const type of ['dragEnter', 'dragOver', 'drop']) await this.call('Input.dispatchDragEvent', { type, x: 100, y: 100, data });
+    } else {
+      const { root } = await this.call('DOM.getDocument');
+      const { nodeId } = await this.call('DOM.querySelector', { nodeId: root.nodeId, selector: '#files' });
+      await this.call('DOM.setFileInputFiles', { nodeId, files });
+    }
+  }
+
+  async answered() {
+    const isShown = `!document.body.classList.contains('busy') && ['result', 'list'].some(it => !document.getElementById(it).hidden)`;
+    await until(() => this.evaluate(isShown));
+  }
+
+  // Does a step, and answers what it made, if anything.
+  async step({ files, drop, click, keys, point, touchAt, evaluate, download, screenshot, wait, installed, reload }) {
+    if (files) {
+      const begun = Date.now();
+      await this.choose(files, drop);
+      await new Promise(done => setTimeout(done, 20));
+      await this.answered();
+      return Date.now() - begun;
+    }
+    if (click) {
+      await this.click(click);
+      await new Promise(done => setTimeout(done, 20));
+      return this.answered();
+    }
+    if (keys) {
+      for (const it of keys) await this.press(it);
+      return undefined;
+    }
+    if (point) return this.call('Input.dispatchMouseEvent', { type: 'mouseMoved', ...await this.placeOf(...point) });
+    if (touchAt) {
+      const touchPoints = [await this.placeOf(...touchAt)];
+      await this.call('Input.dispatchTouchEvent', { type: 'touchStart', touchPoints });
+      return this.call('Input.dispatchTouchEvent', { type: 'touchEnd', touchPoints: [] });
+    }
+    if (download) {
+      const to = mkdtempSync(join(folder, 'down-'));
+      await send('Browser.setDownloadBehavior', { behavior: 'allow', downloadPath: to });
+      if (download === 'Enter') await this.press('Enter'); else await this.click(download);
+      const name = await until(() => readdirSync(to).find(it => !it.endsWith('.crdownload')));
+      return join(to, name);
+    }
+    if (screenshot) {
+      await this.evaluate('scrollTo(0, 0)');
+      const { data } = await this.call('Page.captureScreenshot', { captureBeyondViewport: true, clip: {
+        x: 0, y: 0, width: this.width, height: await this.evaluate('document.documentElement.scrollHeight'), scale: 1 } });
+      return writeFileSync(screenshot, Buffer.from(data, 'base64'));
+    }
+    if (installed) return (await this.call('Page.getInstallabilityErrors')).installabilityErrors.map(it => it.errorId);
+    if (reload) {
+      await this.call('Network.emulateNetworkConditions', { offline: true, latency: 0, downloadThroughput: -1, uploadThroughput: -1 });
+      await this.evaluate('document.title = "fitrec"');
+      await this.call('Page.reload');
+      return until(() => this.evaluate('document.readyState === "complete" && document.title !== "fitrec"').catch(() => false));
+    }
+    if (wait) return new Promise(done => setTimeout(done, wait));
+    return this.evaluate(evaluate);
+  }
 }
 
-// Takes the download by a click, or by the keys Tab and Enter from where the focus is.
-async function downloaded(call, evaluate, keyboard) {
-  const to = mkdtempSync(join(folder, 'down-'));
-  await send('Browser.setDownloadBehavior', { behavior: 'allow', downloadPath: to });
-  if (keyboard) {
-    for (const [key, code, number] of [['Tab', 'Tab', 9], ['Enter', 'Enter', 13]]) {
-      const it = { key, code, windowsVirtualKeyCode: number, text: key === 'Enter' ? '\r' : undefined };
-      await call('Input.dispatchKeyEvent', { type: 'keyDown', ...it });
-      await call('Input.dispatchKeyEvent', { type: 'keyUp', ...it });
+async function visited(asked) {
+  const { targetId } = await send('Target.createTarget', { url: 'about:blank' });
+  const { sessionId } = await send('Target.attachToTarget', { targetId, flatten: true });
+  const visit = new Visit(sessionId), made = [], shown = [];
+  try {
+    await visit.open(asked);
+    for (const it of asked.steps) {
+      made.push(await visit.step(it) ?? null);
+      shown.push(await visit.evaluate(SHOWN));
     }
-  } else {
-    await evaluate('document.getElementById("save").click()');
+  } catch (error) {
+    visit.logged.push(String(error.stack));
   }
-  const name = await until(() => readdirSync(to).find(it => !it.endsWith('.crdownload')));
-  return join(to, name);
+  await send('Target.closeTarget', { targetId });
+  return { made, shown, requests: visit.requests, logged: visit.logged };
 }
 
 const answers = [];
-for (const it of JSON.parse(readFileSync(0, 'utf8'))) answers.push(await visit(it));
+for (const it of JSON.parse(readFileSync(0, 'utf8'))) answers.push(await visited(it));
 process.stdout.write(JSON.stringify(answers));
 await send('Browser.close').catch(() => {});
 browser.kill();

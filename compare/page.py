@@ -1,139 +1,100 @@
 #!/usr/bin/env -S python3 -B
 """Compares the page and its WebAssembly module with the program: the module under Node, as the library for C is compared, and the page in
-headless Chromium, for each kind of input and each refusal. It makes web/out/fitrec.html first.
+headless Chromium, wide and narrow, light and dark. It makes web/out/fitrec.html first.
 
-    compare/page.py FOLDER
+    compare/page.py FOLDER [GROUP..]
 
-puts a screenshot of each visit into a new folder, to be looked at: wide and light, narrow and dark."""
+makes no page, and puts a screenshot of each visit into a new folder, to be looked at."""
 
 import json
 import os
 import pathlib
+import random
+import re
 import shutil
 import subprocess
 import sys
 import tempfile
 
-from tools import release
+from columns import refusal_of, rows_of
+from tools import reader, release
 from tools.checks import differs, unless
+from tools.fit_files import damaged, made
 from tools.library_calls import of_files, of_recordings, of_shown_and_checked
 from tools.needs import missing
-from tools.program import FITREC, NAMES, ROOT, bytes_of, holds, run
-from tools.rides import uncommitted
+from tools.page_app import of_a_long_ride, of_an_app
+from tools.page_files import of_choosing, of_inputs
+from tools.page_people import of_people
+from tools.page_rides import of_looking, of_numbers
+from tools.pages import RIDE, both, recorded, tour
+from tools.program import FITREC, NAMES, ROOT, run
+from tools.visits import PAGE
 
 NEEDS = ("fitrec", "rt", "node", "wasm-opt", "chromium")
 WEB, MODULE = ROOT / "web", ROOT / "compare/module.mjs"
-
-# A ride with positions and everything that is drawn.
-RIDE = ["start 1000000000 7 cycling"] + [
-    "sample %d lat=%d long=%d alt=%d hr=%d dist=%d speed=%d power=%d" % (
-        1000000000 + at, (47 + at / 5000) * 2**31 / 180, (8 + (at - 150) ** 2 / 4e6) * 2**31 / 180, 2700 + at, 110 + at % 60, at * 780, 7800 + at % 500,
-        150 + at % 120) for at in range(300)] + ["commit"]
-
-NOTHING = "Nothing could be saved"
+GROUPS = of_inputs, of_choosing, of_numbers, of_looking, of_people, of_an_app, of_a_long_ride
+# The most bytes of the page.
+MOST = 160_000
 
 
-def inputs(fitrec, folder):
-    """Chosen files of each kind, each with what the page has to show: its heading, words of its reason, and the file that it offers; and,
-    if activity.fit cannot be read to its end, the first byte that cannot."""
-    torn, script = folder / "torn", folder / "script"
-    torn.mkdir()
-    script.write_text("\n".join(RIDE))
-    run(fitrec, "replay", script, torn)
-    longer = folder / "longer"
-    longer.mkdir()
-    script.write_text("\n".join([*RIDE, "sample 1000000300 hr=100", "commit"]))
-    run(fitrec, "replay", script, longer)
-    ride, journal = (torn / name for name in NAMES)
-    run(fitrec, "repair", shutil.copytree(torn, folder / "mended"))
-    run(fitrec, "save", torn, folder / "ride.fit")
-    whole = (folder / "mended/activity.fit").read_bytes()
-    made = lambda name, content: [(folder / name, (folder / name).write_bytes(content))[0]]
-    run(fitrec, "salvage", "--plain", ride, folder / "salvaged.fit")
-    salvaged = (folder / "salvaged.fit").read_bytes()
-    run(fitrec, "salvage", "--plain", *made("cut.fit", whole[:3000]), folder / "kept.fit")
-    cut = (folder / "kept.fit").read_bytes()
-    wrong = bytes([*whole[:-1], whole[-1] ^ 1])
-    run(fitrec, "salvage", "--plain", *made("wrong.fit", wrong), folder / "mended.fit")
-    yield "a recording", [ride, journal], "The ride is saved", "confirmed", (folder / "ride.fit").read_bytes()
-    more = folder / "more"
-    more.mkdir()
-    script.write_text("\n".join([*RIDE, *("sample %d hr=100 power=200 dist=%d" % (1000000300 + at, 240000 + at) for at in range(120))]))
-    run(fitrec, "replay", script, more)
-    script.write_text("\n".join([*RIDE, "sample 1000000300 hr=100", "commit"]))
-    changed = folder / "changed"
-    changed.mkdir()
-    run(fitrec, "replay", "--checked", script, changed)
-    bytes_there = bytearray((changed / "activity.fit").read_bytes())
-    bytes_there[-1] ^= 1
-    (changed / "activity.fit").write_bytes(bytes_there)
-    both = lambda where: [where / name for name in NAMES]
-    count, left_out = uncommitted(*holds(more)), len(bytes_there) - ride.stat().st_size
-    saved = (folder / "ride.fit").read_bytes()
-    yield "a recording and more messages", both(more), "The ride is saved", "%s bytes of whole messages" % f"{count:,}", saved
-    yield "a recording with a changed byte", both(changed), "An earlier part", "the last %d bytes" % left_out, saved
-    bytes_there[100] ^= 1
-    all_over = [*made("activity.fit", bytes(bytes_there)), changed / "activity.frj"]
-    yield "a recording changed all over", all_over, NOTHING, "have changed", None
-    end = ride.stat().st_size
-    yield "a tail that cannot be read", both(more), "The ride is saved", "from byte %s on" % f"{end:,}", saved, end
-    yield "a body that cannot be read", both(more), NOTHING, "from byte 4,096 on", None, 4096
-    yield "a whole file", made("whole.fit", whole), "The file is whole", "checksum is right", None
-    yield "a file that was cut off", made("cut.fit", whole[:3000]), "The readable part is saved", "ends too soon", cut
-    yield "a ride without its journal", [ride], "The readable part is saved", "checksum of the file is wrong", salvaged
-    yield "a wrong checksum", [folder / "wrong.fit"], "The readable part is saved", "checksum of the file is wrong", (folder / "mended.fit").read_bytes()
-    yield "a file without a summary", [folder / "salvaged.fit"], "The file is readable", "no lap", None
-    yield "no FIT file", made("notes.fit", b"notes of a ride"), NOTHING, "not a FIT file", None
-    yield "an empty file", made("empty.fit", b""), NOTHING, "not a FIT file", None
-    yield "files of two rides", [ride, longer / "activity.frj"], NOTHING, "do not fit together", None
-    yield "a journal of nothing", [ride, *made("none.frj", b"")], NOTHING, "not confirmed anything", None
-    yield "a journal alone", [journal], NOTHING, "no ride in it", None
-    yield "two FIT files", [ride, folder / "whole.fit"], NOTHING, "either one FIT file", None
+def of_calls(fitrec, many, seed):
+    """The calls for JavaScript under Node: columns, texts and refusals by the second reader, and rides by the program."""
+    pick, asked, wanted = random.Random(seed), [], []
+    with tempfile.TemporaryDirectory() as scratch:
+        folder = pathlib.Path(scratch)
+        for at in range(many):
+            data, path = damaged(pick, made(pick)) if at % 3 == 0 else made(pick), folder / ("%d.fit" % at)
+            path.write_bytes(data)
+            refusal = refusal_of(data)
+            kind, _, place = (refusal or "").partition(" at ")
+            refused = {"kind": kind, "place": int(place)} if refusal else None
+            found = [] if refusal else [number for number, _, _ in reader.messages(data, False, lambda *it: it)[3]]
+            for message in sorted({20, *found}):
+                fields = [253, *pick.sample(range(256), 5), *range(9)]
+                asked.append({"name": "columns", "files": [path], "more": [message, fields, pick.choice([0, 1, 64])]})
+                wanted.append(refused or [[row.get(field) for row in rows_of(data, message)] for field in fields])
+            asked.append({"name": "show", "files": [path]})
+            wanted.append(refused or reader.show(data).encode().hex())
+        torn = recorded(fitrec, folder / "torn", tour(400))
+        other = recorded(fitrec, folder / "other", RIDE)
+        line = run(fitrec, "save", torn, folder / "ride.fit")[1]
+        names = "records", "laps", "sessions", "start", "elapsed", "timer", "distance"
+        summary = dict(zip(names, (int(it) for it in re.findall(r"=(\d+)", line))))
+        run(fitrec, "salvage", torn / NAMES[0], folder / "kept.fit")
+        shutil.copytree(torn, folder / "mended")
+        run(fitrec, "repair", folder / "mended")
+        ride = (folder / "ride.fit").read_bytes()
+        rest = [("save", both(torn), {"file": ride.hex(), "summary": summary}),
+                ("repair", both(torn), {"file": (folder / "mended" / NAMES[0]).read_bytes().hex(), "summary": summary}),
+                ("save", [torn / NAMES[0], other / NAMES[1]], {"kind": "Damaged"}), ("check", [folder / "ride.fit"], summary),
+                ("check", [folder / "kept.fit"], {"kind": "NoSession"}), ("plain", [folder / "mended" / NAMES[0]], ride.hex()),
+                ("uncommitted", both(torn), 0), ("leaveChanged", both(torn), None), ("salvage", [torn / NAMES[1]], {"kind": "HeaderSize"})]
+        asked += [{"name": name, "files": files} for name, files, _ in rest]
+        status, out, err = run(ROOT / "compare/calls.mjs", input=json.dumps(asked, default=str))
+        yield "called", differs((status, err), (0, ""))
+        for it, answer, right in zip(asked, json.loads(out or "[]"), [*wanted, *(it for _, _, it in rest)]):
+            yield it["name"], differs(answer, right, it["files"])
 
 
-def visits(cases, shots):
-    """Each input by the file input on a wide window, and by a drop on a narrow and dark one; the first one by keys too."""
-    for name, files, heading, reason, content, *unread in cases:
-        for drop in (False, True):
-            shot = shots and str(shots / ("%s-%s.png" % (name.replace(" ", "-"), "narrow" if drop else "wide")))
-            how = {"drop": drop, "width": 360 if drop else 900, "dark": drop, "keyboard": not drop, "unread": sum(unread)}
-            yield (name, drop), (heading, reason, content), {"files": [str(it) for it in files], "screenshot": shot, **how}
-
-
-def of_page(fitrec, folder, shots=None):
-    """The page in a browser."""
-    planned = list(visits(list(inputs(fitrec, folder)), shots))
-    words = [ROOT / "compare/browser.mjs", WEB / "out/fitrec.html", folder]
-    status, out, err = run(*words, input=json.dumps([it for _, _, it in planned]), timeout=600)
-    yield "opened", differs((status, err), (0, ""))
-    for ((name, drop), (heading, reason, content), _), answer in zip(planned, json.loads(out or "[]")):
-        how = "%s, %s" % (name, "dropped" if drop else "chosen")
-        is_right = answer["heading"].startswith(heading) and reason in answer["reason"]
-        yield how, unless(is_right, (answer["heading"], answer["reason"]), (heading, reason))
-        yield how + ": the file", differs(bytes_of(pathlib.Path(answer.get("file", "/-"))), content)
-        yield how + ": no request", differs([it for it in answer["requests"] if it != "blob:"], ["file://%s" % (WEB / "out/fitrec.html")])
-        yield how + ": nothing is logged", differs(answer["logged"], [])
-        yield how + ": fits the window, and all is named", differs((answer["wide"], answer["unnamed"], answer["focus"] != ""), (False, 0, True))
-        drawn = ["Track", "Heart rate", "Speed", "Altitude", "Power"] if content or heading.startswith("The file") else []
-        yield how + ": pictures", differs(answer["pictures"], drawn)
-        if heading in ("The ride is saved", "The file is whole"):
-            numbers = {"Duration": "0:04:59", "Distance": "2.33 km", "Samples": "300", "Laps": "1"}
-            yield how + ": numbers", differs({it: answer["numbers"].get(it) for it in numbers}, numbers)
+def in_a_browser(group):
+    """A group of visits, in a new folder, under its own name."""
+    def visited(fitrec):
+        if missing("chromium"):
+            yield "the page in a browser", missing("chromium")
+            return
+        with tempfile.TemporaryDirectory() as folder:
+            yield from group(fitrec, pathlib.Path(folder))
+    visited.__name__ = group.__name__
+    return visited
 
 
 def proved_and_built():
     ran = subprocess.run([WEB / "build"], stdout=subprocess.PIPE, stderr=subprocess.STDOUT, text=True)
     yield "proved and built", unless(ran.returncode == 0, ran.stdout[-2000:], "status 0")
     if ran.returncode == 0:
-        yield release.same("fitrec.html", WEB / "out/fitrec.html")
-
-
-def in_a_browser(fitrec):
-    if missing("chromium"):
-        yield "the page in a browser", missing("chromium")
-        return
-    with tempfile.TemporaryDirectory() as folder:
-        yield from of_page(fitrec, pathlib.Path(folder))
+        yield release.same("fitrec.html", PAGE)
+        size = PAGE.stat().st_size
+        yield "its size", unless(size <= MOST, size, "at most %d bytes" % MOST)
 
 
 def check(given):
@@ -148,11 +109,18 @@ def check(given):
     count = given.files // 250
     for group, many in ((of_recordings, count), (of_files, count // 2), (of_shown_and_checked, count // 4)):
         yield from given.checks(group, given.fitrec, MODULE, many, given.seed, under="module")
-    yield from given.checks(in_a_browser, given.fitrec)
+    yield from given.checks(of_calls, given.fitrec, given.files // 60, given.seed)
+    for group in GROUPS:
+        yield from given.checks(in_a_browser(group), given.fitrec)
 
 
 if __name__ == "__main__":
     to = pathlib.Path(sys.argv[1]).resolve()
     to.mkdir()
-    with tempfile.TemporaryDirectory() as scratch:
-        print(sum(outcome is not None for _, outcome in of_page(FITREC, pathlib.Path(scratch), to)), "differences")
+    for group in GROUPS:
+        if sys.argv[2:] and group.__name__ not in sys.argv[2:]:
+            continue
+        with tempfile.TemporaryDirectory() as scratch:
+            for name, outcome in group(pathlib.Path(os.environ.get("FITREC", FITREC)), pathlib.Path(scratch), to):
+                if outcome is not None:
+                    print(group.__name__, name, str(outcome)[:1500], sep=": ")

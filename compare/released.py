@@ -11,6 +11,7 @@ import pathlib
 import re
 import shutil
 import tempfile
+import zlib
 
 from tools.checks import differs, unless
 from tools.needs import missing
@@ -22,7 +23,7 @@ NEEDS = ("fitrec", "node", "dpkg")
 MOST = 3_000_000
 # What is taken as it stands in the tree.
 COPIED = ["include/fitrec.h", "docs/fitrec.1", "completions/fitrec.bash", "completions/_fitrec", "completions/fitrec.fish"]
-MADE = ["fitrec", "fitrec.html", "libfit_c.a", "libfit_device.a", *OBJECTS]
+MADE = ["fitrec", "fitrec.html", "manifest.webmanifest", "service-worker.js", "icon.svg", "libfit_c.a", "libfit_device.a", *OBJECTS]
 # What the launcher needs of a system.
 TOOLS = ["sh", "dirname", "readlink", "find", "sort", "xargs", "sha256sum", "grep"]
 
@@ -136,7 +137,7 @@ def of_a_clone(fitrec):
             yield "the page of a clone", missing("node")
         else:
             module = re.search(r"atob\('([\w+/=]+)'\)", (folder / "clone/release/fitrec.html").read_text())[1]
-            (folder / "module.wasm").write_bytes(base64.b64decode(module))
+            (folder / "module.wasm").write_bytes(zlib.decompress(base64.b64decode(module)))
             words = ["save", folder / "FOLDER/activity.fit", folder / "FOLDER/activity.frj", folder / "page.fit"]
             said = run(ROOT / "compare/module.mjs", *words, env=os.environ | {"FITREC_MODULE": str(folder / "module.wasm")})
             wanted = 0, "0\n" + wanted[1], ""

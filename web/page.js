@@ -1,149 +1,235 @@
 // What a person chooses, and what is shown of it.
-const EPOCH = 631065600;
 const byId = id => document.getElementById(id);
 
-// ---- what is in the chosen files
+// ---- questions to the workers
 
-const shownNumber = n => n.toLocaleString('en');
-const paragraph = parts => parts.filter(it => it).join(' ');
+const source = URL.createObjectURL(new Blob([byId('worker').textContent], { type: 'text/javascript' }));
+const [saver, painter] = [new Worker(source), new Worker(source)], asked = new Map();
+for (const it of [saver, painter]) it.onmessage = ({ data: { number, step, answer, failed } }) => {
+  if (step) return progress(step);
+  asked.get(number)(answer || { failed });
+  asked.delete(number);
+};
 
-async function bytesOf(file) {
-  return new Uint8Array(await file.arrayBuffer());
+let count = 0;
+function question(worker, about, lent = []) {
+  return new Promise(done => {
+    asked.set(++count, done);
+    worker.postMessage({ number: count, ...about }, lent);
+  });
 }
 
-// The bytes of a file up to the first that cannot be read, and a sentence on that place, if there is one after the first byte.
-async function frontOf(file) {
-  const parts = [];
-  let at = 0;
-  for (let size = file.size; at < file.size;) {
-    try {
-      parts.push(await bytesOf(file.slice(at, at + size)));
-      at += size;
-    } catch (error) {
-      if (error instanceof RangeError || (size === 1 && at === 0)) throw error;
-      if (size === 1) break;
-      size = Math.ceil(size / 2);
-    }
+function failure(reason) {
+  return { heading: 'nothing', reasons: [[reason]], next: [], offers: [] };
+}
+
+// The answer to a ride, or to one of its offers. A recording is drawn while it is saved.
+async function ask(ride, how) {
+  progress(0);
+  let given;
+  try {
+    given = await bytesOf(ride);
+  } catch (error) {
+    return failure(error instanceof RangeError ? 'tooLarge' : 'unread');
   }
-  const unread = at < file.size ? text('unreadFrom', { name: file.name, place: shownNumber(at) }) : '';
-  return { bytes: parts.length === 1 ? parts[0] : await bytesOf(new Blob(parts)), unread };
+  progress(1);
+  const { data, journal } = given, ahead = data && journal && !how ? question(painter, { recording: { data, journal } }) : null;
+  const answer = await question(saver, { ride: given, how }, [data, journal].filter(it => it && it.length).map(it => it.buffer));
+  if (answer.failed) return failure(answer.failed);
+  const { file, shown, ...said } = answer, bytes = file || shown;
+  if (!bytes) return said;
+  const isAhead = ahead && said.heading === 'saved', records = said.summary && said.summary.records;
+  const drawn = await (isAhead ? ahead : question(painter, { file: bytes, records }));
+  if (drawn.failed) return failure(drawn.failed);
+  return { ...said, file: file && new Blob([file], { type: 'application/octet-stream' }), ride: drawn };
 }
 
-// The two files of a recording.
-async function ofRecording(dataFile, journalFile) {
-  const { bytes: data, unread } = await frontOf(dataFile), journal = await bytesOf(journalFile);
-  const { code, file, summary } = await save(data, journal);
-  if (code === 16) return ofEarlier(data, journal, unread);
-  if (code && unread) return { heading: 'nothing', reason: unread, next: text('unreadNext') };
-  if (code === 7) return { heading: 'nothing', reason: text('nothingRecorded'), next: text('nothingRecordedNext') };
-  if (code === 8) return { heading: 'nothing', reason: text('damaged'), next: text('damagedNext') };
-  if (code) return { heading: 'nothing', reason: text('unexpected', { code }) };
-  const count = await uncommitted(data, journal), more = count ? text('uncommitted', { count: shownNumber(count) }) : '';
-  const reason = paragraph([text('savedWhy'), more, unread]), next = count ? text('uncommittedNext') : '';
-  return { heading: 'saved', reason, next, file, summary, name: 'ride.fit' };
+// ---- progress, from 0.3 s on
+
+let begun = 0, timer = 0, queue = '';
+
+function progress(step) {
+  byId('progress').value = step;
 }
 
-// The same where bytes have changed: the ride of the commit before the last, if there is one that has not changed.
-async function ofEarlier(data, journal, unread) {
-  const left = await withoutLast(data, journal), { code, file, summary } = left ? await save(data, left.journal) : { code: 16 };
-  if (code) return { heading: 'nothing', reason: paragraph([text('changed'), unread]), next: text('damagedNext') };
-  const reason = paragraph([text('changed'), text('earlierWhy', { count: shownNumber(left.count) }), unread]);
-  return { heading: 'earlier', reason, next: text('earlierNext'), file, summary, name: 'ride.fit' };
+function work(isBusy) {
+  clearTimeout(timer);
+  document.body.classList.toggle('busy', isBusy);
+  byId('progress').hidden = true;
+  byId('busy').textContent = '';
+  if (isBusy) timer = setTimeout(() => {
+    byId('progress').hidden = false;
+    byId('busy').textContent = text('busy') + queue;
+  }, 300);
 }
 
-// One file.
-async function ofFile(chosen) {
-  const { bytes: file, unread } = await frontOf(chosen), { code, place, summary } = await check(file);
-  if (code === 0 && !unread) return { heading: 'whole', reason: text('wholeWhy'), shown: file, summary };
-  if (code > 10 && !unread) return { heading: 'noActivity', reason: text('fault' + code), shown: file };
-  const why = unread || text('fault' + code, { place: shownNumber(place) });
-  const made = await salvage(file);
-  if (made.code || !made.kept) return { heading: 'nothing', reason: made.code ? text('notFit') + ' ' + why : why, next: text('notFitNext') };
-  const written = await plain(made.file), saved = written.code ? made.file : written.file;
-  const [kept, looked, more] = [made.kept, made.looked, made.more].map(shownNumber);
-  const reason = text('salvagedWhy', { why, kept, looked }) + (made.more ? ' ' + text('salvagedMore', { more }) : '');
-  const found = await check(saved), next = found.code ? text('noSummaryNext') : '';
-  return { heading: 'salvaged', reason, next, file: saved, summary: found.code ? null : found.summary, name: chosen.name.replace(/(\.fit)?$/i, '-saved.fit') };
-}
+// ---- what was chosen
 
-function answerTo(files) {
-  const journals = files.filter(it => /\.frj$/i.test(it.name)), others = files.filter(it => !journals.includes(it));
-  if (journals.length === 1 && others.length === 1) return ofRecording(others[0], journals[0]);
-  if (journals.length === 0 && others.length === 1) return ofFile(others[0]);
-  if (files.length === 1) return { heading: 'nothing', reason: text('journalAlone') };
-  return { heading: 'nothing', reason: text(files.length ? 'twoFiles' : 'noFile') };
-}
+// Each choice has a number: the answer to an earlier one is not shown.
+let rides = [], current = null, turn = 0;
 
-// ---- what is shown
-
-function duration(ms) {
-  const seconds = Math.floor(ms / 1000), two = n => String(n).padStart(2, '0');
-  return `${Math.floor(seconds / 3600)}:${two(Math.floor(seconds / 60) % 60)}:${two(seconds % 60)}`;
-}
-
-function numbersOf({ records, laps, start, elapsed, timer, distance }) {
-  const or = (n, shown) => n === null ? text('none') : shown(n);
-  return {
-    start: or(start, n => new Date((n + EPOCH) * 1000).toLocaleString('en-GB', { dateStyle: 'long', timeStyle: 'short' })),
-    duration: or(elapsed, duration),
-    moving: or(timer, duration),
-    distance: or(distance, n => text('km', { n: (n / 100000).toLocaleString('en', { minimumFractionDigits: 2, maximumFractionDigits: 2 }) })),
-    samples: records.toLocaleString('en'),
-    laps: laps.toLocaleString('en'),
-  };
-}
-
-async function present({ heading, reason, next, file, name, shown, summary }) {
-  const ride = file || shown;
-  byId('heading').textContent = text(heading);
-  byId('reason').textContent = reason;
-  byId('next').textContent = next || '';
-  byId('numbers').replaceChildren(...(summary ? Object.entries(numbersOf(summary)).map(pair) : []));
-  byId('pictures').replaceChildren(...(ride ? picturesOf(await show(ride)) : []));
-  offer(file, name);
-  byId('result').hidden = false;
-  byId('result').focus();
-}
-
-// The finished file, to be downloaded.
-function offer(file, name) {
-  const save = byId('save');
-  URL.revokeObjectURL(save.href);
-  save.hidden = !file;
-  if (!file) return;
-  save.href = URL.createObjectURL(new Blob([file], { type: 'application/octet-stream' }));
-  save.download = name;
-  save.textContent = text('download', { name });
-}
-
-function pair([key, value]) {
-  const made = document.createElement('div');
-  made.append(Object.assign(document.createElement('dt'), { textContent: text(key) }), Object.assign(document.createElement('dd'), { textContent: value }));
-  return made;
+// With what is shown, if that lacks the one file that is chosen.
+function completed(found) {
+  const [ride] = found;
+  if (found.length !== 1 || !current) return found;
+  if (!ride.data && current.data && !current.journal) return [{ ...current, journal: ride.journal }];
+  if (!ride.journal && current.journal && !current.data) return [{ ...ride, journal: current.journal }];
+  return found;
 }
 
 async function take(files) {
-  byId('busy').textContent = text('busy');
-  byId('result').hidden = true;
-  await new Promise(done => setTimeout(done, 20));
+  const mine = ++turn;
+  work(true);
+  byId('list').hidden = byId('result').hidden = true;
   try {
-    await present(await answerTo([...files]));
+    const { rides: found, others } = await ridesOf(await files);
+    if (mine !== turn) return;
+    rides = completed(found);
+    await (rides.length > 1 ? presentAll(others, mine) : choose(rides[0] || null));
   } catch (error) {
-    await present({ heading: 'nothing', reason: text(error instanceof RangeError ? 'tooLarge' : 'unread') });
+    present(failure('unread'));
+    work(false);
   }
-  byId('busy').textContent = '';
+}
+
+async function choose(ride, how) {
+  const mine = ++turn;
+  current = ride;
+  work(true);
+  const answer = ride ? await ask(ride, how) : failure('noFile');
+  if (mine !== turn) return;
+  if (answer.file) name(ride, answer);
+  present(answer);
+  work(false);
+}
+
+// The name of a new file: by the day on which the ride began, where the browser is.
+function name(ride, answer) {
+  const start = startOf(answer), base = isDated(start) ? dayText(start) + '-ride' : ride.name.replace(/\.[^.]*$/, '') + '-saved';
+  const taken = rides.filter(it => it !== ride).map(it => it.saved);
+  ride.saved = base + '.fit';
+  for (let count = 2; taken.includes(ride.saved); count++) ride.saved = `${base}-${count}.fit`;
+  answer.name = ride.saved;
+}
+
+const startOf = ({ summary, ride }) => summary && summary.start !== null ? summary.start : ride && ride.added.start;
+
+// ---- several rides
+
+async function presentAll(others, mine) {
+  const rows = [];
+  current = null;
+  for (const [i, ride] of rides.entries()) {
+    queue = ' ' + text('ofMany', { n: i + 1, all: rides.length });
+    if (!byId('progress').hidden) byId('busy').textContent = text('busy') + queue;
+    const answer = await ask(ride);
+    if (mine !== turn) return;
+    if (answer.file) name(ride, answer);
+    rows.push({ ride, heading: answer.heading, file: answer.file, name: answer.name, numbers: numbersOf(answer) });
+  }
+  const saved = rows.filter(it => it.file);
+  byId('listHeading').textContent = text('listTitle', { all: rows.length, saved: saved.length });
+  byId('listNote').textContent = others ? text(others === 1 ? 'otherFile' : 'otherFiles', { count: others }) : '';
+  byId('rides').replaceChildren(make('thead', {}, make('tr', {}, ...['file', 'start', 'duration', 'distance', 'state', 'action'].map(it =>
+    make('th', { scope: 'col' }, text(it))))), make('tbody', {}, ...rows.map(rowOf)));
+  link(byId('saveAll'), saved.length ? await zipOf(saved) : null, 'rides.zip', text('downloadAll', { count: saved.length }));
+  byId('list').hidden = false;
+  byId('list').focus();
+  queue = '';
+  work(false);
+}
+
+function rowOf({ ride, heading, numbers }) {
+  const show = make('button', { type: 'button', 'aria-label': text('show') + ' ' + ride.folder + ride.name }, text('show'));
+  show.addEventListener('click', () => choose(ride));
+  return make('tr', {}, make('th', { scope: 'row' }, ride.folder + ride.name),
+    ...['start', 'duration', 'distance'].map(it => make('td', {}, numbers[it] || '')), make('td', {}, text(heading)), make('td', {}, show));
+}
+
+// ---- one ride
+
+function numbersOf({ summary, ride, heading }) {
+  const of = { ...(ride ? ride.added : {}), ...Object.fromEntries(Object.entries(summary || {}).filter(([, n]) => n !== null)) };
+  const numbers = {}, add = (key, n, shown) => { if (n !== null && n !== undefined && n === n) numbers[key] = shown(n); };
+  add('start', of.start, startText);
+  add('duration', of.elapsed, durationText);
+  add('moving', of.timer, durationText);
+  add('distance', of.distance, n => text('km', { n: numberText(n / 100000, 2) }));
+  if (of.distance && of.timer) add('speedAverage', of.distance / 100 / (of.timer / 1000) * 3.6, n => valueText('speed', n));
+  add('ascent', ride ? ride.ascent : null, n => valueText('height', n));
+  add('samples', of.records, n => numberText(n));
+  if (ride && ride.laps.length) add('laps', ride.laps.length, n => numberText(n));
+  return numbers;
+}
+
+function present(answer) {
+  const { heading, reasons, next, offers, file, name, ride } = answer, sentence = ([key, values]) => text(key, values);
+  byId('heading').textContent = text(heading);
+  byId('reason').replaceChildren(make('p', {}, reasons.map(sentence).join(' ')));
+  byId('next').replaceChildren(...next.map(it => make('p', {}, sentence(it))));
+  byId('offers').replaceChildren(...offers.map(offerOf));
+  byId('numbers').replaceChildren(...(ride ? Object.entries(numbersOf(answer)).map(pair) : []));
+  byId('where').textContent = file ? text('where') : '';
+  byId('where').hidden = !file;
+  link(byId('save'), file, name, file ? text('download', { name }) : '');
+  byId('result').hidden = false;
+  draw(ride);
+  byId('result').focus();
+}
+
+function draw(ride) {
+  const pictures = byId('pictures'), track = ride && ride.track;
+  if (track) {
+    track.startAt = placeOn(track, ride.lat[track.first], ride.long[track.first]);
+    track.finishAt = placeOn(track, ride.lat[track.finish], ride.long[track.finish]);
+  }
+  pictures.replaceChildren(...(track ? [trackPicture(track)] : []), ...(ride ? chartsOf(ride) : []));
+  const reader = ride && pictures.children.length ? readerOf(ride, pictures) : null;
+  if (reader) pictures.prepend(reader);
+  byId('laps').replaceChildren(...(ride && ride.laps.length ? lapTable(ride.laps) : []));
+}
+
+function offerOf(how) {
+  const made = make('button', { type: 'button', className: 'button second' }, text('offer_' + how)), ride = current;
+  made.addEventListener('click', () => choose(ride, how));
+  return made;
+}
+
+function pair([key, value]) {
+  return make('div', {}, make('dt', {}, text(key)), make('dd', {}, value));
+}
+
+// A file to be downloaded.
+function link(element, file, name, label) {
+  URL.revokeObjectURL(element.href);
+  element.hidden = !file;
+  if (!file) return element.removeAttribute('href');
+  element.href = URL.createObjectURL(file);
+  element.download = name;
+  element.textContent = label;
 }
 
 // ---- the page
 
+const isTouched = matchMedia('(pointer: coarse)').matches;
+document.documentElement.lang = LANGUAGE;
 for (const it of document.querySelectorAll('[data-text]')) it.textContent = text(it.dataset.text);
-document.title = text('title');
-byId('files').addEventListener('change', event => take(event.target.files));
+byId('hint').textContent = text(isTouched ? 'hintTap' : 'hint');
+for (const it of document.querySelectorAll('[for=folder], #folder')) it.hidden = isTouched || !('webkitdirectory' in byId('folder'));
+for (const id of ['files', 'folder']) byId(id).addEventListener('change', async ({ target }) => {
+  await take(filesOf(target));
+  target.value = '';
+});
 byId('drop').addEventListener('submit', event => event.preventDefault());
 for (const kind of ['dragover', 'dragleave', 'drop']) {
   addEventListener(kind, event => {
     event.preventDefault();
     byId('drop').classList.toggle('over', kind === 'dragover');
-    if (kind === 'drop') take(event.dataTransfer.files);
+    if (kind === 'drop') take(filesOf(event.dataTransfer));
   });
 }
+if (location.protocol.startsWith('http')) {
+  document.head.append(make('link', { rel: 'manifest', href: 'manifest.webmanifest' }), make('link', { rel: 'icon', href: 'icon.svg' }));
+  if (navigator.serviceWorker) navigator.serviceWorker.register('service-worker.js').catch(() => {});
+}
+document.title = text('title');

@@ -1,0 +1,95 @@
+"""The page in a browser: as an app without a connection, and with a long ride."""
+
+import http.server
+import pathlib
+import threading
+
+from tools.checks import differs, unless
+from tools.pages import RIDE, START, both, recorded
+from tools.program import bytes_of, run
+from tools.visits import PAGE, SAVED, WINDOWS, Browser
+
+# The most milliseconds of a ride of 16 MB, and between two turns of the page, on a machine that others use too.
+MOST_MS, MOST_STILL_MS = 8000, 500
+
+
+class Server(http.server.SimpleHTTPRequestHandler):
+    """Gives the files of web/out, and logs nothing. The page is given twice: to be opened, and to be kept."""
+
+    given = 0
+
+    def __init__(self, *words):
+        super().__init__(*words, directory=str(PAGE.parent))
+
+    def do_GET(self):
+        Server.given += self.path == "/fitrec.html"
+        if self.path == "/fitrec.html" and Server.given > 2:
+            return self.send_error(503)
+        return super().do_GET()
+
+    def end_headers(self):
+        self.send_header("Cache-Control", "no-store")
+        super().end_headers()
+
+    def log_message(self, *words):
+        pass
+
+
+def of_an_app(fitrec, folder, shots=None):
+    """The page is installed where it is served, and saves a ride without a connection."""
+    torn = recorded(fitrec, folder / "torn", RIDE)
+    run(fitrec, "save", torn, folder / "ride.fit")
+    Server.given = 0
+    server = http.server.ThreadingHTTPServer(("127.0.0.1", 0), Server)
+    threading.Thread(target=server.serve_forever, daemon=True).start()
+    browser, address = Browser(folder, shots), "http://127.0.0.1:%d/fitrec.html" % server.server_port
+
+    def judge(shown, made):
+        yield "it is installed", differs(made[1], [])
+        yield "without a connection", differs(shown[4]["heading"], SAVED)
+        yield "the file", differs(bytes_of(pathlib.Path(made[5])), (folder / "ride.fit").read_bytes())
+
+    ready = {"evaluate": "navigator.serviceWorker.ready.then(it => new Promise(done => setTimeout(() => done(it.active.state), 500)))"}
+    for window in WINDOWS:
+        steps = [ready, {"installed": True}, {"reload": True}, {"wait": 1}, {"files": both(torn)}, {"download": "#save"}]
+        browser.visit("an app, %s" % window, steps, judge, address=address, **WINDOWS[window])
+    yield from browser.outcomes()
+    server.shutdown()
+
+
+def of_a_long_ride(fitrec, folder, shots=None):
+    """A long ride does not let the page stand still, and shows how far it is."""
+    lines = ["start %d 7 cycling" % START]
+    for i in range(700_000):
+        lines.append("sample %d lat=%d long=%d ealt=%d hr=%d cad=%d dist=%d speed=%d power=%d temp=20" % (
+            START + i, 566012345 + i, 102345678 + i % 1000, 2700 + i % 3000, 110 + i % 60, 80 + i % 9, 20 * i, 7800 + i % 500,
+            150 + i % 120))
+    where = recorded(fitrec, folder / "long", [*lines, "commit"])
+    watch = """(() => {
+        const seen = window.seen = { gap: 0, progress: null }, began = () => { seen.began = performance.now(); };
+        let last = performance.now();
+        document.getElementById('files').addEventListener('change', began, true);
+        setInterval(() => {
+          const now = performance.now(), isBusy = document.body.classList.contains('busy');
+          if (seen.began && !seen.ended) {
+            seen.gap = Math.max(seen.gap, now - last);
+            if (seen.progress === null && document.getElementById('progress').checkVisibility()) seen.progress = now - seen.began;
+            if (!isBusy && !document.getElementById('result').hidden) seen.ended = now - seen.began;
+          }
+          last = now;
+        }, 5);
+      })()"""
+    browser = Browser(folder, shots)
+
+    def judge(shown, made):
+        seen = made[3]
+        yield "it is saved and drawn", differs((shown[-1]["heading"], len(shown[-1]["curves"])), (SAVED, 6))
+        # On a quiet machine docs/PERFORMANCE.md has the figure. Here others may run.
+        yield "in time", unless(seen["ended"] < MOST_MS, seen, "at most %d ms" % MOST_MS)
+        yield "it never stands still", unless(seen["gap"] < MOST_STILL_MS, seen, "at most %d ms" % MOST_STILL_MS)
+        yield "progress from 0.3 s on", unless(250 < (seen["progress"] or 0) < 300 + MOST_STILL_MS, seen, "about 300 ms")
+
+    for window in ("wide", "narrow and dark"):
+        steps = [{"evaluate": watch}, {"files": both(where)}, {"wait": 100}, {"evaluate": "window.seen"}]
+        browser.visit("a long ride, %s" % window, steps, judge, **WINDOWS[window])
+    yield from browser.outcomes()

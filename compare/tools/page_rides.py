@@ -1,0 +1,162 @@
+"""The page in a browser: the numbers and pictures of rides, by the second reader."""
+
+import itertools
+import re
+import shutil
+import zipfile
+
+from tools.checks import differs, unless
+from tools.pages import RIDE, START, ascent_of, both, columns_of, drawn_of, facts_of, recorded, rounded, rows, series_of, tour
+from tools.program import run
+from tools.visits import SAVED, WINDOWS, Browser
+
+
+def of_numbers(fitrec, folder, shots=None):
+    """Numbers and lines of every series, from all samples."""
+    browser, places = Browser(folder, shots), {"a tour": tour(), "a tour over 180 degrees": tour(1500, longitude=179.995)}
+    outline = {"evaluate": "document.querySelector('.map .casing').getAttribute('d')"}
+
+    def judged(found, breaks):
+        def judge(shown, made):
+            last = shown[0]
+            yield "facts", differs(last["captions"], {name: facts_of(found, name) for name in last["captions"]})
+            yield "ascent", differs(last["numbers"]["Ascent"], rounded(ascent_of(found), 0) + " m")
+            for name, curve in last["curves"].items():
+                pairs = [it for it in series_of(found, name) if it[1] < 60000]
+                wanted, drawn = columns_of(pairs), drawn_of(curve)
+                room = (float(curve["high"]) - float(curve["low"])) / 500
+                far = [k for k in wanted if k not in drawn or max(abs(a - b) for a, b in zip(drawn[k], wanted[k])) > room]
+                yield name + ": each column draws its least and its greatest", differs((far, sorted(drawn)), ([], sorted(wanted)))
+                yield name + ": breaks", differs(curve["line"].count("M"), breaks)
+            most = float(last["curves"]["Power"]["high"])
+            yield "a wrong value does not flatten the rest", unless(most <= 400, most, "at most 400")
+            yield "a note on it", differs([it for it in last["notes"]], ["1 value is far from all others, and is not drawn."])
+            xs = [float(it) for it in re.findall(r"[ML]([\d.-]+) ", made[1])]
+            ys = [float(it) for it in re.findall(r"[ML][\d.-]+ ([\d.-]+)", made[1])]
+            steps = [abs(a - b) for a, b in itertools.pairwise(xs)]
+            sides = min(xs), max(xs), min(ys), max(ys)
+            is_one = 0 <= min(xs) and max(xs) <= 1000 and max(steps) < 300
+            yield "one track", unless(is_one, (sides, max(steps)), "0 to 1000 in small steps")
+            yield "it fills its picture", unless(max(xs) - min(xs) > 890 or max(ys) - min(ys) > 650, sides, "two edges")
+        return judge
+
+    for (name, lines), window in itertools.product(places.items(), WINDOWS):
+        where = folder / name.replace(" ", "-")
+        if not where.exists():
+            run(fitrec, "save", recorded(fitrec, where, lines), where.with_suffix(".fit"))
+        found = rows(where.with_suffix(".fit").read_bytes())
+        browser.visit("%s, %s" % (name, window), [{"files": both(where)}, outline], judged(found, 4), **WINDOWS[window])
+    yield from browser.outcomes()
+
+
+def of_looking(fitrec, folder, shots=None):
+    """What people look for: laps, the values at a time, colours, the summary of a salvage, and several rides at once."""
+    browser, where = Browser(folder, shots), recorded(fitrec, folder / "tour", tour())
+    run(fitrec, "save", where, folder / "tour.fit")
+    data = (folder / "tour.fit").read_bytes()
+    found, laps = rows(data), rows(data, 19)
+
+    def at(share):
+        """The values of the sample whose time is nearest."""
+        begin, end = found[0]["timestamp"], found[-1]["timestamp"]
+        return min(found, key=lambda it: abs(it["timestamp"] - begin - share * (end - begin)))
+
+    def values_of(sample, zone):
+        hour, rest = divmod(sample["timestamp"] - START + 8 * 3600, 3600)
+        clock = "%d:%02d:%02d AM %s" % (hour + (zone == "GMT+1"), *divmod(rest, 60), zone)
+        return [clock, rounded(sample["distance"] / 1e5, 2) + " km", "Speed %s km/h" % rounded(sample["speed"] * 0.0036, 1),
+                "Heart rate %d bpm" % sample["heart_rate"], "Altitude %s m" % rounded(sample["altitude"] / 5 - 500, 0),
+                "Power %s W" % rounded(sample["power"], 0), "Cadence %d rpm" % sample["cadence"],
+                "Temperature %d °C" % sample["temperature"]]
+
+    def near(sample, values, zone):
+        """Whether values are those of a sample that is at most two columns of a window from it."""
+        k, room = found.index(sample), 12
+        return values in [values_of(it, zone) for it in found[max(0, k - room):k + room]]
+
+    def judged(zone, touch):
+        def judge(shown, made):
+            first, pointed, moved, begun, _, slid = shown[:6]
+            count, spoken, begins, colours, marks = made[6:11]
+            yield "its name", differs(first["download"], "2024-11-08-ride.fit")
+            start, hour = first["numbers"]["Start"], 8 + (zone == "GMT+1")
+            yield "the start", unless(start.endswith("%d:00 AM %s" % (hour, zone)), start, zone)
+            yield "a hint", differs(first["values"][0].split(" ")[0], "Tap" if touch else "Point")
+            for what, step, sample in (("the values under the pointer", pointed, at(0.6)), ("in another picture", moved, at(0.1)),
+                                       ("at the start of the track", begun, found[0])):
+                yield what, unless(near(sample, step["values"], zone), step["values"], values_of(sample, zone))
+            yield "the cursors", differs(count, [len(first["curves"]), False])
+            yield "by keys", differs(slid["values"], values_of(found[-1], zone))
+            yield "for a reader", differs(spoken, ", ".join(values_of(found[-1], zone)))
+            wanted = [["Lap", "Begins", "Without pauses", "Distance", "Average speed", "Average heart rate", "Highest heart rate",
+                       "Average power"]]
+            for i, lap in enumerate(laps):
+                begin, end = lap["start_time"], lap["timestamp"] + (i == len(laps) - 1)
+                own = [it for it in found if begin <= it["timestamp"] < end]
+                mean = lambda field: rounded(sum(it[field] for it in own) / len(own), 0)
+                wanted.append([str(i + 1), begins[i], "0:%02d:%02d" % divmod(lap["total_timer_time"] // 1000, 60),
+                               rounded(lap["total_distance"] / 1e5, 2) + " km",
+                               rounded(lap["total_distance"] / 100 / (lap["total_timer_time"] / 1000) * 3.6, 1) + " km/h",
+                               mean("heart_rate") + " bpm", "%d bpm" % max(it["heart_rate"] for it in own), mean("power") + " W"])
+            yield "laps", differs(first["laps"], wanted)
+            yield "colours", differs(colours, [8, 8, 1])
+            yield "marks of the axis", differs(marks, [True, zone])
+        return judge
+
+    cursors = "[document.querySelectorAll('.cursor:not([hidden])').length, document.querySelector('.here').hidden]"
+    begins = "[%s].map(t => new Date((t + 631065600) * 1000).toLocaleTimeString('en-US'))" % ", ".join(str(it["start_time"]) for it in laps)
+    colours = """['speed', 'heart', 'plain'].map(it => {
+        const choice = document.getElementById('colour');
+        choice.value = it;
+        choice.dispatchEvent(new Event('change'));
+        return document.querySelectorAll('.map path').length - 1;
+      })"""
+    marks = """[[...document.querySelectorAll('.chart')].every(it => [...it.querySelectorAll('.time')].length >= 3
+      && /^\\d+:\\d[05] AM$/.test(it.querySelector('.time').innerText)), document.querySelector('.zone').innerText]"""
+    for window, (zone, shown) in itertools.product(WINDOWS, (("UTC", "UTC"), ("Europe/Berlin", "GMT+1"))):
+        touch = "touchAt" if WINDOWS[window].get("touch") else "point"
+        steps = [{"files": both(where)}, {touch: [".plot", 60]}, {touch: [".chart:last-child .plot", 10]}, {touch: [".map .begin"]},
+                 {"evaluate": "document.getElementById('moment').focus()"}, {"keys": ["End"]}, *({"evaluate": it} for it in (
+                     cursors, "document.getElementById('moment').ariaValueText", begins, colours, marks))]
+        browser.visit("looking, %s, %s" % (window, shown), steps, judged(shown, touch == "touchAt"), zone=zone, **WINDOWS[window])
+
+    # A ride that was cut off in its third lap: its summary is of its samples.
+    (folder / "cut.fit").write_bytes(data[:len(data) * 3 // 4])
+    run(fitrec, "salvage", "--plain", folder / "cut.fit", folder / "kept.fit")
+    kept = rows((folder / "kept.fit").read_bytes())
+
+    def of_cut(shown, made):
+        seconds = kept[-1]["timestamp"] - kept[0]["timestamp"]
+        clock = lambda n: "%d:%02d:%02d" % (n // 3600, n // 60 % 60, n % 60)
+        numbers = {"Duration": clock(seconds), "Without pauses": clock(seconds - 605),
+                   "Distance": rounded(kept[-1]["distance"] / 1e5, 2) + " km", "Samples": f"{len(kept):,}", "Laps": "3",
+                   "Ascent": rounded(ascent_of(kept), 0) + " m"}
+        yield "numbers", differs({it: shown[0]["numbers"].get(it) for it in numbers}, numbers)
+        yield "laps", differs([it[0] for it in shown[0]["laps"]], ["Lap", "1", "2", "3*"])
+
+    for window in WINDOWS:
+        browser.visit("a salvage, %s" % window, [{"files": [folder / "cut.fit"]}], of_cut, **WINDOWS[window])
+
+    # Several rides: each in its folder, one of them whole, and a note.
+    rides = folder / "rides"
+    rides.mkdir()
+    for name, lines in (("a", tour(600)), ("b", RIDE), ("c", tour(900))):
+        run(fitrec, "save", recorded(fitrec, rides / name, lines), folder / (name + ".fit"))
+        (rides / name).with_suffix(".script").unlink()
+    shutil.copy(folder / "b.fit", rides / "whole.fit")
+    (rides / "notes.txt").write_text("notes")
+
+    def of_several(shown, made):
+        yield "the list", differs(shown[0]["listHeading"], "4 rides, 3 of them saved")
+        yield "its rides", differs([(it[0], it[4]) for it in shown[0]["list"]], [
+            ("rides/whole.fit", "The file is whole"), *(("rides/%s/activity.fit" % it, SAVED) for it in "abc")])
+        with zipfile.ZipFile(made[1]) as them:
+            wanted = {name: (folder / it).read_bytes() for name, it in (
+                ("2024-11-08-ride.fit", "a.fit"), ("2021-09-08-ride.fit", "b.fit"), ("2024-11-08-ride-2.fit", "c.fit"))}
+            yield "all in one file", differs({it: them.read(it) for it in them.namelist()}, wanted)
+        yield "one of them", differs((shown[2]["heading"], shown[2]["download"]), (SAVED, "2021-09-08-ride.fit"))
+
+    for window in WINDOWS:
+        steps = [{"files": [rides], "drop": True}, {"download": "#saveAll"}, {"click": "#rides tbody tr:nth-child(3) button"}]
+        browser.visit("several rides, %s" % window, steps, of_several, **WINDOWS[window])
+    yield from browser.outcomes()

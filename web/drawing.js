@@ -1,0 +1,116 @@
+// The lines of a ride, as paths of SVG: a curve of each series over time, and the track.
+
+// A picture of a curve has so many columns, and is so high; the page stretches it. A track has at most these sides.
+const COLUMNS = 1200, CURVE = 100, TRACK = { width: 1000, least: 360, most: 760, edge: 45 }, CLASSES = 8;
+
+// A step of 1, 2 or 5 times a power of ten, with about so many from low to high.
+function niceStep(low, high, count) {
+  const rough = Math.max(high - low, 1e-9) / count, power = 10 ** Math.floor(Math.log10(rough));
+  return power * [1, 2, 5, 10].find(it => it * power >= rough * 0.999);
+}
+
+// The range of a curve, from one line of its grid to another, and these lines.
+function gridOf(from, to, least) {
+  const middle = (from + to) / 2, half = Math.max(to - from, least) / 2, step = niceStep(middle - half, middle + half, 3);
+  const low = Math.floor((middle - half) / step + 1e-9) * step, high = Math.ceil((middle + half) / step - 1e-9) * step, lines = [];
+  for (let n = low; n < high + step / 2; n += step) lines.push(n);
+  return { low, high, lines };
+}
+
+// The column of each sample.
+function columnsOf(time) {
+  const begin = time[0], seconds = time[time.length - 1] - begin || 1, found = new Uint16Array(time.length);
+  for (let i = 0; i < time.length; i++) found[i] = Math.min((time[i] - begin) * COLUMNS / seconds, COLUMNS - 1);
+  return found;
+}
+
+// A curve: a line through the average of each column, and for each column with several values a bar from its least to its greatest. After a
+// break in a column its values are a part of their own.
+function curveOf(columns, { values, breaks, from, to, least }) {
+  const parts = [];
+  let column = -1, low = 0, high = 0, sum = 0, count = 0, isBegin = 1;
+  for (let i = 0; i < values.length; i++) {
+    const n = values[i];
+    if (!(n >= from && n <= to)) continue;
+    if (columns[i] === column && !breaks[i]) {
+      if (n < low) low = n;
+      if (n > high) high = n;
+      sum += n;
+      count++;
+      continue;
+    }
+    if (count) parts.push({ column, low, high, average: sum / count, isBegin });
+    isBegin = count ? breaks[i] : 1;
+    column = columns[i];
+    low = high = sum = n;
+    count = 1;
+  }
+  parts.push({ column, low, high, average: sum / count, isBegin });
+  return { ...gridOf(from, to, least), ...linesOf(parts, gridOf(from, to, least)) };
+}
+
+function linesOf(parts, grid) {
+  const y = n => ((grid.high - n) / (grid.high - grid.low) * CURVE).toFixed(1);
+  let line = '', bars = '';
+  parts.forEach(({ column, low, high, average, isBegin }, k) => {
+    const isAlone = isBegin && (k + 1 === parts.length || parts[k + 1].isBegin);
+    line += `${isBegin ? 'M' : 'L'}${column} ${y(average)}${isAlone ? 'h1' : ''}`;
+    if (low < high) bars += `M${column} ${y(low)}V${y(high)}`;
+  });
+  return { line, bars };
+}
+
+// The track, with a path for each class of each series that can colour it, and what leads from degrees to its picture. North is up.
+// Longitudes go on beyond 180 degrees; `long` is changed to them.
+function trackOf({ lat, long, series, breaks }) {
+  let last = NaN;
+  for (let i = 0; i < long.length; i++) {
+    if (long[i] !== long[i] || lat[i] !== lat[i]) long[i] = NaN;
+    else {
+      if (last === last) long[i] -= 360 * Math.round((long[i] - last) / 360);
+      last = long[i];
+    }
+  }
+  const across = plausible(long, rangeOf(long), 0.002), up = plausible(lat, rangeOf(lat), 0.002);
+  if (!(across.to >= across.from && up.to >= up.from)) return null;
+  const narrow = Math.max(0.01, Math.cos((up.from + up.to) / 2 * Math.PI / 180)), wide = Math.max((across.to - across.from) * narrow, 2e-4);
+  const tall = Math.max(up.to - up.from, 2e-4), { width, least, most, edge } = TRACK;
+  const scale = Math.min((width - 2 * edge) / wide, (most - 2 * edge) / tall), height = Math.max(least, tall * scale + 2 * edge);
+  const frame = { width, height, scale, narrow, middleX: (across.from + across.to) / 2, middleY: (up.from + up.to) / 2 };
+  const colours = series.filter(it => it.name === 'speed' || it.name === 'heart'), points = [];
+  let count = 0, lastX = 0, lastY = 0;
+  for (let i = 0, isBroken = 1; i < lat.length; i++) {
+    isBroken |= breaks[i];
+    if (!(long[i] >= across.from && long[i] <= across.to && lat[i] >= up.from && lat[i] <= up.to)) continue;
+    const x = width / 2 + (long[i] - frame.middleX) * narrow * scale, y = height / 2 + (frame.middleY - lat[i]) * scale;
+    count++;
+    if (!isBroken && Math.abs(x - lastX) + Math.abs(y - lastY) < 1) continue;
+    points.push({ i, x: x.toFixed(1), y: y.toFixed(1), isBroken });
+    [lastX, lastY, isBroken] = [x, y, 0];
+  }
+  const first = points[0].i, finish = long.findLastIndex(n => n >= across.from && n <= across.to);
+  const paths = [{ name: 'plain', paths: classesOf(points, () => 0, 1) }, ...colours.map(it => colouredBy(points, it))];
+  return { ...frame, count, first, finish, paths, metres: 111194.9 / scale };
+}
+
+function colouredBy(points, { name, values, from, to }) {
+  let last = 0;
+  const classAt = i => {
+    if (values[i] >= from && values[i] <= to) last = Math.min(CLASSES - 1, Math.floor((values[i] - from) / (to - from || 1) * CLASSES));
+    return last;
+  };
+  return { name, from, to, paths: classesOf(points, classAt, CLASSES) };
+}
+
+// A path for each class. A piece of the track has the class of its end.
+function classesOf(points, classAt, count) {
+  const paths = Array(count).fill('');
+  let before = -1;
+  points.forEach(({ i, x, y, isBroken }, k) => {
+    const own = classAt(i), isAlone = isBroken && (k + 1 === points.length || points[k + 1].isBroken);
+    if (isAlone) paths[own] += `M${x} ${y}h.1`;
+    if (!isBroken) paths[own] += own === before ? `L${x} ${y}` : `M${points[k - 1].x} ${points[k - 1].y}L${x} ${y}`;
+    before = isBroken ? -1 : own;
+  });
+  return paths;
+}

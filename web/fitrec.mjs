@@ -1,0 +1,184 @@
+// The library fit_c as an ES module, over its WebAssembly module. include/fitrec.h says what each call does.
+//
+//     import { open } from './fitrec.mjs';
+//
+//     const fitrec = await open(bytes);                             // of fit_c.wasm
+//     const { file, summary } = await fitrec.save(data, journal);
+//     const [time, heart] = await fitrec.columns(file, 20, [253, 3]);
+//
+// Files are given and answered as Uint8Array. What is refused is thrown as a FitError.
+
+const CLOSING_ROOM = 254, FRAME_ROOM = 16, ABSENT = 0xFFFFFFFF, NO_ROOM = 20, PAGE = 65536;
+
+// Why bytes are no FIT file; why a file is no activity; why a ride is not saved or salvaged.
+const FAULTS = { 1: 'Truncated', 2: 'HeaderSize', 3: 'Magic', 4: 'Protocol', 5: 'HeaderCrc', 6: 'UndefinedLocal', 7: 'SplitMessage',
+  8: 'FileCrc', 9: 'TrailingBytes' };
+const CHECKED = { ...FAULTS, 11: 'NoFileId', 12: 'NotActivity', 13: 'NoLap', 14: 'NoSession', 15: 'NoActivity' };
+const SAVED = { 7: 'NothingRecorded', 8: 'Damaged', 16: 'Changed' };
+const SALVAGED = { 1: 'Truncated', 2: 'HeaderSize', 3: 'Magic', 4: 'Protocol', 22: 'TooLarge' };
+const PLAIN = { ...FAULTS, 21: 'TooLong' };
+
+// Why something was refused: its kind, such as 'Damaged', and the place in bytes, if a byte is at fault.
+export class FitError extends Error {
+  constructor(kind, place) {
+    super(place === undefined ? kind : `${kind} at ${place}`);
+    this.kind = kind;
+    this.place = place;
+  }
+}
+
+function refuseUnless0(code, kinds, place) {
+  if (code) throw new FitError(kinds[code] || 'Unexpected' + code, code < 10 && kinds !== SAVED && kinds !== SALVAGED ? place : undefined);
+}
+
+// The memory of a new instance, in which buffers lie one after another.
+class Memory {
+  constructor({ exports }) {
+    this.exports = exports;
+    this.end = Number(exports.__heap_base.value);
+  }
+
+  get bytes() { return new Uint8Array(this.exports.memory.buffer); }
+  get view() { return new DataView(this.exports.memory.buffer); }
+
+  room(size) {
+    const at = 16 * Math.ceil(this.end / 16), missing = at + size - this.bytes.length;
+    if (missing > 0) this.exports.memory.grow(Math.ceil(missing / PAGE));
+    this.end = at + size;
+    return at;
+  }
+
+  put(content, spare = 0) {
+    const at = this.room(content.length + spare);
+    this.bytes.set(content, at);
+    return at;
+  }
+
+  number(n = 0) {
+    const at = this.room(8);
+    this.view.setBigUint64(at, BigInt(n), true);
+    return at;
+  }
+
+  long(at) { return Number(this.view.getBigUint64(at, true)); }
+  copy(at, length) { return this.bytes.slice(at, at + length); }
+
+  // Pointers and lengths are numbers, and have 64 bits. A truth value and a Number object have 32.
+  call(name, ...numbers) { return this.exports[name](...numbers.map(n => typeof n === 'number' ? BigInt(n) : n)); }
+
+  summary(at) {
+    const [records, laps, sessions, start, elapsed, timer, distance] = [0, 1, 2, 3, 4, 5, 6].map(i => {
+      const n = this.view.getUint32(at + 4 * i, true);
+      return n === ABSENT ? null : n;
+    });
+    return { records, laps, sessions, start, elapsed, timer, distance };
+  }
+}
+
+// The calls of a module, which is given as its bytes or as a WebAssembly.Module.
+export async function open(source) {
+  const module = source instanceof WebAssembly.Module ? source : await WebAssembly.compile(source);
+  const memory = async () => new Memory(await WebAssembly.instantiate(module));
+
+  // A file that a call writes; it is called again with more room if it needs that.
+  async function written(name, kinds, file, room, ...before) {
+    for (;;) {
+      const it = await memory(), at = it.put(file), out = it.room(room), length = it.number(), place = it.number();
+      const code = it.call(name, at, file.length, ...before, out, room, length, place);
+      if (code !== NO_ROOM) {
+        refuseUnless0(code, kinds, it.long(place));
+        return it.copy(out, it.long(length));
+      }
+      room = it.long(length);
+    }
+  }
+
+  const fitrec = {
+    // The ride of a recording, as a file with every time in full, and its summary.
+    async save(data, journal) {
+      const it = await memory(), room = data.length + CLOSING_ROOM, outRoom = 2 * data.length + 1024;
+      const atData = it.put(data, CLOSING_ROOM), length = it.number(data.length), atJournal = it.put(journal);
+      const journalLength = it.number(journal.length), out = it.room(outRoom), outLength = it.number(), summary = it.room(28);
+      const code = it.call('fitrec_save', atData, room, length, atJournal, journal.length, journalLength, out, outRoom, outLength, summary);
+      if (code === NO_ROOM) return { file: await fitrec.plain(it.copy(atData, it.long(length))), summary: it.summary(summary) };
+      refuseUnless0(code, SAVED);
+      return { file: it.copy(out, it.long(outLength)), summary: it.summary(summary) };
+    },
+
+    // The same with the times in the short form of recorders.
+    async repair(data, journal) {
+      const it = await memory(), room = data.length + CLOSING_ROOM, atData = it.put(data, CLOSING_ROOM), length = it.number(data.length);
+      const atJournal = it.put(journal), journalLength = it.number(journal.length), summary = it.room(28);
+      refuseUnless0(it.call('fitrec_repair', atData, room, length, atJournal, journal.length, journalLength, summary), SAVED);
+      return { file: it.copy(atData, it.long(length)), summary: it.summary(summary) };
+    },
+
+    // How many bytes of whole messages follow the last commit of a recording.
+    async uncommitted(data, journal) {
+      const it = await memory(), atData = it.put(data), atJournal = it.put(journal);
+      return Number(it.call('fitrec_uncommitted', atData, data.length, atJournal, journal.length));
+    },
+
+    // The journal without its last commit, if what that counts has changed, and how many bytes that leaves out; or null.
+    async leaveChanged(data, journal) {
+      const it = await memory(), atData = it.put(data), atJournal = it.put(journal), count = it.number();
+      if (it.call('fitrec_leave_changed', atData, data.length, atJournal, journal.length, count)) return null;
+      return { journal: it.copy(atJournal, journal.length), count: it.long(count) };
+    },
+
+    // What is readable of a file, as a new file. With `all` the length in its header does not count.
+    async salvage(file, all = false) {
+      const it = await memory(), room = file.length + FRAME_ROOM;
+      const at = it.put(file), out = it.room(room), length = it.number(), counts = it.room(24);
+      refuseUnless0(it.call('fitrec_salvage', at, file.length, Boolean(all), out, room, length, counts), SALVAGED);
+      const [kept, looked, more] = [0, 8, 16].map(i => it.long(counts + i));
+      return { kept, looked, more, file: it.copy(out, it.long(length)) };
+    },
+
+    // The summary of a file, which has to be a finished activity.
+    async check(file) {
+      const it = await memory(), at = it.put(file), summary = it.room(28), place = it.number();
+      refuseUnless0(it.call('fitrec_check', at, file.length, summary, place), CHECKED, it.long(place));
+      return it.summary(summary);
+    },
+
+    // The file with every time in full.
+    plain: file => written('fitrec_plain', PLAIN, file, 2 * file.length + 1024),
+
+    // The text of a file, and the same as JSON, in bytes.
+    show: (file, utc = false) => written('fitrec_show', FAULTS, file, 12 * file.length + 4096, Boolean(utc)),
+    json: (file, utc = false) => written('fitrec_json', FAULTS, file, 24 * file.length + 4096, Boolean(utc)),
+
+    // The whole numbers of some fields in the messages with a global number: a Float64Array for each field, NaN where there is none.
+    // `expected` is how many messages there may be; with more the call is made twice.
+    columns: async (file, message, fields, expected) => (await fitrec.tables(file, [[message, fields, expected]]))[0],
+
+    // The same for several messages of a file.
+    async tables(file, asked) {
+      const it = await memory(), at = it.put(file), rows = it.number(), place = it.number(), free = it.end;
+      return asked.map(([message, fields, expected = 64]) => {
+        for (let room = expected; ;) {
+          it.end = free;
+          const atFields = it.put(fields), size = fields.length * room, out = it.room(8 * size);
+          const code = it.call('fitrec_columns', at, file.length, new Number(message), atFields, fields.length, room, out, size, rows, place);
+          if (code !== NO_ROOM) {
+            refuseUnless0(code, FAULTS, it.long(place));
+            return fields.map((_, k) => numbersAt(it, out + 8 * k * room, it.long(rows)));
+          }
+          room = it.long(rows);
+        }
+      });
+    },
+  };
+  return fitrec;
+}
+
+// Values of 64 bits that have at most 33, or are the one that means none.
+function numbersAt(it, at, count) {
+  const halves = new Int32Array(it.exports.memory.buffer, at, 2 * count), found = new Float64Array(count);
+  for (let i = 0; i < count; i++) {
+    const high = halves[2 * i + 1];
+    found[i] = high === -0x80000000 ? NaN : high * 2 ** 32 + (halves[2 * i] >>> 0);
+  }
+  return found;
+}

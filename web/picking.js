@@ -1,0 +1,96 @@
+// What is chosen or dropped: files, folders and cards. They are known by their first bytes, and two files of one recording are one ride.
+
+// Files with their folders, of a list of files or of a drop. Chromium reads dropped folders by handles, and by nothing else where the page
+// lies on a disk. Other browsers read them by entries. A drop lends both only as long as its event lasts.
+async function filesOf({ files, items }) {
+  const dropped = [...(items || [])], found = [];
+  const handles = dropped.map(it => it.getAsFileSystemHandle && it.getAsFileSystemHandle());
+  const entries = dropped.map(it => it.webkitGetAsEntry && it.webkitGetAsEntry());
+  if (!entries.some(it => it && it.isDirectory)) {
+    return [...files].map(file => ({ file, folder: (file.webkitRelativePath || '').replace(/[^/]*$/, '') }));
+  }
+  for (const [i, entry] of entries.entries()) {
+    const handle = await handles[i];
+    if (handle) await walk(handle, '', found);
+    else if (entry) await walkEntry(entry, '', found);
+  }
+  return found;
+}
+
+async function walk(handle, folder, found) {
+  if (handle.kind === 'file') found.push({ file: await handle.getFile(), folder });
+  else for await (const it of handle.values()) await walk(it, `${folder}${handle.name}/`, found);
+}
+
+async function walkEntry(entry, folder, found) {
+  if (entry.isFile) return found.push({ file: await new Promise((done, fail) => entry.file(done, fail)), folder });
+  const reader = entry.createReader();
+  for (let some; (some = await new Promise((done, fail) => reader.readEntries(done, fail))).length;) {
+    for (const it of some) await walkEntry(it, `${folder}${entry.name}/`, found);
+  }
+  return found;
+}
+
+// A file with its kind: 'fit', 'journal' or 'other'. `isOpen` is of a recording that was not closed.
+async function known({ file, folder }) {
+  const byName = /\.frj$/i.test(file.name) ? 'journal' : /\.fit$/i.test(file.name) ? 'fit' : 'other';
+  let head = [];
+  try {
+    head = new Uint8Array(await file.slice(0, 12).arrayBuffer());
+  } catch {
+    // It is read again with its ride, and reported there.
+  }
+  const text = String.fromCharCode(...head), kind = text.slice(8, 12) === '.FIT' ? 'fit' : /^FRJ/.test(text) ? 'journal' : byName;
+  return { file, folder, kind, base: file.name.replace(/\.[^.]*$/, '').toLowerCase(), isOpen: text.slice(4, 8) === '\0\0\0\0' };
+}
+
+// The rides of some files, in the order of their folders, each with `data` and `journal` or one of them, and how many files are none.
+async function ridesOf(files) {
+  const found = [], rides = [];
+  files.sort((a, b) => a.folder < b.folder ? -1 : a.folder > b.folder ? 1 : 0);
+  for (const it of files) found.push(await known(it));
+  const ours = found.filter(it => it.kind !== 'other'), folders = new Set(ours.map(it => it.folder));
+  if (!ours.length) return { rides: found.slice(0, 1).map(it => rideFrom(it)), others: 0 };
+  for (const folder of folders) {
+    const of = kind => ours.filter(it => it.folder === folder && it.kind === kind), fits = of('fit'), journals = of('journal');
+    const taken = new Map();
+    for (const it of journals) {
+      const own = fits.find(data => data.base === it.base && !taken.has(data));
+      if (own) taken.set(own, it);
+    }
+    const left = journals.filter(it => ![...taken.values()].includes(it)), free = fits.filter(it => !taken.has(it));
+    const open = free.filter(it => it.isOpen), match = free.length === 1 ? free[0] : open.length === 1 ? open[0] : null;
+    if (left.length === 1 && match) taken.set(match, left.pop());
+    rides.push(...fits.map(it => rideFrom(it, taken.get(it))), ...left.map(it => rideFrom(null, it)));
+  }
+  return { rides, others: found.length - ours.length };
+}
+
+function rideFrom(data, journal) {
+  const { file, folder } = data || journal;
+  return { data: data && data.file, journal: journal && journal.file, name: file.name, folder };
+}
+
+// The bytes of a file up to the first that cannot be read, and that place, if there is one after the first byte.
+async function frontOf(file) {
+  const parts = [], read = async part => new Uint8Array(await part.arrayBuffer());
+  let at = 0;
+  for (let size = file.size; at < file.size;) {
+    try {
+      parts.push(await read(file.slice(at, at + size)));
+      at += size;
+    } catch (error) {
+      if (error instanceof RangeError || (size === 1 && at === 0)) throw error;
+      if (size === 1) break;
+      size = Math.ceil(size / 2);
+    }
+  }
+  const bytes = parts.length === 1 ? parts[0] : await read(new Blob(parts));
+  return { bytes, unread: at < file.size ? at : undefined };
+}
+
+// What the worker is given of a ride.
+async function bytesOf({ data, journal, name }) {
+  const front = data ? await frontOf(data) : {}, other = journal ? await frontOf(journal) : {};
+  return { name, journalName: journal && journal.name, data: front.bytes, unread: front.unread, journal: other.bytes };
+}
