@@ -1,8 +1,7 @@
 -- A finished file is an activity: it has the laps, sessions and activity messages that a check asks for.
 use Rattle.std.proofs.Common.{◌≡◌, ℕ, ◌+◌, ◌≤◌, Bool, true, false, cond, List, [], ◌∷◌, ◌++◌, map, refl, sym, arith}
-use Rattle.std.specs.Prelude.{zero, suc, Ok, count_by, nat_le, ◌==◌}
+use Rattle.std.specs.Prelude.{zero, suc, Ok, count_by, ◌==◌}
 use Rattle.std.specs.List.{filter}
-use Rattle.std.proofs.Math.Dec.{leb-zero}
 use Rattle.std.proofs.lemmas.Bool.{ne_eqb, true≢false}
 use Rattle.std.proofs.lemmas.List.Sums.{sum_by-append, sum_by-cons}
 use Rattle.fit_grammar.specs.Format.Message.{Message}
@@ -17,7 +16,7 @@ use Rattle.fit_activity.specs.Messages.ProfileMessage.{event_message, stop_all_t
 use Rattle.fit_activity.specs.Messages.RideMessages.{closing_messages_of}
 use Rattle.fit_activity.specs.Files.Activity.{has_global, begins_with_file_id, is_activity_file, messages_counted, activity_in, summary_of}
 use Rattle.fit_finishing.specs.declared.closing.Lacks.{Lacks}
-use Rattle.fit_finishing.specs.Finished.{lacks_in, is_lacking, closing_for}
+use Rattle.fit_finishing.specs.Finished.{lacks_in, lacks_lap, is_lacking, closing_for}
 
 -- a message that may be there
 counted-if : (global : ℕ) (b : Bool) (m : Message) (messages : List Message)
@@ -67,9 +66,9 @@ module _ (lacks : Lacks) (time : ℕ) (lap : LapSummary) (session : SessionSumma
       )
 
 -- what there is none of is added
-some-below : (n k : ℕ) → 1 ≤ n + cond (nat_le n k) 1 0
-some-below zero k = rw (leb-zero k) (omega arith)
-some-below (suc n) k = omega arith
+some-lap : (n sessions heard : ℕ) → 1 ≤ n + cond (lacks_lap n sessions heard) 1 0
+some-lap zero sessions heard = omega arith
+some-lap (suc n) sessions heard = omega arith
 
 some-or-none : (n : ℕ) → 1 ≤ n + cond (n == 0) 1 0
 some-or-none zero = omega arith
@@ -87,7 +86,7 @@ passes (m ∷ others) list begins is_activity =
     let messages = m ∷ others in
     let lacks = lacks_in messages list in
     let added = closing_for messages list in
-    let laps = some 19 messages added _ (has-lap lacks (end_time list) (lap_of list) (session_of list) (activity_of list) (has_stopped list)) (some-below (messages_counted 19 messages) (count_by is_lap list)) in
+    let laps = some 19 messages added _ (has-lap lacks (end_time list) (lap_of list) (session_of list) (activity_of list) (has_stopped list)) (some-lap (messages_counted 19 messages) (messages_counted 18 messages) (count_by is_lap list)) in
     let sessions = some 18 messages added _ (has-session lacks (end_time list) (lap_of list) (session_of list) (activity_of list) (has_stopped list)) (some-or-none (messages_counted 18 messages)) in
     let activities = some 34 messages added _ (has-activity lacks (end_time list) (lap_of list) (session_of list) (activity_of list) (has_stopped list)) (some-or-none (messages_counted 34 messages)) in
     rw begins (rw is_activity (rw laps (rw sessions (rw activities refl))))

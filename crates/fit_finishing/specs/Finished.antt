@@ -1,5 +1,5 @@
 -- The messages that close an activity of any maker: those of the list that its messages are heard as, without what it has.
-use Rattle.std.specs.Prelude.{◌≡◌, ◌⊎◌, ℕ, ◌+◌, ◌^◌, ◌≤◌, Bool, List, ◌++◌, length, nat_le, count_by, Ok, Err, ◌==◌, ◌&&◌, if◌then◌else◌}
+use Rattle.std.specs.Prelude.{◌≡◌, ◌⊎◌, ℕ, ◌+◌, ◌^◌, ◌≤◌, Bool, List, ◌++◌, length, nat_le, count_by, Ok, Err, ◌==◌, ◌&&◌, ◌||◌, if◌then◌else◌}
 use Rattle.std.specs.List.{filter}
 use Rattle.fit_grammar.specs.Format.Message.{Message, messages_of}
 use Rattle.fit_grammar.specs.Format.Records.{data_size}
@@ -16,13 +16,17 @@ use Rattle.fit_finishing.specs.declared.finishing.FinishFault.{FinishFault}
 use Rattle.fit_finishing.specs.declared.finishing.FinishFault.TheVariants as faults
 use Rattle.fit_finishing.specs.Heard.{heard}
 
--- What a file lacks: a stop, if its timer runs and it has no session; the lap that is open, if each lap that the file has is in
--- the list; a session; an activity message.
+-- A file lacks the lap that is open if it has no lap; or if it has no session, and each of its laps is in the list.
+abbrev pub lacks_lap : ℕ → ℕ → ℕ → Bool
+lacks_lap laps sessions heard = (laps == 0) || ((sessions == 0) && nat_le laps heard)
+
+-- It lacks a stop if its timer runs and it has no session; a session and an activity message if it has none.
 abbrev pub lacks_in : List Message → List Recorded → Lacks
 lacks_in messages list =
     record {
       stop = runs_now list && (messages_counted 18 messages == 0);
-      lap = nat_le (messages_counted 19 messages) (count_by is_lap list);
+      lap =
+          lacks_lap (messages_counted 19 messages) (messages_counted 18 messages) (count_by is_lap list);
       session = messages_counted 18 messages == 0;
       activity = messages_counted 34 messages == 0;
     }

@@ -8,7 +8,7 @@ ghost use Rattle.fit_activity.specs.Rides.RunningTotals.{AreTotals};
 ghost use Rattle.fit_activity.specs.Files.Activity.{messages_counted};
 ghost use Rattle.fit_activity.specs.Messages.RideMessages.{closing};
 ghost use Rattle.fit_activity.specs.Messages.MessageBytes.{message_stated};
-ghost use Rattle.fit_finishing.specs.Finished.{lacks_in as lacks_of, is_lacking};
+ghost use Rattle.fit_finishing.specs.Finished.{lacks_in as lacks_of, lacks_lap as open_lap_lacks, is_lacking};
 ghost use Rattle.fit_finishing.specs.Private.Added.{HasLocal};
 
 use fit_activity::{Speech, SpokenMessage, Totals, speak_closing};
@@ -31,10 +31,17 @@ pub(crate) fn lacks_in(file: &LentFile<'_>, totals: &Totals) -> Lacks
     let sessions = count_of(file, 18);
     Lacks {
         stop: totals.running() && sessions == 0,
-        lap: count_of(file, 19) <= u32::from(totals.lap().index),
+        lap: lacks_lap(count_of(file, 19), sessions, u32::from(totals.lap().index)),
         session: sessions == 0,
         activity: count_of(file, 34) == 0,
     }
+}
+
+// Whether a file lacks the open lap, if it has so many laps and sessions, and so many of its laps were heard.
+fn lacks_lap(laps: u32, sessions: u32, heard: u32) -> bool
+    ensures { result ≡ open_lap_lacks laps sessions heard }
+{
+    laps == 0 || sessions == 0 && laps <= heard
 }
 
 // How many messages of this global number a file has.
