@@ -155,28 +155,37 @@ def summaries(file):
     return [line.partition(" ")[2] for line in show(file).splitlines() if line.split(" ")[1] in ("lap", "session", "activity")]
 
 
+def recorded(fitrec, script, new, lines):
+    """The folder of a ride of these lines."""
+    script.write_text("".join(line + "\n" for line in (*lines, "commit")))
+    folder = pathlib.Path(new())
+    run(fitrec, "replay", script, folder)
+    return folder
+
+
+def repaired(fitrec, script, new, lines):
+    """The laps, the session and the activity message after a repair of that ride."""
+    folder = recorded(fitrec, script, new, lines)
+    run(fitrec, "repair", folder)
+    return summaries((folder / "activity.fit").read_bytes())
+
+
 def judge_ride(fitrec, number, lines, cut):
     """A ride that is cut off has the totals that a repair of what is left gives."""
-    with room(*lines, "commit") as (script, new):
-        folder, place = new(), pathlib.Path(new())
-        run(fitrec, "replay", script, folder)
-        body = pathlib.Path(folder, "activity.fit").read_bytes()
+    with room() as (script, new):
+        body = (recorded(fitrec, script, new, lines) / "activity.fit").read_bytes()
+        place = pathlib.Path(new())
         (place / "in").write_bytes(body[:len(body) - cut])
-        if cut:
-            # Only the last entry is lost.
-            script.write_text("".join(line + "\n" for line in (*lines[:-1], "commit")))
-            folder = new()
-            run(fitrec, "replay", script, folder)
         said = run(fitrec, "salvage", "--finish", place / "in", place / "out")
-        repaired = run(fitrec, "repair", folder)
+        # A cut takes the last entry.
         kept = lines[:-1] if cut else lines
         if not any(line.startswith("sample") for line in kept):
             return "without a sample", differs(said, (1, "", "fitrec: NoSample\n"))
-        want = summaries(pathlib.Path(folder, "activity.fit").read_bytes())
+        want = repaired(fitrec, script, new, kept)
         if kept[-1].startswith("lap"):
-            # A recorder closes with a lap of 0 s after the last one.
-            want = want[:-3] + [want[-2].replace("num_laps=%d" % (len(want) - 2), "num_laps=%d" % (len(want) - 3)), want[-1]]
-        return "as repaired", differs((said[0], said[2], summaries((place / "out").read_bytes())), (0, "", want), (repaired, lines))
+            # A recorder adds a lap after the last one. The ride ends with the entry before it.
+            want = want[:-3] + repaired(fitrec, script, new, kept[:-1])[-2:]
+        return "as repaired", differs((said[0], said[2], summaries((place / "out").read_bytes())), (0, "", want), lines)
 
 
 def of_our_own(given):
@@ -212,13 +221,11 @@ def totals(text):
     return tuple(int(sessions[0][name]) for name in ("total_distance", "total_timer_time"))
 
 
-def as_stated(fitrec, place, data):
-    """A ride that was cut off after its last record has the distance of its maker's own session, to a metre, and its time, to 2 s."""
-    (place / "in.fit").write_bytes(after_last_record(data))
+def as_stated(fitrec, place, row, stated):
+    """A ride that was cut off after its last record has the distance that its maker stated, to a metre, and the timer's time, to 2 s."""
+    (place / "in.fit").write_bytes(row)
     said = run(fitrec, "salvage", "--finish", "--all", place / "in.fit", place / "out.fit")
-    stated, came = totals(show(salvaged(data)[3])), totals(show((place / "out.fit").read_bytes())) if said[0] == 0 else None
-    if stated is None or said[2] in ("fitrec: NoSample\n", "fitrec: NoFileId\n"):
-        return Skipped("a ride with one session and samples")
+    came = totals(show((place / "out.fit").read_bytes())) if said[0] == 0 else None
     is_right = came is not None and abs(came[0] - stated[0]) <= 100 and abs(came[1] - stated[1]) <= 2000
     return unless(is_right, (said, came), "about %s" % (stated,))
 
@@ -229,6 +236,7 @@ def of_other_makers_files(given):
     if isinstance(found, Skipped):
         yield "rides of other makers", found
         return
+    found = {name: data for name, data in found.items() if len(data) < 200000}
     pick = random.Random(given.seed)
     inputs = []
     for data in found.values():
@@ -237,8 +245,10 @@ def of_other_makers_files(given):
     with room() as (script, new):
         yield from given.judged(lambda number, row: judge(given.fitrec, script.parent, number, *row), inputs)
         for name, data in found.items():
-            if len(data) < 300000:
-                yield "as its maker stated: " + name, as_stated(given.fitrec, pathlib.Path(new()), data)
+            stated, row = totals(show(salvaged(data)[3])), after_last_record(data)
+            # Some have several sessions, or no sample.
+            if stated is not None and wanted_finish(row, True)[1] is not None:
+                yield "as its maker stated: " + name, as_stated(given.fitrec, pathlib.Path(new()), row, stated)
 
 
 def by_gpsbabel(fitrec):
