@@ -207,6 +207,25 @@ def replacements(traced, records):
         yield "salvage --plain: refused at the items of a plain run", differs(items["salvage --plain"], items["plain"])
 
 
+def finishings(traced, recorded):
+    """A salvage that is to be finished and is refused memory leaves OUT as it was. The place, if it gives one, is that of an item."""
+    with room() as (source, new):
+        source.write_bytes(recorded)
+
+        def old():
+            out = pathlib.Path(new()) / "out.fit"
+            out.write_bytes(b"old")
+            return out
+
+        for number, said, out in each(traced, "memory", "salvage", "--finish", source, new=old):
+            if not number:
+                yield "nothing wanting", differs(said[0], 0)
+                continue
+            is_left = out.read_bytes() == b"old" and list(out.parent.iterdir()) == [out]
+            well = (said == NO_MEMORY or place_of(said)) and is_left
+            yield "a refused request", unless(well, (number, said, is_left), "one line, and OUT as it was")
+
+
 def repairs(traced):
     """A repair that is refused memory leaves both files, and succeeds when it is made again. With --verify this holds until both files are
     held in memory. From then on a refused request is a failed call."""
@@ -297,6 +316,7 @@ def check(given):
         for text in (power, refusals, CUT_OFF):
             yield from given.checks(simulations, traced, text, "A5" * 600, under="simulate")
         yield from given.checks(replacements, traced, EMPTY_LIST + compressed_ride(60)[14:-2])
+        yield from given.checks(finishings, traced, recorded, under="salvage --finish")
         for group in (repairs, promises, wrong_words):
             yield from given.checks(group, traced)
         yield from given.checks(failing_writes, traced, recorded, example)

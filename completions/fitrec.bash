@@ -15,7 +15,7 @@ _fitrec() {
         record) options='--commit --help' ;;
         save) options='--earlier --help' ;;
         repair) options='--verify --help' ;;
-        salvage) options='--all --plain --help' ;;
+        salvage) options='--all --plain --finish --help' ;;
         plain) options='--help' ;;
         simulate) options='--checked --choices --help' ;;
         version) options='--help' ;;

@@ -27,5 +27,6 @@ complete -c fitrec -n '__fish_seen_subcommand_from save' -l earlier -d 'Takes th
 complete -c fitrec -n '__fish_seen_subcommand_from repair' -l verify -d 'Checks each answer of the system against what both files must hold, for a card that is dying'
 complete -c fitrec -n '__fish_seen_subcommand_from salvage' -l all -d 'Looks at every byte after the header, whatever size the header gives'
 complete -c fitrec -n '__fish_seen_subcommand_from salvage' -l plain -d 'Writes the time of every message out, as the command plain does'
+complete -c fitrec -n '__fish_seen_subcommand_from salvage' -l finish -d 'Adds the last lap, the session and the activity message that the ride of any device lacks'
 complete -c fitrec -n '__fish_seen_subcommand_from simulate' -l checked -d 'Stores a checksum with each commit, so that changed bytes are noticed'
 complete -c fitrec -n '__fish_seen_subcommand_from simulate' -l choices -x -d 'Says what a power cut leaves, two digits a byte; missing bytes are 00'

@@ -5,6 +5,8 @@ use Rattle.fit_disk.specs.declared.files.OpenFault.{OpenFault}
 use Rattle.fit_disk.specs.declared.files.OpenFault.TheVariants.{Open, Memory}
 use Rattle.fit_files.specs.declared.fault.ReportFault.{ReportFault}
 use Rattle.fit_files.specs.declared.fault.ReportFault.TheVariants as reports
+use Rattle.fit_finishing.specs.declared.finishing.FinishFault.{FinishFault}
+use Rattle.fit_finishing.specs.declared.finishing.FinishFault.TheVariants as finishes
 use Rattle.fit_recorder.specs.Calls.Recovery.{IsRecoveryFault}
 use Rattle.fit_recorder.specs.declared.fault.RecFault.TheVariants.{NothingRecorded, Damaged}
 use Rattle.fit_files.specs.declared.repairing.RepairFault.{RepairFault}
@@ -26,6 +28,13 @@ IsReportFault name reports.Output (faults.Write out) = out.now ≡ codes "-"
 IsReportFault name reports.Output _ = ⊥
 IsReportFault name (reports.Input why) reported = reported ≡ fault_of_read name why
 IsReportFault name (reports.Plain fault) reported = reported ≡ faults.Plain fault
+
+-- for an activity that is not finished
+abbrev pub fault_of_finish : FinishFault → Fault
+fault_of_finish (finishes.Activity fault) = faults.Activity fault
+fault_of_finish finishes.NoSample = faults.NoSample
+fault_of_finish finishes.TooLong = faults.TooLarge
+fault_of_finish finishes.Memory = faults.NoMemory
 
 -- for a recording that was not repaired, or whose summary was not printed
 abbrev pub IsRepairReported : RepairFault → Fault → Type 0
@@ -108,6 +117,22 @@ IsNotMade plain out (faults.File fault) = plain ≡ true
 IsNotMade plain out (faults.Plain fault) = plain ≡ true
 IsNotMade plain out reported = IsNotWritten out reported
 
+-- of finding the readable part of a file of this name
+abbrev pub IsNoSalvage : Bor (List ℕ) → Fault → Type 0
+IsNoSalvage file (faults.Read name) = name ≡ file
+IsNoSalvage file (faults.File fault) = Unit {0}
+IsNoSalvage file _ = ⊥
+
+-- of finishing the readable part, or its plain form
+abbrev pub IsNotFinishedReported : Bool → Fault → Type 0
+IsNotFinishedReported plain (faults.File fault) = Unit {0}
+IsNotFinishedReported plain (faults.Plain fault) = plain ≡ true
+IsNotFinishedReported plain (faults.Activity fault) = Unit {0}
+IsNotFinishedReported plain faults.NoSample = Unit {0}
+IsNotFinishedReported plain faults.TooLarge = Unit {0}
+IsNotFinishedReported plain faults.NoMemory = Unit {0}
+IsNotFinishedReported plain _ = ⊥
+
 -- of salvaging a file into another: one was not opened, read or written, the first is not a file, or the output failed
 abbrev pub IsSalvageReported : Bool → Bor (List ℕ) → Bor (List ℕ) → Fault → Type 0
 IsSalvageReported plain file out (faults.Open name) = name ≡ file
@@ -118,6 +143,12 @@ IsSalvageReported plain file out faults.NoMemory = Unit {0}
 IsSalvageReported plain file out (faults.File fault) = Unit {0}
 IsSalvageReported plain file out (faults.Plain fault) = plain ≡ true
 IsSalvageReported plain file out _ = ⊥
+
+-- of salvaging a file into another with its closing messages: also that it is no activity, or has no sample
+abbrev pub IsFinishReported : Bool → Bor (List ℕ) → Bor (List ℕ) → Fault → Type 0
+IsFinishReported plain file out (faults.Activity fault) = Unit {0}
+IsFinishReported plain file out faults.NoSample = Unit {0}
+IsFinishReported plain file out reported = IsSalvageReported plain file out reported
 
 -- of making the plain form of a file: it was not opened or read, it is not a file, or its plain form was not made
 abbrev pub IsFormReported : Bor (List ℕ) → Fault → Type 0

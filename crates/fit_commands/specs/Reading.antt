@@ -35,6 +35,7 @@ IsFileFault name faults.NoMemory = Unit {0}
 IsFileFault name (faults.File fault) = ⊥
 IsFileFault name (faults.Plain fault) = ⊥
 IsFileFault name (faults.Activity fault) = ⊥
+IsFileFault name faults.NoSample = ⊥
 IsFileFault name (faults.Script fault) = ⊥
 IsFileFault name (faults.OnlySimulate line) = ⊥
 IsFileFault name (faults.Recorder fault) = ⊥

@@ -1,22 +1,25 @@
 -- What a whole subcommand did: what it printed, and which fault it reports if it failed.
-use Rattle.std.specs.Prelude.{◌≡◌, ◌⊎◌, ◌≤◌, ℕ, Bool, true, List, ◌++◌, length, Option, Result, Ok, Err, codes}
+use Rattle.std.specs.Prelude.{◌≡◌, ◌⊎◌, ◌≤◌, ℕ, Bool, true, false, List, ◌++◌, length, Option, Result, Ok, Err, codes}
 use Rattle.std.specs.Borrow.{Bor}
 use Rattle.std.specs.Io.KnownBytes.{Appends}
 use Rattle.fit_activity.specs.declared.activity.Summary.{Summary}
 use Rattle.fit_disk.specs.State.{Contents, seen_in}
 use Rattle.fit_disk.specs.Story.{Story}
-use Rattle.fit_grammar.specs.Format.File.{FileValue}
+use Rattle.fit_grammar.specs.Format.File.{FileValue, FileOf}
 use Rattle.fit_grammar.specs.Format.Message.{messages_of}
 use Rattle.fit_files.specs.declared.salvage.Salvage.{Salvage}
 use Rattle.fit_files.specs.declared.saving.SavedRide.{SavedRide}
 use Rattle.fit_files.specs.Calls.Reading.{ReadsAll}
 use Rattle.fit_files.specs.Calls.Rereading.{AreSumsOf}
 use Rattle.fit_files.specs.Printed.PlainFile.{PlainsTo, messages_text}
+use Rattle.fit_files.specs.Printed.Finished.{finished_lines}
 use Rattle.fit_files.specs.Printed.Repaired.{Repairs}
 use Rattle.fit_files.specs.Printed.Salvaged.{IsSalvage, saved_file, kept_text}
 use Rattle.fit_files.specs.Printed.Saved.{SavesRide}
 use Rattle.fit_files.specs.Printed.Summary.{summary_text}
 use Rattle.fit_files.specs.Printed.Tabled.{SumsUp}
+use Rattle.fit_finishing.specs.declared.finishing.Finished.{Finished}
+use Rattle.fit_finishing.specs.Finished.{IsFinished}
 use Rattle.fit_files.specs.declared.fault.ReportFault.{ReportFault}
 use Rattle.fit_files.specs.declared.repairing.FileSums.{FileSums}
 use Rattle.fit_files.specs.declared.repairing.RepairFault.{RepairFault}
@@ -66,6 +69,25 @@ SavesFile all plain old new =
     (bytes : List ℕ) × (length bytes ≤ 268435456) × (salvage : Salvage)
     × IsSalvage all bytes salvage
     × (plain ≡ true → HasPlainForm salvage) × Appends old new (kept_text salvage ++ codes "\n")
+
+-- the file of the readable part, or its plain form
+pub record IsFormOf (plain : Bool) (salvage : Salvage) (file : FileValue) : Type 0 where
+  pub as_it_is : plain ≡ false → FileOf (saved_file salvage) file
+  pub plain_form : plain ≡ true → PlainsTo (saved_file salvage) (Ok file)
+
+-- it is that file with the closing messages that it lacks
+abbrev pub FinishesSalvage : Bool → Salvage → Finished → Type 0
+FinishesSalvage plain salvage finished =
+    (file : FileValue) × IsFormOf plain salvage file × IsFinished file finished
+
+-- the longest row of whole items in some bytes was found, and its file finished; its length, and how many entries were heard and left
+-- out, was printed
+abbrev pub FinishesFile : Bool → Bool → Option (List ℕ) → Option (List ℕ) → Type 0
+FinishesFile all plain old new =
+    (bytes : List ℕ) × (length bytes ≤ 268435456) × (salvage : Salvage)
+    × IsSalvage all bytes salvage
+    × (finished : Finished) × FinishesSalvage plain salvage finished
+    × Appends old new (finished_lines salvage finished.taken finished.left_out)
 
 -- it is the plain form of a file of some bytes
 abbrev pub IsFormOfFile : FileValue → Type 0

@@ -35,6 +35,9 @@ pub enum Fault<'a> {
     /// The file is not an activity.
     #[error("{0:?}")]
     Activity(ActivityFault),
+    /// No sample of the activity was taken, so it is not finished.
+    #[error("NoSample")]
+    NoSample,
     /// A line of the script is wrong, or memory was refused.
     #[error("line {}: {:?}", .0.line, .0.kind)]
     Script(ScriptFault),

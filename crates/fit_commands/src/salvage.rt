@@ -1,13 +1,14 @@
 // The subcommand `salvage`: writes the readable part of a file that has no journal to a file of its own.
 
-ghost use Rattle.std.specs.Prelude.{◌≡◌, IfErr, OnOk, true};
-ghost use Rattle.fit_commands.specs.Faults.{IsNotMade, IsSalvageReported};
+ghost use Rattle.std.specs.Prelude.{◌≡◌, ◌≤◌, IfOk, IfErr, OnOk, true, vec_len};
+ghost use Rattle.fit_files.specs.Printed.Salvaged.{IsSalvage};
+ghost use Rattle.fit_commands.specs.Faults.{IsNoSalvage, IsNotMade, IsSalvageReported};
 ghost use Rattle.fit_commands.specs.Reported.{HasPlainForm, SavesFile, PrintsNothing};
 
 use crate::beside::write_whole;
 use crate::fault::Fault;
 use crate::input::{fault_of_report, print_end, read_file_front};
-use fit_files::{Salvage, salvage_bytes};
+use fit_files::{FrontRead, Salvage, salvage_bytes};
 use std::io::Write;
 
 /// Writes the readable part of the file `name`, or with `plain` the plain form of that, to the file `to`, which may exist. Prints how
@@ -27,17 +28,30 @@ pub fn salvage_file<'a, O: Write, E: Write>(
     ensures quiet { IfErr result (PrintsNothing (O.contents out.old) (O.contents out.new)) }
 {
     let read = read_file_front(rt, name)?;
-    let salvage = match salvage_bytes(read.bytes.as_slice(), all) {
-        Ok(salvage) => salvage,
-        Err(_) if !read.is_whole => return Err(Fault::Read(name)),
-        Err(fault) => return Err(Fault::File(fault)),
-    };
+    let salvage = salvage_read(name, &read, all)?;
     write_salvage(rt, name, to, plain, &salvage)?;
     let _ = print_end(name, read.unread_from(), err);
     let _ = salvage.print_left(err);
     match salvage.print(out) {
         Ok(()) => Ok(()),
         Err(fault) => Err(fault_of_report(name, fault)),
+    }
+}
+
+/// The readable part of the file `name`, of which this was read.
+pub(crate) fn salvage_read<'a, 'b>(
+    name: &'a str,
+    read: &'b FrontRead,
+    all: bool,
+) -> Result<Salvage<'b>, Fault<'a>>
+    requires { vec_len read.now.bytes ≤ 268435456 }
+    ensures found { IfOk result (IsSalvage all read.now.bytes.items) }
+    ensures reported { IfErr result (IsNoSalvage name.entry) }
+{
+    match salvage_bytes(read.bytes.as_slice(), all) {
+        Ok(salvage) => Ok(salvage),
+        Err(_) if !read.is_whole => Err(Fault::Read(name)),
+        Err(fault) => Err(Fault::File(fault)),
     }
 }
 

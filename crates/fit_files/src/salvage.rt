@@ -29,7 +29,7 @@ impl Salvage<'_> {
     ghost use Rattle.std.specs.Prelude.{◌≡◌, ◌++◌, Bool, List, ℕ, codes, IfErr};
     ghost use Rattle.fit_grammar.specs.Calls.Output.{WritesText};
     ghost use Rattle.fit_grammar.specs.Format.File.{FileOf};
-    ghost use Rattle.fit_files.specs.Printed.Salvaged.{IsSalvage, IsNoForm, DecodesSalvage, PlainsSalvage, saved_file, kept_text, left_text};
+    ghost use Rattle.fit_files.specs.Printed.Salvaged.{IsSalvage, IsNoForm, DecodesSalvage, ReadsSalvage, PlainsSalvage, saved_file, kept_text, left_text};
     ghost use Rattle.fit_files.specs.Printed.Shown.{IsOutputFault};
 
     /// Writes the row as a file of its own: a header, the row and a checksum. After an `Err` a prefix of that file is written. No
@@ -53,6 +53,19 @@ impl Salvage<'_> {
     {
         match self.decoded(alloc) {
             Ok((file, places)) => plain_of(alloc, &file, &places),
+            Err(fault) => Err(fault),
+        }
+    }
+
+    /// The file that `write` writes.
+    pub fn file(&self, alloc: Global) -> Result<File, ReportFault>
+        ensures file { ReadsSalvage self.now result }
+        // What `salvage_bytes` found is a file, so only memory may be refused.
+        ensures taken { (all : Bool) (bytes : List ℕ) → IsSalvage all bytes self.now
+            → IfErr result IsNoForm }
+    {
+        match self.decoded(alloc) {
+            Ok((file, _)) => Ok(file),
             Err(fault) => Err(fault),
         }
     }

@@ -68,9 +68,10 @@ IsAskedBy name found (Save folder to earlier) =
 IsAskedBy name found (Repair folder verify) =
     (name ≡ codes "repair") × IsWord found (codes "FOLDER") folder
     × IsFlag found (codes "verify") verify
-IsAskedBy name found (Salvage file to all plain) =
+IsAskedBy name found (Salvage file to all plain finish) =
     (name ≡ codes "salvage") × IsWord found (codes "IN") file × IsWord found (codes "OUT") to
     × IsFlag found (codes "all") all × IsFlag found (codes "plain") plain
+    × IsFlag found (codes "finish") finish
 IsAskedBy name found (Plain file to) =
     (name ≡ codes "plain") × IsWord found (codes "IN") file × IsWord found (codes "OUT") to
 IsAskedBy name found (Simulate script choices checked) =

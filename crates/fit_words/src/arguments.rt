@@ -40,6 +40,15 @@ pub(crate) fn plain_option<'a>(alloc: Global) -> Arg<'a> {
         .action(ArgAction::SetTrue)
 }
 
+pub(crate) fn finish_option<'a>(alloc: Global) -> Arg<'a> {
+    Arg::new(alloc, "finish")
+        .long("finish")
+        .help(
+            "Adds the last lap, the session and the activity message that the ride of any device lacks",
+        )
+        .action(ArgAction::SetTrue)
+}
+
 pub(crate) fn commit_option<'a>(alloc: Global) -> Arg<'a> {
     Arg::new(alloc, "commit")
         .long("commit")

@@ -53,6 +53,7 @@ pub enum Request<'a> {
         to: &'a str,
         all: bool,
         plain: bool,
+        finish: bool,
     },
     Plain {
         file: &'a str,
@@ -244,6 +245,7 @@ fn salvage_of<'a>(matches: &ArgMatches<'a>) -> Option<Request<'a>>
         to: matches.get_str("OUT")?,
         all: matches.get_flag("all"),
         plain: matches.get_flag("plain"),
+        finish: matches.get_flag("finish"),
     })
 }
 

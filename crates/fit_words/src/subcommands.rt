@@ -2,9 +2,9 @@
 
 use crate::arguments::{
     all_option, checked_option, choices_option, commit_option, each_option, earlier_option,
-    fields_option, file_argument, folder_argument, in_argument, json_option, message_option,
-    more_argument, null_option, out_argument, plain_option, raw_option, script_argument,
-    table_argument, utc_option, verify_option,
+    fields_option, file_argument, finish_option, folder_argument, in_argument, json_option,
+    message_option, more_argument, null_option, out_argument, plain_option, raw_option,
+    script_argument, table_argument, utc_option, verify_option,
 };
 use clap::{Command, Error};
 use std::alloc::Global;
@@ -142,6 +142,7 @@ fn salvage_command<'a>(alloc: Global) -> Result<Command<'a>, Error> {
             )
             .arg(all_option(alloc))?
             .arg(plain_option(alloc))?
+            .arg(finish_option(alloc))?
             .arg(in_argument(alloc, "The path of the damaged file"))?
             .arg(out_argument(alloc))?,
     )

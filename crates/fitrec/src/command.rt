@@ -12,8 +12,8 @@ mod version;
 
 use clap::error::ErrorKind;
 use fit_commands::{
-    Chosen, Fault, NotChosen, check_each, check_file, make_plain, repair_folder, salvage_file,
-    save_folder, show_as_json, show_file, table_each, table_file, verify_folder,
+    Chosen, Fault, NotChosen, check_each, check_file, finish_file, make_plain, repair_folder,
+    salvage_file, save_folder, show_as_json, show_file, table_each, table_file, verify_folder,
 };
 use fit_scripts::read_choices;
 use fit_words::{
@@ -91,9 +91,22 @@ pub fn command<S: AsStr, O: Write, E: Write>(
                 to,
                 all,
                 plain,
+                finish: false,
             },
         ) => {
             let done = salvage_file(rt, file, to, all, plain, out, err);
+            status(done, err)
+        }
+        Ok(
+            Request::Salvage {
+                file,
+                to,
+                all,
+                plain,
+                finish: true,
+            },
+        ) => {
+            let done = finish_file(rt, file, to, all, plain, out, err);
             status(done, err)
         }
         Ok(Request::Plain { file, to }) => status(make_plain(rt, file, to, out), err),

@@ -14,7 +14,7 @@ use Rattle.fit_files.specs.declared.fault.ReportFault.{ReportFault}
 use Rattle.fit_files.specs.declared.fault.ReportFault.TheVariants.{File, Input, Plain}
 use Rattle.fit_files.specs.declared.reading.ReadFault.TheVariants.{NoMemory}
 use Rattle.fit_files.specs.declared.salvage.Salvage.{Salvage}
-use Rattle.fit_files.specs.Calls.Reading.{DecodesWith}
+use Rattle.fit_files.specs.Calls.Reading.{DecodesTo, DecodesWith}
 use Rattle.fit_files.specs.Printed.PlainFile.{PlainsTo}
 
 -- the bytes after a header that are looked at: all of them if `all` is set or the header gives the size 0, otherwise the first ones,
@@ -59,6 +59,11 @@ saved_file salvage = framed salvage.frame salvage.row.now
 abbrev pub DecodesSalvage : Salvage → Result (FileValue × List ℕ) ReportFault → Type 0
 DecodesSalvage salvage (Err (Input NoMemory)) = Unit {0}
 DecodesSalvage salvage result = DecodesWith (saved_file salvage) result
+
+-- that file alone
+abbrev pub ReadsSalvage : Salvage → Result FileValue ReportFault → Type 0
+ReadsSalvage salvage (Err (Input NoMemory)) = Unit {0}
+ReadsSalvage salvage result = DecodesTo (saved_file salvage) result
 
 -- the plain form of that file, or why there is none
 abbrev pub PlainsSalvage : Salvage → Result FileValue ReportFault → Type 0

@@ -1,0 +1,26 @@
+"""Rides of other makers: those in Debian's source of goldencheetah, which is fetched into compare/out once."""
+
+import subprocess
+
+from tools.checks import Skipped
+from tools.program import ROOT
+
+SOURCE = ROOT / "compare/out/goldencheetah"
+
+
+def rides():
+    """The files by their names; or why there are none."""
+    SOURCE.mkdir(parents=True, exist_ok=True)
+    for version in ("goldencheetah=1:3.5-1.1", "goldencheetah"):
+        if not any(SOURCE.glob("*.orig.tar.gz")):
+            subprocess.run(["apt-get", "source", "--download-only", version], cwd=SOURCE, capture_output=True)
+    archive = next(SOURCE.glob("*.orig.tar.gz"), None)
+    if archive is None:
+        return Skipped("the source of goldencheetah, which apt-get source does not fetch here")
+    if not any(SOURCE.glob("files/*")):
+        (SOURCE / "files").mkdir(exist_ok=True)
+        words = ["tar", "xzf", archive, "-C", SOURCE / "files", "--wildcards", "*.fit", "--transform", "s,.*/,,"]
+        if subprocess.run(words, capture_output=True).returncode != 0:
+            return Skipped("the rides in the source of goldencheetah")
+    found = {path.name: path.read_bytes() for path in sorted(SOURCE.glob("files/*.fit"))}
+    return {name: data for name, data in found.items() if data[8:12] == b".FIT"}

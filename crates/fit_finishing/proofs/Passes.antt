@@ -1,0 +1,92 @@
+-- A finished file is an activity: it has the laps, sessions and activity messages that a check asks for.
+use Rattle.std.proofs.Common.{◌≡◌, ℕ, ◌+◌, ◌≤◌, Bool, true, false, cond, List, [], ◌∷◌, ◌++◌, map, refl, sym, arith}
+use Rattle.std.specs.Prelude.{zero, suc, Ok, count_by, ◌==◌}
+use Rattle.std.specs.List.{filter}
+use Rattle.std.proofs.lemmas.Bool.{ne_eqb, true≢false}
+use Rattle.std.proofs.lemmas.List.Sums.{sum_by-append, sum_by-cons}
+use Rattle.fit_grammar.specs.Format.Message.{Message}
+use Rattle.fit_activity.specs.declared.totals.summary.LapSummary.{LapSummary}
+use Rattle.fit_activity.specs.declared.totals.summary.SessionSummary.{SessionSummary}
+use Rattle.fit_activity.specs.declared.totals.summary.ActivitySummary.{ActivitySummary}
+use Rattle.fit_activity.specs.Rides.Recording.{Recorded, is_lap}
+use Rattle.fit_activity.specs.Rides.Refusal.{has_stopped}
+use Rattle.fit_activity.specs.Rides.Stretch.{end_time, lap_of, session_of, activity_of}
+use Rattle.fit_activity.specs.Messages.ProfileField.{as_message}
+use Rattle.fit_activity.specs.Messages.ProfileMessage.{event_message, stop_all_type, lap_message, session_end, session_message, activity_message}
+use Rattle.fit_activity.specs.Messages.RideMessages.{closing_messages_of}
+use Rattle.fit_activity.specs.Files.Activity.{has_global, begins_with_file_id, is_activity_file, messages_counted, activity_in, summary_of}
+use Rattle.fit_finishing.specs.declared.closing.Lacks.{Lacks}
+use Rattle.fit_finishing.specs.Finished.{lacks_in, lacks_lap, is_lacking, closing_for}
+
+-- a message that may be there
+counted-if : (global : ℕ) (b : Bool) (m : Message) (messages : List Message)
+    → messages_counted global (cond b (m ∷ messages) messages) ≡ cond b (cond (has_global global m) 1 0) 0 + messages_counted global messages
+counted-if global true m messages = sum_by-cons (λ x. cond (has_global global x) 1 0) m messages
+counted-if global false m messages = omega arith
+
+-- the closing messages that a file lacks
+abbrev added_by : Lacks → Bool → ℕ → LapSummary → SessionSummary → ActivitySummary → List Message
+added_by lacks stopped time lap session activity = filter (is_lacking lacks) (map as_message (closing_messages_of stopped time lap session activity))
+
+module _ (lacks : Lacks) (time : ℕ) (lap : LapSummary) (session : SessionSummary) (activity : ActivitySummary) where
+  abbrev here : List Message
+  here = added_by lacks true time lap session activity
+
+  -- a stop before them takes none away
+  after-stop : (global : ℕ) (stopped : Bool) → messages_counted global here ≤ messages_counted global (added_by lacks stopped time lap session activity)
+  after-stop global true = omega arith
+  after-stop global false = omega (arith, counted-if global lacks.stop (as_message (event_message time stop_all_type)) here)
+
+  abbrev after_lap : List Message
+  after_lap = filter (is_lacking lacks) (as_message (session_message session) ∷ as_message (activity_message activity) ∷ [])
+
+  abbrev after_session : List Message
+  after_session = filter (is_lacking lacks) (as_message (activity_message activity) ∷ [])
+
+  has-lap : (stopped : Bool) → cond lacks.lap 1 0 ≤ messages_counted 19 (added_by lacks stopped time lap session activity)
+  has-lap stopped = omega (arith, after-stop 19 stopped, counted-if 19 lacks.lap (as_message (lap_message lap session_end)) after_lap)
+
+  has-session : (stopped : Bool) → cond lacks.session 1 0 ≤ messages_counted 18 (added_by lacks stopped time lap session activity)
+  has-session stopped =
+      omega (
+        arith,
+        after-stop 18 stopped,
+        counted-if 18 lacks.lap (as_message (lap_message lap session_end)) after_lap,
+        counted-if 18 lacks.session (as_message (session_message session)) after_session,
+      )
+
+  has-activity : (stopped : Bool) → cond lacks.activity 1 0 ≤ messages_counted 34 (added_by lacks stopped time lap session activity)
+  has-activity stopped =
+      omega (
+        arith,
+        after-stop 34 stopped,
+        counted-if 34 lacks.lap (as_message (lap_message lap session_end)) after_lap,
+        counted-if 34 lacks.session (as_message (session_message session)) after_session,
+        counted-if 34 lacks.activity (as_message (activity_message activity)) [],
+      )
+
+-- what there is none of is added
+some-lap : (n sessions heard : ℕ) → 1 ≤ n + cond (lacks_lap n sessions heard) 1 0
+some-lap zero sessions heard = omega arith
+some-lap (suc n) sessions heard = omega arith
+
+some-or-none : (n : ℕ) → 1 ≤ n + cond (n == 0) 1 0
+some-or-none zero = omega arith
+some-or-none (suc n) = omega arith
+
+some : (global : ℕ) (messages added : List Message) (n : ℕ) → n ≤ messages_counted global added → 1 ≤ messages_counted global messages + n → (messages_counted global (messages ++ added) == 0) ≡ false
+some global messages added n has least =
+    let whole = sum_by-append (λ m. cond (has_global global m) 1 0) messages added in
+    ne_eqb (messages_counted global (messages ++ added)) 0 (λ none. omega (arith, whole, none, has, least))
+
+pub passes : (messages : List Message) (list : List Recorded) → begins_with_file_id messages ≡ true → is_activity_file messages ≡ true
+    → activity_in (messages ++ closing_for messages list) ≡ Ok (summary_of (messages ++ closing_for messages list))
+passes [] list begins is_activity = absurd (true≢false (sym begins))
+passes (m ∷ others) list begins is_activity =
+    let messages = m ∷ others in
+    let lacks = lacks_in messages list in
+    let added = closing_for messages list in
+    let laps = some 19 messages added _ (has-lap lacks (end_time list) (lap_of list) (session_of list) (activity_of list) (has_stopped list)) (some-lap (messages_counted 19 messages) (messages_counted 18 messages) (count_by is_lap list)) in
+    let sessions = some 18 messages added _ (has-session lacks (end_time list) (lap_of list) (session_of list) (activity_of list) (has_stopped list)) (some-or-none (messages_counted 18 messages)) in
+    let activities = some 34 messages added _ (has-activity lacks (end_time list) (lap_of list) (session_of list) (activity_of list) (has_stopped list)) (some-or-none (messages_counted 34 messages)) in
+    rw begins (rw is_activity (rw laps (rw sessions (rw activities refl))))

@@ -1,0 +1,19 @@
+//! The summary of an activity of any maker: the messages that a recorder would close it with.
+//!
+//! `finish` takes a file whose laps, session or activity message are missing. It hears the entries of a ride from the messages, whoever
+//! wrote them: samples by the table of fields, the events of the timer, and laps. An entry that a rule refuses is left out and counted.
+//! The totals are those of the list so heard, and the messages those that a recorder writes; what the file has is not written again.
+//!
+//! Contracts use the definitions of `specs/`: `Entries` has the entry of a message, `Heard` the list of all of them, and `Finished` the
+//! messages that are added.
+#![tactic(auto)]
+
+mod closing;
+mod entries;
+mod finishing;
+mod hearing;
+mod ride;
+mod sport;
+mod value;
+
+pub use finishing::{FinishFault, Finished, finish};
