@@ -160,7 +160,8 @@ export async function open(source) {
         for (let room = expected; ;) {
           it.end = free;
           const atFields = it.put(fields), size = fields.length * room, out = it.room(8 * size);
-          const code = it.call('fitrec_columns', at, file.length, new Number(message), atFields, fields.length, room, out, size, rows, place);
+          const given = [at, file.length, new Number(message), atFields, fields.length, room, out, size, rows, place];
+          const code = it.call('fitrec_columns', ...given);
           if (code !== NO_ROOM) {
             refuseUnless0(code, FAULTS, it.long(place));
             return fields.map((_, k) => numbersAt(it, out + 8 * k * room, it.long(rows)));

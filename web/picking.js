@@ -31,9 +31,10 @@ async function walkEntry(entry, folder, found) {
   return found;
 }
 
-// A file with its kind: 'fit', 'journal' or 'other'. `isOpen` is of a recording that was not closed.
+// A file with its kind: 'fit', 'journal' or 'other'. `isOpen` is of a recording that was not closed. What a Mac leaves beside each file of
+// a card has the same name after two characters.
 async function known({ file, folder }) {
-  const byName = /\.frj$/i.test(file.name) ? 'journal' : /\.fit$/i.test(file.name) ? 'fit' : 'other';
+  const byName = /^\._/.test(file.name) ? 'other' : /\.frj$/i.test(file.name) ? 'journal' : /\.fit$/i.test(file.name) ? 'fit' : 'other';
   let head = [];
   try {
     head = new Uint8Array(await file.slice(0, 12).arrayBuffer());

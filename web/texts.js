@@ -2,7 +2,8 @@
 const TEXTS = {
 en: {
   title: 'Save the ride of a device that died',
-  lead: 'Choose the two files that the recorder left, activity.fit and activity.frj, or the folder or card that has them. Or choose any FIT file, to look at it and to save what is readable of it.',
+  lead: 'Choose the two files that the recorder left, activity.fit and activity.frj, or the folder or card that has them. Or choose any '
+    + 'FIT file, to look at it and to save what is readable of it.',
   chooseFiles: 'Choose files',
   chooseFolder: 'Choose a folder or card',
   hint: 'You can also drop files, folders or a card anywhere on this page, all at once or one after the other.',
@@ -24,7 +25,8 @@ en: {
   salvagedMore: '{more} bytes after the length in its header were left out.',
   nothing: 'Nothing could be saved',
   download: 'Download {name}',
-  where: 'You can upload this file where FIT files are taken, such as Garmin Connect, Strava or intervals.icu, or open it with GoldenCheetah.',
+  where: 'You can upload this file where FIT files are taken, such as Garmin Connect, Strava or intervals.icu, or open it with '
+    + 'GoldenCheetah.',
 
   offer_end: 'Save with the unconfirmed end, without a summary',
   offer_data: 'Save what is readable of the ride file alone',
@@ -36,7 +38,8 @@ en: {
   emptyAloneNext: 'Copy it from the device once more. If it is empty there too, it holds no ride.',
   journalAlone: 'A journal alone has no ride in it.',
   journalAloneNext: 'Choose activity.fit of the same folder too. This page keeps the journal until then.',
-  journalBeside: 'This recording was not closed. If activity.frj is beside it, choose that too: with both files the whole confirmed ride is saved, with its summary.',
+  journalBeside: 'This recording was not closed. If activity.frj is beside it, choose that too: with both files the whole confirmed ride '
+    + 'is saved, with its summary.',
   unread: 'The browser could not read the files. If they are on a card, copy them to this device first.',
   unreadFrom: '{name} could not be read from byte {place} on.',
   unreadNext: 'Repair the file system of the card, such as by fsck.vfat -a on a copy of it, and choose both files again.',
@@ -50,7 +53,8 @@ en: {
   notFitNext: 'Choose another file. If this is a ride, its beginning is destroyed, and this page cannot read it.',
   noMessage: 'The file has no readable message.',
   skipNext: 'After the damage there may be more. The program goes on after it: fitrec salvage --skip IN OUT',
-  finishNext: 'The file has no summary. Most programs open it anyway; for one that does not, the program writes it: fitrec salvage --finish IN OUT',
+  finishNext: 'The file has no summary. Most programs open it anyway; for one that does not, the program writes it: fitrec salvage '
+    + '--finish IN OUT',
   unexpected: 'The files could not be judged.',
 
   faultTruncated: 'The file ends too soon.',
@@ -87,12 +91,14 @@ en: {
   moment: 'Time of the ride',
   readPoint: 'Point at a picture, or move the slider by keys, to read the values at a time.',
   readTap: 'Tap a picture, or move the slider, to read the values at a time.',
-  lapsTitle: 'Laps', lap: 'Lap', begun: 'Begins', heartAverage: 'Average heart rate', heartGreatest: 'Highest heart rate', powerAverage: 'Average power',
+  lapsTitle: 'Laps', lap: 'Lap', begun: 'Begins', heartAverage: 'Average heart rate', heartGreatest: 'Highest heart rate',
+  powerAverage: 'Average power',
   openLap: 'This lap was not ended.',
 },
 de: {
   title: 'Die Fahrt eines ausgefallenen Geräts retten',
-  lead: 'Wähle die beiden Dateien, die das Gerät hinterlassen hat, activity.fit und activity.frj, oder den Ordner oder die Karte, auf der sie liegen. Oder wähle irgendeine FIT-Datei, um sie anzusehen und zu retten, was lesbar ist.',
+  lead: 'Wähle die beiden Dateien, die das Gerät hinterlassen hat, activity.fit und activity.frj, oder den Ordner oder die Karte, auf '
+    + 'der sie liegen. Oder wähle irgendeine FIT-Datei, um sie anzusehen und zu retten, was lesbar ist.',
   chooseFiles: 'Dateien wählen',
   chooseFolder: 'Ordner oder Karte wählen',
   hint: 'Du kannst Dateien, Ordner oder eine Karte auch auf diese Seite ziehen, alle auf einmal oder nacheinander.',
@@ -114,7 +120,8 @@ de: {
   salvagedMore: '{more} Bytes nach der Länge, die im Dateikopf steht, sind weggelassen.',
   nothing: 'Es konnte nichts gerettet werden',
   download: '{name} herunterladen',
-  where: 'Du kannst diese Datei überall hochladen, wo FIT-Dateien angenommen werden, etwa bei Garmin Connect, Strava oder intervals.icu, oder mit GoldenCheetah öffnen.',
+  where: 'Du kannst diese Datei überall hochladen, wo FIT-Dateien angenommen werden, etwa bei Garmin Connect, Strava oder intervals.icu, '
+    + 'oder mit GoldenCheetah öffnen.',
 
   offer_end: 'Mit dem unbestätigten Ende retten, ohne Zusammenfassung',
   offer_data: 'Retten, was von der Fahrtdatei allein lesbar ist',
@@ -126,7 +133,8 @@ de: {
   emptyAloneNext: 'Kopiere sie noch einmal vom Gerät. Ist sie auch dort leer, so enthält sie keine Fahrt.',
   journalAlone: 'In einem Journal allein ist keine Fahrt.',
   journalAloneNext: 'Wähle auch activity.fit aus demselben Ordner. Die Seite behält das Journal bis dahin.',
-  journalBeside: 'Diese Aufzeichnung wurde nicht abgeschlossen. Liegt activity.frj daneben, so wähle sie auch: Mit beiden Dateien wird die ganze bestätigte Fahrt gerettet, mit ihrer Zusammenfassung.',
+  journalBeside: 'Diese Aufzeichnung wurde nicht abgeschlossen. Liegt activity.frj daneben, so wähle sie auch: Mit beiden Dateien wird '
+    + 'die ganze bestätigte Fahrt gerettet, mit ihrer Zusammenfassung.',
   unread: 'Der Browser konnte die Dateien nicht lesen. Liegen sie auf einer Karte, so kopiere sie zuerst auf dieses Gerät.',
   unreadFrom: '{name} ist ab Byte {place} nicht lesbar.',
   unreadNext: 'Repariere das Dateisystem der Karte, etwa mit fsck.vfat -a auf einer Kopie davon, und wähle beide Dateien noch einmal.',
@@ -140,7 +148,8 @@ de: {
   notFitNext: 'Wähle eine andere Datei. Wenn dies eine Fahrt ist, so ist ihr Anfang zerstört, und diese Seite kann sie nicht lesen.',
   noMessage: 'In der Datei ist keine lesbare Nachricht.',
   skipNext: 'Nach dem Schaden kann noch mehr kommen. Das Programm liest danach weiter: fitrec salvage --skip IN OUT',
-  finishNext: 'Die Datei hat keine Zusammenfassung. Die meisten Programme öffnen sie trotzdem; für die anderen schreibt das Programm sie: fitrec salvage --finish IN OUT',
+  finishNext: 'Die Datei hat keine Zusammenfassung. Die meisten Programme öffnen sie trotzdem; für die anderen schreibt das Programm '
+    + 'sie: fitrec salvage --finish IN OUT',
   unexpected: 'Die Dateien konnten nicht beurteilt werden.',
 
   faultTruncated: 'Die Datei endet zu früh.',
@@ -177,12 +186,14 @@ de: {
   moment: 'Zeitpunkt der Fahrt',
   readPoint: 'Zeige auf ein Bild, oder bewege den Regler mit den Pfeiltasten, um die Werte eines Zeitpunkts zu lesen.',
   readTap: 'Tippe auf ein Bild, oder bewege den Regler, um die Werte eines Zeitpunkts zu lesen.',
-  lapsTitle: 'Runden', lap: 'Runde', begun: 'Beginn', heartAverage: 'Mittlerer Puls', heartGreatest: 'Höchster Puls', powerAverage: 'Mittlere Leistung',
+  lapsTitle: 'Runden', lap: 'Runde', begun: 'Beginn', heartAverage: 'Mittlerer Puls', heartGreatest: 'Höchster Puls',
+  powerAverage: 'Mittlere Leistung',
   openLap: 'Diese Runde wurde nicht beendet.',
 },
 fr: {
   title: 'Sauver la sortie d’un appareil tombé en panne',
-  lead: 'Choisissez les deux fichiers que l’appareil a laissés, activity.fit et activity.frj, ou bien le dossier ou la carte où ils se trouvent. Ou choisissez n’importe quel fichier FIT, pour le regarder et sauver ce qui en est lisible.',
+  lead: 'Choisissez les deux fichiers que l’appareil a laissés, activity.fit et activity.frj, ou bien le dossier ou la carte où ils se '
+    + 'trouvent. Ou choisissez n’importe quel fichier FIT, pour le regarder et sauver ce qui en est lisible.',
   chooseFiles: 'Choisir des fichiers',
   chooseFolder: 'Choisir un dossier ou une carte',
   hint: 'Vous pouvez aussi déposer des fichiers, des dossiers ou une carte sur cette page, tous ensemble ou l’un après l’autre.',
@@ -195,7 +206,8 @@ fr: {
   savedWhy: 'Tout ce que l’appareil avait confirmé est dans le fichier terminé.',
   uncommitted: '{count} octets de messages entiers viennent ensuite. L’appareil ne les avait pas confirmés, et ils sont laissés de côté.',
   earlier: 'Une partie antérieure de la sortie est sauvée',
-  earlierWhy: 'Ce qui était confirmé avant cela est dans le nouveau fichier ; les {count} derniers octets de messages sont laissés de côté.',
+  earlierWhy: 'Ce qui était confirmé avant cela est dans le nouveau fichier ; les {count} derniers octets de messages sont laissés de '
+    + 'côté.',
   whole: 'Le fichier est intact',
   wholeWhy: 'C’est une activité, et sa somme de contrôle est juste. Il n’y a rien à sauver.',
   noActivity: 'Le fichier est lisible, mais n’est pas une activité terminée',
@@ -204,7 +216,8 @@ fr: {
   salvagedMore: '{more} octets après la longueur donnée par l’en-tête sont laissés de côté.',
   nothing: 'Rien n’a pu être sauvé',
   download: 'Télécharger {name}',
-  where: 'Vous pouvez envoyer ce fichier partout où les fichiers FIT sont acceptés, comme Garmin Connect, Strava ou intervals.icu, ou l’ouvrir avec GoldenCheetah.',
+  where: 'Vous pouvez envoyer ce fichier partout où les fichiers FIT sont acceptés, comme Garmin Connect, Strava ou intervals.icu, ou '
+    + 'l’ouvrir avec GoldenCheetah.',
 
   offer_end: 'Sauver avec la fin non confirmée, sans résumé',
   offer_data: 'Sauver ce qui est lisible du seul fichier de la sortie',
@@ -216,10 +229,12 @@ fr: {
   emptyAloneNext: 'Copiez-le encore une fois depuis l’appareil. S’il y est vide aussi, il ne contient aucune sortie.',
   journalAlone: 'Un journal seul ne contient aucune sortie.',
   journalAloneNext: 'Choisissez aussi activity.fit du même dossier. La page garde le journal jusque-là.',
-  journalBeside: 'Cet enregistrement n’a pas été fermé. Si activity.frj est à côté, choisissez-le aussi : avec les deux fichiers, toute la sortie confirmée est sauvée, avec son résumé.',
+  journalBeside: 'Cet enregistrement n’a pas été fermé. Si activity.frj est à côté, choisissez-le aussi : avec les deux fichiers, toute '
+    + 'la sortie confirmée est sauvée, avec son résumé.',
   unread: 'Le navigateur n’a pas pu lire les fichiers. S’ils sont sur une carte, copiez-les d’abord sur cet appareil.',
   unreadFrom: '{name} est illisible à partir de l’octet {place}.',
-  unreadNext: 'Réparez le système de fichiers de la carte, par exemple par fsck.vfat -a sur une copie, et choisissez de nouveau les deux fichiers.',
+  unreadNext: 'Réparez le système de fichiers de la carte, par exemple par fsck.vfat -a sur une copie, et choisissez de nouveau les deux '
+    + 'fichiers.',
   tooLarge: 'Les fichiers sont trop grands pour cette page. Le programme fitrec en lit de plus grands.',
   nothingRecorded: 'L’appareil n’avait encore rien confirmé quand il s’est arrêté, ou le journal est vide.',
   nothingRecordedNext: 'Si vous pensez qu’il y a une sortie, sauvez ce qui est lisible.',
@@ -230,7 +245,8 @@ fr: {
   notFitNext: 'Choisissez un autre fichier. Si c’est une sortie, son début est détruit, et cette page ne peut pas la lire.',
   noMessage: 'Le fichier n’a aucun message lisible.',
   skipNext: 'Il peut y avoir une suite après le dommage. Le programme continue au-delà : fitrec salvage --skip IN OUT',
-  finishNext: 'Le fichier n’a pas de résumé. La plupart des programmes l’ouvrent quand même ; pour les autres, le programme l’écrit : fitrec salvage --finish IN OUT',
+  finishNext: 'Le fichier n’a pas de résumé. La plupart des programmes l’ouvrent quand même ; pour les autres, le programme l’écrit : '
+    + 'fitrec salvage --finish IN OUT',
   unexpected: 'Les fichiers n’ont pas pu être examinés.',
 
   faultTruncated: 'Le fichier finit trop tôt.',
@@ -257,7 +273,8 @@ fr: {
   start: 'Départ', finish: 'Arrivée', duration: 'Durée', moving: 'Sans les pauses', distance: 'Distance', samples: 'Mesures', laps: 'Tours',
   speedAverage: 'Vitesse moyenne', ascent: 'Dénivelé',
   km: '{n} km', metres: '{n} m', bpm: '{n} bpm', kmh: '{n} km/h', watts: '{n} W', rpm: '{n} tr/min', degrees: '{n} °C',
-  track: 'Trace', heart: 'Fréquence cardiaque', speed: 'Vitesse', height: 'Altitude', power: 'Puissance', cadence: 'Cadence', warmth: 'Température',
+  track: 'Trace', heart: 'Fréquence cardiaque', speed: 'Vitesse', height: 'Altitude', power: 'Puissance', cadence: 'Cadence',
+  warmth: 'Température',
   facts: 'min. {low} · moyenne {average} · max. {high}',
   oneFault: '1 valeur est loin de toutes les autres, et n’est pas dessinée.',
   faults: '{count} valeurs sont loin de toutes les autres, et ne sont pas dessinées.',
@@ -267,12 +284,14 @@ fr: {
   moment: 'Moment de la sortie',
   readPoint: 'Pointez sur une image, ou déplacez le curseur par les flèches du clavier, pour lire les valeurs d’un moment.',
   readTap: 'Touchez une image, ou déplacez le curseur, pour lire les valeurs d’un moment.',
-  lapsTitle: 'Tours', lap: 'Tour', begun: 'Début', heartAverage: 'FC moyenne', heartGreatest: 'FC maximale', powerAverage: 'Puissance moyenne',
+  lapsTitle: 'Tours', lap: 'Tour', begun: 'Début', heartAverage: 'FC moyenne', heartGreatest: 'FC maximale',
+  powerAverage: 'Puissance moyenne',
   openLap: 'Ce tour n’a pas été terminé.',
 },
 es: {
   title: 'Salvar la salida de un aparato que dejó de funcionar',
-  lead: 'Elige los dos archivos que dejó el aparato, activity.fit y activity.frj, o la carpeta o la tarjeta que los contiene. O elige cualquier archivo FIT, para verlo y salvar lo que se pueda leer.',
+  lead: 'Elige los dos archivos que dejó el aparato, activity.fit y activity.frj, o la carpeta o la tarjeta que los contiene. O elige '
+    + 'cualquier archivo FIT, para verlo y salvar lo que se pueda leer.',
   chooseFiles: 'Elegir archivos',
   chooseFolder: 'Elegir una carpeta o tarjeta',
   hint: 'También puedes soltar archivos, carpetas o una tarjeta en esta página, todo a la vez o uno tras otro.',
@@ -294,7 +313,8 @@ es: {
   salvagedMore: '{more} bytes después de la longitud que da la cabecera se han dejado fuera.',
   nothing: 'No se pudo salvar nada',
   download: 'Descargar {name}',
-  where: 'Puedes subir este archivo donde se acepten archivos FIT, como Garmin Connect, Strava o intervals.icu, o abrirlo con GoldenCheetah.',
+  where: 'Puedes subir este archivo donde se acepten archivos FIT, como Garmin Connect, Strava o intervals.icu, o abrirlo con '
+    + 'GoldenCheetah.',
 
   offer_end: 'Salvar con el final sin confirmar, sin resumen',
   offer_data: 'Salvar lo legible del archivo de la salida solo',
@@ -306,7 +326,8 @@ es: {
   emptyAloneNext: 'Cópialo otra vez del aparato. Si allí también está vacío, no contiene ninguna salida.',
   journalAlone: 'Un diario solo no contiene ninguna salida.',
   journalAloneNext: 'Elige también activity.fit de la misma carpeta. La página guarda el diario hasta entonces.',
-  journalBeside: 'Esta grabación no se cerró. Si activity.frj está al lado, elígelo también: con los dos archivos se salva toda la salida confirmada, con su resumen.',
+  journalBeside: 'Esta grabación no se cerró. Si activity.frj está al lado, elígelo también: con los dos archivos se salva toda la '
+    + 'salida confirmada, con su resumen.',
   unread: 'El navegador no pudo leer los archivos. Si están en una tarjeta, cópialos primero a este dispositivo.',
   unreadFrom: '{name} no se puede leer a partir del byte {place}.',
   unreadNext: 'Repara el sistema de archivos de la tarjeta, por ejemplo con fsck.vfat -a en una copia, y elige otra vez los dos archivos.',
@@ -320,7 +341,8 @@ es: {
   notFitNext: 'Elige otro archivo. Si este es una salida, su comienzo está destruido, y esta página no puede leerlo.',
   noMessage: 'El archivo no tiene ningún mensaje legible.',
   skipNext: 'Después del daño puede haber más. El programa sigue tras él: fitrec salvage --skip IN OUT',
-  finishNext: 'El archivo no tiene resumen. La mayoría de los programas lo abren igualmente; para los demás, el programa lo escribe: fitrec salvage --finish IN OUT',
+  finishNext: 'El archivo no tiene resumen. La mayoría de los programas lo abren igualmente; para los demás, el programa lo escribe: '
+    + 'fitrec salvage --finish IN OUT',
   unexpected: 'No se pudieron examinar los archivos.',
 
   faultTruncated: 'El archivo termina demasiado pronto.',
@@ -357,12 +379,14 @@ es: {
   moment: 'Momento de la salida',
   readPoint: 'Señala una imagen, o mueve el control con las flechas del teclado, para leer los valores de un momento.',
   readTap: 'Toca una imagen, o mueve el control, para leer los valores de un momento.',
-  lapsTitle: 'Vueltas', lap: 'Vuelta', begun: 'Inicio', heartAverage: 'Pulso medio', heartGreatest: 'Pulso máximo', powerAverage: 'Potencia media',
+  lapsTitle: 'Vueltas', lap: 'Vuelta', begun: 'Inicio', heartAverage: 'Pulso medio', heartGreatest: 'Pulso máximo',
+  powerAverage: 'Potencia media',
   openLap: 'Esta vuelta no se terminó.',
 },
 it: {
   title: 'Salvare l’uscita di un dispositivo che si è spento',
-  lead: 'Scegli i due file che il dispositivo ha lasciato, activity.fit e activity.frj, oppure la cartella o la scheda che li contiene. Oppure scegli un qualsiasi file FIT, per guardarlo e salvare ciò che si può leggere.',
+  lead: 'Scegli i due file che il dispositivo ha lasciato, activity.fit e activity.frj, oppure la cartella o la scheda che li contiene. '
+    + 'Oppure scegli un qualsiasi file FIT, per guardarlo e salvare ciò che si può leggere.',
   chooseFiles: 'Scegli i file',
   chooseFolder: 'Scegli una cartella o una scheda',
   hint: 'Puoi anche trascinare file, cartelle o una scheda su questa pagina, tutti insieme o uno dopo l’altro.',
@@ -396,7 +420,8 @@ it: {
   emptyAloneNext: 'Copialo ancora una volta dal dispositivo. Se è vuoto anche lì, non contiene alcuna uscita.',
   journalAlone: 'Un giornale da solo non contiene alcuna uscita.',
   journalAloneNext: 'Scegli anche activity.fit della stessa cartella. La pagina conserva il giornale fino ad allora.',
-  journalBeside: 'Questa registrazione non è stata chiusa. Se activity.frj è accanto, scegli anche quello: con i due file si salva tutta l’uscita confermata, con il suo riepilogo.',
+  journalBeside: 'Questa registrazione non è stata chiusa. Se activity.frj è accanto, scegli anche quello: con i due file si salva tutta '
+    + 'l’uscita confermata, con il suo riepilogo.',
   unread: 'Il browser non ha potuto leggere i file. Se sono su una scheda, copiali prima su questo dispositivo.',
   unreadFrom: '{name} non è leggibile dal byte {place} in poi.',
   unreadNext: 'Ripara il file system della scheda, per esempio con fsck.vfat -a su una copia, e scegli di nuovo i due file.',
@@ -410,7 +435,8 @@ it: {
   notFitNext: 'Scegli un altro file. Se questo è un’uscita, il suo inizio è distrutto, e questa pagina non può leggerlo.',
   noMessage: 'Il file non ha alcun messaggio leggibile.',
   skipNext: 'Dopo il danno può esserci altro. Il programma prosegue oltre: fitrec salvage --skip IN OUT',
-  finishNext: 'Il file non ha un riepilogo. Quasi tutti i programmi lo aprono comunque; per gli altri, il programma lo scrive: fitrec salvage --finish IN OUT',
+  finishNext: 'Il file non ha un riepilogo. Quasi tutti i programmi lo aprono comunque; per gli altri, il programma lo scrive: fitrec '
+    + 'salvage --finish IN OUT',
   unexpected: 'Non è stato possibile esaminare i file.',
 
   faultTruncated: 'Il file finisce troppo presto.',
@@ -437,7 +463,8 @@ it: {
   start: 'Partenza', finish: 'Arrivo', duration: 'Durata', moving: 'Senza pause', distance: 'Distanza', samples: 'Campioni', laps: 'Giri',
   speedAverage: 'Velocità media', ascent: 'Dislivello',
   km: '{n} km', metres: '{n} m', bpm: '{n} bpm', kmh: '{n} km/h', watts: '{n} W', rpm: '{n} rpm', degrees: '{n} °C',
-  track: 'Traccia', heart: 'Frequenza cardiaca', speed: 'Velocità', height: 'Altitudine', power: 'Potenza', cadence: 'Cadenza', warmth: 'Temperatura',
+  track: 'Traccia', heart: 'Frequenza cardiaca', speed: 'Velocità', height: 'Altitudine', power: 'Potenza', cadence: 'Cadenza',
+  warmth: 'Temperatura',
   facts: 'min. {low} · media {average} · max. {high}',
   oneFault: '1 valore è lontano da tutti gli altri, e non è disegnato.',
   faults: '{count} valori sono lontani da tutti gli altri, e non sono disegnati.',

@@ -111,6 +111,7 @@ def of_choosing(fitrec, folder, shots=None):
     deep.parent.mkdir(parents=True)
     copy(both(torn), deep, ["ACTIVITY.FIT", "ACTIVITY.FRJ"])
     (folder / "card/notes.txt").write_text("notes")
+    (deep / "._ACTIVITY.FIT").write_bytes(bytes.fromhex("0005160700020000") + bytes(100))
     browser.visit("a card", [{"files": [folder / "card"], "drop": True}, {"download": "#save"}], last(SAVED, saved))
     renamed = copy(both(torn), folder / "renamed", ["ride.bin", "other.dat"])
     browser.visit("renamed files", [{"files": renamed}, {"download": "#save"}], last(SAVED, saved))
