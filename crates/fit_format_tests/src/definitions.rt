@@ -34,7 +34,7 @@ fn developer_fields(
 }
 
 // A definition of these fields and developer fields.
-pub(crate) fn definition_of(
+pub(crate) fn definition_with(
     local: u8,
     arch: Arch,
     global: u16,

@@ -74,9 +74,42 @@ fn shown(alloc: Global, file: &File) -> Result<Vec<u8>, AllocError> {
     Ok(content)
 }
 
+// The content of a message of this size comes back. Its definition has so many bytes.
+fn check_content(rt: &impl Abort, alloc: Global, size: usize, spelled: usize) -> Result<(), Fail> {
+    let content = content_of(alloc, size)?;
+    let mut file = empty_file(alloc);
+    file.define(&definition_of(rt, size))?;
+    file.data(3, Some(31), content.as_slice())?;
+    let (at, whole) = (spelled.saturating_add(14), size.saturating_add(1));
+    equal(rt, file.data_size() as usize, spelled.saturating_add(whole));
+    let mut bytes = Vec::new(alloc);
+    encode_file(&file, &mut bytes)?;
+    let end = at.saturating_add(whole);
+    equal(rt, bytes.len(), end.saturating_add(2));
+    let item = bytes.as_slice().get(at..end).expect(rt, "an item");
+    assert_eq!(rt;
+        item.strip_prefix(&[0xFF]),
+        Some(content.as_slice()),
+        "{size}"
+    );
+    check_read(rt, alloc, bytes.as_slice(), content.as_slice())
+}
+
+// The fields of the one message of a file, after its time, have this content.
+fn check_read(rt: &impl Abort, alloc: Global, bytes: &[u8], content: &[u8]) -> Result<(), Fail> {
+    let read = decode_file(alloc, bytes)?;
+    let fields = shown(alloc, &read)?;
+    let time = [31, 0, 0, 0].as_slice();
+    assert_eq!(rt;
+        fields.as_slice().strip_prefix(time),
+        Some(content),
+        "{content:?}"
+    );
+    Ok(())
+}
+
 #[test]
 fn long_content(rt: HostRuntime) -> Result<(), Fail> {
-    let alloc = rt.alloc();
     // The size of their definition: six bytes, three for each field, and one more if there are developer fields.
     for (size, spelled) in [
         (255, 9),
@@ -86,33 +119,7 @@ fn long_content(rt: HostRuntime) -> Result<(), Fail> {
         (65_026, 775),
         (130_050, 1_537),
     ] {
-        let definition = definition_of(&rt, size);
-        let content = content_of(alloc, size)?;
-        let mut file = empty_file(alloc);
-        file.define(&definition)?;
-        file.data(3, Some(31), content.as_slice())?;
-        equal(&rt, file.data_size() as usize, spelled + 1 + size);
-        let mut bytes = Vec::new(alloc);
-        encode_file(&file, &mut bytes)?;
-        let at = 14 + spelled;
-        equal(&rt, bytes.len(), at + 1 + size + 2);
-        let item = bytes
-            .as_slice()
-            .get(at..at + 1 + size)
-            .expect(&rt, "an item");
-        assert_eq!(rt;
-            item.strip_prefix(&[0xFF]),
-            Some(content.as_slice()),
-            "{size}"
-        );
-        let read = decode_file(alloc, bytes.as_slice())?;
-        let fields = shown(alloc, &read)?;
-        let time = [31, 0, 0, 0].as_slice();
-        assert_eq!(rt;
-            fields.as_slice().strip_prefix(time),
-            Some(content.as_slice()),
-            "{size}"
-        );
+        check_content(&rt, rt.alloc(), size, spelled)?;
     }
     Ok(())
 }

@@ -2,7 +2,7 @@
 
 ghost use Rattle.std.specs.Prelude.{◌≡◌, IfOk};
 
-use crate::definitions::definition_of;
+use crate::definitions::definition_with;
 use crate::equality::equal;
 use crate::known_files::empty_file;
 use fit_base::Arch;
@@ -18,7 +18,7 @@ fn definition(
 ) -> Result<Definition, Fail>
     ensures { IfOk result (λ d. d.local ≡ local) }
 {
-    definition_of(local, Arch::Big, 20, fields, developer)
+    definition_with(local, Arch::Big, 20, fields, developer)
 }
 
 // A developer field is never shown as a date, whatever its number is. Its bytes are shown as they are.

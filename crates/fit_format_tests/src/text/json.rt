@@ -2,7 +2,7 @@
 
 ghost use Rattle.std.specs.Prelude.{◌≡◌, IfOk};
 
-use crate::definitions::definition_of;
+use crate::definitions::definition_with;
 use crate::equality::equal;
 use crate::known_files::empty_file;
 use crate::slow::Slow;
@@ -21,7 +21,7 @@ fn definition(
 ) -> Result<Definition, Fail>
     ensures { IfOk result (λ d. d.local ≡ 0) }
 {
-    definition_of(0, Arch::Little, global, fields, developer)
+    definition_with(0, Arch::Little, global, fields, developer)
 }
 
 // A file of one message with one field.
