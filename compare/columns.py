@@ -12,8 +12,8 @@ import re
 import shutil
 import tempfile
 
-from tools import reader
-from tools.checks import Skipped, differs
+from tools import profile_table, reader
+from tools.checks import Skipped, differs, unless
 from tools.fit_files import damaged, made
 from tools.libraries import build
 from tools.library_calls import ANSWERS
@@ -98,20 +98,39 @@ def by_library(calls, data, message, fields):
     return difference
 
 
+# How many decimals a scale of the Profile has, and units that do not end a column's name as they are.
+DECIMALS = {1: 0, 2: 1, 4: 2, 5: 1, 10: 1, 16: 4, 100: 2, 128: 7, 256: 8, 1000: 3, 1024: 8, 5000: 4, 32768: 8, 65535: 8, 65536: 8,
+            0.7111111: 2, 10430.38: 6, 0.01: 0, 0.5: 0}
+ENDS = {"%": "percent", "m/s^2": "m_s2", "kg/m^3": "kg_m3", "local_date": "s"}
+ROWS, TITLES = profile_table.rows_of(), profile_table.titles_of()
+
+
+def unit_of(message, field, form):
+    """The unit of a field, or None."""
+    row = ROWS.get((message, field)) if "--profile" in form else None
+    if row is None:
+        return TIME if field == 253 else UNITS.get(message, {}).get(field)
+    _, _, unit, scale, offset = row
+    if unit in ("date", "semicircles"):
+        return TIME if unit == "date" else DEGREES
+    end = ENDS.get(unit, unit.lower().replace("/", "_"))
+    return (end, fractions.Fraction(str(scale)), DECIMALS[scale], -int(offset)) if unit or scale != 1 else None
+
+
 def cell_text(message, field, value, form, alone):
     """A cell, exactly."""
     none = '""' if alone else ""
-    unit = TIME if field == 253 else UNITS.get(message, {}).get(field)
+    unit = unit_of(message, field, form)
     if value is None:
         return none
-    if unit == TIME and "--utc" in form:
+    if unit is TIME and "--utc" in form:
         is_date = 0x10000000 <= value < 2**32
         return (reader.EPOCH + datetime.timedelta(seconds=value)).strftime("%Y-%m-%dT%H:%M:%SZ") if is_date else none
     if unit is None or "--raw" in form:
         return str(value)
     _, parts, places, more = unit
     exact = (value / fractions.Fraction(parts) + more) * 10**places
-    # The nearest; no value is half between two.
+    # The nearest; of two that are equally near the one farther from 0.
     whole = (2 * abs(exact.numerator) + exact.denominator) // (2 * exact.denominator)
     text = "%0*d" % (places + 1, whole)
     return ("-" if value / fractions.Fraction(parts) + more < 0 else "") + (text[:-places] + "." + text[-places:] if places else text)
@@ -119,16 +138,19 @@ def cell_text(message, field, value, form, alone):
 
 def name_of(message, field, form):
     known, names = reader.names_of(message)
-    name = reader.COMMON.get(field) or names.get(field) or "field_%d" % field
-    unit = TIME if field == 253 else UNITS.get(message, {}).get(field)
-    return name, name + ("_" + unit[0] if unit and "--raw" not in form and not (unit == TIME and "--utc" in form) else "")
+    row = ROWS.get((message, field)) if "--profile" in form else None
+    name = row[1] if row else reader.COMMON.get(field) or names.get(field) or "field_%d" % field
+    unit = unit_of(message, field, form)
+    is_plain = unit is None or not unit[0] or "--raw" in form or (unit is TIME and "--utc" in form)
+    return name, name if is_plain else name + "_" + unit[0]
 
 
 def by_program(fitrec, source, message, fields, form):
     """What differs between the table by the program and the one by the second reader."""
     data = source.read_bytes()
     names = [name_of(message, field, form) for field in fields]
-    words = ["--message", reader.names_of(message)[0] or "message_%d" % message, "--fields", ",".join(name for name, _ in names)]
+    title = (TITLES.get(message) if "--profile" in form else None) or reader.names_of(message)[0] or "message_%d" % message
+    words = ["--message", title, "--fields", ",".join(name for name, _ in names)]
     said = run(fitrec, "table", *form, *words, source)
     try:
         rows = rows_of(data, message)
@@ -140,8 +162,8 @@ def by_program(fitrec, source, message, fields, form):
     return difference or differs(len(list(csv.reader(said[1].splitlines()))), len(rows) + 1, "the number of lines")
 
 
-def python_package(archive):
-    """The tests of the package, as pip installs it from its folder, if Debian's packages are there."""
+def python_package(archive, given):
+    """The tests of the package, as pip installs it from its folder, if Debian's packages are there; and its columns of every type."""
     python = "/usr/bin/python3"
     for word in ("numpy", "pandas", "setuptools", "pip"):
         if run(python, "-c", "import " + word)[0]:
@@ -159,6 +181,9 @@ def python_package(archive):
         found = {"PATH": os.environ["PATH"], "PYTHONPATH": to, "PYTHONDONTWRITEBYTECODE": "1"}
         status, _, errors = run(python, "-m", "unittest", "discover", "-s", ROOT / "python/tests", env=found)
         yield "the tests of the Python package", differs(status, 0, errors[-2000:])
+        found["PYTHONPATH"] += ":%s" % (ROOT / "compare")
+        said = run(python, ROOT / "compare/tools/package.py", given.files // 5, given.seed, env=found)
+        yield "values by the package and the second reader", unless(re.fullmatch(r"same [1-9]\d*\n", said[1]), said, "the same values")
 
 
 def most_columns(calls, seed):
@@ -175,8 +200,10 @@ def made_files(given, calls):
         for message in sorted({20, pick.randrange(65536), *found}):
             for fields in range(128), range(128, 256), [pick.randrange(256) for _ in range(pick.randrange(5))]:
                 inputs.append((data, message, list(fields), None))
-            form = pick.choice([[], [], ["--utc"], ["--raw"], ["--raw", "--utc"]])
-            inputs.append((data, message, pick.sample([*range(15), 73, 78, 253, 254], pick.choice([1, 3, 11])), form))
+            form = pick.choice([[], ["--utc"], ["--raw"], ["--raw", "--utc"]]) + pick.choice([[], ["--profile"]])
+            # some of the fields that the Profile scales otherwise than the texts
+            numbers = pick.choice([[*range(15), 73, 78, 253, 254], [*range(256)]])
+            inputs.append((data, message, pick.sample(numbers, pick.choice([1, 3, 11])), form))
     with tempfile.TemporaryDirectory() as folder:
         def judge(number, row):
             data, message, fields, form = row
@@ -202,6 +229,6 @@ def check(given):
         if not shared.exists():
             return
         calls = Library(shared)
-        yield from given.checks(python_package, archive)
+        yield from given.checks(python_package, archive, given)
         yield from given.checks(most_columns, calls, given.seed)
         yield from given.checks(made_files, given, calls)

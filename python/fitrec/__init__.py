@@ -17,26 +17,24 @@ from typing import TYPE_CHECKING, Dict, Iterator, List, Optional, Tuple, Union
 
 import numpy as np
 
-from ._library import MOST_COLUMNS, NO_VALUE, FitError, fill
-from .profile import Field, field_of, numbered
+from ._library import NO_VALUE, FitError
+from ._reading import File, units_of
 
 if TYPE_CHECKING:
     import pandas
 
-__all__ = ["Columns", "FitError", "NO_VALUE", "MOST_COLUMNS", "read", "read_many"]
+__all__ = ["Columns", "FitError", "NO_VALUE", "read", "read_many"]
 
 Source = Union[str, "os.PathLike[str]", bytes, bytearray, memoryview]
-
-# Times count from 1989-12-31T00:00:00Z. Below the first calendar time they count from when the device was switched on.
-_EPOCH, _FIRST_DATE = 631065600, 0x10000000
 
 
 class Columns(Mapping):
     """The columns of a file, by name, each a NumPy array with a value for each message.
 
-    In units, a time is a datetime64[s] in UTC with NaT for none, and another column float64 with NaN for none. Raw columns are int64 with
-    NO_VALUE for none. `units` has the unit of each column: "date", "deg", "m", "m/s", "s", "bpm", "rpm", "W", "C", or "" for a plain
-    number."""
+    In units, a time is a datetime64[s] with NaT for none, another number float64 with NaN for none. Raw whole numbers are int64 with
+    NO_VALUE for none (those of 64 bits without a sign uint64, with the greatest for none), floats as in units. A string is str, several
+    values are an array, bytes are bytes: such a column is of objects, with None for none. `units` has the unit of each column, such as
+    "date" (UTC), "local_date", "deg", "m/s" or "bpm", or "" for a plain number."""
 
     def __init__(self, columns: Dict[str, np.ndarray], units: Dict[str, str]):
         self._columns, self.units = columns, units
@@ -70,71 +68,63 @@ def _bytes(source: Source) -> Tuple[Union[bytes, bytearray, memoryview], Optiona
         return opened.read(), os.fspath(source)
 
 
-def _chosen(message: Union[int, str], fields: Optional[Iterable[Union[int, str]]]) -> Tuple[int, List[Field]]:
-    number, known = numbered(message)
-    return number, known if fields is None else [field_of(known, it) for it in fields]
-
-
-def _filled(source: Source, number: int, chosen: List[Field]) -> np.ndarray:
+def _read(source: Source, message: Union[int, str], fields: Optional[Iterable[Union[int, str]]], raw: bool) -> Tuple[Columns, int]:
+    """The columns of a file, and how many rows they have."""
     data, path = _bytes(source)
+    file = File(data, message)
     try:
-        return fill(data, number, [it.number for it in chosen])
+        columns = file.columns() if fields is None else file.chosen(fields)
+        filled = file.filled(columns, raw)
     except FitError as fault:
         raise FitError(fault.kind, fault.place, path) from None
-
-
-def _floats(column: np.ndarray, scale: float, offset: float, step: int = 1 << 15) -> np.ndarray:
-    """column * scale + offset, by pieces that stay in the cache."""
-    floats = np.empty(len(column))
-    for at in range(0, len(column), step):
-        part, out = column[at:at + step], floats[at:at + step]
-        np.multiply(part, scale, out=out)
-        if offset:
-            out += offset
-        out[part == NO_VALUE] = np.nan
-    return floats
-
-
-def _dates(column: np.ndarray) -> np.ndarray:
-    dates = column + np.int64(_EPOCH)
-    dates[(column < _FIRST_DATE) | (column > 0xFFFFFFFF)] = NO_VALUE  # which is NaT
-    return dates.view("M8[s]")
-
-
-def _columns(chosen: List[Field], table: np.ndarray, raw: bool) -> Columns:
-    named = {}
-    for field, column in zip(chosen, table):
-        named[field.name] = column if raw else _dates(column) if field.unit == "date" else _floats(column, field.scale, field.offset)
-    return Columns(named, {it.name: "" if raw else it.unit for it in chosen})
+    return Columns({it.field.name: values for it, values in zip(columns, filled)}, units_of(columns, raw)), file.rows
 
 
 def read(source: Source, message: Union[int, str] = "record", fields: Optional[Iterable[Union[int, str]]] = None,
          raw: bool = False) -> Columns:
     """The columns of a file: for each message of this name or global number the value of each field.
 
-    source is a path, or the bytes of a file. fields are names or numbers; without them, those that have a name. It raises FitError if
-    the bytes are no FIT file, and OSError if the file cannot be read."""
-    number, chosen = _chosen(message, fields)
-    return _columns(chosen, _filled(source, number, chosen), raw)
+    source is a path, or the bytes of a file. fields are names or numbers, such as "heart_rate", 3 or "field_39"; a developer field has the
+    name that the file gives it. Without them the columns are the usual ones, then the other fields that the messages have. It raises
+    FitError if the bytes are no FIT file, and OSError if the file cannot be read."""
+    return _read(source, message, fields, raw)[0]
+
+
+def _none(like: np.ndarray, rows: int) -> np.ndarray:
+    """A column without values."""
+    none = {"M": np.datetime64("NaT"), "f": np.nan, "i": NO_VALUE, "u": np.iinfo(np.uint64).max}.get(like.dtype.kind)
+    return np.full(rows, none, like.dtype)
+
+
+def _joined(tables: List[Tuple[Columns, int]]) -> Columns:
+    """The columns of several files, one after another."""
+    first = {name: columns for columns, _ in reversed(tables) for name in columns}
+    order = {name: None for columns, _ in tables for name in columns}
+    joined = {name: np.concatenate([columns[name] if name in columns else _none(first[name][name], rows) for columns, rows in tables])
+              for name in order}
+    return Columns(joined, {name: first[name].units[name] for name in order})
 
 
 def read_many(sources: Iterable[Union[str, "os.PathLike[str]"]], message: Union[int, str] = "record",
               fields: Optional[Iterable[Union[int, str]]] = None, raw: bool = False) -> Tuple["pandas.DataFrame", Dict[str, Exception]]:
     """One pandas table of many files, whose column `file` has the name of the file; and the files that were refused, with the fault of
-    each."""
+    each. A file that lacks a column of another has no values in it."""
     import pandas
 
-    number, chosen = _chosen(message, fields)
-    tables, names, faults = [], [], {}
+    tables: List[Tuple[Columns, int]] = []
+    names: List[str] = []
+    faults: Dict[str, Exception] = {}
+    fields = None if fields is None else list(fields)
     for source in sources:
         name = os.fspath(source)
         try:
-            tables.append(_filled(source, number, chosen).copy())
+            tables.append(_read(source, message, fields, raw))
             names.append(name)
         except (FitError, OSError) as fault:
             faults[name] = fault
-    whole = np.concatenate(tables, axis=1) if tables else np.empty((len(chosen), 0), np.int64)
-    frame = _columns(chosen, whole, raw).to_pandas()
-    codes = np.repeat(np.arange(len(tables)), [it.shape[1] for it in tables])
+    rows = [it for _, it in tables]
+    columns = _joined(tables)
+    frame = columns.to_pandas() if columns else pandas.DataFrame(index=range(sum(rows)))
+    codes = np.repeat(np.arange(len(tables)), rows)
     frame.insert(0, "file", pandas.Categorical.from_codes(codes, pandas.Index(names, dtype=object)))
     return frame, faults

@@ -1,12 +1,14 @@
-"""Names and units of fields, those of `fitrec table`."""
+"""Names and units of messages and fields, as the public FIT Profile has them (profile.txt)."""
 
 from __future__ import annotations
 
-from typing import NamedTuple, Optional
+import pathlib
+from typing import NamedTuple
 
 
 class Field(NamedTuple):
-    """A field: its number and name; in its unit a value is raw * scale + offset. A time has the unit "date", one without a unit ""."""
+    """A field: its number and name; in its unit a value is raw / scale - offset. A time has the unit "date", or "local_date", one without a
+    unit ""."""
 
     number: int
     name: str
@@ -15,55 +17,65 @@ class Field(NamedTuple):
     offset: float = 0
 
 
-_TIME = Field(253, "timestamp", "date")
-_INDEX = Field(254, "message_index")
-_DEGREES = 180 / 2**31
+_TIME, _INDEX = Field(253, "timestamp", "date"), Field(254, "message_index")
+
+# Semicircles, of which 2^31 are 180 degrees.
+SEMICIRCLES = Field(0, "", "deg", 2**31 / 180)
 
 
-def _summary(more: int) -> list[Field]:
-    """The fields of a lap; in a session the numbers from 13 on are one more."""
-    return [
-        _INDEX, _TIME, Field(0, "event"), Field(1, "event_type"), Field(2, "start_time", "date"),
-        Field(7, "total_elapsed_time", "s", 0.001), Field(8, "total_timer_time", "s", 0.001), Field(9, "total_distance", "m", 0.01),
-        Field(13 + more, "avg_speed", "m/s", 0.001), Field(14 + more, "max_speed", "m/s", 0.001),
-        Field(15 + more, "avg_heart_rate", "bpm"), Field(16 + more, "max_heart_rate", "bpm"),
-        Field(19 + more, "avg_power", "W"), Field(20 + more, "max_power", "W")]
+def _field(number: str, name: str, unit: str = "-", scale: str = "1", offset: str = "0") -> Field:
+    if unit == "semicircles":
+        return SEMICIRCLES._replace(number=int(number), name=name)
+    return Field(int(number), name, "" if unit == "-" else unit, float(scale), float(offset))
 
 
-MESSAGES = {
-    "file_id": (0, [Field(0, "type"), Field(1, "manufacturer"), Field(2, "product"), Field(3, "serial_number"),
-                    Field(4, "time_created", "date")]),
-    "sport": (12, [Field(0, "sport"), Field(1, "sub_sport")]),
-    "session": (18, [*_summary(1), Field(5, "sport"), Field(6, "sub_sport"), Field(25, "first_lap_index"), Field(26, "num_laps"),
-                     Field(28, "trigger")]),
-    "lap": (19, [*_summary(0), Field(24, "lap_trigger")]),
-    "record": (20, [
-        _TIME, Field(0, "position_lat", "deg", _DEGREES), Field(1, "position_long", "deg", _DEGREES),
-        Field(2, "altitude", "m", 0.2, -500), Field(3, "heart_rate", "bpm"), Field(4, "cadence", "rpm"),
-        Field(5, "distance", "m", 0.01), Field(6, "speed", "m/s", 0.001), Field(7, "power", "W"), Field(13, "temperature", "C"),
-        Field(73, "enhanced_speed", "m/s", 0.001), Field(78, "enhanced_altitude", "m", 0.2, -500)]),
-    "event": (21, [_TIME, Field(0, "event"), Field(1, "event_type")]),
-    "activity": (34, [_TIME, Field(0, "total_timer_time", "s", 0.001), Field(1, "num_sessions"), Field(2, "type"), Field(3, "event"),
-                      Field(4, "event_type")]),
-}
+def _read(text: str) -> dict[str, tuple[int, dict[int, Field]]]:
+    found: dict[str, tuple[int, dict[int, Field]]] = {}
+    for line in text.splitlines():
+        if line.startswith(" "):
+            field = _field(*line.split())
+            fields[field.number] = field
+        elif not line.startswith("#"):
+            number, name = line.split()
+            fields = {}
+            found[name] = int(number), fields
+    return found
 
 
-def numbered(message: int | str) -> tuple[int, list[Field]]:
-    """The global number that a message is named by, and the fields that have a name."""
-    if isinstance(message, str):
-        if message in MESSAGES:
-            return MESSAGES[message]
-        raise ValueError("no message is named %r" % message)
-    return next((it for it in MESSAGES.values() if it[0] == message), (message, [_TIME]))
+# Of each message, by its name, the global number and the fields by their numbers.
+MESSAGES = _read((pathlib.Path(__file__).resolve().parent / "profile.txt").read_text())
+
+# The columns that a file always gets, in their order: those of `fitrec table`. Others follow if its messages have them.
+_SUMMARY = [254, 253, 0, 1, 2]
+USUAL = {
+    0: [0, 1, 2, 3, 4], 12: [0, 1],
+    18: [*_SUMMARY, 7, 8, 9, 14, 15, 16, 17, 20, 21, 5, 6, 25, 26, 28],
+    19: [*_SUMMARY, 7, 8, 9, 13, 14, 15, 16, 19, 20, 24],
+    20: [253, 0, 1, 2, 3, 4, 5, 6, 7, 13, 73, 78], 21: [253, 0, 1], 34: [253, 0, 1, 2, 3, 4]}
 
 
-def field_of(known: list[Field], field: int | str) -> Field:
-    """The field that a name or a number means."""
-    for it in [*known, _TIME, _INDEX]:
-        if field in (it.name, it.number):
+def numbered(message: int | str) -> tuple[int, dict[int, Field]]:
+    """The global number that a message is named by, and the fields that have a name, by their numbers."""
+    for name, (number, fields) in MESSAGES.items():
+        if message in (name, number):
+            return number, fields
+    if isinstance(message, int):
+        return message, {}
+    if message.startswith("message_") and message[8:].isdigit():
+        return numbered(int(message[8:]))
+    raise ValueError("no message is named %r" % message)
+
+
+def of_number(fields: dict[int, Field], number: int) -> Field:
+    """The field with this number."""
+    return fields.get(number) or {253: _TIME, 254: _INDEX}.get(number) or Field(number, "field_%d" % number)
+
+
+def of_name(fields: dict[int, Field], name: str) -> Field | None:
+    """The field with this name, if there is one."""
+    for it in [*fields.values(), _TIME, _INDEX]:
+        if it.name == name:
             return it
-    if isinstance(field, str):
-        if field.startswith("field_") and field[6:].isdigit():
-            return field_of(known, int(field[6:]))
-        raise ValueError("no field of this message is named %r" % field)
-    return Field(field, "field_%d" % field)
+    if name.startswith("field_") and name[6:].isdigit():
+        return of_number(fields, int(name[6:]))._replace(name=name)
+    return None

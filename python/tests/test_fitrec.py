@@ -66,10 +66,72 @@ class OfARide(unittest.TestCase):
         self.assertEqual(fitrec.read(many, fields=["heart_rate"])["heart_rate"].tolist(), [100.0] * 5000)
 
     def test_wrong_names(self):
-        for words in {"message": "laps"}, {"fields": ["heart"]}, {"fields": [256]}, {"message": 65536}, {"fields": [3] * 129}:
+        for words in {"message": "laps"}, {"fields": ["heart"]}, {"fields": [256]}, {"message": 65536}:
             with self.assertRaises(ValueError):
                 fitrec.read(RIDE, **words)
         self.assertEqual(len(fitrec.read(RIDE, fields=[])), 0)
+
+    def test_names_of_the_profile(self):
+        found = fitrec.read(RIDE, fields=["vertical_oscillation", 31, "field_39", 254])
+        self.assertEqual(list(found), ["vertical_oscillation", "gps_accuracy", "field_39", "message_index"])
+        self.assertEqual((found.units["vertical_oscillation"], found.units["gps_accuracy"]), ("mm", "m"))
+        self.assertEqual(list(fitrec.read(RIDE, message="weather_conditions")), ["timestamp"])
+
+    def test_more_columns_than_one_call_has(self):
+        self.assertEqual(len(fitrec.read(RIDE, fields=range(256))), 256)
+        self.assertEqual(fitrec.read(RIDE, fields=range(256))["heart_rate"].tolist()[::2], [92.0, 93.0])
+
+
+# A developer, three descriptions of it, and records: a float, 64 bits with and without a sign, a string, an array, bytes, and developer
+# fields, of which the last has no description. Numbers are in big-endian order.
+WIDE = framed("""
+    40 00 01 00 CF 01 03 01 02   00 00
+    41 00 01 00 CE 07 00 01 02 01 01 02 02 01 02 03 06 07 06 01 02 07 01 01 08 04 07
+    01 00 05 84 70 6F 77 65 72 00 0A 01 57 00 00 00
+    01 00 06 88 6C 65 61 6E 00 00 FF 7F 72 61 64 00
+    62 00 01 00 14 08 03 01 02 C8 04 88 C9 08 8E CA 08 8F CB 05 07 CC 04 84 CD 02 0D 27 02 84 03 05 02 00 06 04 00 09 01 00
+    02 64 3FC00000 FFFFFFFFFFFFFFFE FFFFFFFFFFFFFFFE 6162006364 0001FFFF FF01 01F5 00C8 3E800000 07
+    02 FF FFFFFFFF 7FFFFFFFFFFFFFFF FFFFFFFFFFFFFFFF 0000000000 FFFFFFFF FFFF FFFF FFFF FFFFFFFF 08""")
+
+
+class OfOtherValues(unittest.TestCase):
+    def test_in_units(self):
+        ride = fitrec.read(WIDE)
+        self.assertEqual(list(ride)[12:], ["vertical_oscillation", "field_200", "field_201", "field_202", "field_203", "field_204",
+                                           "field_205", "power_0_5", "lean", "developer_0_9"])
+        wanted = {"heart_rate": 100, "vertical_oscillation": 50.1, "field_200": 1.5, "field_201": -2, "field_202": 2.0**64, "power_0_5": 19,
+                  "lean": 0.25}
+        for name, value in wanted.items():
+            np.testing.assert_array_equal(ride[name], [value, np.nan])
+        self.assertEqual((ride["field_203"].tolist(), ride["field_205"].tolist()), (["ab", None], [b"\xFF\x01", None]))
+        np.testing.assert_array_equal(ride["field_204"][0], [1, np.nan])
+        self.assertIsNone(ride["field_204"][1])
+        self.assertEqual(ride["developer_0_9"].tolist(), [b"\x07", b"\x08"])
+        self.assertEqual([ride.units[it] for it in ("power_0_5", "lean", "developer_0_9")], ["W", "rad", ""])
+
+    def test_raw(self):
+        raw = fitrec.read(WIDE, fields=["field_201", "field_202", "developer_0_5", "field_204", "lean"], raw=True)
+        found = {name: it.tolist() for name, it in raw.items()}
+        self.assertEqual((found["field_201"], found["field_202"]), ([-2, fitrec.NO_VALUE], [2**64 - 2, 2**64 - 1]))
+        self.assertEqual((found["developer_0_5"], found["field_204"][0].tolist()), ([200, fitrec.NO_VALUE], [1, 65535]))
+        self.assertEqual((found["lean"][0], raw["field_202"].dtype), (0.25, np.dtype("u8")))
+
+    def test_runs(self):
+        # two local numbers by turns, a definition again, and compressed timestamps of one
+        mixed = framed("""
+            40 00 00 14 00 01 C8 04 88  41 00 00 15 00 01 00 01 00  00 00 00 80 3F  01 04  00 00 00 00 40
+            40 00 00 14 00 02 03 01 02 C8 04 88  00 63 00 00 40 40  80 64 00 00 80 40  A1 05
+            9F 65 00 00 A0 40""" + "9E 66 00 00 C0 40" * 900)
+        ride = fitrec.read(mixed, fields=["heart_rate", "field_200"])
+        np.testing.assert_array_equal(ride["field_200"], [1, 2, 3, 4, 5] + [6] * 900)
+        np.testing.assert_array_equal(ride["heart_rate"], [np.nan, np.nan, 99, 100, 101] + [102] * 900)
+
+    def test_cycles_of_runs(self):
+        # a record of one definition and two of another, by turns, and then an event
+        mixed = framed("40 00 00 14 00 01 C8 04 88  41 00 00 14 00 01 03 01 02" + "00 00 00 80 3F 01 04 01 05" * 500 + "42 00 00 15 00 00  02")
+        ride = fitrec.read(mixed, fields=["heart_rate", "field_200"])
+        np.testing.assert_array_equal(ride["field_200"], [1, np.nan, np.nan] * 500)
+        np.testing.assert_array_equal(ride["heart_rate"], [np.nan, 4, 5] * 500)
 
 
 class OfFaults(unittest.TestCase):

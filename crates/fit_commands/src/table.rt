@@ -20,7 +20,8 @@ pub fn table_file<'a, O: Write>(
     out: &mut O,
 ) -> Result<(), Fault<'a>>
     requires { length layout.now.fields.now ≤ 128 }
-    ensures { ReportsRun name.entry (O.contents out.old) (O.contents out.new) (IsReportFault name.entry)
+    ensures { ReportsRun name.entry (O.contents out.old) (O.contents out.new)
+        (IsReportFault name.entry)
         (ShowsTable layout.now None (O.contents out.old) (O.contents out.new)) result }
 {
     if name == "-" {
@@ -39,9 +40,10 @@ pub fn table_named<'a, O: Write>(
     out: &mut O,
 ) -> Result<(), Fault<'a>>
     requires { length layout.now.fields.now ≤ 128 }
-    ensures { ReportsRun name.entry (O.contents out.old) (O.contents out.new) (IsReportFault name.entry)
-        (ShowsTable layout.now (option_map (λ text. text.now) front.entry) (O.contents out.old) (O.contents out.new))
-        result }
+    ensures { ReportsRun name.entry (O.contents out.old) (O.contents out.new)
+        (IsReportFault name.entry)
+        (ShowsTable layout.now (option_map (λ text. text.now) front.entry)
+        (O.contents out.old) (O.contents out.new)) result }
 {
     let mut file = open_file(rt, name)?;
     table_from(rt.alloc(), name, &mut file, layout, front, out)
@@ -57,9 +59,10 @@ fn table_from<'a, T: Read, O: Write>(
     out: &mut O,
 ) -> Result<(), Fault<'a>>
     requires { length layout.now.fields.now ≤ 128 }
-    ensures { ReportsRun name.entry (O.contents out.old) (O.contents out.new) (IsReportFault name.entry)
-        (ShowsTable layout.now (option_map (λ text. text.now) front.entry) (O.contents out.old) (O.contents out.new))
-        result }
+    ensures { ReportsRun name.entry (O.contents out.old) (O.contents out.new)
+        (IsReportFault name.entry)
+        (ShowsTable layout.now (option_map (λ text. text.now) front.entry)
+        (O.contents out.old) (O.contents out.new)) result }
 {
     match table_input(alloc, from, MOST_BYTES, layout, front, out) {
         Ok(()) => Ok(()),

@@ -30,9 +30,10 @@ pub fn table_input<T: Read, O: Write>(
 ) -> Result<(), ReportFault>
     requires { length layout.now.fields.now ≤ MOST_COLUMNS }
     ensures shown { ReportsInput most (T.remaining from.old) (T.remaining from.new)
-        (ShowsTable layout.now (option_map (λ text. text.now) front.entry) (O.contents out.old) (O.contents out.new))
-        result }
-    ensures quiet { (why : ReadFault) → result ≡ Err (Input why) → O.contents out.new ≡ O.contents out.old }
+        (ShowsTable layout.now (option_map (λ text. text.now) front.entry)
+        (O.contents out.old) (O.contents out.new)) result }
+    ensures quiet { (why : ReadFault) → result ≡ Err (Input why)
+        → O.contents out.new ≡ O.contents out.old }
 {
     match decode_input(alloc, from, most) {
         Ok(file) => table_flushed(&file, layout, front, out),
@@ -46,7 +47,8 @@ pub fn table_head<O: Write>(
     front: &[u8],
     out: &mut O,
 ) -> Result<(), ReportFault>
-    ensures text { WritesText (O.contents out.old) (O.contents out.new) result (head_of layout.now front.now) }
+    ensures text { WritesText (O.contents out.old) (O.contents out.new) result
+        (head_of layout.now front.now) }
     ensures fault { IfErr result IsOutputFault }
 {
     match write_head(layout, front, out) {

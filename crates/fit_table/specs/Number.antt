@@ -1,9 +1,11 @@
 -- Numbers in decimal, in units.
-use Rattle.std.specs.Prelude.{ℕ, zero, suc, ◌+◌, ◌*◌, ◌/◌, ◌%◌, ℤ, pos, negsuc, neg_ℤ, ◌≤ℤ◌, ◌-ℤ◌, ◌*ℤ◌, List, [], ◌∷◌, ◌++◌, Result, Ok, Err, codes, decimal, nat_le, ◌&&◌, if◌then◌else◌}
+use Rattle.std.specs.Prelude.{ℕ, ◌≤◌, zero, suc, ◌+◌, ◌*◌, ◌/◌, ◌%◌, ℤ, pos, negsuc, neg_ℤ, ◌≤ℤ◌, ◌-ℤ◌, ◌*ℤ◌, List, [], ◌∷◌, ◌++◌, Result, Ok, Err, codes, decimal, nat_le, ◌&&◌, if◌then◌else◌}
 use Rattle.std.specs.Fmt.{signed_decimal}
 use Rattle.fit_text.specs.Date.{date_text}
 use Rattle.fit_table.specs.declared.unit.Unit.{Unit as AnyUnit}
-use Rattle.fit_table.specs.declared.unit.Unit.TheVariants.{Whole, Time, Date, Degrees, Height, Metres, Seconds, Speed, Beats, Turns, Watts, Celsius}
+use Rattle.fit_table.specs.declared.unit.Unit.TheVariants.{Whole, Time, Date, Degrees, Height, Metres, Seconds, Speed, Beats, Turns, Watts, Celsius, Scaled}
+use Rattle.fit_profile.specs.declared.scale.Parts.{Parts}
+use Rattle.fit_profile.specs.Scale.{parts_of}
 
 -- the last digits of a number, this many
 abbrev pub digits : ℕ → ℕ → List ℕ
@@ -33,6 +35,19 @@ rounded n = (n * 1125000000 + 67108864) / 134217728
 abbrev pub degrees_text : ℤ → List ℕ
 degrees_text value = signed_text (λ n. places_text 100000000 8 (rounded n)) (split_of value)
 
+-- a value of a scale of the Profile: the nearest with so many decimals
+abbrev pub decimals_text : ℕ → ℕ → ℕ → List ℕ
+decimals_text power zero n = decimal n
+decimals_text power (suc count) n = places_text power (suc count) n
+
+abbrev pub nearest : Parts → ℕ → ℕ
+nearest parts n = (n * parts.multiplier + parts.divisor / 2) / parts.divisor
+
+abbrev pub scaled_text : Parts → ℤ → List ℕ
+scaled_text parts value =
+    signed_text (λ n. decimals_text parts.power parts.decimals (nearest parts n))
+    (split_of (value -ℤ parts.shift))
+
 -- a time as a date, if it is a calendar time of 32 bits
 abbrev pub date_or : List ℕ → ℤ → List ℕ
 date_or empty (pos n) = if nat_le 268435456 n && nat_le n 4294967295 then date_text n else empty
@@ -44,6 +59,15 @@ limit = 8590983168
 
 abbrev pub IsWide : ℤ → Type 0
 IsWide value = (neg_ℤ (pos limit) ≤ℤ value) × (value ≤ℤ pos limit)
+
+pub record AreSmallParts (parts : Parts) : Type 0 where
+  pub multiplier : parts.multiplier ≤ 1125000000
+  pub divisor : 1 ≤ parts.divisor
+  pub half : parts.divisor ≤ 134217728
+  pub power : 1 ≤ parts.power
+  pub decimals : parts.decimals ≤ 8
+  pub low : neg_ℤ (pos 2500) ≤ℤ parts.shift
+  pub high : parts.shift ≤ℤ pos 2500
 
 -- a value in its unit; the first text is that of a cell without a value
 abbrev pub unit_text : List ℕ → AnyUnit → ℤ → List ℕ
@@ -59,3 +83,4 @@ unit_text empty Beats value = signed_decimal value
 unit_text empty Turns value = signed_decimal value
 unit_text empty Watts value = signed_decimal value
 unit_text empty Celsius value = signed_decimal value
+unit_text empty (Scaled scale) value = scaled_text (parts_of scale) value

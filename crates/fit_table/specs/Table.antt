@@ -1,15 +1,17 @@
 -- A table: a first line with the names of the columns, and a line for each message.
-use Rattle.std.specs.Prelude.{ℕ, ℤ, Bool, List, [], ◌∷◌, ◌++◌, length, Option, Some, None, codes, ◌==◌, if◌then◌else◌}
+use Rattle.std.specs.Prelude.{ℕ, ℤ, Bool, true, List, [], ◌∷◌, ◌++◌, length, Option, Some, None, codes, ◌==◌, if◌then◌else◌}
 use Rattle.std.specs.List.{flat_map}
 use Rattle.fit_base.specs.declared.order.Arch.{Arch}
 use Rattle.fit_grammar.specs.Format.Message.{Message}
 use Rattle.fit_text.specs.Profile.{names_of_fields}
-use Rattle.fit_text.specs.Text.{field_name}
+use Rattle.fit_text.specs.Text.{field_name, message_name}
+use Rattle.fit_profile.specs.Facts.{FieldFacts, row_in}
+use Rattle.fit_profile.specs.Table.{fields_at, message_named}
 use Rattle.fit_columns.specs.declared.place.Place.{Place}
 use Rattle.fit_columns.specs.Columns.{cell_in, messages_numbered}
 use Rattle.fit_columns.specs.Places.{cell_with, place_cell}
 use Rattle.fit_table.specs.declared.layout.Layout.{Layout}
-use Rattle.fit_table.specs.Unit.{unit_in, suffix_of}
+use Rattle.fit_table.specs.Unit.{unit_in, suffix_in}
 use Rattle.fit_table.specs.Number.{unit_text}
 
 -- the end of a line
@@ -18,10 +20,27 @@ line_end = 13 ∷ 10 ∷ []
 
 -- ---- the first line
 
+-- the name of a field: the Profile's if that is asked for and has the field
+abbrev pub name_by : Bool → Option FieldFacts → ℕ → ℕ → List ℕ
+name_by true (Some row) message number = row.1
+name_by _ _ message number = field_name (names_of_fields message) number
+
+abbrev pub name_of : Bool → ℕ → ℕ → List ℕ
+name_of profile message number =
+    name_by profile (row_in (fields_at message) number) message number
+
+-- the name of a message in the same way
+abbrev pub title_by : Bool → Option (List ℕ) → ℕ → List ℕ
+title_by true (Some name) number = name
+title_by _ _ number = message_name number
+
+unfoldable pub title_of : Bool → ℕ → List ℕ
+title_of profile number = title_by profile (message_named number) number
+
 -- the name of a column: that of its field, and its unit
 abbrev pub column_name : Layout → ℕ → List ℕ
 column_name layout number =
-    field_name (names_of_fields layout.message) number ++ suffix_of (unit_in layout number)
+    name_of layout.profile layout.message number ++ suffix_in layout number
 
 abbrev pub names_from : Layout → List ℕ → List ℕ → List ℕ
 names_from layout front [] = []

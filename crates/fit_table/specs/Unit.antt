@@ -1,8 +1,12 @@
 -- The units of fields, as the profile has them.
-use Rattle.std.specs.Prelude.{ℕ, ◌+◌, Bool, true, false, List, [], ◌∷◌, codes, ◌==◌, ◌||◌, if◌then◌else◌}
+use Rattle.std.specs.Prelude.{◌≡◌, ℕ, ◌+◌, ◌≤◌, Bool, true, false, Option, Some, None, List, [], ◌∷◌, slice_index_or, codes, ◌==◌, ◌||◌, if◌then◌else◌}
 use Rattle.fit_table.specs.declared.layout.Layout.{Layout}
 use Rattle.fit_table.specs.declared.unit.Unit.{Unit as AnyUnit}
-use Rattle.fit_table.specs.declared.unit.Unit.TheVariants.{Whole, Time, Date, Degrees, Height, Metres, Seconds, Speed, Beats, Turns, Watts, Celsius}
+use Rattle.fit_table.specs.declared.unit.Unit.TheVariants.{Whole, Time, Date, Degrees, Height, Metres, Seconds, Speed, Beats, Turns, Watts, Celsius, Scaled}
+use Rattle.fit_profile.specs.declared.scale.Scale.{Scale}
+use Rattle.fit_profile.specs.declared.scale.Scale.TheVariants.{Time as InSeconds}
+use Rattle.fit_profile.specs.Facts.{FieldFacts, row_in}
+use Rattle.fit_profile.specs.Table.{fields_at}
 
 -- of a record
 abbrev pub record_unit : ℕ → AnyUnit
@@ -41,6 +45,19 @@ own_unit message number =
 abbrev pub unit_of : ℕ → ℕ → AnyUnit
 unit_of message number = if number == 253 then Time else own_unit message number
 
+-- by the Profile: a time, or by its scale; a field that it does not have as without it
+abbrev pub scaled_unit : Scale → AnyUnit
+scaled_unit InSeconds = Time
+scaled_unit scale = Scaled scale
+
+abbrev pub profile_unit : Option FieldFacts → ℕ → ℕ → AnyUnit
+profile_unit None message number = unit_of message number
+profile_unit (Some row) message number = scaled_unit row.3
+
+abbrev pub unit_by : Bool → ℕ → ℕ → AnyUnit
+unit_by false message number = unit_of message number
+unit_by true message number = profile_unit (row_in (fields_at message) number) message number
+
 -- as they are in the file if `raw` is set; times are dates if `utc` is set
 abbrev pub shown_by : Bool → Bool → AnyUnit → AnyUnit
 shown_by raw true Time = Date
@@ -48,22 +65,36 @@ shown_by true utc unit = Whole
 shown_by false utc unit = unit
 
 abbrev pub unit_in : Layout → ℕ → AnyUnit
-unit_in layout number = shown_by layout.raw layout.utc (unit_of layout.message number)
+unit_in layout number = shown_by layout.raw layout.utc (unit_by layout.profile layout.message number)
 
--- what the name of a column ends with
-abbrev pub suffix_of : AnyUnit → List ℕ
-suffix_of Whole = []
-suffix_of Time = codes "_s"
-suffix_of Date = []
-suffix_of Degrees = codes "_deg"
-suffix_of Height = codes "_m"
-suffix_of Metres = codes "_m"
-suffix_of Seconds = codes "_s"
-suffix_of Speed = codes "_m_s"
-suffix_of Beats = codes "_bpm"
-suffix_of Turns = codes "_rpm"
-suffix_of Watts = codes "_w"
-suffix_of Celsius = codes "_c"
+-- the units of the fields with these numbers, from 0 on
+abbrev pub AreUnits : Layout → List AnyUnit → Type 0
+AreUnits layout units = (number : ℕ) → number ≤ 255
+    → slice_index_or units number Whole ≡ unit_in layout number
+
+-- what the name of a column ends with; `own` is how the Profile ends it
+abbrev pub suffix_of : List ℕ → AnyUnit → List ℕ
+suffix_of own Whole = []
+suffix_of own Time = codes "_s"
+suffix_of own Date = []
+suffix_of own Degrees = codes "_deg"
+suffix_of own Height = codes "_m"
+suffix_of own Metres = codes "_m"
+suffix_of own Seconds = codes "_s"
+suffix_of own Speed = codes "_m_s"
+suffix_of own Beats = codes "_bpm"
+suffix_of own Turns = codes "_rpm"
+suffix_of own Watts = codes "_w"
+suffix_of own Celsius = codes "_c"
+suffix_of own (Scaled scale) = own
+
+abbrev pub end_of : Option FieldFacts → List ℕ
+end_of None = []
+end_of (Some row) = row.2
+
+abbrev pub suffix_in : Layout → ℕ → List ℕ
+suffix_in layout number =
+    suffix_of (end_of (row_in (fields_at layout.message) number)) (unit_in layout number)
 
 -- the columns of a table if no others are asked for
 abbrev pub usual_fields : ℕ → List ℕ

@@ -11,4 +11,6 @@ pub struct Layout<'a> {
     pub raw: bool,
     /// Whether times are dates in UTC.
     pub utc: bool,
+    /// Whether names and units are those of the whole public Profile.
+    pub profile: bool,
 }

@@ -3,12 +3,14 @@
 ghost use Rattle.std.specs.Prelude.{◌≡◌, ◌≤◌, ◌++◌, codes, length, take, IfSome, IfOk, IfErr};
 ghost use Rattle.fit_text.specs.Pen.{Puts};
 ghost use Rattle.fit_columns.specs.Places.{IsSmall};
-ghost use Rattle.fit_table.specs.Number.{digits, places_text, fixed_text, rounded, degrees_text, date_or, unit_text, split_of, limit, IsWide};
+ghost use Rattle.fit_table.specs.Number.{digits, places_text, fixed_text, rounded, degrees_text, date_or, unit_text, split_of, limit, IsWide, nearest, decimals_text, scaled_text, AreSmallParts};
+ghost use Rattle.fit_table.specs.Unit.{AreUnits};
 ghost use Rattle.fit_table.specs.Table.{empty_of, cell_text};
 
 use crate::layout::Layout;
-use crate::unit::{Unit, unit_in};
+use crate::unit::{Unit, unit_at};
 use fit_grammar::WriteFailed;
+use fit_profile::{Parts, parts_of};
 use fit_text::{Pen, put_date};
 use std::io::Write;
 
@@ -19,14 +21,19 @@ const FIRST_DATE: i64 = 0x1000_0000;
 pub fn put_cell<W: Write>(
     pen: &mut Pen<'_, W>,
     layout: &Layout<'_>,
+    units: &[Unit; 256],
     number: u8,
     value: Option<i64>,
 ) -> Result<(), WriteFailed>
-    requires { IfSome value IsSmall }
+    requires small { IfSome value IsSmall }
+    requires units { AreUnits layout.now units.now }
     ensures { Puts pen.old pen.new result (cell_text layout.now number value) }
 {
     match value {
-        Some(value) => put_value(pen, empty_of(layout), unit_in(layout, number), value),
+        Some(value) => {
+            let unit = unit_at(layout, units, number);
+            put_value(pen, empty_of(layout), unit, value)
+        }
         None => pen.put(empty_of(layout)),
     }
 }
@@ -57,8 +64,50 @@ fn put_value<W: Write>(
         Unit::Metres => put_fixed(pen, 2, 100, value),
         Unit::Seconds | Unit::Speed => put_fixed(pen, 3, 1000, value),
         Unit::Date => put_date_or(pen, empty, value),
+        Unit::Scaled(scale) => put_scaled(pen, parts_of(scale), value),
         Unit::Whole | Unit::Time | Unit::Beats | Unit::Turns | Unit::Watts | Unit::Celsius =>
             pen.put_signed(value),
+    }
+}
+
+// A value of a scale of the Profile.
+fn put_scaled<W: Write>(pen: &mut Pen<'_, W>, parts: Parts, value: i64) -> Result<(), WriteFailed>
+    requires small { IsSmall value }
+    requires parts { AreSmallParts parts }
+    ensures { Puts pen.old pen.new result (scaled_text parts value) }
+{
+    match split(value - i64::from(parts.shift)) {
+        Ok(n) => put_decimals(pen, parts, nearest(parts, n)),
+        Err(n) => put_below_zero(pen, parts, nearest(parts, n)),
+    }
+}
+
+// The whole number that is nearest.
+fn nearest(parts: Parts, n: u64) -> u64
+    requires limit { n ≤ limit }
+    requires parts { AreSmallParts parts }
+    ensures { result ≡ nearest parts n }
+{
+    let divisor = u64::from(parts.divisor);
+    (n * u64::from(parts.multiplier) + divisor / 2) / divisor
+}
+
+fn put_below_zero<W: Write>(pen: &mut Pen<'_, W>, parts: Parts, n: u64) -> Result<(), WriteFailed>
+    requires { AreSmallParts parts }
+    ensures { Puts pen.old pen.new result
+        (codes "-" ++ decimals_text parts.power parts.decimals n) }
+{
+    pen.put(b"-")?;
+    put_decimals(pen, parts, n)
+}
+
+fn put_decimals<W: Write>(pen: &mut Pen<'_, W>, parts: Parts, n: u64) -> Result<(), WriteFailed>
+    requires { AreSmallParts parts }
+    ensures { Puts pen.old pen.new result (decimals_text parts.power parts.decimals n) }
+{
+    match parts.decimals {
+        0 => pen.put_number(n),
+        decimals => put_places(pen, usize::from(decimals), u64::from(parts.power), n),
     }
 }
 

@@ -8,14 +8,16 @@ ghost use Rattle.fit_text.specs.Profile.{names_of_fields};
 ghost use Rattle.fit_text.specs.Text.{field_name as name_of_field};
 ghost use Rattle.fit_columns.specs.declared.plans.TheConstants.{MOST_COLUMNS};
 ghost use Rattle.fit_columns.specs.Places.{ArePlacesIn};
-ghost use Rattle.fit_table.specs.Table.{line_end, column_name, names_from, head_of, cells_at, lines_of, table_of};
+ghost use Rattle.fit_table.specs.Unit.{AreUnits};
+ghost use Rattle.fit_table.specs.Table.{line_end, column_name, name_of, names_from, head_of, cells_at, lines_of, table_of};
 
 use crate::layout::Layout;
 use crate::number::put_cell;
-use crate::unit::{suffix_of, unit_in};
+use crate::unit::{Unit, suffix_in, units_of};
 use fit_base::Arch;
 use fit_columns::{MOST_COLUMNS, Place, Plans, cell};
 use fit_grammar::{FileItem, LentFile, WriteFailed};
+use fit_profile::field_row;
 use fit_text::{Pen, field_name};
 use std::io::Write;
 
@@ -144,11 +146,26 @@ fn put_name<W: Write>(
 ) -> Result<(), WriteFailed>
     ensures { Puts pen.old pen.new result (column_name layout.now number) }
 {
-    put_field_name(pen, layout.message, number)?;
-    pen.put(suffix_of(unit_in(layout, number)))
+    put_field_name(pen, layout, number)?;
+    pen.put(suffix_in(layout, number))
 }
 
 fn put_field_name<W: Write>(
+    pen: &mut Pen<'_, W>,
+    layout: &Layout<'_>,
+    number: u8,
+) -> Result<(), WriteFailed>
+    ensures { Puts pen.old pen.new result
+        (name_of layout.now.profile layout.now.message number) }
+{
+    match field_row(layout.message, number) {
+        Some(row) if layout.profile => pen.put(row.1.as_bytes()),
+        _ => put_plain_name(pen, layout.message, number),
+    }
+}
+
+// The name without the Profile.
+fn put_plain_name<W: Write>(
     pen: &mut Pen<'_, W>,
     message: u16,
     number: u8,
@@ -178,6 +195,7 @@ fn put_lines<W: Write>(
     ensures { Puts pen.old pen.new result
         (lines_of layout.now front.now (messages_of file.now.items)) }
 {
+    let units = units_of(layout);
     let mut plans = Plans::new();
     for item in file.items() {
         match item {
@@ -195,6 +213,7 @@ fn put_lines<W: Write>(
                     pen,
                     layout,
                     front,
+                    &units,
                     plan.places.as_slice(),
                     plan.arch,
                     time,
@@ -210,29 +229,33 @@ fn put_line<W: Write>(
     pen: &mut Pen<'_, W>,
     layout: &Layout<'_>,
     front: &[u8],
+    units: &[Unit; 256],
     places: &[Place],
     arch: Arch,
     time: Option<u32>,
     content: &[u8],
 ) -> Result<(), WriteFailed>
-    requires { ArePlacesIn (length content.now) places.now }
+    requires units { AreUnits layout.now units.now }
+    requires inside { ArePlacesIn (length content.now) places.now }
     ensures { Puts pen.old pen.new result
         (front.now ++ (cells_at layout.now arch time content.now [] places.now ++ line_end)) }
 {
     pen.put(front)?;
-    put_cells(pen, layout, places, arch, time, content)?;
+    put_cells(pen, layout, units, places, arch, time, content)?;
     pen.put(b"\r\n")
 }
 
 fn put_cells<W: Write>(
     pen: &mut Pen<'_, W>,
     layout: &Layout<'_>,
+    units: &[Unit; 256],
     places: &[Place],
     arch: Arch,
     time: Option<u32>,
     content: &[u8],
 ) -> Result<(), WriteFailed>
-    requires { ArePlacesIn (length content.now) places.now }
+    requires units { AreUnits layout.now units.now }
+    requires inside { ArePlacesIn (length content.now) places.now }
     ensures { Puts pen.old pen.new result
         (cells_at layout.now arch time content.now [] places.now) }
 {
@@ -240,7 +263,8 @@ fn put_cells<W: Write>(
     let mut left = places;
     while let [place, others @ ..] = left {
         pen.put(front)?;
-        put_cell(pen, layout, place.number, cell(place, arch, time, content))?;
+        let value = cell(place, arch, time, content);
+        put_cell(pen, layout, units, place.number, value)?;
         front = b",";
         left = others;
     }

@@ -1,9 +1,12 @@
 // What the numbers of a field count.
 
-ghost use Rattle.std.specs.Prelude.{◌≡◌, ◌≤◌, length};
-ghost use Rattle.fit_table.specs.Unit.{unit_of, unit_in, summary_unit, record_unit, suffix_of, usual_fields};
+ghost use Rattle.std.specs.Prelude.{◌≡◌, ◌≤◌, [], length};
+ghost use Rattle.fit_profile.specs.Facts.{row_in};
+ghost use Rattle.fit_profile.specs.Table.{fields_at};
+ghost use Rattle.fit_table.specs.Unit.{unit_of, unit_by, unit_in, profile_unit, scaled_unit, summary_unit, record_unit, suffix_of, suffix_in, end_of, usual_fields, AreUnits};
 
 use crate::layout::Layout;
+use fit_profile::{Scale, field_row};
 
 /// What the numbers of a column count, and how they are written.
 #[derive(Clone, Copy, Debug)]
@@ -30,20 +33,75 @@ pub enum Unit {
     Turns,
     Watts,
     Celsius,
+    /// A unit of the Profile, by its scale.
+    Scaled(Scale),
 }
 
 /// The unit of a column.
 pub fn unit_in(layout: &Layout<'_>, number: u8) -> Unit
     ensures { result ≡ unit_in layout.now number }
 {
-    match unit_of(layout.message, number) {
+    match unit_by(layout.profile, layout.message, number) {
         Unit::Time if layout.utc => Unit::Date,
         _ if layout.raw => Unit::Whole,
         unit => unit,
     }
 }
 
-// The unit of a field, as the profile has it.
+// The unit of a field, by the Profile if it is asked for and has the field.
+fn unit_by(profile: bool, message: u16, number: u8) -> Unit
+    ensures { result ≡ unit_by profile message number }
+{
+    if profile {
+        profile_unit(message, number)
+    } else {
+        unit_of(message, number)
+    }
+}
+
+fn profile_unit(message: u16, number: u8) -> Unit
+    ensures { result ≡ profile_unit (row_in (fields_at message) number) message number }
+{
+    match field_row(message, number) {
+        Some(row) => scaled_unit(row.3),
+        None => unit_of(message, number),
+    }
+}
+
+fn scaled_unit(scale: Scale) -> Unit
+    ensures { result ≡ scaled_unit scale }
+{
+    match scale {
+        Scale::Time => Unit::Time,
+        scale => Unit::Scaled(scale),
+    }
+}
+
+/// The units of all fields of the messages of a layout, by their numbers.
+pub fn units_of(layout: &Layout<'_>) -> [Unit; 256]
+    ensures { AreUnits layout.now result }
+{
+    let mut units = [Unit::Whole; 256];
+    let mut number: u8 = 0;
+    loop {
+        units[usize::from(number)] = unit_in(layout, number);
+        if number == 255 {
+            return units;
+        }
+        number += 1;
+    }
+}
+
+/// The unit of a field among them.
+pub fn unit_at(layout: &Layout<'_>, units: &[Unit; 256], number: u8) -> Unit
+    requires { AreUnits layout.now units.now }
+    ensures { result ≡ unit_in layout.now number }
+{
+    let _ = layout;
+    units[usize::from(number)]
+}
+
+// The unit of a field, as `specs/Unit` lists it.
 fn unit_of(message: u16, number: u8) -> Unit
     ensures { result ≡ unit_of message number }
 {
@@ -94,8 +152,27 @@ fn record_unit(number: u8) -> Unit
 }
 
 /// What the name of a column ends with, which gives its unit.
-pub fn suffix_of(unit: Unit) -> &'static [u8]
-    ensures { result.now ≡ suffix_of unit }
+pub fn suffix_in(layout: &Layout<'_>, number: u8) -> &'static [u8]
+    ensures { result.now ≡ suffix_in layout.now number }
+{
+    match unit_in(layout, number) {
+        Unit::Scaled(_) => end_of(layout.message, number),
+        unit => suffix_of(unit),
+    }
+}
+
+// How the Profile ends the name.
+fn end_of(message: u16, number: u8) -> &'static [u8]
+    ensures { result.now ≡ end_of (row_in (fields_at message) number) }
+{
+    match field_row(message, number) {
+        Some(row) => row.2.as_bytes(),
+        None => b"",
+    }
+}
+
+fn suffix_of(unit: Unit) -> &'static [u8]
+    ensures { result.now ≡ suffix_of [] unit }
 {
     match unit {
         Unit::Whole | Unit::Date => b"",
@@ -107,6 +184,7 @@ pub fn suffix_of(unit: Unit) -> &'static [u8]
         Unit::Turns => b"_rpm",
         Unit::Watts => b"_w",
         Unit::Celsius => b"_c",
+        Unit::Scaled(_) => b"",
     }
 }
 

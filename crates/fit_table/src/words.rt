@@ -3,18 +3,20 @@
 ghost use Rattle.std.specs.Prelude.{◌≡◌, ◌≤◌, ◌++◌, ℕ, IsTrue, ◌↔◌, None, IfSome, codes, decimal};
 ghost use Rattle.fit_text.specs.Profile.{names_of_fields};
 ghost use Rattle.fit_text.specs.Text.{message_name, field_name};
+ghost use Rattle.fit_table.specs.Table.{name_of, title_of};
 
+use fit_profile::field_row;
 use fit_text::{field_name, message_name};
 use itoa::Buffer;
 
 /// The global number of the messages that this word names, such as `lap`, or `message_23` for those that have no name.
-pub fn message_of_word(word: &str) -> Option<u16>
-    ensures named { IfSome result (λ number. message_name number ≡ word.now) }
-    ensures none { result ≡ None → (number : ℕ) → number ≤ 65535 → message_name number ≡ word.now
-        → ⊥ }
+pub fn message_of_word(profile: bool, word: &str) -> Option<u16>
+    ensures named { IfSome result (λ number. title_of profile number ≡ word.now) }
+    ensures none { result ≡ None
+        → (number : ℕ) → number ≤ 65535 → title_of profile number ≡ word.now → ⊥ }
 {
     let mut number = 0;
-    while !is_message(number, word) {
+    while !is_message(profile, number, word) {
         if number == u16::MAX {
             return None;
         }
@@ -25,14 +27,13 @@ pub fn message_of_word(word: &str) -> Option<u16>
 
 /// The number of the field that this word names in messages with this global number, such as `heart_rate`, or `field_39` for one that
 /// has no name.
-pub fn field_of_word(message: u16, word: &str) -> Option<u8>
-    ensures named { IfSome result (λ number. field_name (names_of_fields message) number
-        ≡ word.now) }
+pub fn field_of_word(profile: bool, message: u16, word: &str) -> Option<u8>
+    ensures named { IfSome result (λ number. name_of profile message number ≡ word.now) }
     ensures none { result ≡ None
-        → (number : ℕ) → number ≤ 255 → field_name (names_of_fields message) number ≡ word.now → ⊥ }
+        → (number : ℕ) → number ≤ 255 → name_of profile message number ≡ word.now → ⊥ }
 {
     let mut number = 0;
-    while !is_field(message, number, word) {
+    while !is_field(profile, message, number, word) {
         if number == u8::MAX {
             return None;
         }
@@ -41,7 +42,17 @@ pub fn field_of_word(message: u16, word: &str) -> Option<u8>
     Some(number)
 }
 
-fn is_message(number: u16, word: &str) -> bool
+#[tactic(auto, unfolding(crate::specs::Table::title_of))]
+fn is_message(profile: bool, number: u16, word: &str) -> bool
+    ensures { IsTrue result ↔ (title_of profile number ≡ word.now) }
+{
+    match fit_profile::message_name(number) {
+        Some(name) if profile => name == word,
+        _ => is_plain_message(number, word),
+    }
+}
+
+fn is_plain_message(number: u16, word: &str) -> bool
     ensures { IsTrue result ↔ (message_name number ≡ word.now) }
 {
     match message_name(number) {
@@ -53,7 +64,16 @@ fn is_message(number: u16, word: &str) -> bool
     }
 }
 
-fn is_field(message: u16, number: u8, word: &str) -> bool
+fn is_field(profile: bool, message: u16, number: u8, word: &str) -> bool
+    ensures { IsTrue result ↔ (name_of profile message number ≡ word.now) }
+{
+    match field_row(message, number) {
+        Some(row) if profile => row.1 == word,
+        _ => is_plain_field(message, number, word),
+    }
+}
+
+fn is_plain_field(message: u16, number: u8, word: &str) -> bool
     ensures { IsTrue result ↔ (field_name (names_of_fields message) number ≡ word.now) }
 {
     match field_name(message, number) {

@@ -22,6 +22,7 @@ pub record IsFlag (found : Found) (name : List ℕ) (is_set : Bool) : Type 0 whe
 pub record IsForm (found : Found) (form : TableForm) : Type 0 where
   pub utc : IsFlag found (codes "utc") form.utc
   pub raw : IsFlag found (codes "raw") form.raw
+  pub profile : IsFlag found (codes "profile") form.profile
   pub message : option_map (λ word. word.now) form.message ≡ first_value found (codes "message")
   pub fields : option_map (λ word. word.now) form.fields ≡ first_value found (codes "fields")
 
@@ -43,7 +44,8 @@ pub record AreNames (found : Found) (names : Names) : Type 0 where
 -- the subcommand of this name makes this request over several files
 abbrev pub IsEachAskedBy : List ℕ → Found → Request → Type 0
 IsEachAskedBy name found (CheckEach names) = (name ≡ codes "check") × AreNames found names
-IsEachAskedBy name found (TableEach names form) = (name ≡ codes "table") × AreNames found names × IsForm found form
+IsEachAskedBy name found (TableEach names form) =
+    (name ≡ codes "table") × AreNames found names × IsForm found form
 IsEachAskedBy name found _ = ⊥
 
 -- the subcommand of this name makes this request, with these words
@@ -53,7 +55,8 @@ IsAskedBy name found (Show file utc json) =
     × IsFlag found (codes "json") json
 IsAskedBy name found (Check file) = (name ≡ codes "check") × IsWord found (codes "FILE") file
 IsAskedBy name found (CheckEach names) = ⊥
-IsAskedBy name found (Table file form) = (name ≡ codes "table") × IsWord found (codes "FILE") file × IsForm found form
+IsAskedBy name found (Table file form) =
+    (name ≡ codes "table") × IsWord found (codes "FILE") file × IsForm found form
 IsAskedBy name found (TableEach names form) = ⊥
 IsAskedBy name found (Replay script folder checked) =
     (name ≡ codes "replay") × IsWord found (codes "SCRIPT") script

@@ -88,6 +88,13 @@ pub(crate) fn raw_option<'a>(alloc: Global) -> Arg<'a> {
         .action(ArgAction::SetTrue)
 }
 
+pub(crate) fn profile_option<'a>(alloc: Global) -> Arg<'a> {
+    Arg::new(alloc, "profile")
+        .long("profile")
+        .help("Uses the names and units of the whole public FIT Profile")
+        .action(ArgAction::SetTrue)
+}
+
 pub(crate) fn message_option<'a>(alloc: Global) -> Arg<'a> {
     Arg::new(alloc, "message")
         .long("message")

@@ -80,6 +80,7 @@ pub struct Names<'a> {
 pub struct TableForm<'a> {
     pub utc: bool,
     pub raw: bool,
+    pub profile: bool,
     /// The word of `--message`, if it is there.
     pub message: Option<&'a str>,
     /// The word of `--fields`, if it is there.
@@ -104,7 +105,8 @@ fn each_of<'a>(
     name: &str,
     matches: &ArgMatches<'a>,
 ) -> Result<Option<Request<'a>>, AllocError>
-    ensures { IfOk result (λ request. IfSome request (IsEachAskedBy name.now (found_of matches.now))) }
+    ensures { IfOk result (λ request.
+        IfSome request (IsEachAskedBy name.now (found_of matches.now))) }
 {
     let Some(first) = matches.get_str("FILE") else {
         return Ok(None);
@@ -147,6 +149,7 @@ fn form_of<'a>(matches: &ArgMatches<'a>) -> TableForm<'a>
     TableForm {
         utc: matches.get_flag("utc"),
         raw: matches.get_flag("raw"),
+        profile: matches.get_flag("profile"),
         message: matches.get_str("message"),
         fields: matches.get_str("fields"),
     }

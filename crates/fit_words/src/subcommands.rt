@@ -3,8 +3,8 @@
 use crate::arguments::{
     all_option, checked_option, choices_option, commit_option, each_option, earlier_option,
     fields_option, file_argument, finish_option, folder_argument, in_argument, json_option,
-    message_option, more_argument, null_option, out_argument, plain_option, raw_option,
-    script_argument, table_argument, utc_option, verify_option,
+    message_option, more_argument, null_option, out_argument, plain_option, profile_option,
+    raw_option, script_argument, table_argument, utc_option, verify_option,
 };
 use clap::{Command, Error};
 use std::alloc::Global;
@@ -72,6 +72,7 @@ fn table_command<'a>(alloc: Global) -> Result<Command<'a>, Error> {
             )
             .arg(utc_option(alloc))?
             .arg(raw_option(alloc))?
+            .arg(profile_option(alloc))?
             .arg(message_option(alloc))?
             .arg(fields_option(alloc))?
             .arg(each_option(alloc))?

@@ -18,7 +18,8 @@ tabled layout (Some front) v = lines_of layout front (messages_of v.items)
 
 -- the bytes are a file, and its table was written, or a prefix of it and the output failed; or they are not a file, and nothing was
 -- written
-abbrev pub ShowsTable : {T : Type 0} → Layout → Option (List ℕ) → Option (List ℕ) → Option (List ℕ) → List ℕ → Result T ReportFault → Type 0
+abbrev pub ShowsTable : {T : Type 0} → Layout → Option (List ℕ) → Option (List ℕ)
+    → Option (List ℕ) → List ℕ → Result T ReportFault → Type 0
 ShowsTable layout front old new bytes result = ShowsBy (tabled layout front) old new bytes result
 
 -- the summary of a file that is an activity, or why it is none

@@ -23,7 +23,7 @@ returns-in_err-put_cell g c =
     (first_text c.args.layout.now c.args.arch c.args.time c.args.content.now c.loop-left.front.now c.loop-left.left.now any c.in-len1-up.len_at_least) in
     let place = get_or c.loop-left.left.now 0 any in
     let value : cell_text c.args.layout.now place.number (cell_with c.args.time place.number (place_cell place c.args.arch c.args.content.now))
-    ≡ cell_text c.args.layout.now place.number c.cell.result = rw c.cell.ensures.value refl in
+    ≡ cell_text c.args.layout.now place.number c.cell-value.result = rw c.cell-value.ensures.value refl in
     leaves_off _ c.from_residual-in_err-put_cell.ensures.0 h c.in_err-put_cell.ensures
     (ap (λ t. t ++ cells_at c.args.layout.now c.args.arch c.args.time c.args.content.now (codes ",") (others c.loop-left.left.now)) value)
 
@@ -33,7 +33,7 @@ loop-left-preserved g c =
     (first_text c.args.layout.now c.args.arch c.args.time c.args.content.now c.loop-left.front.now c.loop-left.left.now any c.in-len1-up.len_at_least) in
     let place = get_or c.loop-left.left.now 0 any in
     let value : cell_text c.args.layout.now place.number (cell_with c.args.time place.number (place_cell place c.args.arch c.args.content.now))
-    ≡ cell_text c.args.layout.now place.number c.cell.result = rw c.cell.ensures.value refl in
+    ≡ cell_text c.args.layout.now place.number c.cell-value.result = rw c.cell-value.ensures.value refl in
     record {
       inside = (first_in _ c.loop-left.left.now any c.in-len1-up.len_at_least c.loop-left.invariant.inside).1;
       put = leaves_less _ h c.in_ok-put_cell.ensures (ap (λ t. t ++ cells_at c.args.layout.now c.args.arch c.args.time c.args.content.now (codes ",") (others c.loop-left.left.now)) value);

@@ -47,9 +47,12 @@ put_line-requires g c =
     let under = rw steps at kept.under in
     let plans = c.settle.ensures.plans definition_for under.1 kept.plans in
     let own = plans found.local found.definition c.get-plan.result.now c.get-plan.ensures under.1 in
-    rw c.as_slice.ensures.value
-    (places_in found.definition.fields.items c.args.layout.now.fields.now c.get-plan.result.now.places.items (length found.content.now)
-    (omega (arith, found.whole)) own.places)
+    record {
+      units = c.units_of-units.ensures;
+      inside = rw c.as_slice.ensures.value
+          (places_in found.definition.fields.items c.args.layout.now.fields.now c.get-plan.result.now.places.items (length found.content.now)
+          (omega (arith, found.whole)) own.places);
+    }
 
 pub loop-item-preserved : goal.loop-item-preserved
 loop-item-preserved g c =

@@ -5,4 +5,4 @@ pub returns-in_err-put_field_name : goal.returns-in_err-put_field_name
 returns-in_err-put_field_name g c = puts_stop c.from_residual.ensures.0 c.in_err-put_field_name.ensures _
 
 pub returns : goal.returns
-returns g c = rw (← c.unit_in.ensures, ← c.suffix_of.ensures) (puts_then c.in_ok-put_field_name.ensures c.put.ensures)
+returns g c = rw (← c.suffix_in.ensures) (puts_then c.in_ok-put_field_name.ensures c.put.ensures)

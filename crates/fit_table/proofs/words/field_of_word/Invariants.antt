@@ -1,10 +1,9 @@
 use Rattle.std.proofs.Common.{◌≡◌, ℕ, ◌<◌, ◌-◌}
-use Rattle.fit_text.specs.Text.{field_name}
-use Rattle.fit_text.specs.Profile.{names_of_fields}
+use Rattle.fit_table.specs.Table.{name_of}
 use Rattle.fit_table.proofs.words.field_of_word.Given as goal
 
-abbrev pub invariant-loop-message : goal.invariant-loop-message
-invariant-loop-message l = (n : ℕ) → n < l.number → field_name (names_of_fields l.message) n ≡ l.word → ⊥
+abbrev pub invariant-loop-profile : goal.invariant-loop-profile
+invariant-loop-profile l = (n : ℕ) → n < l.number → name_of l.profile l.message n ≡ l.word → ⊥
 
-abbrev pub decreases-loop-message : goal.decreases-loop-message
-decreases-loop-message l = 255 - l.number
+abbrev pub decreases-loop-profile : goal.decreases-loop-profile
+decreases-loop-profile l = 255 - l.number

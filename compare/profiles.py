@@ -1,0 +1,110 @@
+"""Checks the table of the public FIT Profile (python/fitrec/profile.txt): it has the names and units of the texts, the program's table is
+made of it, and it states what the Perl module in Debian's package pytrainer states, as perl reads that. The module is the one that is
+installed, or else the one that `apt-get download` fetches. Debian 12 has an older one with fewer fields."""
+
+import collections
+import pathlib
+import re
+import tempfile
+
+import columns
+from tools import reader
+from tools.checks import Skipped, differs, unless
+from tools.needs import is_there
+from tools.profile_table import TABLE, rows_of
+from tools.program import ROOT, run
+
+NEEDS = ("perl",)
+MODULES = "usr/share/pytrainer/plugins/garmin-fit/bin/Geo/FIT.pm", "usr/share/pytrainer/plugins/garmin-fit/bin/Garmin/FIT.pm"
+
+# What is left out: messages and fields that the module itself calls undocumented, unknown or not present.
+LEFT_OUT = {"source", "location", "battery", "sensor"}
+NOT_PRESENT = {(39, 4), (19, 27), (19, 28), (19, 29), (19, 30), (26, 7), (33, 10)}
+# What it has wrong, by the jar of the format's own kit.
+CORRECTED = {(55, 8): ("distance_16", "m", 0.01, 0), (55, 9): ("cycles_16", "cycles", 0.5, 0),
+             (28, 6): ("scheduled_time", "local_date", 1, 0)}
+UNITS = {"watts": "W", "deg.C": "C", "degrees": "deg", "mps": "m/s", "minutes": "min", "hr": "h", "percent": "%", "radians": "rad",
+         "radians/second": "rad/s"}
+TYPES = {"date_time": "date", "local_date_time": "local_date"}
+
+# A unit of a table, by the end of a column's name.
+SHORT = {"m": "m", "s": "s", "m_s": "m/s", "bpm": "bpm", "w": "W", "deg": "semicircles", "rpm": "rpm", "c": "C"}
+
+
+def of_the_texts():
+    """The names of `show` and the units of `table` are those of the table."""
+    table = rows_of()
+    for message, (title, names) in reader.MESSAGES.items():
+        for field, name in names.items():
+            unit = columns.UNITS.get(message, {}).get(field)
+            short = "" if unit is None else "date" if unit == columns.TIME else SHORT[unit[0]]
+            scale = 1.0 if unit is None or unit == columns.DEGREES else float(unit[1])
+            shown = title, name, short, scale, float(-unit[3]) if unit else 0.0
+            found = table.get((message, field))
+            if unit is None and found:
+                found = found[:2] + shown[2:]  # a field without a unit in the texts may have one in the table
+            yield "a name and a unit of the texts", differs(found, shown)
+
+
+def laid_out(text):
+    """A text without its layout."""
+    return re.sub(r",(?=[)\]}])", "", re.sub(r"\s", "", text))
+
+
+def of_what_is_made():
+    """The program's table is made of this one."""
+    with tempfile.TemporaryDirectory() as folder:
+        run(ROOT / "crates/fit_profile/make", folder)
+        for name in "src/table.rt", "specs/Table.antt":
+            made, kept = pathlib.Path(folder, name).read_text(), (ROOT / "crates/fit_profile" / name).read_text()
+            yield "made from the table", differs(laid_out(kept), laid_out(made), name)
+
+
+def of_the_rows():
+    """Each number and each name stands once in its message."""
+    lines = [it for it in TABLE.read_text().splitlines() if not it.startswith("#")]
+    yield "a field for each line", differs(len(rows_of()), sum(it.startswith(" ") for it in lines))
+    names = collections.Counter((message, row[1]) for (message, _), row in rows_of().items())
+    yield "a name for each field", differs([it for it, count in names.items() if count > 1], [])
+
+
+def module_in(folder):
+    """The module of the installed package, or of the one that apt fetches into a folder."""
+    found = [pathlib.Path("/", it) for it in MODULES if pathlib.Path("/", it).exists()]
+    if not found and is_there("apt-get") and is_there("dpkg-deb"):
+        run("apt-get", "download", "pytrainer", cwd=folder)
+        for package in pathlib.Path(folder).glob("pytrainer_*.deb"):
+            run("dpkg-deb", "-x", package, folder)
+        found = [pathlib.Path(folder, it) for it in MODULES if pathlib.Path(folder, it).exists()]
+    return found[0] if found else None
+
+
+def stated(line):
+    """The place and the facts of a field of the module; None if it is left out."""
+    message, title, field, name, kind, unit, scale, offset = line.split("\t")
+    place = int(message or -1), int(field)
+    if title in LEFT_OUT or place in NOT_PRESENT or name.startswith("unknown"):
+        return None
+    unit = TYPES.get(kind) or UNITS.get(unit, unit)
+    return place, (title, *CORRECTED.get(place, (name, unit, float(scale or 1), float(offset or 0))))
+
+
+def of_the_module():
+    with tempfile.TemporaryDirectory() as folder:
+        module = module_in(folder)
+        if module is None:
+            yield "fields of the module", Skipped("pytrainer")
+            return
+        status, text, errors = run("perl", ROOT / "compare/tools/fields.pl", module)
+        yield "perl reads the module", differs((status, errors), (0, ""))
+        table, said = rows_of(), dict(filter(None, map(stated, text.splitlines())))
+        yield "many fields", unless(len(said) > 900, len(said), "more than 900")
+        for place, facts in said.items():
+            yield "a field of the module", differs(table.get(place), facts, place)
+        if module.parent.name == "Geo":
+            yield "all fields are the module's", differs(sorted(set(table) - set(said)), [])
+
+
+def check(given):
+    for group in of_the_texts, of_the_rows, of_what_is_made, of_the_module:
+        yield from given.checks(group)

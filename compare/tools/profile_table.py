@@ -1,0 +1,24 @@
+"""The table of the public FIT Profile, python/fitrec/profile.txt, as these checks read it."""
+
+from tools.program import ROOT
+
+TABLE = ROOT / "python/fitrec/profile.txt"
+
+
+def titles_of(path=TABLE):
+    """The name of each message, by its number."""
+    lines = [it.split() for it in path.read_text().splitlines() if not it.startswith((" ", "#"))]
+    return {int(number): title for number, title in lines}
+
+
+def rows_of(path=TABLE):
+    """Of each field, by the numbers of its message and its own: the name of the message, the name, the unit, the scale and the offset."""
+    found = {}
+    for line in path.read_text().splitlines():
+        words = line.split()
+        if line.startswith(" "):
+            name, unit, scale, offset = [*words[1:], *["-", "1", "0"][len(words) - 2:]]
+            found[message, int(words[0])] = title, name, "" if unit == "-" else unit, float(scale), float(offset)
+        elif not line.startswith("#"):
+            message, title = int(words[0]), words[1]
+    return found

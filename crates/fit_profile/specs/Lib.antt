@@ -1,0 +1,3 @@
+pub mod Scale
+pub mod Facts
+pub mod Table
