@@ -9,7 +9,7 @@ _fitrec() {
     case ${COMP_WORDS[1]} in
         help) COMPREPLY=($(compgen -W 'show table check replay record save repair salvage plain simulate version' -- "$word")); return ;;
         show) options='--utc --json --help' ;;
-        table) options='--utc --raw --message --fields --each --null --help' ;;
+        table) options='--utc --raw --profile --message --fields --each --null --help' ;;
         check) options='--each --null --help' ;;
         replay) options='--checked --help' ;;
         record) options='--commit --help' ;;

@@ -15,6 +15,7 @@ complete -c fitrec -n '__fish_seen_subcommand_from show' -l utc -d 'Shows times 
 complete -c fitrec -n '__fish_seen_subcommand_from show' -l json -d 'Writes a JSON object on each line, for programs'
 complete -c fitrec -n '__fish_seen_subcommand_from table' -l utc -d 'Shows times as dates in UTC'
 complete -c fitrec -n '__fish_seen_subcommand_from table' -l raw -d 'Writes the whole numbers of the file, without units'
+complete -c fitrec -n '__fish_seen_subcommand_from table' -l profile -d 'Uses the names and units of the whole public FIT Profile'
 complete -c fitrec -n '__fish_seen_subcommand_from table' -l message -x -d 'Takes messages of this name, such as lap or message_23, and not records'
 complete -c fitrec -n '__fish_seen_subcommand_from table' -l fields -x -d 'Takes these fields, with commas between their names, such as timestamp,heart_rate,field_39'
 complete -c fitrec -n '__fish_seen_subcommand_from table' -l each -d 'Takes several files, and goes on after one that is refused; the name - stands for names on standard input, a line each'
