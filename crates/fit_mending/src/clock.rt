@@ -13,16 +13,21 @@ const TIME: u8 = 253;
 const DAY: u32 = 86_400;
 
 // A time that is later by more seconds than this is no sign until the next one follows it.
-const LEAP: u32 = 600;
+const LEAP: u32 = 120;
 
-// What a message is worth that states a later time than the one before it, and a record that has it as a compressed timestamp, which
-// noise has more easily.
-const STATED: u32 = 3;
+// What a message is worth that states a later time than the one before it.
+const STATED: i32 = 3;
 
-const COMPRESSED: u32 = 1;
+// What a record is worth whose compressed timestamp is later by at most so many seconds, which noise has more easily, and what it is
+// worth otherwise.
+const NEAR: u32 = 8;
+
+const COMPRESSED: i32 = 1;
+
+const DOUBTFUL: i32 = -4;
 
 // The least number of bytes of an item that is an erased stretch if all its bytes are the same.
-const BLANK: usize = 8;
+const BLANK: usize = 4;
 
 /// The times of the items so far, in seconds since 1989-12-31 00:00 UTC.
 #[derive(Clone, Copy)]
@@ -55,9 +60,9 @@ impl Clock {
 
     // What an item is worth as a sign that these bytes are no noise, or none if it is a fault: a definition that no device writes, a
     // reserved bit, an erased stretch, or a time that falls or leaps. From here on the clock has its time.
-    pub(crate) fn judge(&mut self, item: &Item<'_>, bytes: &[u8]) -> Option<u32> {
+    pub(crate) fn judge(&mut self, item: &Item<'_>, bytes: &[u8]) -> Option<i32> {
         let Some(message) = message_of(item, self.last) else {
-            return worth_if(is_plausible(bytes), 0);
+            return nothing_if(is_plausible(bytes));
         };
         if is_reserved(bytes) || is_blank(bytes) {
             return None;
@@ -66,36 +71,45 @@ impl Clock {
             return Some(0);
         };
         if !is_compressed(bytes) {
-            return self.hear(message.global(), time, STATED);
+            let worth = self.stated_worth(time);
+            return self.hear(message.global(), time, worth);
         }
         if has_time_twice(&message) {
             return None;
         }
-        if self.latest.is_none() {
+        if self.latest.is_none() || message.global() != RECORD {
             return Some(0);
         }
-        let worth = if message.global() == RECORD {
-            COMPRESSED
-        } else {
-            0
-        };
-        self.hear(message.global(), time, worth)
+        let worth = compressed_worth(time.wrapping_sub(self.last));
+        self.hear(RECORD, time, worth)
     }
 
-    // The same, of a message with this number and time, which is worth so much if its time is later than the last one.
-    fn hear(&mut self, global: u16, time: u32, worth: u32) -> Option<u32> {
+    // The worth of a message that states this time.
+    fn stated_worth(&self, time: u32) -> i32 {
+        match self.latest {
+            None => STATED,
+            Some(latest) => {
+                if time > self.last && time <= latest.saturating_add(LEAP) {
+                    STATED
+                } else {
+                    0
+                }
+            }
+        }
+    }
+
+    // Sets the clock to the time of a message of this number, unless that is a fault.
+    fn hear(&mut self, global: u16, time: u32, worth: i32) -> Option<i32> {
         let latest = self.latest.unwrap_or(time);
         if !self.may_follow(global, time, latest) {
             return None;
         }
-        let is_sign = self.latest.is_none()
-            || (time > self.last && time <= latest.saturating_add(LEAP));
         self.last = time;
         self.latest = Some(latest.max(time));
         if global == RECORD {
             self.record = Some(time);
         }
-        if is_sign { Some(worth) } else { Some(0) }
+        Some(worth)
     }
 
     // Whether a message of this number may have this time: a record's does not fall, and no time leaps.
@@ -110,8 +124,17 @@ impl Clock {
     }
 }
 
-fn worth_if(holds: bool, worth: u32) -> Option<u32> {
-    if holds { Some(worth) } else { None }
+fn nothing_if(holds: bool) -> Option<i32> {
+    if holds { Some(0) } else { None }
+}
+
+// The worth of a record that comes so many seconds after the last time.
+fn compressed_worth(seconds: u32) -> i32 {
+    if seconds >= 1 && seconds <= NEAR {
+        COMPRESSED
+    } else {
+        DOUBTFUL
+    }
 }
 
 // Whether the first byte of a data message announces a compressed timestamp.

@@ -2,8 +2,7 @@
 //!
 //! `skip_faults` cuts the bytes of a damaged file into pieces, one after another. Some are kept: each is a row of whole items under
 //! the definitions of the kept pieces before it and its own. The others are left out. Which bytes are kept is a judgement: `Clock`
-//! judges items by their times and forms, and `follows` looks ahead. No proof says that a kept piece is no noise; `compare/mending.py`
-//! tries that on damaged rides.
+//! judges items by their times and forms, and `follows` looks ahead. No proof says that a kept piece is no noise.
 //!
 //! `split_files` cuts bytes into the files that are chained in them, each of which begins with its header.
 //!

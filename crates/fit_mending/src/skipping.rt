@@ -18,18 +18,21 @@ use std::alloc::{AllocError, Global};
 const IN_ROW: Need = Need {
     worth: 3,
     at_end: 0,
+    idle: 64,
 };
 
 // What has to follow after a fault.
 const AFTER_FAULT: Need = Need {
     worth: 12,
     at_end: 3,
+    idle: 16,
 };
 
 // What has to follow if the times begin anew, as after a clock was set: more than old content has.
 const ANEW: Need = Need {
     worth: 768,
     at_end: 768,
+    idle: 64,
 };
 
 // In how many bytes items that fit after the times before have priority over times that begin anew.

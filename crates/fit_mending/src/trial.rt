@@ -6,16 +6,15 @@ use fit_grammar::{Latest, Step, step_after, take_over};
 // How many items are looked at.
 const MOST_ITEMS: usize = 1000;
 
-// How many items in a row may be worth nothing once a time is known.
-const MOST_IDLE: u32 = 64;
-
 /// How much the items that follow have to be worth.
 #[derive(Clone, Copy)]
 pub(crate) struct Need {
     // Their worth, after which nothing more is looked at.
-    pub(crate) worth: u32,
+    pub(crate) worth: i32,
     // Their worth where the bytes end.
-    pub(crate) at_end: u32,
+    pub(crate) at_end: i32,
+    // How many in a row may be worth nothing.
+    pub(crate) idle: u32,
 }
 
 /// Whether the items that follow, under these definitions and after these times, are worth so much before a fault, or before the bytes
@@ -26,12 +25,12 @@ pub(crate) fn follows<'a>(
     clock: &Clock,
     need: &Need,
 ) -> bool {
-    if !may_begin(bytes) {
+    if !may_begin(bytes) || is_undefined(bytes, latest) {
         return false;
     }
     let mut own = latest.again();
     let mut times = *clock;
-    let mut worth: u32 = 0;
+    let mut worth: i32 = 0;
     let mut idle: u32 = 0;
     let mut rest = bytes;
     for _ in 0..MOST_ITEMS {
@@ -44,12 +43,12 @@ pub(crate) fn follows<'a>(
         let Some(more) = times.judge(&item, own_bytes) else {
             return false;
         };
-        worth = worth.saturating_add(more);
+        worth = worth.saturating_add(more).max(0);
         if worth >= need.worth {
             return true;
         }
-        idle = if more == 0 { idle.saturating_add(1) } else { 0 };
-        if idle > MOST_IDLE {
+        idle = if more <= 0 { idle.saturating_add(1) } else { 0 };
+        if idle > need.idle {
             return false;
         }
         take_over(&mut own, &item);
@@ -63,5 +62,13 @@ fn may_begin(bytes: &[u8]) -> bool {
     match bytes {
         [first, second, ..] => { *first < 16 || *first >= 128 || (*first >= 64 && *second == 0) }
         _ => true,
+    }
+}
+
+// Whether the first byte is that of a data message without a definition.
+fn is_undefined<'a>(bytes: &'a [u8], latest: &Latest<'a>) -> bool {
+    match step_after(bytes, latest) {
+        Step::Refused(_) => true,
+        _ => false,
     }
 }
