@@ -12,6 +12,7 @@ mod table;
 use arrayvec::ArrayVec;
 use fit_base::Arch;
 pub use frozen::FrozenShort;
+pub use latest::Latest;
 pub use lent::DefinitionMessage;
 pub use short::{ShortDefinition, ShortTable};
 pub use table::{Definitions, Table};

@@ -16,7 +16,7 @@ pub(crate) mod writing;
 use crate::definition::{DefinitionMessage, Definitions};
 pub use data_message::DataMessage;
 use first_byte::{Head, first_local, read_head};
-pub use front::longest_front;
+pub use front::{longest_front, step_after, take_over};
 pub use row::{FileItem, Items};
 pub use writing::{write_data, write_definition, write_native_definition};
 

@@ -34,7 +34,7 @@ mod sink;
 
 pub use definition::{
     Definition, DefinitionMessage, Definitions, DeveloperFieldDefinition, FieldDefinition,
-    FrozenShort, ShortDefinition, ShortTable, Table,
+    FrozenShort, Latest, ShortDefinition, ShortTable, Table,
 };
 pub use file::{
     Decoder, EncodeFault, FaultKind, File, FileFault, Frame, Header, LentFile, Places, PutFault,
@@ -42,7 +42,7 @@ pub use file::{
 };
 pub use item::{
     DataMessage, FileItem, Item, ItemFault, Items, Step, least_length, longest_front, next_item,
-    write_data, write_definition, write_native_definition,
+    step_after, take_over, write_data, write_definition, write_native_definition,
 };
 pub use message::{DeveloperField, DeveloperFields, Field, Fields, Message, Messages, message_of};
 pub use plain::{

@@ -23,8 +23,8 @@ pub fn longest_front(bytes: &[u8]) -> usize
     front
 }
 
-// The step of a window after items with these latest definitions.
-fn step_after<'a>(window: &'a [u8], latest: &Latest<'a>) -> Step<'a>
+/// The step of a window after items with these latest definitions.
+pub fn step_after<'a>(window: &'a [u8], latest: &Latest<'a>) -> Step<'a>
     ensures { IsStep (definition_in latest.now) window.now result }
 {
     match window {
@@ -33,8 +33,8 @@ fn step_after<'a>(window: &'a [u8], latest: &Latest<'a>) -> Step<'a>
     }
 }
 
-// If the item is a definition, makes it the latest of its local number.
-fn take_over<'a>(latest: &mut Latest<'a>, item: &Item<'a>)
+/// If the item is a definition, makes it the latest of its local number.
+pub fn take_over<'a>(latest: &mut Latest<'a>, item: &Item<'a>)
     requires { DefinesBelow 16 (Step.Item item.now 0) }
     ensures { definition_in latest.new
         ≡ in_force_after (item_of item.now) (definition_in latest.old) }

@@ -1,0 +1,4 @@
+-- Rows of items, and pieces of bytes, one after another.
+pub mod Rows
+pub mod Cut
+pub mod Files

@@ -1,0 +1,10 @@
+use Rattle.std.proofs.Common.{◌≡◌, List, ℕ, ◌++◌, length}
+use Rattle.std.specs.Prelude.{flat_map, map}
+use Rattle.fit_mending.proofs.Files.{EndsWith}
+use Rattle.fit_mending.proofs.chained.split_files.Given as goal
+
+abbrev pub invariant-loop-rest : goal.invariant-loop-rest
+invariant-loop-rest l = EndsWith l.bytes (map (λ file. file.now) l.files.items) l.rest
+
+abbrev pub decreases-loop-rest : goal.decreases-loop-rest
+decreases-loop-rest l = length l.rest

@@ -1,0 +1,21 @@
+// What is kept of damaged bytes, and what is left out.
+
+/// Bytes from one place to another, which are kept or left out.
+#[derive(Clone, Copy, Debug, PartialEq, Eq)]
+pub struct Piece {
+    /// The place of the first byte.
+    pub start: usize,
+    /// The place after the last byte.
+    pub end: usize,
+    /// Whether the bytes are kept, as a row of whole items.
+    pub kept: bool,
+}
+
+/// What is kept of damaged bytes.
+#[derive(Drop)]
+pub struct Skipped {
+    /// The bytes of the kept pieces, one after another.
+    pub row: Vec<u8>,
+    /// The pieces of all bytes, one after another.
+    pub pieces: Vec<Piece>,
+}

@@ -1,0 +1,74 @@
+// Looks ahead: whether whole items follow that fit.
+
+use crate::clock::Clock;
+use fit_grammar::{Latest, Step, step_after, take_over};
+
+// How many items are looked at.
+const MOST_ITEMS: usize = 1000;
+
+/// How much the items that follow have to be worth.
+#[derive(Clone, Copy)]
+pub(crate) struct Need {
+    // Their worth, after which nothing more is looked at.
+    pub(crate) worth: i32,
+    // Their worth where the bytes end.
+    pub(crate) at_end: i32,
+    // How many in a row may be worth nothing.
+    pub(crate) idle: u32,
+}
+
+/// Whether the items that follow, under these definitions and after these times, are worth so much before a fault, or before the bytes
+/// end. It looks at a bounded number of items.
+pub(crate) fn follows<'a>(
+    bytes: &'a [u8],
+    latest: &Latest<'a>,
+    clock: &Clock,
+    need: &Need,
+) -> bool {
+    if !may_begin(bytes) || is_undefined(bytes, latest) {
+        return false;
+    }
+    let mut own = latest.again();
+    let mut times = *clock;
+    let mut worth: i32 = 0;
+    let mut idle: u32 = 0;
+    let mut rest = bytes;
+    for _ in 0..MOST_ITEMS {
+        let (item, used) = match step_after(rest, &own) {
+            Step::Item(item, used) => (item, used),
+            Step::NeedMore => return worth >= need.at_end,
+            Step::Refused(_) => return false,
+        };
+        let (own_bytes, others) = rest.split_at(used);
+        let Some(more) = times.judge(&item, own_bytes) else {
+            return false;
+        };
+        worth = worth.saturating_add(more).max(0);
+        if worth >= need.worth {
+            return true;
+        }
+        idle = if more <= 0 { idle.saturating_add(1) } else { 0 };
+        if idle > need.idle {
+            return false;
+        }
+        take_over(&mut own, &item);
+        rest = others;
+    }
+    false
+}
+
+// Whether the first bytes may be those of an item that a device writes.
+fn may_begin(bytes: &[u8]) -> bool {
+    match bytes {
+        [first, second, ..] => { *first < 16 || *first >= 128 || (*first >= 64 && *second == 0) }
+        _ => true,
+    }
+}
+
+// Whether the first byte is that of a data message without a definition.
+fn is_undefined<'a>(bytes: &'a [u8], latest: &Latest<'a>) -> bool {
+    match step_after(bytes, latest) {
+        Step::Refused(_) => true,
+        _ => false,
+    }
+}
