@@ -64,7 +64,7 @@ def of_disks(fitrec, seed):
         for case in ("ext4", "xfs", "btrfs"):
             yield "the rules on " + case, judge(it, "rules", case, 600, none)
             yield "a ride on " + case, judge(it, "ride", case, 150, none)
-        # On vfat a length is lost that the system wrote back before the sync. So it writes nothing back by itself, or only lengths are lost.
+        # On vfat a length is lost that the system wrote back before the sync. So it writes nothing back, or only lengths are lost.
         yield "the rules on vfat", judge(it, "rules", "vfat", 600, none, writeback=0)
         yield "nothing but a length is lost on vfat", judge(it, "rules", "vfat", 300, none, ["rule 4: "], delay=250)
         yield "a ride on vfat", judge(it, "ride", "vfat", 150, none, repairs, writeback=0)

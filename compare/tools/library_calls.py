@@ -131,8 +131,8 @@ def of_files(fitrec, program, count, seed):
 
 
 def answers_that_differ(fitrec, program, source, mine):
-    """What differs between the answers of the library and of the program about a file: its text and its JSON, with dates and without, and its
-    check."""
+    """What differs between the answers of the library and of the program about a file: its text and its JSON, with dates and without, and
+    its check."""
     for words, part in (((), "show"), (("--utc",), "show"), (("--json",), "json"), (("--json", "--utc"), "json"), ((), "check")):
         wanted = run(fitrec, "check" if part == "check" else "show", *words, source)
         said = run(program, "check", source) if part == "check" else run(program, part, source, int("--utc" in words), mine)
