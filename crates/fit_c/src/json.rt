@@ -24,7 +24,8 @@ pub extern "C" fn fitrec_json(
     ensures within { result ≡ 0 → out_len.new ≤ length out.new }
     ensures no_file { 1 ≤ result → result ≤ 9 → IsNoFile bytes.now result fault_place.new }
     ensures no_room { result ≡ 20 → NeedsRoomForJson utc bytes.now (length out.old) out_len.new }
-    ensures unchanged { 1 ≤ result → result ≤ 9 → (out_len.new ≡ out_len.old) × (out.new ≡ out.old) }
+    ensures unchanged { 1 ≤ result → result ≤ 9
+        → (out_len.new ≡ out_len.old) × (out.new ≡ out.old) }
     ensures place { (result ≡ 0) ⊎ (20 ≤ result) → fault_place.new ≡ fault_place.old }
 {
     let file = match LentFile::read(bytes) {

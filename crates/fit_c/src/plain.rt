@@ -114,7 +114,8 @@ fn write_records(
     room: &mut Room<'_>,
 ) -> Result<(), WritePlainFault<Infallible>>
     requires empty { room.old.tape.bytes ≡ [] }
-    ensures records { OnOk result (room.new.tape.bytes ≡ encoded_items (plain_items file.now.items)) }
+    ensures records { OnOk result
+        (room.new.tape.bytes ≡ encoded_items (plain_items file.now.items)) }
     ensures fields { JudgesFields (plain_items file.now.items) result }
 {
     write_plain_records(file, room)

@@ -120,7 +120,8 @@ fn recovered(buffers: &mut Buffers<'_, '_>) -> Result<Summary, RecFault>
     requires fresh { counts_in buffers.old ≡ no_calls }
     requires data_room { (story_in buffers.old).now.data_file.greatest + longest_end
         ≤ room_of Data buffers.old }
-    requires journal_room { (story_in buffers.old).now.journal_file.greatest ≤ room_of Journal buffers.old }
+    requires journal_room { (story_in buffers.old).now.journal_file.greatest
+        ≤ room_of Journal buffers.old }
     ensures decides { RecoveryAnswers (seen_in (story_in buffers.old).now)
         (story_in buffers.new) result }
     ensures checked { OnOk result

@@ -2,10 +2,9 @@
 //!
 //! `show_input`, `show_json_input` and `check_input` print the text, the JSON or the summary of a file read from an input; `show_bytes`
 //! and `check_bytes` take its bytes. `table_input` prints its table, and `sum_up_input` gives the summary without printing it.
-//! `plain_input` makes the plain form of a file. `read_all` reads a whole input, and `read_front` what
-//! can be read of it. `salvage_bytes` finds the readable part of a file that has no journal, and `print_finished` says what was heard in it.
-//! `save_ride` makes a file from the two files of a recording, `Lack` says what they lack if nothing is recorded, and `repair` finishes
-//! the recording itself.
+//! `plain_input` makes the plain form of a file. `read_all` reads a whole input, and `read_front` what can be read of it. `salvage_bytes`
+//! finds the readable part of a file that has no journal, and `print_finished` says what was heard in it. `save_ride` makes a file from the
+//! two files of a recording, `Lack` says what they lack if nothing is recorded, and `repair` finishes the recording itself.
 //!
 //! Contracts use the definitions of `specs/`. `Printed` has what is printed of files. `Calls` has what is taken from an input, and the
 //! numbers of faults.

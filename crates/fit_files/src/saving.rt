@@ -100,7 +100,8 @@ fn finished_in(alloc: Global, disk: &mut Buffers<'_, '_>) -> Result<(File, Summa
     requires fresh { counts_in disk.old ≡ no_calls }
     requires data_room { (story_in disk.old).now.data_file.greatest
         + longest_end ≤ room_of Data disk.old }
-    requires journal_room { (story_in disk.old).now.journal_file.greatest ≤ room_of Journal disk.old }
+    requires journal_room { (story_in disk.old).now.journal_file.greatest
+        ≤ room_of Journal disk.old }
     ensures { FinishesRide (seen_in (story_in disk.old).now) result }
 {
     let summary = match recover_in(disk) {
@@ -135,7 +136,8 @@ fn recover_in(disk: &mut Buffers<'_, '_>) -> Result<Summary, RecFault>
     requires fresh { counts_in disk.old ≡ no_calls }
     requires data_room { (story_in disk.old).now.data_file.greatest
         + longest_end ≤ room_of Data disk.old }
-    requires journal_room { (story_in disk.old).now.journal_file.greatest ≤ room_of Journal disk.old }
+    requires journal_room { (story_in disk.old).now.journal_file.greatest
+        ≤ room_of Journal disk.old }
     ensures decides { RecoveryAnswers (seen_in (story_in disk.old).now) (story_in disk.new) result }
     ensures no_device { IsErrOf result recording.Device → ⊥ }
     ensures settled { IfErr result

@@ -39,7 +39,8 @@ fn sample_in(message: &Message) -> Sample
 
 // The values of a sample's fields, in the order of the table.
 fn values_in(message: &Message) -> [Option<u32>; FIELDS]
-    ensures values { result ≡ map (λ row. value_stated row.1 row.0 message.now.message) sample_rows }
+    ensures values { result
+        ≡ map (λ row. value_stated row.1 row.0 message.now.message) sample_rows }
     ensures fit { ValuesFit sample_rows result }
 {
     [

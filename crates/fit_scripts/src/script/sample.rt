@@ -18,7 +18,8 @@ use fit_activity::{FIELDS, FieldRow, SAMPLE_FIELDS, Sample};
 pub fn sample_at(time: u32, settings: &[&[u8]]) -> Result<Sample, ScriptFaultKind>
     ensures value { result_ok result ≡ (if are_settings (map (λ word. word.now) settings.now)
         then Some (sample_at time (map (λ word. word.now) settings.now)) else None) }
-    ensures fault { IfErr result (λ kind. kind ≡ settings_fault [] (map (λ word. word.now) settings.now)) }
+    ensures fault { IfErr result
+        (λ kind. kind ≡ settings_fault [] (map (λ word. word.now) settings.now)) }
 {
     let mut values = [None; FIELDS];
     for setting in settings {

@@ -55,7 +55,8 @@ pub fn put_column<S: Sink>(
     bytes: &[u8],
     is_first: bool,
 ) -> Result<(), S::Fault>
-    requires kind { IsKind dates.now column.now.number column.now.base column.now.size column.now.kind }
+    requires kind { IsKind dates.now column.now.number column.now.base column.now.size
+        column.now.kind }
     requires size { length bytes.now ≡ column.now.size }
     ensures { Puts pen.old pen.new result
         (separator is_first ++ column_json dates.now arch column.now bytes.now) }

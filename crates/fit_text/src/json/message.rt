@@ -88,7 +88,8 @@ fn put_time<S: Sink>(
     column: &Column,
     time: Option<u32>,
 ) -> Result<(), S::Fault>
-    requires kind { IsKind dates.now column.now.number column.now.base column.now.size column.now.kind }
+    requires kind { IsKind dates.now column.now.number column.now.base column.now.size
+        column.now.kind }
     requires size { column.now.size ≡ 4 }
     ensures text { Puts pen.old pen.new result (time_json dates.now column.now time) }
     ensures fits { IfSome time (λ time. time < 2 ^ 32) }

@@ -50,7 +50,8 @@ pub fn put_column<S: Sink>(
     column: &Column,
     bytes: &[u8],
 ) -> Result<(), S::Fault>
-    requires kind { IsKind dates.now column.now.number column.now.base column.now.size column.now.kind }
+    requires kind { IsKind dates.now column.now.number column.now.base column.now.size
+        column.now.kind }
     requires size { length bytes.now ≡ column.now.size }
     ensures { Puts pen.old pen.new result (column_text dates.now arch column.now bytes.now) }
 {
