@@ -2,6 +2,7 @@
 pub mod Table
 pub mod Recording
 pub mod Refusal
+pub mod RefusalName
 pub mod Timer
 pub mod Stretch
 pub mod RunningTotals

@@ -39,13 +39,13 @@ pub enum Fault<'a> {
     #[error("NoSample")]
     NoSample,
     /// A line of the script is wrong, or memory was refused.
-    #[error("line {}: {:?}", .0.line, .0.kind)]
+    #[error("line {}: {}", .0.line, .0.kind)]
     Script(ScriptFault),
     /// Only `simulate` runs the event of this line.
     #[error("line {0}: OnlySimulate")]
     OnlySimulate(usize),
     /// The recording was not recovered or saved.
-    #[error("{0:?}")]
+    #[error("{0}")]
     Recorder(RecFault),
     /// Nothing is recorded in a folder in which one of the two files is there. A second line says what it lacks.
     #[error("NothingRecorded\nfitrec: {0}")]

@@ -11,5 +11,6 @@ pub mod Resume
 pub mod Ride
 pub mod Erasing
 pub mod FaultCode
+pub mod FaultName
 pub mod OnMemory
 pub mod Frozen

@@ -1,10 +1,13 @@
 // Why a call of a recorder was refused.
 
-ghost use Rattle.std.specs.Prelude.{◌≡◌};
+ghost use Rattle.std.specs.Prelude.{◌≡◌, Some};
+ghost use Rattle.fit_recorder.specs.Calls.FaultName.{fault_name};
 ghost use Rattle.fit_recorder.specs.declared.fault.RecFault.TheVariants as faults;
 
 use fit_activity::Refusal;
 use fit_disk::DeviceError;
+use std::error::Error;
+use std::fmt::{self, Formatter, Write};
 
 /// Why a call was refused. A recorder checks for `Failed` first, then `Refused`, then `Full` or `JournalFull`, before it makes
 /// a device call.
@@ -49,6 +52,26 @@ impl RecFault {
         }
     }
 }
+
+// Its name.
+impl fmt::Display for RecFault {
+    ghost output = { λ fault. Some (fault_name fault) };
+
+    fn fmt<W: Write>(&self, f: &mut Formatter<W>) -> fmt::Result {
+        match self {
+            RecFault::NotEmpty => f.write_str("NotEmpty"),
+            RecFault::Refused(refusal) => write!(f, "Refused({refusal})"),
+            RecFault::Full => f.write_str("Full"),
+            RecFault::JournalFull => f.write_str("JournalFull"),
+            RecFault::Device => f.write_str("Device"),
+            RecFault::Failed => f.write_str("Failed"),
+            RecFault::NothingRecorded => f.write_str("NothingRecorded"),
+            RecFault::Damaged => f.write_str("Damaged"),
+        }
+    }
+}
+
+impl Error for RecFault {}
 
 impl From<DeviceError> for RecFault {
     ghost from_gives = { λ _ fault. fault ≡ faults.Device };

@@ -1,5 +1,4 @@
--- What is printed: lines, names of faults, and the output of a simulation.
-pub mod Names
+-- What is printed: lines, and the output of a simulation.
 pub mod ReplyLines
 pub mod Simulation
 pub mod FaultyLines

@@ -19,7 +19,6 @@
 //! has the lines of the replies.
 #![tactic(auto)]
 
-mod naming;
 mod playing;
 mod recording;
 mod reply_line;

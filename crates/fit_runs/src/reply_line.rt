@@ -1,6 +1,5 @@
 // The line of a reply.
 
-use crate::naming::FaultName;
 use fit_files::SummaryLine;
 use fit_histories::Reply;
 use fit_scripts::Event;
@@ -27,7 +26,7 @@ impl fmt::Display for ReplyText {
         match self.0 {
             Reply::Done | Reply::Stopped => f.write_str("ok"),
             Reply::Recovered(summary) => write!(f, "{}", SummaryLine(summary)),
-            Reply::Refused(fault) => write!(f, "{}", FaultName(fault)),
+            Reply::Refused(fault) => write!(f, "{fault}"),
             Reply::NoRecorder => f.write_str("NoRecorder"),
         }
     }

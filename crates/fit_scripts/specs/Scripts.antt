@@ -1,4 +1,4 @@
--- Scripts: commands, lines, which of them can be replayed, the numbers of faults, and choice bytes as a word.
+-- Scripts: commands, lines, which of them can be replayed, the numbers and names of faults, and choice bytes as a word.
 pub mod Commands
 pub mod Words
 pub mod Sample
@@ -6,4 +6,5 @@ pub mod Script
 pub mod Replayed
 pub mod Faults
 pub mod FaultCode
+pub mod FaultName
 pub mod Hexadecimal

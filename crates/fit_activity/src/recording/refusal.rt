@@ -1,6 +1,10 @@
 // Why a start or an entry is refused.
 
-ghost use Rattle.std.specs.Prelude.{◌≡◌};
+ghost use Rattle.std.specs.Prelude.{◌≡◌, Some};
+ghost use Rattle.fit_activity.specs.Rides.RefusalName.{refusal_name};
+
+use std::error::Error;
+use std::fmt::{self, Formatter, Write};
 
 /// Why a start or an entry is not recorded. If several apply, the first in this order is returned.
 #[derive(Clone, Copy, Debug, PartialEq, Eq)]
@@ -42,3 +46,23 @@ impl Refusal {
         }
     }
 }
+
+// Its name.
+impl fmt::Display for Refusal {
+    ghost output = { λ refusal. Some (refusal_name refusal) };
+
+    fn fmt<W: Write>(&self, f: &mut Formatter<W>) -> fmt::Result {
+        match self {
+            Refusal::Stopped => f.write_str("Stopped"),
+            Refusal::Time => f.write_str("Time"),
+            Refusal::TooLong => f.write_str("TooLong"),
+            Refusal::TimerStopped => f.write_str("TimerStopped"),
+            Refusal::TimerRunning => f.write_str("TimerRunning"),
+            Refusal::TooManyLaps => f.write_str("TooManyLaps"),
+            Refusal::Value(field) => write!(f, "Value({field})"),
+            Refusal::Distance => f.write_str("Distance"),
+        }
+    }
+}
+
+impl Error for Refusal {}

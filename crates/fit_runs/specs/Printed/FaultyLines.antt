@@ -2,16 +2,10 @@
 use Rattle.std.specs.Prelude.{ℕ, List, ◌++◌, codes, decimal}
 use Rattle.fit_runs.specs.declared.recording.line_fault.LineFault.{LineFault}
 use Rattle.fit_runs.specs.declared.recording.line_fault.LineFault.TheVariants.{Script, OnlySimulate, TooLong}
-use Rattle.fit_scripts.specs.declared.script.fault.ScriptFaultKind.TheVariants.{UnknownWord, MissingWord, ExtraWord, BadNumber, UnknownKey, RepeatedKey, Memory}
+use Rattle.fit_scripts.specs.Scripts.FaultName.{script_fault_name}
 
 abbrev pub fault_text : LineFault → List ℕ
-fault_text (Script UnknownWord) = codes "UnknownWord"
-fault_text (Script MissingWord) = codes "MissingWord"
-fault_text (Script ExtraWord) = codes "ExtraWord"
-fault_text (Script BadNumber) = codes "BadNumber"
-fault_text (Script UnknownKey) = codes "UnknownKey"
-fault_text (Script RepeatedKey) = codes "RepeatedKey"
-fault_text (Script Memory) = codes "Memory"
+fault_text (Script kind) = script_fault_name kind
 fault_text OnlySimulate = codes "OnlySimulate"
 fault_text TooLong = codes "TooLong"
 

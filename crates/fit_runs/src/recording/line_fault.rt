@@ -40,13 +40,7 @@ impl fmt::Display for LineFault {
 
     fn fmt<W: Write>(&self, f: &mut Formatter<W>) -> fmt::Result {
         match self {
-            LineFault::Script(ScriptFaultKind::UnknownWord) => f.write_str("UnknownWord"),
-            LineFault::Script(ScriptFaultKind::MissingWord) => f.write_str("MissingWord"),
-            LineFault::Script(ScriptFaultKind::ExtraWord) => f.write_str("ExtraWord"),
-            LineFault::Script(ScriptFaultKind::BadNumber) => f.write_str("BadNumber"),
-            LineFault::Script(ScriptFaultKind::UnknownKey) => f.write_str("UnknownKey"),
-            LineFault::Script(ScriptFaultKind::RepeatedKey) => f.write_str("RepeatedKey"),
-            LineFault::Script(ScriptFaultKind::Memory) => f.write_str("Memory"),
+            LineFault::Script(kind) => write!(f, "{kind}"),
             LineFault::OnlySimulate => f.write_str("OnlySimulate"),
             LineFault::TooLong => f.write_str("TooLong"),
         }

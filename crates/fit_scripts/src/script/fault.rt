@@ -1,6 +1,10 @@
 // Faults of scripts.
 
-ghost use Rattle.std.specs.Prelude.{◌≡◌};
+ghost use Rattle.std.specs.Prelude.{◌≡◌, Some};
+ghost use Rattle.fit_scripts.specs.Scripts.FaultName.{script_fault_name};
+
+use std::error::Error;
+use std::fmt::{self, Formatter, Write};
 
 /// What is wrong with a line of a script. Its words are judged from left to right, and the first fault is reported.
 #[derive(Clone, Copy, Debug, PartialEq, Eq)]
@@ -39,6 +43,25 @@ impl ScriptFaultKind {
         }
     }
 }
+
+// Its name.
+impl fmt::Display for ScriptFaultKind {
+    ghost output = { λ kind. Some (script_fault_name kind) };
+
+    fn fmt<W: Write>(&self, f: &mut Formatter<W>) -> fmt::Result {
+        f.write_str(match self {
+            ScriptFaultKind::UnknownWord => "UnknownWord",
+            ScriptFaultKind::MissingWord => "MissingWord",
+            ScriptFaultKind::ExtraWord => "ExtraWord",
+            ScriptFaultKind::BadNumber => "BadNumber",
+            ScriptFaultKind::UnknownKey => "UnknownKey",
+            ScriptFaultKind::RepeatedKey => "RepeatedKey",
+            ScriptFaultKind::Memory => "Memory",
+        })
+    }
+}
+
+impl Error for ScriptFaultKind {}
 
 /// Why a text is not a script: what is wrong, and the number of the line, counted from 1. The number is 1 if there is no memory
 /// for the list of lines.
