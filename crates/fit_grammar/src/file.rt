@@ -23,6 +23,7 @@ mod lent;
 mod passing;
 mod places;
 mod reading;
+mod state;
 mod taking;
 
 use crate::definition::kept::WrittenDefinition;

@@ -3,7 +3,7 @@ use Rattle.std.proofs.Common.{◌≡◌, ℕ, ◌≤◌, List, [], ◌∷◌, �
 use Rattle.std.proofs.lemmas.Bool.{cases_lt}
 use Rattle.std.proofs.lemmas.List.{length-append, append-nil}
 use Rattle.std.proofs.Math.Seq.{take-append_seam}
-use Rattle.fit_grammar.specs.declared.file.reading.Reading.{Reading}
+use Rattle.fit_grammar.specs.declared.file.state.Reading.{Reading}
 use Rattle.fit_grammar.specs.declared.definition.Definition.{Definition}
 use Rattle.fit_grammar.specs.Format.Item.{Item, Spells}
 use Rattle.fit_grammar.specs.Format.Records.{in_force, IsDefinedBy}

@@ -7,7 +7,7 @@ use Rattle.std.proofs.Math.Seq.{drop-append-add, drop-append_seam}
 use Rattle.fit_grammar.specs.declared.definition.Definition.{Definition}
 use Rattle.fit_grammar.specs.declared.file.fault.FaultKind.{FaultKind}
 use Rattle.fit_grammar.specs.declared.file.fault.FaultKind.TheVariants.{Truncated, Memory}
-use Rattle.fit_grammar.specs.declared.file.reading.Reading.{Reading}
+use Rattle.fit_grammar.specs.declared.file.state.Reading.{Reading}
 use Rattle.fit_grammar.specs.Format.Item.{Item, Defines, Data, Spells, part_size}
 use Rattle.fit_grammar.specs.Format.Records.{in_force, IsDefinedBy}
 use Rattle.fit_grammar.specs.Format.File.{FileValue}

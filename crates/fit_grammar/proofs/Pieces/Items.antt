@@ -4,7 +4,7 @@ use Rattle.std.proofs.lemmas.List.{length-append, take-append-le, drop-drop}
 use Rattle.fit_grammar.specs.declared.file.fault.FaultKind.{FaultKind}
 use Rattle.fit_grammar.specs.declared.file.fault.FaultKind.TheVariants.{Truncated, HeaderSize, Magic, Protocol, HeaderCrc, UndefinedLocal, SplitMessage, FileCrc, TrailingBytes, Memory}
 use Rattle.fit_grammar.specs.declared.file.fault.FileFault.{FileFault}
-use Rattle.fit_grammar.specs.declared.file.reading.Reading.{Reading}
+use Rattle.fit_grammar.specs.declared.file.state.Reading.{Reading}
 use Rattle.fit_grammar.specs.declared.definition.Definition.{Definition}
 use Rattle.fit_grammar.specs.Format.Item.{Spells}
 use Rattle.fit_grammar.specs.Format.Records.{in_force}

@@ -6,7 +6,7 @@ use Rattle.fit_grammar.specs.declared.file.fault.FaultKind.{FaultKind}
 use Rattle.fit_grammar.specs.declared.file.fault.FaultKind.TheVariants.{Truncated, FileCrc, TrailingBytes}
 use Rattle.fit_grammar.specs.declared.file.fault.FileFault.{FileFault}
 use Rattle.fit_grammar.specs.declared.file.header.Header.{Header}
-use Rattle.fit_grammar.specs.declared.file.reading.Reading.{Reading}
+use Rattle.fit_grammar.specs.declared.file.state.Reading.{Reading}
 use Rattle.fit_grammar.specs.Format.Item.{item_size}
 use Rattle.fit_grammar.specs.Format.Records.{in_force, data_size}
 use Rattle.fit_grammar.specs.Format.File.{FileValue, FileOf}

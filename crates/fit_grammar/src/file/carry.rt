@@ -7,7 +7,7 @@ ghost use Rattle.fit_grammar.specs.Calls.Step.{ItemBegun, least_length_of};
 ghost use Rattle.fit_grammar.specs.Private.Decoding.{IsItemFault};
 ghost use Rattle.fit_grammar.specs.Private.Feeding.{StandsBefore, GoesOnFrom, CarriesOn, TakesBegun, fault_in};
 
-use crate::file::reading::Reading;
+use crate::file::state::Reading;
 use crate::file::taking::{is_cut, take_item};
 use crate::file::{FaultKind, File};
 use crate::item::writing::LONGEST_DEFINITION;

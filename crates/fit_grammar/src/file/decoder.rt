@@ -10,7 +10,8 @@ ghost use Rattle.fit_grammar.specs.Calls.Fed.{WasFed, IsOpen, carried_length};
 ghost use Rattle.fit_grammar.specs.Private.Feeding.{ReadsOn};
 
 use crate::file::header::{Header, LONGEST_HEADER, fault, take_header};
-use crate::file::reading::{Reading, begun, finished, read_on};
+use crate::file::reading::{begun, finished, read_on};
+use crate::file::state::Reading;
 use crate::file::{FaultKind, File, FileFault, Places};
 use arrayvec::ArrayVec;
 use std::alloc::Global;

@@ -1,3 +1,5 @@
+// The faults of reading a file, of adding to one, and of writing one.
+
 ghost use Rattle.std.specs.Prelude.{◌≡◌};
 ghost use Rattle.fit_grammar.specs.declared.file.fault.FaultKind.TheVariants as kinds;
 ghost use Rattle.fit_grammar.specs.declared.file.fault.PutFault.TheVariants as put;

@@ -13,28 +13,12 @@ ghost use Rattle.fit_grammar.specs.Private.Feeding.{StandsBefore, ReadsOn, Takes
 use crate::file::carry::{keep_begun, take_carried};
 use crate::file::closing::take_closing;
 use crate::file::header::{Header, fault};
+use crate::file::state::Reading;
 use crate::file::taking::take_items;
 use crate::file::{FaultKind, File, FileFault, Places};
 use arrayvec::ArrayVec;
 use fit_base::Crc;
 use std::alloc::Global;
-
-// A file after its header.
-#[derive(Drop)]
-pub(crate) struct Reading {
-    pub(crate) file: File,
-    // The places of its items.
-    pub(crate) places: Places,
-    // The place after the items so far, and the place after all the records.
-    pub(crate) at: usize,
-    pub(crate) end: usize,
-    // The checksum of the header and the records so far.
-    pub(crate) checksum: Crc,
-    // The bytes of an unfinished item.
-    pub(crate) carry: Vec<u8>,
-    // The bytes of the closing checksum so far.
-    pub(crate) closing: ArrayVec<u8, 2>,
-}
 
 // The state right after this header.
 pub(crate) fn begun(alloc: Global, header: &[u8], found: Header) -> Reading

@@ -9,7 +9,7 @@ ghost use Rattle.fit_grammar.specs.Private.Decoding.{IsItemFault, IsWholeLength,
 ghost use Rattle.fit_grammar.specs.Private.Feeding.{StandsBefore, TakesItems, TakesNext, GoesOnFrom, fault_in};
 
 use crate::definition::DefinitionMessage;
-use crate::file::reading::Reading;
+use crate::file::state::Reading;
 use crate::file::{FaultKind, File, Places};
 use crate::item::ItemFault;
 use crate::item::first_byte::{Head, read_head};

@@ -1,7 +1,7 @@
 use Rattle.std.proofs.Common.{◌≡◌, ℕ, ◌++◌, List, [], sym, subst, ◌∙◌, arith}
 use Rattle.std.proofs.lemmas.Bool.{eqb-true}
 use Rattle.std.proofs.lemmas.List.{nil_from_length}
-use Rattle.fit_grammar.specs.declared.file.reading.Reading.{Reading}
+use Rattle.fit_grammar.specs.declared.file.state.Reading.{Reading}
 use Rattle.fit_grammar.specs.Private.Feeding.{StandsBefore}
 use Rattle.fit_grammar.proofs.file.reading.take_bytes.Goals as goal
 
