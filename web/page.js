@@ -165,8 +165,9 @@ function numbersOf({ summary, ride, heading }) {
 function present(answer) {
   const { heading, reasons, next, offers, file, name, ride } = answer, sentence = ([key, values]) => text(key, values);
   byId('heading').textContent = text(heading);
-  byId('reason').replaceChildren(make('p', {}, reasons.map(sentence).join(' ')));
-  byId('next').replaceChildren(...next.map(it => make('p', {}, sentence(it))));
+  const which = rides.length > 1 && current ? make('p', {}, make('strong', {}, current.folder + current.name)) : '';
+  byId('reason').replaceChildren(which, make('p', {}, reasons.map(sentence).join(' ')));
+  byId('next').replaceChildren(...next.map(it => make('p', {}, ...withCommand(sentence(it)))));
   byId('offers').replaceChildren(...offers.map(offerOf));
   byId('numbers').replaceChildren(...(ride ? Object.entries(numbersOf(answer)).map(pair) : []));
   byId('where').textContent = file ? text('where') : '';
@@ -175,6 +176,12 @@ function present(answer) {
   byId('result').hidden = false;
   draw(ride);
   byId('result').focus();
+}
+
+// A text with its command, if it ends in one, in one line.
+function withCommand(shown) {
+  const [before, command] = shown.split(/(?=fitrec salvage)/);
+  return [before, command ? make('code', {}, command) : null];
 }
 
 function draw(ride) {

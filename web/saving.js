@@ -65,6 +65,9 @@ async function ofFile(fitrec, ride, how) {
   }
 }
 
+// A rest of so many bytes is one message that was cut off, or a few at most.
+const SHORT = 64;
+
 // Why a file is no activity, and whether a summary would make it one.
 const NO_ACTIVITY = { NoFileId: false, NotActivity: false, NoLap: true, NoSession: true, NoActivity: true };
 
@@ -84,6 +87,6 @@ async function salvaged(fitrec, ride, why, { kept, looked, more, file }, how) {
   const plain = await fitrec.plain(file).catch(error => { if (error.kind) return file; throw error; });
   const { summary } = await judged(fitrec, plain);
   const reasons = [...why, ['salvagedWhy', { kept, looked }], ...(more ? [['salvagedMore', { more }]] : []), ...beside];
-  const next = [...(kept < looked ? [['skipNext']] : []), ...(summary ? [] : [['finishNext']])];
+  const next = [...(looked - kept > SHORT ? [['skipNext']] : []), ...(summary ? [] : [['finishNext']])];
   return { heading: 'salvaged', reasons, next, offers: more && how !== 'all' ? ['all'] : [], file: plain, summary };
 }
