@@ -69,12 +69,15 @@ function chartOf({ name, low, high, average, faults, curve }, marks, ride) {
   const plot = make('div', { className: 'plot' }, drawn, make('div', { className: 'cursor', hidden: true }));
   const facts = text('facts', { low: numberText(low, digits), average: numberText(average, digits), high: shown[2] });
   return make('figure', { className: 'chart' },
-    make('figcaption', {}, make('strong', { className: name }, text(name)), make('span', {}, facts)),
+    make('figcaption', {}, make('strong', { className: name }, text(name)), make('span', {}, ...inParts(facts))),
     make('div', { className: 'axes' }, make('div', { className: 'heights', 'aria-hidden': true }, ...heights), plot,
       make('div', { className: 'zone', 'aria-hidden': true }, zoneText(ride.time[0])),
       make('div', { className: 'times', 'aria-hidden': true }, ...times)),
     faults ? make('p', { className: 'note' }, text(faults === 1 ? 'oneFault' : 'faults', { count: faults })) : null);
 }
+
+// A line of parts, which is broken between them alone.
+const inParts = line => line.split(' · ').flatMap((it, k) => [k ? ' · ' : '', make('span', {}, it)]);
 
 // The reading of all series at one time: by the pointer, a finger, or the keys of a slider.
 function readerOf(ride, pictures) {
@@ -113,7 +116,7 @@ function readerOf(ride, pictures) {
     plot.addEventListener('pointerdown', follow);
   }
   followTrack(ride, pictures, show);
-  return make('div', { id: 'reader' }, values, slider);
+  return make('div', { id: 'reader' }, slider, values);
 }
 
 // The sample whose time is nearest.

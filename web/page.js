@@ -132,7 +132,10 @@ async function presentAll(others, mine) {
   byId('listNote').textContent = others ? text(others === 1 ? 'otherFile' : 'otherFiles', { count: others }) : '';
   byId('rides').replaceChildren(make('thead', {}, make('tr', {}, ...['file', 'start', 'duration', 'distance', 'state', 'action'].map(it =>
     make('th', { scope: 'col' }, text(it))))), make('tbody', {}, ...rows.map(rowOf)));
-  link(byId('saveAll'), saved.length ? await zipOf(saved) : null, 'rides.zip', text('downloadAll', { count: saved.length }));
+  const count = saved.length, [it] = count > 1 ? [{ file: await zipOf(saved), name: 'rides.zip' }] : saved;
+  if (mine !== turn) return;
+  if (it) link(byId('saveAll'), it.file, it.name, text(count > 1 ? 'downloadAll' : 'download', { count, name: it.name }));
+  else link(byId('saveAll'), null);
   byId('list').hidden = false;
   byId('list').focus();
   queue = '';

@@ -86,7 +86,7 @@ async function salvaged(fitrec, ride, why, { kept, looked, more, file }, how) {
   if (!kept) return { ...nothing(why[0] || ['noMessage'], 'notFitNext'), reasons: [...(why.length ? why : [['noMessage']]), ...beside] };
   const plain = await fitrec.plain(file).catch(error => { if (error.kind) return file; throw error; });
   const { summary } = await judged(fitrec, plain);
-  const reasons = [...why, ['salvagedWhy', { kept, looked }], ...(more ? [['salvagedMore', { more }]] : []), ...beside];
+  const reasons = [...beside, ...why, ['salvagedWhy', { kept, looked }], ...(more ? [['salvagedMore', { more }]] : [])];
   const next = [...(looked - kept > SHORT ? [['skipNext']] : []), ...(summary ? [] : [['finishNext']])];
   return { heading: 'salvaged', reasons, next, offers: more && how !== 'all' ? ['all'] : [], file: plain, summary };
 }

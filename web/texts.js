@@ -2,8 +2,8 @@
 const TEXTS = {
 en: {
   title: 'Save the ride of a device that died',
-  lead: 'Choose the two files that the device left, activity.fit and activity.frj. Or choose any FIT file, to look at it and to save what '
-    + 'is readable of it.',
+  lead: 'Choose the two files that the device left, activity.fit and activity.frj. Or choose any FIT file, to look at it and save what is '
+    + 'readable.',
   chooseFiles: 'Choose files',
   chooseFolder: 'Choose a folder or card',
   hint: 'You can also drop files, folders or a card anywhere on this page, all at once or one after the other.',
@@ -19,7 +19,7 @@ en: {
   earlierWhy: 'What it had confirmed before that is in the new file; the last {count} bytes of messages are left out.',
   whole: 'The file is whole',
   wholeWhy: 'It is an activity file, and its checksum is right. Nothing needs to be saved.',
-  noActivity: 'The file is readable, and is not a finished activity',
+  noActivity: 'The file is readable, but is not a finished activity',
   salvaged: 'The readable part is saved',
   salvagedWhy: '{kept} of {looked} bytes of messages are readable, and are in the new file. Nothing was made up.',
   salvagedMore: '{more} bytes after the length in its header were left out.',
@@ -97,8 +97,8 @@ en: {
 },
 de: {
   title: 'Die Fahrt eines ausgefallenen Geräts retten',
-  lead: 'Wähle die beiden Dateien, die das Gerät hinterlassen hat, activity.fit und activity.frj. Oder wähle irgendeine FIT-Datei, um sie '
-    + 'anzusehen und zu retten, was davon lesbar ist.',
+  lead: 'Wähle die beiden Dateien, die das Gerät hinterlassen hat, activity.fit und activity.frj. Oder wähle eine beliebige FIT-Datei, um '
+    + 'sie anzusehen und zu retten, was lesbar ist.',
   chooseFiles: 'Dateien wählen',
   chooseFolder: 'Ordner oder Karte wählen',
   hint: 'Du kannst Dateien, Ordner oder eine Karte auch auf diese Seite ziehen, alle auf einmal oder nacheinander.',
