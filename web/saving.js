@@ -3,7 +3,8 @@
 // `data` and `journal` are bytes or missing, `name` is that of the data file, and `unread` the first byte of it that cannot be read, if
 // there is one. `how` is empty, or one of the offers of an earlier answer.
 async function answerTo(fitrec, ride, how) {
-  if (!ride.data) return nothing(ride.journal.length ? ['journalAlone'] : ['emptyFile', { name: ride.journalName }], 'journalAloneNext');
+  if (!ride.data && ride.journal.length) return { ...nothing(['journalAlone'], 'journalAloneNext'), heading: 'missing' };
+  if (!ride.data) return nothing(['emptyFile', { name: ride.journalName }], 'journalAloneNext');
   if (!ride.data.length) return nothing(['emptyFile', { name: ride.name }], ride.journal ? 'emptyNext' : 'emptyAloneNext');
   return ride.journal && !how ? ofRecording(fitrec, ride) : ofFile(fitrec, ride, how);
 }

@@ -23,6 +23,7 @@ en: {
   salvaged: 'The readable part is saved',
   salvagedWhy: '{kept} of {looked} bytes of messages are readable, and are in the new file. Nothing was made up.',
   salvagedMore: '{more} bytes after the length in its header were left out.',
+  missing: 'One more file is needed',
   nothing: 'Nothing could be saved',
   download: 'Download {name}',
   where: 'You can upload this file where FIT files are taken, such as Garmin Connect, Strava or intervals.icu, or open it with '
@@ -118,6 +119,7 @@ de: {
   salvaged: 'Der lesbare Teil ist gerettet',
   salvagedWhy: '{kept} von {looked} Bytes an Nachrichten sind lesbar und in der neuen Datei. Nichts wurde erfunden.',
   salvagedMore: '{more} Bytes nach der Länge, die im Dateikopf steht, sind weggelassen.',
+  missing: 'Eine Datei fehlt noch',
   nothing: 'Es konnte nichts gerettet werden',
   download: '{name} herunterladen',
   where: 'Du kannst diese Datei überall hochladen, wo FIT-Dateien angenommen werden, etwa bei Garmin Connect, Strava oder intervals.icu, '
@@ -216,6 +218,7 @@ fr: {
   salvaged: 'La partie lisible est récupérée',
   salvagedWhy: '{kept} octets de messages sur {looked} sont lisibles, et sont dans le nouveau fichier. Rien n’a été inventé.',
   salvagedMore: '{more} octets après la longueur donnée par l’en-tête sont laissés de côté.',
+  missing: 'Il manque encore un fichier',
   nothing: 'Rien n’a pu être récupéré',
   download: 'Télécharger {name}',
   where: 'Vous pouvez envoyer ce fichier partout où les fichiers FIT sont acceptés, comme Garmin Connect, Strava ou intervals.icu, ou '
@@ -313,6 +316,7 @@ es: {
   salvaged: 'La parte legible está recuperada',
   salvagedWhy: '{kept} de {looked} bytes de mensajes son legibles, y están en el archivo nuevo. No se ha inventado nada.',
   salvagedMore: '{more} bytes después de la longitud que da la cabecera se han omitido.',
+  missing: 'Falta otro archivo',
   nothing: 'No se pudo recuperar nada',
   download: 'Descargar {name}',
   where: 'Puedes subir este archivo donde se acepten archivos FIT, como Garmin Connect, Strava o intervals.icu, o abrirlo con '
@@ -409,6 +413,7 @@ it: {
   salvaged: 'La parte leggibile è recuperata',
   salvagedWhy: '{kept} di {looked} byte di messaggi sono leggibili, e sono nel nuovo file. Nulla è stato inventato.',
   salvagedMore: '{more} byte dopo la lunghezza indicata nell’intestazione sono stati esclusi.',
+  missing: 'Manca ancora un file',
   nothing: 'Non è stato possibile recuperare nulla',
   download: 'Scarica {name}',
   where: 'Puoi caricare questo file dove si accettano file FIT, come Garmin Connect, Strava o intervals.icu, o aprirlo con GoldenCheetah.',
