@@ -87,6 +87,7 @@ async function take(files) {
     rides = completed(found);
     await (rides.length > 1 ? presentAll(others, mine) : choose(rides[0] || null));
   } catch (error) {
+    rides = [];
     present(failure('unread'));
     work(false);
   }
