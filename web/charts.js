@@ -69,12 +69,15 @@ function chartOf({ name, low, high, average, faults, curve }, marks, ride) {
   const plot = make('div', { className: 'plot' }, drawn, make('div', { className: 'cursor', hidden: true }));
   const facts = text('facts', { low: numberText(low, digits), average: numberText(average, digits), high: shown[2] });
   return make('figure', { className: 'chart' },
-    make('figcaption', {}, make('strong', { className: name }, text(name)), make('span', {}, facts)),
+    make('figcaption', {}, make('strong', { className: name }, text(name)), make('span', {}, ...inParts(facts))),
     make('div', { className: 'axes' }, make('div', { className: 'heights', 'aria-hidden': true }, ...heights), plot,
       make('div', { className: 'zone', 'aria-hidden': true }, zoneText(ride.time[0])),
       make('div', { className: 'times', 'aria-hidden': true }, ...times)),
     faults ? make('p', { className: 'note' }, text(faults === 1 ? 'oneFault' : 'faults', { count: faults })) : null);
 }
+
+// A line of parts, which is broken between them alone.
+const inParts = line => line.split(' · ').flatMap((it, k) => [k ? ' · ' : '', make('span', {}, it)]);
 
 // The reading of all series at one time: by the pointer, a finger, or the keys of a slider.
 function readerOf(ride, pictures) {
@@ -83,8 +86,10 @@ function readerOf(ride, pictures) {
   const values = make('p', { className: 'values' }), cursors = [...pictures.querySelectorAll('.cursor')];
   const slider = make('input', { type: 'range', min: 0, max: seconds, step: 1, value: 0, id: 'moment', 'aria-label': text('moment') });
   values.append(make('span', {}, text(matchMedia('(pointer: coarse)').matches ? 'readTap' : 'readPoint')));
-  const show = t => {
-    const i = nearest(time, t), parts = [momentText(time[i])];
+  let at = 0;
+  const show = i => {
+    const parts = [momentText(time[i])];
+    at = i;
     if (distance[i] >= 0) parts.push(text('km', { n: numberText(distance[i] / 1000, 2) }));
     for (const it of series) {
       const k = lastWith(it.values, time, i);
@@ -96,17 +101,22 @@ function readerOf(ride, pictures) {
     for (const it of cursors) placed(it, (time[i] - begin) / seconds * 100, null).hidden = false;
     pointAt(ride, pictures, i);
   };
-  slider.addEventListener('input', () => show(begin + Number(slider.value)));
+  // A key goes to the next sample, over a pause too.
+  slider.addEventListener('input', () => {
+    const t = begin + Number(slider.value), i = nearest(time, t), step = t - time[at];
+    show(i === at && Math.abs(step) <= 1 ? Math.min(time.length - 1, Math.max(0, at + Math.sign(step))) : i);
+  });
+  slider.setAttribute('aria-valuetext', momentText(begin));
   for (const plot of pictures.querySelectorAll('.plot')) {
     const follow = event => {
       const { left, width } = plot.getBoundingClientRect();
-      show(begin + Math.min(1, Math.max(0, (event.clientX - left) / width)) * seconds);
+      show(nearest(time, begin + Math.min(1, Math.max(0, (event.clientX - left) / width)) * seconds));
     };
     plot.addEventListener('pointermove', follow);
     plot.addEventListener('pointerdown', follow);
   }
-  followTrack(ride, pictures, i => show(time[i]));
-  return make('div', { id: 'reader' }, values, slider);
+  followTrack(ride, pictures, show);
+  return make('div', { id: 'reader' }, slider, values);
 }
 
 // The sample whose time is nearest.

@@ -22,7 +22,8 @@ function durationText(ms) {
 // A time in seconds since 1989-12-31 00:00 UTC is a date from FIRST_DATE on, and below counts from when the device was switched on.
 const isDated = t => t >= FIRST_DATE && t < 0xFFFFFFFF;
 const dateOf = t => new Date((t + EPOCH) * 1000);
-const MINUTE = { hour: 'numeric', minute: '2-digit' }, SECOND = { ...MINUTE, second: '2-digit' }, ZONE = { timeZoneName: 'short' };
+const HOUR = new Intl.DateTimeFormat(LOCALE, { hour: 'numeric' }).resolvedOptions().hour12 ? 'numeric' : '2-digit';
+const MINUTE = { hour: HOUR, minute: '2-digit' }, SECOND = { ...MINUTE, second: '2-digit' }, ZONE = { timeZoneName: 'short' };
 const DAY = { day: 'numeric', month: 'long', year: 'numeric' };
 const shownTime = (t, how) => isDated(t) ? dateOf(t).toLocaleString(LOCALE, how) : durationText(1000 * t);
 

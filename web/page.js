@@ -87,6 +87,7 @@ async function take(files) {
     rides = completed(found);
     await (rides.length > 1 ? presentAll(others, mine) : choose(rides[0] || null));
   } catch (error) {
+    rides = [];
     present(failure('unread'));
     work(false);
   }
@@ -132,7 +133,10 @@ async function presentAll(others, mine) {
   byId('listNote').textContent = others ? text(others === 1 ? 'otherFile' : 'otherFiles', { count: others }) : '';
   byId('rides').replaceChildren(make('thead', {}, make('tr', {}, ...['file', 'start', 'duration', 'distance', 'state', 'action'].map(it =>
     make('th', { scope: 'col' }, text(it))))), make('tbody', {}, ...rows.map(rowOf)));
-  link(byId('saveAll'), saved.length ? await zipOf(saved) : null, 'rides.zip', text('downloadAll', { count: saved.length }));
+  const count = saved.length, [it] = count > 1 ? [{ file: await zipOf(saved), name: 'rides.zip' }] : saved;
+  if (mine !== turn) return;
+  if (it) link(byId('saveAll'), it.file, it.name, text(count > 1 ? 'downloadAll' : 'download', { count, name: it.name }));
+  else link(byId('saveAll'), null);
   byId('list').hidden = false;
   byId('list').focus();
   queue = '';
@@ -165,8 +169,9 @@ function numbersOf({ summary, ride, heading }) {
 function present(answer) {
   const { heading, reasons, next, offers, file, name, ride } = answer, sentence = ([key, values]) => text(key, values);
   byId('heading').textContent = text(heading);
-  byId('reason').replaceChildren(make('p', {}, reasons.map(sentence).join(' ')));
-  byId('next').replaceChildren(...next.map(it => make('p', {}, sentence(it))));
+  const which = rides.length > 1 && current ? make('p', {}, make('strong', {}, current.folder + current.name)) : '';
+  byId('reason').replaceChildren(which, make('p', {}, reasons.map(sentence).join(' ')));
+  byId('next').replaceChildren(...next.map(it => make('p', {}, ...withCommand(sentence(it)))));
   byId('offers').replaceChildren(...offers.map(offerOf));
   byId('numbers').replaceChildren(...(ride ? Object.entries(numbersOf(answer)).map(pair) : []));
   byId('where').textContent = file ? text('where') : '';
@@ -175,6 +180,12 @@ function present(answer) {
   byId('result').hidden = false;
   draw(ride);
   byId('result').focus();
+}
+
+// A text with its command, if it ends in one, in one line.
+function withCommand(shown) {
+  const [before, command] = shown.split(/(?=fitrec salvage)/);
+  return [before, command ? make('code', {}, command) : null];
 }
 
 function draw(ride) {

@@ -45,10 +45,11 @@ async function known({ file, folder }) {
   return { file, folder, kind, base: file.name.replace(/\.[^.]*$/, '').toLowerCase(), isOpen: text.slice(4, 8) === '\0\0\0\0' };
 }
 
-// The rides of some files, in the order of their folders, each with `data` and `journal` or one of them, and how many files are none.
+// The rides of some files, in the order of folders and names, each with `data` and `journal` or one of them, and how many files are none.
 async function ridesOf(files) {
   const found = [], rides = [];
-  files.sort((a, b) => a.folder < b.folder ? -1 : a.folder > b.folder ? 1 : 0);
+  const { compare } = new Intl.Collator(LOCALE, { numeric: true });
+  files.sort((a, b) => compare(a.folder, b.folder) || compare(a.file.name, b.file.name));
   for (const it of files) found.push(await known(it));
   const ours = found.filter(it => it.kind !== 'other'), folders = new Set(ours.map(it => it.folder));
   if (!ours.length) return { rides: found.slice(0, 1).map(it => rideFrom(it)), others: 0 };

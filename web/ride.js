@@ -25,7 +25,9 @@ async function rideOf(fitrec, file, expected) {
     const raws = values.slice(at, at += fields.length), found = seriesOf(raws, scale, offset);
     if (!found) continue;
     const own = found.count < time.length ? breaksOf(time, found.values, resumed) : breaks;
-    series.push({ name, least, ...found, ...plausible(found.values, found, reach), breaks: own });
+    const usual = plausible(found.values, found, reach), { from, to, faults } = usual;
+    if (faults) Object.assign(found, { low: from, high: to, average: rangeOf(found.values, 0, time.length, usual).average });
+    series.push({ name, least, ...found, ...usual, breaks: own });
   }
   for (let i = 0; i < time.length; i++) {
     lat[i] *= SEMICIRCLE;
@@ -59,12 +61,12 @@ function seriesOf([values, others], scale, offset) {
   return { values, count: range.count, low: low * scale + offset, high: high * scale + offset, average: average * scale + offset };
 }
 
-// The least, the greatest and the average of values, and how many there are; from one place to another, if these are given.
-function rangeOf(values, first = 0, last = values.length) {
+// The least, the greatest and the average of values, and how many there are; from one place to another, and in a range, if these are given.
+function rangeOf(values, first = 0, last = values.length, { from, to } = { from: -Infinity, to: Infinity }) {
   let low = Infinity, high = -Infinity, sum = 0, count = 0;
   for (let i = first; i < last; i++) {
     const n = values[i];
-    if (n !== n) continue;
+    if (!(n >= from && n <= to)) continue;
     if (n < low) low = n;
     if (n > high) high = n;
     sum += n;
@@ -73,7 +75,7 @@ function rangeOf(values, first = 0, last = values.length) {
   return { low, high, average: sum / count, count };
 }
 
-// The range that is drawn of values with this least and greatest. A value counts as a fault if it is far beyond 99 of 100 others: by more
+// The range that counts of values with this least and greatest. A value counts as a fault if it is far beyond 99 of 100 others: by more
 // than four times their distance from the median, and four times `reach`. `from` and `to` are the least and the greatest of the rest, and
 // `faults` is how many there are.
 function plausible(values, { low, high }, reach) {
@@ -162,8 +164,8 @@ function ascentOf({ values, from, to }) {
   return ascent + (high - low >= 2 ? high - low : 0);
 }
 
-function partOf(values, first, last) {
-  const range = rangeOf(values, first, last);
+function partOf(values, first, last, usual) {
+  const range = rangeOf(values, first, last, usual);
   return range.count ? range : null;
 }
 
@@ -172,7 +174,7 @@ function lapsOf([end, start, elapsed, timer, length], { time, distance, series, 
   const laps = [];
   const of = (from, to, given) => {
     const first = sampleAt(time, from), last = Math.min(sampleAt(time, to + (given.isLast ? 1 : 0)), time.length), part = {};
-    for (const { name, values } of series) part[name] = partOf(values, first, last);
+    for (const it of series) part[it.name] = partOf(it.values, first, last, it);
     const paused = pauses.reduce((sum, [a, b]) => sum + Math.max(0, Math.min(b, to) - Math.max(a, from)), 0);
     const own = partOf(distance, first, last);
     return { start: from, timer: given.timer >= 0 ? given.timer : (to - from - paused) * 1000,

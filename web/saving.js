@@ -3,7 +3,8 @@
 // `data` and `journal` are bytes or missing, `name` is that of the data file, and `unread` the first byte of it that cannot be read, if
 // there is one. `how` is empty, or one of the offers of an earlier answer.
 async function answerTo(fitrec, ride, how) {
-  if (!ride.data) return nothing(ride.journal.length ? ['journalAlone'] : ['emptyFile', { name: ride.journalName }], 'journalAloneNext');
+  if (!ride.data && ride.journal.length) return { ...nothing(['journalAlone'], 'journalAloneNext'), heading: 'missing' };
+  if (!ride.data) return nothing(['emptyFile', { name: ride.journalName }], 'journalAloneNext');
   if (!ride.data.length) return nothing(['emptyFile', { name: ride.name }], ride.journal ? 'emptyNext' : 'emptyAloneNext');
   return ride.journal && !how ? ofRecording(fitrec, ride) : ofFile(fitrec, ride, how);
 }
@@ -65,6 +66,9 @@ async function ofFile(fitrec, ride, how) {
   }
 }
 
+// A rest of so many bytes is one message that was cut off, or a few at most.
+const SHORT = 64;
+
 // Why a file is no activity, and whether a summary would make it one.
 const NO_ACTIVITY = { NoFileId: false, NotActivity: false, NoLap: true, NoSession: true, NoActivity: true };
 
@@ -83,7 +87,7 @@ async function salvaged(fitrec, ride, why, { kept, looked, more, file }, how) {
   if (!kept) return { ...nothing(why[0] || ['noMessage'], 'notFitNext'), reasons: [...(why.length ? why : [['noMessage']]), ...beside] };
   const plain = await fitrec.plain(file).catch(error => { if (error.kind) return file; throw error; });
   const { summary } = await judged(fitrec, plain);
-  const reasons = [...why, ['salvagedWhy', { kept, looked }], ...(more ? [['salvagedMore', { more }]] : []), ...beside];
-  const next = [...(kept < looked ? [['skipNext']] : []), ...(summary ? [] : [['finishNext']])];
+  const reasons = [...beside, ...why, ['salvagedWhy', { kept, looked }], ...(more ? [['salvagedMore', { more }]] : [])];
+  const next = [...(looked - kept > SHORT ? [['skipNext']] : []), ...(summary ? [] : [['finishNext']])];
   return { heading: 'salvaged', reasons, next, offers: more && how !== 'all' ? ['all'] : [], file: plain, summary };
 }

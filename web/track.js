@@ -29,7 +29,7 @@ function trackPicture(track) {
 
 // A line of a round length.
 function scaleOf(width, metres) {
-  const most = width / 4 * metres, power = 10 ** Math.floor(Math.log10(most)), length = power * [5, 2, 1].find(it => it * power <= most);
+  const most = width / 3 * metres, power = 10 ** Math.floor(Math.log10(most)), length = power * [5, 2, 1].find(it => it * power <= most);
   const shown = length >= 1000 ? text('km', { n: numberText(length / 1000) }) : text('metres', { n: numberText(length) });
   const line = make('span', { className: 'scale' }, shown);
   line.style.width = length / metres / width * 100 + '%';

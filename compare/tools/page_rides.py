@@ -3,10 +3,11 @@
 import itertools
 import re
 import shutil
+import statistics
 import zipfile
 
 from tools.checks import differs, unless
-from tools.pages import RIDE, START, ascent_of, both, columns_of, drawn_of, facts_of, recorded, rounded, rows, series_of, tour
+from tools.pages import RIDE, START, WRONG, ascent_of, both, columns_of, drawn_of, facts_of, recorded, rounded, rows, series_of, tour
 from tools.program import run
 from tools.visits import SAVED, WINDOWS, Browser
 
@@ -22,7 +23,7 @@ def of_numbers(fitrec, folder, shots=None):
             yield "facts", differs(last["captions"], {name: facts_of(found, name) for name in last["captions"]})
             yield "ascent", differs(last["numbers"]["Ascent"], rounded(ascent_of(found), 0) + " m")
             for name, curve in last["curves"].items():
-                pairs = [it for it in series_of(found, name) if it[1] < 60000]
+                pairs = series_of(found, name)
                 wanted, drawn = columns_of(pairs), drawn_of(curve)
                 room = (float(curve["high"]) - float(curve["low"])) / 500
                 far = [k for k in wanted if k not in drawn or max(abs(a - b) for a, b in zip(drawn[k], wanted[k])) > room]
@@ -30,7 +31,7 @@ def of_numbers(fitrec, folder, shots=None):
                 yield name + ": breaks", differs(curve["line"].count("M"), breaks)
             most = float(last["curves"]["Power"]["high"])
             yield "a wrong value does not flatten the rest", unless(most <= 400, most, "at most 400")
-            yield "a note on it", differs([it for it in last["notes"]], ["1 value is far from all others, and is not drawn."])
+            yield "a note on it", differs([it for it in last["notes"]], ["1 value is far from all others, and is left out."])
             xs = [float(it) for it in re.findall(r"[ML]([\d.-]+) ", made[1])]
             ys = [float(it) for it in re.findall(r"[ML][\d.-]+ ([\d.-]+)", made[1])]
             steps = [abs(a - b) for a, b in itertools.pairwise(xs)]
@@ -93,7 +94,7 @@ def of_looking(fitrec, folder, shots=None):
             for i, lap in enumerate(laps):
                 begin, end = lap["start_time"], lap["timestamp"] + (i == len(laps) - 1)
                 own = [it for it in found if begin <= it["timestamp"] < end]
-                mean = lambda field: rounded(sum(it[field] for it in own) / len(own), 0)
+                mean = lambda field: rounded(statistics.mean(it[field] for it in own if it[field] != WRONG), 0)
                 wanted.append([str(i + 1), begins[i], "0:%02d:%02d" % divmod(lap["total_timer_time"] // 1000, 60),
                                rounded(lap["total_distance"] / 1e5, 2) + " km",
                                rounded(lap["total_distance"] / 100 / (lap["total_timer_time"] / 1000) * 3.6, 1) + " km/h",
@@ -119,6 +120,21 @@ def of_looking(fitrec, folder, shots=None):
                  {"evaluate": "document.getElementById('moment').focus()"}, {"keys": ["End"]}, *({"evaluate": it} for it in (
                      cursors, "document.getElementById('moment').ariaValueText", begins, colours, marks))]
         browser.visit("looking, %s, %s" % (window, shown), steps, judged(shown, touch == "touchAt"), zone=zone, **WINDOWS[window])
+
+    # A key goes over the first pause, to the sample after it and back.
+    def of_pause(shown, made):
+        begin = found[0]["timestamp"]
+        wanted = [str(it["timestamp"] - begin) for it in (found[750], found[749])]
+        yield "a key goes to the next sample", differs(made[3::2], wanted)
+
+    to_the_pause = """(it => {
+        it.value = 749;
+        it.dispatchEvent(new Event('input'));
+        it.focus();
+      })(document.getElementById('moment'))"""
+    place = {"evaluate": "document.getElementById('moment').value"}
+    steps = [{"files": both(where)}, {"evaluate": to_the_pause}, {"keys": ["ArrowRight"]}, place, {"keys": ["ArrowLeft"]}, place]
+    browser.visit("over a pause by keys", steps, of_pause)
 
     # A ride that was cut off in its third lap: its summary is of its samples.
     (folder / "cut.fit").write_bytes(data[:len(data) * 3 // 4])
@@ -154,7 +170,9 @@ def of_looking(fitrec, folder, shots=None):
             wanted = {name: (folder / it).read_bytes() for name, it in (
                 ("2024-11-08-ride.fit", "a.fit"), ("2021-09-08-ride.fit", "b.fit"), ("2024-11-08-ride-2.fit", "c.fit"))}
             yield "all in one file", differs({it: them.read(it) for it in them.namelist()}, wanted)
-        yield "one of them", differs((shown[2]["heading"], shown[2]["download"]), (SAVED, "2021-09-08-ride.fit"))
+        last = shown[2]
+        yield "one of them", differs((last["heading"], last["download"]), (SAVED, "2021-09-08-ride.fit"))
+        yield "which of them", unless(last["reason"].startswith("rides/b/activity.fit"), last["reason"], "rides/b/activity.fit")
 
     for window in WINDOWS:
         steps = [{"files": [rides], "drop": True}, {"download": "#saveAll"}, {"click": "#rides tbody tr:nth-child(3) button"}]

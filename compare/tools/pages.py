@@ -31,6 +31,10 @@ def both(folder):
     return [folder / name for name in NAMES]
 
 
+# A wrong value of power.
+WRONG = 65534
+
+
 def tour(seconds=3000, begin=START, longitude=8.5):
     """A ride with everything that is drawn: a long and a short pause, a gap, two laps, noise, and one wrong value of power."""
     lines, at, distance = ["start %d 7 cycling" % begin], begin, 0
@@ -48,7 +52,7 @@ def tour(seconds=3000, begin=START, longitude=8.5):
         speed = 7000 + int(2000 * math.sin(i / 200)) + i * 7919 % 400
         distance += speed // 10
         place = (47 + i / 20000) * SEMICIRCLE, ((longitude + (i / 1000) ** 2 / 100 + 180) % 360 - 180) * SEMICIRCLE
-        watts = 65534 if i == seconds // 2 else 180 + i * 104729 % 120
+        watts = WRONG if i == seconds // 2 else 180 + i * 104729 % 120
         heart = 201 if i == 2 * seconds // 5 else 120 + int(20 * math.sin(i / 150)) + i % 3
         lines.append("sample %d lat=%d long=%d alt=%d hr=%d cad=%d dist=%d speed=%d power=%d temp=%d" % (
             at, *place, 2700 + 100 * math.sin(i / 300) + i % 2, heart, 80 + i % 9, distance, speed, watts, 12 + i // 1000))
@@ -76,10 +80,10 @@ SERIES = {
 
 
 def series_of(found, name):
-    """The times and values of a series."""
+    """The times and values of a series, without the wrong value of a tour."""
     fields, factor, more, _, _ = SERIES[name]
     pairs = ((it["timestamp"], next((it[field] for field in fields if field in it), None)) for it in found)
-    return [(time, raw * factor + more) for time, raw in pairs if raw is not None]
+    return [(time, raw * factor + more) for time, raw in pairs if raw not in (None, WRONG)]
 
 
 def rounded(n, decimals):
