@@ -7,10 +7,12 @@ use Rattle.fit_disk.specs.State.{Contents, seen_in}
 use Rattle.fit_disk.specs.Story.{Story}
 use Rattle.fit_grammar.specs.Format.File.{FileValue}
 use Rattle.fit_grammar.specs.Format.Message.{messages_of}
+use Rattle.fit_files.specs.declared.mended.Mended.{Mended}
 use Rattle.fit_files.specs.declared.salvage.Salvage.{Salvage}
 use Rattle.fit_files.specs.declared.saving.SavedRide.{SavedRide}
 use Rattle.fit_files.specs.Calls.Reading.{ReadsAll}
 use Rattle.fit_files.specs.Calls.Rereading.{AreSumsOf}
+use Rattle.fit_files.specs.Printed.Mended.{IsMended, mended_text}
 use Rattle.fit_files.specs.Printed.PlainFile.{PlainsTo, messages_text}
 use Rattle.fit_files.specs.Printed.Repaired.{Repairs}
 use Rattle.fit_files.specs.Printed.Salvaged.{IsSalvage, saved_file, kept_text}
@@ -66,6 +68,14 @@ SavesFile all plain old new =
     (bytes : List ℕ) × (length bytes ≤ 268435456) × (salvage : Salvage)
     × IsSalvage all bytes salvage
     × (plain ≡ true → HasPlainForm salvage) × Appends old new (kept_text salvage ++ codes "\n")
+
+-- the same of what is kept of some bytes by going on after their faults; what was kept and what was left out was printed
+abbrev pub SavesMended : Bool → Bool → Option (List ℕ) → Option (List ℕ) → Type 0
+SavesMended all plain old new =
+    (bytes : List ℕ) × (length bytes ≤ 268435456) × (mended : Mended)
+    × IsMended all bytes mended
+    × (plain ≡ true → (salvage : Salvage) × (salvage.row.now ≡ mended.skipped.row.items)
+    × (salvage.frame ≡ mended.frame) × HasPlainForm salvage) × Appends old new (mended_text mended)
 
 -- it is the plain form of a file of some bytes
 abbrev pub IsFormOfFile : FileValue → Type 0

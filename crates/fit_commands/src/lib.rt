@@ -22,6 +22,8 @@ mod repair;
 mod salvage;
 mod save;
 mod show;
+mod skip;
+mod split;
 mod table;
 
 pub use check::check_file;
@@ -36,4 +38,6 @@ pub use repair::{repair_files, repair_folder, repair_holding, verify_folder, ver
 pub use salvage::salvage_file;
 pub use save::save_folder;
 pub use show::show_file;
+pub use skip::skip_file;
+pub use split::split_file;
 pub use table::table_file;

@@ -42,7 +42,7 @@ pub fn salvage_file<'a, O: Write, E: Write>(
 }
 
 // Writes the readable part of the file `name`, or its plain form, to the file `to`.
-fn write_salvage<'a>(
+pub(crate) fn write_salvage<'a>(
     rt: &HostRuntime,
     name: &'a str,
     to: &'a str,

@@ -1,3 +1,4 @@
 -- For crates above, and what no crate above uses.
 pub mod Pieces
+mod Headers
 mod Reported

@@ -8,3 +8,4 @@ pub mod PlainFile
 pub mod Saved
 pub mod Lacking
 pub mod Tabled
+pub mod Mended

@@ -13,8 +13,10 @@ mod version;
 use clap::error::ErrorKind;
 use fit_commands::{
     Chosen, Fault, NotChosen, check_each, check_file, make_plain, repair_folder, salvage_file,
-    save_folder, show_as_json, show_file, table_each, table_file, verify_folder,
+    save_folder, show_as_json, show_file, skip_file, split_file, table_each, table_file,
+    verify_folder,
 };
+use fit_grammar::FaultKind;
 use fit_scripts::read_choices;
 use fit_words::{
     Names, Request, TableForm, no_choices, no_name, no_seconds, read_words, too_many_fields,
@@ -91,11 +93,25 @@ pub fn command<S: AsStr, O: Write, E: Write>(
                 to,
                 all,
                 plain,
+                skip: false,
             },
         ) => {
             let done = salvage_file(rt, file, to, all, plain, out, err);
             status(done, err)
         }
+        Ok(
+            Request::Salvage {
+                file,
+                to,
+                all,
+                plain,
+                skip: true,
+            },
+        ) => {
+            let done = skip_file(rt, file, to, all, plain, out, err);
+            status(done, err)
+        }
+        Ok(Request::Split { file, folder }) => status(split_file(rt, file, folder, out), err),
         Ok(Request::Plain { file, to }) => status(make_plain(rt, file, to, out), err),
         Ok(
             Request::Simulate {
@@ -232,7 +248,21 @@ fn status<E: Write>(done: Result<(), Fault<'_>>, err: &mut E) -> u8
         Ok(()) => 0,
         Err(fault) => {
             let _ = writeln!(err, "fitrec: {fault}");
+            if is_trailing(&fault) {
+                let _ = writeln!(
+                    err,
+                    "fitrec: bytes follow the file; split writes each of the files that are chained in it",
+                );
+            }
             1
         }
+    }
+}
+
+// Whether bytes follow a file. A second line says what can be done.
+fn is_trailing(fault: &Fault<'_>) -> bool {
+    match fault {
+        Fault::File(fault) => fault.kind == FaultKind::TrailingBytes,
+        _ => false,
     }
 }
