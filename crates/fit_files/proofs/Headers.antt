@@ -1,5 +1,5 @@
 -- Bytes begin with at most one header: for `skip_bytes`.
-use Rattle.std.proofs.Common.{◌≡◌, ℕ, List, refl, sym, ap, ◌∙◌}
+use Rattle.std.proofs.Common.{◌≡◌, ℕ, List, sym, ap, ◌∙◌}
 use Rattle.fit_grammar.specs.declared.file.frame.Frame.{Frame}
 use Rattle.fit_grammar.specs.Calls.BeginningHeader.{BeginsWithHeader}
 

@@ -1,18 +1,17 @@
 -- What is kept of damaged bytes: for `skip_bytes`, and for the lines of it.
-use Rattle.std.proofs.Common.{◌≡◌, ◌⊎◌, inl, inr, ℕ, ◌+◌, ◌-◌, ◌<◌, ◌≤◌, Bool, true, false, ◌||◌, ◌==◌, if◌then◌else◌, List, [], ◌∷◌, ◌++◌, length, take, drop, get_or, refl, sym, ap, ◌∙◌, subst, append-nil, codes, Result, arith}
+use Rattle.std.proofs.Common.{◌≡◌, inr, ℕ, ◌+◌, ◌-◌, ◌<◌, ◌≤◌, Bool, true, false, ◌||◌, ◌==◌, if◌then◌else◌, List, [], ◌∷◌, ◌++◌, length, take, drop, get_or, refl, sym, ap, ◌∙◌, subst, append-nil, codes, Result, arith}
 use Rattle.std.proofs.Math.Seq.{take-length}
 use Rattle.std.proofs.lemmas.List.{take_all, nil_from_length, length-drop, length-take}
 use Rattle.fit_grammar.specs.declared.file.frame.Frame.{Frame}
 use Rattle.fit_grammar.specs.Format.File.{IsFrame}
 use Rattle.fit_grammar.specs.Calls.BeginningHeader.{BeginsWithHeader}
 use Rattle.fit_mending.specs.declared.pieces.Piece.{Piece}
-use Rattle.fit_mending.specs.declared.pieces.Skipped.{Skipped}
 use Rattle.fit_mending.specs.Pieces.{IsSkipped}
 use Rattle.fit_text.specs.Pen.{Written, Puts}
 use Rattle.fit_text.proofs.PenLemmas.{Leaves, leaves_none, puts_same, puts_then}
 use Rattle.fit_files.specs.declared.fault.ReportFault.{ReportFault}
 use Rattle.fit_files.specs.declared.mended.Mended.{Mended}
-use Rattle.fit_files.specs.Printed.Mended.{IsMended, LooksAt, kept_count, kept_line, mended_text, piece_text, pieces_text}
+use Rattle.fit_files.specs.Printed.Mended.{IsMended, kept_count, kept_line, mended_text, piece_text, pieces_text}
 use Rattle.fit_files.specs.Printed.Salvaged.{looked_at, not_looked_at, salvaged_frame}
 use Rattle.fit_files.proofs.Headers.{one_frame, one_size}
 

@@ -1,4 +1,4 @@
-use Rattle.std.proofs.Common.{refl, inl, inr}
+use Rattle.std.proofs.Common.{refl, inr}
 use Rattle.fit_files.proofs.Mending.{mended_bare}
 use Rattle.fit_files.proofs.skipping.skip_bytes.Goals as goal
 
