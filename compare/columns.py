@@ -155,7 +155,7 @@ def by_program(fitrec, source, message, fields, form):
     try:
         rows = rows_of(data, message)
     except reader.Refused as refused:
-        return differs(said, (1, "", "fitrec: %s\n" % refused), data)
+        return differs(said, (1, "", refused.lines), data)
     lines = [",".join(head for _, head in names)]
     lines += [",".join(cell_text(message, field, row.get(field), form, len(fields) == 1) for field in fields) for row in rows]
     difference = differs(said, (0, "".join(line + "\r\n" for line in lines), ""), data)

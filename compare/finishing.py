@@ -27,7 +27,7 @@ def wanted_finish(data, everything=False, plain=False):
     try:
         text, taken, left_out = finished(file)
     except Refused as refused:
-        return (1, "", "fitrec: %s\n" % refused), None
+        return (1, "", refused.lines), None
     return (0, line + LINE % (taken, left_out), fault), text
 
 

@@ -27,7 +27,7 @@ def wanted(data, utc):
     try:
         return 0, show_json(data, utc), ""
     except Refused as refused:
-        return 1, [], "fitrec: %s\n" % refused
+        return 1, [], refused.lines
 
 
 def strings():

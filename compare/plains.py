@@ -21,7 +21,7 @@ def said_of(data):
         count, file = plained(data)
         return (0, "messages %d\n" % count, ""), file
     except Refused as refused:
-        return (1, "", "fitrec: %s\n" % refused), None
+        return (1, "", refused.lines), None
 
 
 def messages_of(fitrec, file):

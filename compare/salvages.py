@@ -18,7 +18,7 @@ def plain_of(said, file):
     try:
         return said, plained(file)[1] if file is not None else None
     except Refused as refused:
-        return (1, "", "fitrec: %s\n" % refused), None
+        return (1, "", refused.lines), None
 
 
 def judge(fitrec, folder, number, data, everything):

@@ -154,4 +154,4 @@ def changes(data):
 
 def kind_of(fault, otherwise):
     """The name of the refusal in a line of the program, such as Truncated."""
-    return re.sub("[( ].*", "", fault.strip().removeprefix("fitrec: ")) or otherwise
+    return re.sub("[( ].*", "", fault.partition("\n")[0].removeprefix("fitrec: ")) or otherwise

@@ -51,9 +51,16 @@ DATES = {0: {4}, 18: {2}, 19: {2}}
 
 EPOCH = datetime.datetime(1989, 12, 31)
 
+CHAINED = "fitrec: bytes follow the file; split writes each of the files that are chained in it\n"
+
 
 class Refused(Exception):
     """A file that is refused. The text is the kind and the place."""
+
+    @property
+    def lines(self):
+        """What the program reports."""
+        return "fitrec: %s\n" % self + CHAINED * str(self).startswith("TrailingBytes")
 
 
 def checksum(data):
@@ -266,7 +273,7 @@ def wanted(data, utc=False):
     try:
         return 0, show(data, utc), ""
     except Refused as refused:
-        return 1, "", "fitrec: %s\n" % refused
+        return 1, "", refused.lines
 
 
 def item_size(data, sizes):
@@ -312,7 +319,7 @@ def wanted_salvage(data, everything=False):
         kept, looked_at, not_read, file = salvaged(data, everything)
         return (0, "kept %d of %d\n" % (kept, looked_at), NOT_READ % not_read if not_read else ""), file
     except Refused as refused:
-        return (1, "", "fitrec: %s\n" % refused), None
+        return (1, "", refused.lines), None
 
 
 def plained(data):

@@ -7,12 +7,14 @@ use Rattle.fit_disk.specs.State.{Contents, seen_in}
 use Rattle.fit_disk.specs.Story.{Story}
 use Rattle.fit_grammar.specs.Format.File.{FileValue, FileOf}
 use Rattle.fit_grammar.specs.Format.Message.{messages_of}
+use Rattle.fit_files.specs.declared.mended.Mended.{Mended}
 use Rattle.fit_files.specs.declared.salvage.Salvage.{Salvage}
 use Rattle.fit_files.specs.declared.saving.SavedRide.{SavedRide}
 use Rattle.fit_files.specs.Calls.Reading.{ReadsAll}
 use Rattle.fit_files.specs.Calls.Rereading.{AreSumsOf}
+use Rattle.fit_files.specs.Printed.Mended.{IsMended, mended_text}
 use Rattle.fit_files.specs.Printed.PlainFile.{PlainsTo, messages_text}
-use Rattle.fit_files.specs.Printed.Finished.{finished_lines}
+use Rattle.fit_files.specs.Printed.Finished.{finished_lines, finished_mended_lines}
 use Rattle.fit_files.specs.Printed.Repaired.{Repairs}
 use Rattle.fit_files.specs.Printed.Salvaged.{IsSalvage, saved_file, kept_text}
 use Rattle.fit_files.specs.Printed.Saved.{SavesRide}
@@ -88,6 +90,29 @@ FinishesFile all plain old new =
     × IsSalvage all bytes salvage
     × (finished : Finished) × FinishesSalvage plain salvage finished
     × Appends old new (finished_lines salvage finished.taken finished.left_out)
+
+-- what is kept of some bytes by going on after their faults, as one row
+pub record IsRowOf (mended : Mended) (salvage : Salvage) : Type 0 where
+  pub frame : salvage.frame ≡ mended.frame
+  pub row : salvage.row.now ≡ mended.skipped.row.items
+
+-- what is kept of some bytes by going on after their faults was found, and it has the form asked for; what was kept and what was left
+-- out was printed
+abbrev pub SavesMended : Bool → Bool → Option (List ℕ) → Option (List ℕ) → Type 0
+SavesMended all plain old new =
+    (bytes : List ℕ) × (length bytes ≤ 268435456) × (mended : Mended)
+    × IsMended all bytes mended
+    × (salvage : Salvage) × IsRowOf mended salvage
+    × (plain ≡ true → HasPlainForm salvage) × Appends old new (mended_text mended)
+
+-- the same, and its file finished; how many entries were heard and left out was printed too
+abbrev pub FinishesMended : Bool → Bool → Option (List ℕ) → Option (List ℕ) → Type 0
+FinishesMended all plain old new =
+    (bytes : List ℕ) × (length bytes ≤ 268435456) × (mended : Mended)
+    × IsMended all bytes mended
+    × (salvage : Salvage) × IsRowOf mended salvage
+    × (finished : Finished) × FinishesSalvage plain salvage finished
+    × Appends old new (finished_mended_lines mended finished.taken finished.left_out)
 
 -- it is the plain form of a file of some bytes
 abbrev pub IsFormOfFile : FileValue → Type 0

@@ -42,8 +42,8 @@ pub fn finish_file<'a, O: Write, E: Write>(
     }
 }
 
-// The readable part of the file `name`, or its plain form, with its closing messages.
-fn finish_salvage<'a>(
+/// The readable part of the file `name`, or its plain form, with its closing messages.
+pub(crate) fn finish_salvage<'a>(
     alloc: Global,
     name: &'a str,
     plain: bool,

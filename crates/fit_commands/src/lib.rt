@@ -23,6 +23,8 @@ mod repair;
 mod salvage;
 mod save;
 mod show;
+mod skip;
+mod split;
 mod table;
 
 pub use check::check_file;
@@ -38,4 +40,6 @@ pub use repair::{repair_files, repair_folder, repair_holding, verify_folder, ver
 pub use salvage::salvage_file;
 pub use save::save_folder;
 pub use show::show_file;
+pub use skip::{finish_skipped_file, skip_file};
+pub use split::split_file;
 pub use table::table_file;

@@ -56,7 +56,7 @@ pub(crate) fn salvage_read<'a, 'b>(
 }
 
 // Writes the readable part of the file `name`, or its plain form, to the file `to`.
-fn write_salvage<'a>(
+pub(crate) fn write_salvage<'a>(
     rt: &HostRuntime,
     name: &'a str,
     to: &'a str,

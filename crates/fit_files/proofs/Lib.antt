@@ -1,3 +1,5 @@
 -- For crates above, and what no crate above uses.
 pub mod Pieces
+mod Headers
+mod Mending
 mod Reported

@@ -9,3 +9,4 @@ pub mod Saved
 pub mod Lacking
 pub mod Tabled
 pub mod Finished
+pub mod Mended

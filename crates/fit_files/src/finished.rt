@@ -2,10 +2,11 @@
 
 ghost use Rattle.std.specs.Prelude.{IfErr};
 ghost use Rattle.fit_grammar.specs.Calls.Output.{WritesText};
-ghost use Rattle.fit_files.specs.Printed.Finished.{finished_lines};
+ghost use Rattle.fit_files.specs.Printed.Finished.{finished_lines, finished_mended_lines};
 ghost use Rattle.fit_files.specs.Printed.Shown.{IsOutputFault};
 
 use crate::fault::ReportFault;
+use crate::mended::Mended;
 use crate::printing::print_line;
 use crate::salvage::Salvage;
 use std::fmt::{self, Formatter};
@@ -43,5 +44,21 @@ pub fn print_finished<O: Write>(
         (finished_lines salvage.now taken left_out) }
 {
     salvage.print(out)?;
+    print_line(&HeardLine { taken, left_out }, out)
+}
+
+/// Prints the lines of what is kept and of what is left out, and one on how many entries were heard in what is kept and taken, and how
+/// many left out. If the output fails, a prefix of these lines is written.
+pub fn print_finished_mended<O: Write>(
+    mended: &Mended,
+    taken: u32,
+    left_out: u32,
+    out: &mut O,
+) -> Result<(), ReportFault>
+    ensures fault { IfErr result IsOutputFault }
+    ensures lines { WritesText (O.contents out.old) (O.contents out.new) result
+        (finished_mended_lines mended.now taken left_out) }
+{
+    mended.print(out)?;
     print_line(&HeardLine { taken, left_out }, out)
 }

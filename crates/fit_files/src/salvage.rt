@@ -28,7 +28,9 @@ pub struct Salvage<'a> {
 impl Salvage<'_> {
     ghost use Rattle.std.specs.Prelude.{◌≡◌, ◌++◌, Bool, List, ℕ, codes, IfErr};
     ghost use Rattle.fit_grammar.specs.Calls.Output.{WritesText};
-    ghost use Rattle.fit_grammar.specs.Format.File.{FileOf};
+    ghost use Rattle.fit_grammar.specs.Format.File.{FileOf, IsFrame};
+    ghost use Rattle.fit_grammar.specs.Format.Item.{Item};
+    ghost use Rattle.fit_grammar.specs.Format.Records.{Records};
     ghost use Rattle.fit_files.specs.Printed.Salvaged.{IsSalvage, IsNoForm, DecodesSalvage, ReadsSalvage, PlainsSalvage, saved_file, kept_text, left_text};
     ghost use Rattle.fit_files.specs.Printed.Shown.{IsOutputFault};
 
@@ -40,6 +42,9 @@ impl Salvage<'_> {
         ensures file { (all : Bool) (bytes : List ℕ) (found : IsSalvage all bytes self.now)
             → FileOf (saved_file self.now)
             (record { frame = self.now.frame; items = found.items }) }
+        // The same of any row of whole items.
+        ensures row { (items : List Item) → IsFrame self.now.frame → Records self.now.row.now items
+            → FileOf (saved_file self.now) (record { frame = self.now.frame; items = items }) }
     {
         encode_records(self.frame, self.row, out)
     }

@@ -7,7 +7,7 @@ use crate::salvage::Salvage;
 use fit_grammar::{FileFault, Frame, longest_front, read_header_front};
 
 // The size in bytes of the header that is written.
-const HEADER: u8 = 14;
+pub(crate) const HEADER: u8 = 14;
 
 /// Finds the longest row of whole items after the header of these bytes. If `all` is set or the header gives the data size 0, it
 /// looks at all bytes after the header; otherwise at as many as the header gives, or as exist. The checksums are not checked. The
@@ -33,7 +33,7 @@ pub fn salvage_bytes(bytes: &[u8], all: bool) -> Result<Salvage<'_>, FileFault>
 }
 
 // The bytes after a header that are looked at, if the header gives this data size.
-fn looked_at(all: bool, size: u32, after: &[u8]) -> &[u8]
+pub(crate) fn looked_at(all: bool, size: u32, after: &[u8]) -> &[u8]
     ensures { result.now ≡ looked_at_of all size after.now }
 {
     if all || size == 0 {

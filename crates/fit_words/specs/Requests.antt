@@ -6,7 +6,7 @@ use Rattle.clap.specs.Words.{first_value, matched_of, one_text, raw_values}
 use Rattle.fit_words.specs.declared.request.Names.{Names}
 use Rattle.fit_words.specs.declared.request.Request.{Request}
 use Rattle.fit_words.specs.declared.request.TableForm.{TableForm}
-use Rattle.fit_words.specs.declared.request.Request.TheVariants.{Show, Check, CheckEach, Table, TableEach, Replay, Record, Save, Repair, Salvage, Plain, Simulate, Version}
+use Rattle.fit_words.specs.declared.request.Request.TheVariants.{Show, Check, CheckEach, Table, TableEach, Replay, Record, Save, Repair, Salvage, Split, Plain, Simulate, Version}
 
 -- this is the word found under a name
 abbrev pub IsWord : Found → List ℕ → Bor (List ℕ) → Type 0
@@ -71,10 +71,12 @@ IsAskedBy name found (Save folder to earlier) =
 IsAskedBy name found (Repair folder verify) =
     (name ≡ codes "repair") × IsWord found (codes "FOLDER") folder
     × IsFlag found (codes "verify") verify
-IsAskedBy name found (Salvage file to all plain finish) =
+IsAskedBy name found (Salvage file to all plain skip finish) =
     (name ≡ codes "salvage") × IsWord found (codes "IN") file × IsWord found (codes "OUT") to
     × IsFlag found (codes "all") all × IsFlag found (codes "plain") plain
-    × IsFlag found (codes "finish") finish
+    × IsFlag found (codes "skip") skip × IsFlag found (codes "finish") finish
+IsAskedBy name found (Split file folder) =
+    (name ≡ codes "split") × IsWord found (codes "IN") file × IsWord found (codes "FOLDER") folder
 IsAskedBy name found (Plain file to) =
     (name ≡ codes "plain") × IsWord found (codes "IN") file × IsWord found (codes "OUT") to
 IsAskedBy name found (Simulate script choices checked) =

@@ -24,6 +24,13 @@ pub(crate) fn all_option<'a>(alloc: Global) -> Arg<'a> {
         .action(ArgAction::SetTrue)
 }
 
+pub(crate) fn skip_option<'a>(alloc: Global) -> Arg<'a> {
+    Arg::new(alloc, "skip")
+        .long("skip")
+        .help("Goes on after a fault, and says which bytes are left out")
+        .action(ArgAction::SetTrue)
+}
+
 pub(crate) fn verify_option<'a>(alloc: Global) -> Arg<'a> {
     Arg::new(alloc, "verify")
         .long("verify")
@@ -161,6 +168,14 @@ pub(crate) fn script_argument<'a>(alloc: Global) -> Arg<'a> {
 
 pub(crate) fn folder_argument<'a>(alloc: Global) -> Arg<'a> {
     argument(alloc, "FOLDER", "The path of the folder of a recording")
+}
+
+pub(crate) fn into_argument<'a>(alloc: Global) -> Arg<'a> {
+    argument(
+        alloc,
+        "FOLDER",
+        "The path of the folder in which the files are made or replaced",
+    )
 }
 
 pub(crate) fn in_argument<'a>(alloc: Global, help: &'a str) -> Arg<'a> {

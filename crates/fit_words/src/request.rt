@@ -53,7 +53,12 @@ pub enum Request<'a> {
         to: &'a str,
         all: bool,
         plain: bool,
+        skip: bool,
         finish: bool,
+    },
+    Split {
+        file: &'a str,
+        folder: &'a str,
     },
     Plain {
         file: &'a str,
@@ -168,6 +173,7 @@ fn request_of<'a>(name: &str, matches: &ArgMatches<'a>) -> Option<Request<'a>>
         "save" => save_of(matches),
         "repair" => repair_of(matches),
         "salvage" => salvage_of(matches),
+        "split" => split_of(matches),
         "plain" => plain_of(matches),
         "simulate" => simulate_of(matches),
         "version" => Some(Request::Version),
@@ -248,7 +254,17 @@ fn salvage_of<'a>(matches: &ArgMatches<'a>) -> Option<Request<'a>>
         to: matches.get_str("OUT")?,
         all: matches.get_flag("all"),
         plain: matches.get_flag("plain"),
+        skip: matches.get_flag("skip"),
         finish: matches.get_flag("finish"),
+    })
+}
+
+fn split_of<'a>(matches: &ArgMatches<'a>) -> Option<Request<'a>>
+    ensures { IfSome result (IsAskedBy (codes "split") (found_of matches.now)) }
+{
+    Some(Request::Split {
+        file: matches.get_str("IN")?,
+        folder: matches.get_str("FOLDER")?,
     })
 }
 

@@ -2,9 +2,10 @@
 
 use crate::arguments::{
     all_option, checked_option, choices_option, commit_option, each_option, earlier_option,
-    fields_option, file_argument, finish_option, folder_argument, in_argument, json_option,
-    message_option, more_argument, null_option, out_argument, plain_option, profile_option,
-    raw_option, script_argument, table_argument, utc_option, verify_option,
+    fields_option, file_argument, finish_option, folder_argument, in_argument, into_argument,
+    json_option, message_option, more_argument, null_option, out_argument, plain_option,
+    profile_option, raw_option, script_argument, skip_option, table_argument, utc_option,
+    verify_option,
 };
 use clap::{Command, Error};
 use std::alloc::Global;
@@ -42,6 +43,7 @@ fn with_recording<'a>(alloc: Global, fitrec: Command<'a>) -> Result<Command<'a>,
 // Adds the subcommands that make one file from another, and the one that makes no file.
 fn with_making<'a>(alloc: Global, fitrec: Command<'a>) -> Result<Command<'a>, Error> {
     let fitrec = with(fitrec, salvage_command(alloc))?;
+    let fitrec = with(fitrec, split_command(alloc))?;
     let fitrec = with(fitrec, plain_command(alloc))?;
     with(fitrec, simulate_command(alloc))
 }
@@ -142,10 +144,22 @@ fn salvage_command<'a>(alloc: Global) -> Result<Command<'a>, Error> {
                 "Makes a FIT file of what is readable of a damaged one that has no journal; show and check say what it holds",
             )
             .arg(all_option(alloc))?
+            .arg(skip_option(alloc))?
             .arg(plain_option(alloc))?
             .arg(finish_option(alloc))?
             .arg(in_argument(alloc, "The path of the damaged file"))?
             .arg(out_argument(alloc))?,
+    )
+}
+
+fn split_command<'a>(alloc: Global) -> Result<Command<'a>, Error> {
+    Ok(
+        Command::new(alloc, "split")
+            .about(
+                "Writes each of the FIT files that are chained in one, as 1.fit, 2.fit and so on",
+            )
+            .arg(in_argument(alloc, "The path of the chained files"))?
+            .arg(into_argument(alloc))?,
     )
 }
 

@@ -12,9 +12,11 @@ mod version;
 
 use clap::error::ErrorKind;
 use fit_commands::{
-    Chosen, Fault, NotChosen, check_each, check_file, finish_file, make_plain, repair_folder,
-    salvage_file, save_folder, show_as_json, show_file, table_each, table_file, verify_folder,
+    Chosen, Fault, NotChosen, check_each, check_file, finish_file, finish_skipped_file, make_plain,
+    repair_folder, salvage_file, save_folder, show_as_json, show_file, skip_file, split_file,
+    table_each, table_file, verify_folder,
 };
+use fit_grammar::FaultKind;
 use fit_scripts::read_choices;
 use fit_words::{
     Names, Request, TableForm, no_choices, no_name, no_seconds, read_words, too_many_fields,
@@ -91,24 +93,19 @@ pub fn command<S: AsStr, O: Write, E: Write>(
                 to,
                 all,
                 plain,
-                finish: false,
+                skip,
+                finish,
             },
         ) => {
-            let done = salvage_file(rt, file, to, all, plain, out, err);
-            status(done, err)
-        }
-        Ok(
-            Request::Salvage {
-                file,
-                to,
+            let kept = Kept {
                 all,
                 plain,
-                finish: true,
-            },
-        ) => {
-            let done = finish_file(rt, file, to, all, plain, out, err);
-            status(done, err)
+                skip,
+                finish,
+            };
+            salvage_chosen(rt, file, to, kept, out, err)
         }
+        Ok(Request::Split { file, folder }) => status(split_file(rt, file, folder, out), err),
         Ok(Request::Plain { file, to }) => status(make_plain(rt, file, to, out), err),
         Ok(
             Request::Simulate {
@@ -120,6 +117,41 @@ pub fn command<S: AsStr, O: Write, E: Write>(
         Ok(Request::Version) => status(print_version(out), err),
         Err(refusal) => refused(refusal, err),
     }
+}
+
+// What the words choose of a salvage.
+#[derive(Clone, Copy)]
+struct Kept {
+    all: bool,
+    plain: bool,
+    skip: bool,
+    finish: bool,
+}
+
+// Writes what is readable of a file, up to the fault or also after it, and as it is or finished.
+fn salvage_chosen<O: Write, E: Write>(
+    rt: &HostRuntime,
+    file: &str,
+    to: &str,
+    kept: Kept,
+    out: &mut O,
+    err: &mut E,
+) -> u8
+    ensures { result ≤ 2 }
+{
+    let Kept {
+        all,
+        plain,
+        skip,
+        finish,
+    } = kept;
+    let done = match (skip, finish) {
+        (false, false) => salvage_file(rt, file, to, all, plain, out, err),
+        (false, true) => finish_file(rt, file, to, all, plain, out, err),
+        (true, false) => skip_file(rt, file, to, all, plain, out, err),
+        (true, true) => finish_skipped_file(rt, file, to, all, plain, out, err),
+    };
+    status(done, err)
 }
 
 // How many seconds of the ride are between two commits of a recording, if no word gives another number.
@@ -245,7 +277,21 @@ fn status<E: Write>(done: Result<(), Fault<'_>>, err: &mut E) -> u8
         Ok(()) => 0,
         Err(fault) => {
             let _ = writeln!(err, "fitrec: {fault}");
+            if is_trailing(&fault) {
+                let _ = writeln!(
+                    err,
+                    "fitrec: bytes follow the file; split writes each of the files that are chained in it",
+                );
+            }
             1
         }
+    }
+}
+
+// Whether bytes follow a file. A second line says what can be done.
+fn is_trailing(fault: &Fault<'_>) -> bool {
+    match fault {
+        Fault::File(fault) => fault.kind == FaultKind::TrailingBytes,
+        _ => false,
     }
 }

@@ -1,0 +1,15 @@
+use Rattle.std.proofs.Common.{arith}
+use Rattle.fit_commands.proofs.skip.finish_skipped_file.Goals as goal
+
+pub returns-in-Ok-clause-finished : goal.returns-in-Ok-clause-finished
+returns-in-Ok-clause-finished g c = (
+  c.in_ok-read.read.bytes.items,
+  omega (arith, c.in_ok-read.ensures.most, c.in_ok-read.read.bytes.ok.0),
+  c.in_ok-mended.mended,
+  c.in_ok-mended.ensures.found,
+  c.salvage-salvage.result,
+  record { frame = c.salvage-salvage.ensures.frame; row = c.salvage-salvage.ensures.row },
+  c.in_ok-finished.finished,
+  c.in_ok-finished.ensures.finished,
+  c.in-Ok.ensures.lines.all,
+)

@@ -1,0 +1,62 @@
+-- What is kept of a damaged file by going on after its faults, and what is printed of it.
+use Rattle.std.specs.Prelude.{◌≡◌, ℕ, ◌+◌, ◌-◌, ◌≤◌, Bool, true, false, List, [], ◌∷◌, ◌++◌, length, take, drop, codes, decimal}
+use Rattle.fit_grammar.specs.declared.file.frame.Frame.{Frame}
+use Rattle.fit_grammar.specs.Format.File.{IsFrame}
+use Rattle.fit_grammar.specs.Calls.BeginningHeader.{BeginsWithHeader}
+use Rattle.fit_mending.specs.declared.pieces.Piece.{Piece}
+use Rattle.fit_mending.specs.Pieces.{IsSkipped}
+use Rattle.fit_files.specs.declared.mended.Mended.{Mended}
+use Rattle.fit_files.specs.Printed.Salvaged.{looked_at, not_looked_at, salvaged_frame}
+
+-- what is looked at begins here, has so many bytes, and is written under this header: after the header that the bytes begin with, as far
+-- as a salvage looks; or all bytes, if they begin with no header
+pub record LooksAt (all : Bool) (bytes : List ℕ) (front : ℕ) (mended : Mended) : Type 0 where
+  pub frame : IsFrame mended.frame
+  pub within : front + mended.looked_at ≤ length bytes
+  pub headed : (frame : Frame) (size : ℕ) → BeginsWithHeader bytes frame size
+      → (front ≡ frame.header_size) × (mended.frame ≡ salvaged_frame frame)
+      × (mended.looked_at ≡ length (looked_at all size (drop front bytes)))
+      × (mended.not_looked_at ≡ not_looked_at all size (drop front bytes))
+  pub bare : ((frame : Frame) (size : ℕ) → BeginsWithHeader bytes frame size → ⊥)
+      → (front ≡ 0) × (mended.looked_at ≡ length bytes) × (mended.not_looked_at ≡ 0)
+
+-- what is kept of these bytes: pieces of those looked at, by their places in the file
+pub record IsMended (all : Bool) (bytes : List ℕ) (mended : Mended) : Type 0 where
+  pub front : ℕ
+  pub looks : LooksAt all bytes front mended
+  pub skipped : IsSkipped (take (front + mended.looked_at) bytes) front mended.skipped
+
+-- how many pieces are kept
+abbrev pub one_if : Bool → ℕ
+one_if true = 1
+one_if false = 0
+
+abbrev pub kept_count : List Piece → ℕ
+kept_count [] = 0
+kept_count (piece ∷ pieces) = one_if piece.kept + kept_count pieces
+
+abbrev pub kept_line : ℕ → ℕ → ℕ → List ℕ
+kept_line kept of parts =
+    codes "kept " ++ decimal kept ++ codes " of " ++ decimal of ++ codes ", parts " ++ decimal parts
+
+abbrev pub left_out_line : ℕ → ℕ → List ℕ
+left_out_line count at = codes "left out " ++ decimal count ++ codes " at " ++ decimal at
+
+-- the line of a piece, if it is left out
+abbrev pub text_if : Bool → List ℕ → List ℕ
+text_if true line = []
+text_if false line = line ++ codes "\n"
+
+abbrev pub piece_text : Piece → List ℕ
+piece_text piece =
+    text_if piece.kept (left_out_line (piece.end - piece.start) piece.start)
+
+abbrev pub pieces_text : List Piece → List ℕ
+pieces_text [] = []
+pieces_text (piece ∷ pieces) = piece_text piece ++ pieces_text pieces
+
+-- the line of what is kept, and then those of what is left out
+abbrev pub mended_text : Mended → List ℕ
+mended_text mended =
+    (kept_line (length mended.skipped.row.items) mended.looked_at (kept_count mended.skipped.pieces.items) ++ codes "\n")
+    ++ pieces_text mended.skipped.pieces.items
