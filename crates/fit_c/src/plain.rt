@@ -1,4 +1,4 @@
-// The plain form of a file in memory.
+// The plain form of a file in memory. It is written twice, first without room, for its size.
 
 ghost use Rattle.std.specs.Prelude.{◌≡◌, ◌≤◌, ◌<◌, ◌⊎◌, [], length, take, true, false, OnOk, IfSome, IsSome, IsNone};
 ghost use Rattle.fit_grammar.specs.Calls.PlainForm.{plain_of, plain_items, is_too_long};
