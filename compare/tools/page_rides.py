@@ -1,6 +1,7 @@
 """The page in a browser: the numbers and pictures of rides, by the second reader."""
 
 import itertools
+import pathlib
 import re
 import shutil
 import statistics
@@ -8,7 +9,7 @@ import zipfile
 
 from tools.checks import differs, unless
 from tools.pages import RIDE, START, WRONG, ascent_of, both, columns_of, drawn_of, facts_of, recorded, rounded, rows, series_of, tour
-from tools.program import run
+from tools.program import bytes_of, run
 from tools.visits import SAVED, WINDOWS, Browser
 
 
@@ -153,19 +154,21 @@ def of_looking(fitrec, folder, shots=None):
     for window in WINDOWS:
         browser.visit("a salvage, %s" % window, [{"files": [folder / "cut.fit"]}], of_cut, **WINDOWS[window])
 
-    # Several rides: each in its folder, one of them whole, and a note.
+    # Several rides in the order of folders and names, two of them whole, and a note.
     rides = folder / "rides"
     rides.mkdir()
     for name, lines in (("a", tour(600)), ("b", RIDE), ("c", tour(900))):
         run(fitrec, "save", recorded(fitrec, rides / name, lines), folder / (name + ".fit"))
         (rides / name).with_suffix(".script").unlink()
-    shutil.copy(folder / "b.fit", rides / "whole.fit")
+    for name in ("whole10.fit", "whole2.fit"):
+        shutil.copy(folder / "b.fit", rides / name)
     (rides / "notes.txt").write_text("notes")
 
     def of_several(shown, made):
-        yield "the list", differs(shown[0]["listHeading"], "4 rides, 3 of them saved")
+        yield "the list", differs(shown[0]["listHeading"], "5 rides, 3 of them saved")
         yield "its rides", differs([(it[0], it[4]) for it in shown[0]["list"]], [
-            ("rides/whole.fit", "The file is whole"), *(("rides/%s/activity.fit" % it, SAVED) for it in "abc")])
+            *(("rides/whole%d.fit" % it, "The file is whole") for it in (2, 10)),
+            *(("rides/%s/activity.fit" % it, SAVED) for it in "abc")])
         with zipfile.ZipFile(made[1]) as them:
             wanted = {name: (folder / it).read_bytes() for name, it in (
                 ("2024-11-08-ride.fit", "a.fit"), ("2021-09-08-ride.fit", "b.fit"), ("2024-11-08-ride-2.fit", "c.fit"))}
@@ -175,6 +178,14 @@ def of_looking(fitrec, folder, shots=None):
         yield "which of them", unless(last["reason"].startswith("rides/b/activity.fit"), last["reason"], "rides/b/activity.fit")
 
     for window in WINDOWS:
-        steps = [{"files": [rides], "drop": True}, {"download": "#saveAll"}, {"click": "#rides tbody tr:nth-child(3) button"}]
+        steps = [{"files": [rides], "drop": True}, {"download": "#saveAll"}, {"click": "#rides tbody tr:nth-child(4) button"}]
         browser.visit("several rides, %s" % window, steps, of_several, **WINDOWS[window])
+
+    def of_one(shown, made):
+        yield "what is downloaded", differs(made[1], "Download 2021-09-08-ride.fit")
+        yield "its file", differs(bytes_of(pathlib.Path(made[2])), (folder / "b.fit").read_bytes())
+
+    steps = [{"files": [*both(rides / "b"), rides / "whole2.fit"]}, {"evaluate": "document.getElementById('saveAll').innerText"},
+             {"download": "#saveAll"}]
+    browser.visit("one saved ride of two", steps, of_one)
     yield from browser.outcomes()
