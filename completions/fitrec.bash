@@ -3,11 +3,11 @@ _fitrec() {
     local word=${COMP_WORDS[COMP_CWORD]} options=
     COMPREPLY=()
     if [ "$COMP_CWORD" -eq 1 ]; then
-        COMPREPLY=($(compgen -W 'show table check replay record save repair salvage plain simulate version help --help' -- "$word"))
+        COMPREPLY=($(compgen -W 'show table check replay record save repair salvage split plain simulate version help --help' -- "$word"))
         return
     fi
     case ${COMP_WORDS[1]} in
-        help) COMPREPLY=($(compgen -W 'show table check replay record save repair salvage plain simulate version' -- "$word")); return ;;
+        help) COMPREPLY=($(compgen -W 'show table check replay record save repair salvage split plain simulate version' -- "$word")); return ;;
         show) options='--utc --json --help' ;;
         table) options='--utc --raw --profile --message --fields --each --null --help' ;;
         check) options='--each --null --help' ;;
@@ -15,7 +15,8 @@ _fitrec() {
         record) options='--commit --help' ;;
         save) options='--earlier --help' ;;
         repair) options='--verify --help' ;;
-        salvage) options='--all --plain --finish --help' ;;
+        salvage) options='--all --skip --plain --finish --help' ;;
+        split) options='--help' ;;
         plain) options='--help' ;;
         simulate) options='--checked --choices --help' ;;
         version) options='--help' ;;
