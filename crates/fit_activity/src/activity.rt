@@ -1,9 +1,11 @@
 // Whether a file is an activity, and what its first session states.
 
-ghost use Rattle.std.specs.Prelude.{◌≡◌};
+ghost use Rattle.std.specs.Prelude.{◌≡◌, Some};
 ghost use Rattle.fit_grammar.specs.Format.Message.{messages_of};
 
 use fit_grammar::File;
+use std::error::Error;
+use std::fmt::{self, Formatter, Write};
 
 pub(crate) mod checking;
 pub(crate) mod field_value;
@@ -60,3 +62,22 @@ impl ActivityFault {
         }
     }
 }
+
+// Its name.
+impl fmt::Display for ActivityFault {
+    ghost use Rattle.fit_activity.specs.Files.FaultName.{activity_fault_name};
+
+    ghost output = { λ fault. Some (activity_fault_name fault) };
+
+    fn fmt<W: Write>(&self, f: &mut Formatter<W>) -> fmt::Result {
+        f.write_str(match self {
+            ActivityFault::NoFileId => "NoFileId",
+            ActivityFault::NotActivity => "NotActivity",
+            ActivityFault::NoLap => "NoLap",
+            ActivityFault::NoSession => "NoSession",
+            ActivityFault::NoActivity => "NoActivity",
+        })
+    }
+}
+
+impl Error for ActivityFault {}

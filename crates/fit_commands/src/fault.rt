@@ -27,13 +27,13 @@ pub enum Fault<'a> {
     #[error("NoMemory")]
     NoMemory,
     /// The bytes are not a FIT file that the program reads, or memory was refused.
-    #[error("{:?} at {}", .0.kind, .0.place)]
+    #[error("{} at {}", .0.kind, .0.place)]
     File(FileFault),
     /// The plain form of a file would be too long, or memory was refused.
-    #[error("{:?} at {}", .0.kind, .0.place)]
+    #[error("{} at {}", .0.kind, .0.place)]
     Plain(PlainFault),
     /// The file is not an activity.
-    #[error("{0:?}")]
+    #[error("{0}")]
     Activity(ActivityFault),
     /// No sample of the activity was taken, so it is not finished.
     #[error("NoSample")]

@@ -17,3 +17,4 @@ pub mod BeginningHeader
 pub mod Framed
 pub mod Output
 pub mod FaultCode
+pub mod FaultName

@@ -1,10 +1,12 @@
-// The faults of reading a file, of adding to one, and of writing one.
+// The faults of reading a file, of adding to one, and of writing one, with their names.
 
-ghost use Rattle.std.specs.Prelude.{◌≡◌};
+ghost use Rattle.std.specs.Prelude.{◌≡◌, Some};
 ghost use Rattle.fit_grammar.specs.declared.file.fault.FaultKind.TheVariants as kinds;
 ghost use Rattle.fit_grammar.specs.declared.file.fault.PutFault.TheVariants as put;
 
 use std::alloc::AllocError;
+use std::error::Error;
+use std::fmt::{self, Formatter, Write};
 
 /// The kind of fault that the bytes of a file show.
 #[derive(Clone, Copy, Debug, PartialEq, Eq)]
@@ -52,6 +54,30 @@ impl FaultKind {
         }
     }
 }
+
+// Its name.
+impl fmt::Display for FaultKind {
+    ghost use Rattle.fit_grammar.specs.Calls.FaultName.{kind_name};
+
+    ghost output = { λ kind. Some (kind_name kind) };
+
+    fn fmt<W: Write>(&self, f: &mut Formatter<W>) -> fmt::Result {
+        match self {
+            FaultKind::Truncated => f.write_str("Truncated"),
+            FaultKind::HeaderSize => f.write_str("HeaderSize"),
+            FaultKind::Magic => f.write_str("Magic"),
+            FaultKind::Protocol => f.write_str("Protocol"),
+            FaultKind::HeaderCrc => f.write_str("HeaderCrc"),
+            FaultKind::UndefinedLocal(local) => write!(f, "UndefinedLocal({local})"),
+            FaultKind::SplitMessage => f.write_str("SplitMessage"),
+            FaultKind::FileCrc => f.write_str("FileCrc"),
+            FaultKind::TrailingBytes => f.write_str("TrailingBytes"),
+            FaultKind::Memory => f.write_str("Memory"),
+        }
+    }
+}
+
+impl Error for FaultKind {}
 
 /// Why bytes are not read as a file: the first check that fails, in the order of the bytes, and its place, an offset in bytes
 /// from the front of the file.

@@ -1,9 +1,11 @@
 // Why a file has no plain form.
 
-ghost use Rattle.std.specs.Prelude.{◌≡◌};
+ghost use Rattle.std.specs.Prelude.{◌≡◌, Some};
 ghost use Rattle.fit_grammar.specs.declared.plain.fault.PlainFaultKind.TheVariants as kinds;
 
 use std::alloc::AllocError;
+use std::error::Error;
+use std::fmt::{self, Formatter, Write};
 
 /// Why the plain form of an item cannot be added to those before it.
 #[derive(Clone, Copy, Debug, PartialEq, Eq)]
@@ -13,6 +15,22 @@ pub enum PlainFaultKind {
     /// The allocator refused to grow a buffer.
     Memory,
 }
+
+// Its name.
+impl fmt::Display for PlainFaultKind {
+    ghost use Rattle.fit_grammar.specs.Calls.FaultName.{plain_name};
+
+    ghost output = { λ kind. Some (plain_name kind) };
+
+    fn fmt<W: Write>(&self, f: &mut Formatter<W>) -> fmt::Result {
+        f.write_str(match self {
+            PlainFaultKind::TooLong => "TooLong",
+            PlainFaultKind::Memory => "Memory",
+        })
+    }
+}
+
+impl Error for PlainFaultKind {}
 
 /// Why a file has no plain form, and the place of the first item that is refused: an offset in bytes from the front of the
 /// file.
