@@ -1,5 +1,6 @@
 """Rides of other makers: those in Debian's source of goldencheetah, which is fetched into compare/out once."""
 
+import fcntl
 import subprocess
 
 from tools.checks import Skipped
@@ -11,6 +12,12 @@ SOURCE = ROOT / "compare/out/goldencheetah"
 def rides():
     """The files by their names; or why there are none."""
     SOURCE.mkdir(parents=True, exist_ok=True)
+    with open(SOURCE / "lock", "w") as lock:
+        fcntl.flock(lock, fcntl.LOCK_EX)
+        return fetched()
+
+
+def fetched():
     for version in ("goldencheetah=1:3.5-1.1", "goldencheetah"):
         if not any(SOURCE.glob("*.orig.tar.gz")):
             subprocess.run(["apt-get", "source", "--download-only", version], cwd=SOURCE, capture_output=True)
