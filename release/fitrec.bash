@@ -3,19 +3,20 @@ _fitrec() {
     local word=${COMP_WORDS[COMP_CWORD]} options=
     COMPREPLY=()
     if [ "$COMP_CWORD" -eq 1 ]; then
-        COMPREPLY=($(compgen -W 'show table check replay record save repair salvage plain simulate version help --help' -- "$word"))
+        COMPREPLY=($(compgen -W 'show table check replay record save repair salvage split plain simulate version help --help' -- "$word"))
         return
     fi
     case ${COMP_WORDS[1]} in
-        help) COMPREPLY=($(compgen -W 'show table check replay record save repair salvage plain simulate version' -- "$word")); return ;;
+        help) COMPREPLY=($(compgen -W 'show table check replay record save repair salvage split plain simulate version' -- "$word")); return ;;
         show) options='--utc --json --help' ;;
-        table) options='--utc --raw --message --fields --each --null --help' ;;
+        table) options='--utc --raw --profile --message --fields --each --null --help' ;;
         check) options='--each --null --help' ;;
         replay) options='--checked --help' ;;
         record) options='--commit --help' ;;
         save) options='--earlier --help' ;;
         repair) options='--verify --help' ;;
-        salvage) options='--all --plain --help' ;;
+        salvage) options='--all --skip --plain --finish --help' ;;
+        split) options='--help' ;;
         plain) options='--help' ;;
         simulate) options='--checked --choices --help' ;;
         version) options='--help' ;;

@@ -8,8 +8,8 @@
    - A buffer has as many bytes as its size argument says, and all of them may be read.
 
    The library takes no memory, keeps none between calls, and calls nothing but memcpy, memmove and memset. So calls on different buffers
-   may run at the same time in any threads. On x86-64 a repair and a save need 40 KB of stack, a text 80 KB, and the other
-   calls 16 KB. */
+   may run at the same time in any threads. On x86-64 a repair and a save need 40 KB of stack, a text and JSON 84 KB,
+   columns 50 KB, and the other calls 16 KB. */
 
 #ifndef FITREC_H
 #define FITREC_H
@@ -73,16 +73,16 @@ uint8_t fitrec_repair(uint8_t *data, size_t data_size, uint64_t *data_len, uint8
 /* Repairs a recording as fitrec_repair does, and writes its finished file into out with every time written out, for programs that misread
    the short form which recorders use.
 
-   data .. journal_len   as for a repair; both buffers are working space, and after 0 and FITREC_SAVE_NO_ROOM they hold the repaired
-                 recording
+   data .. journal_len   as for a repair; both buffers are working space, and after 0, 20 and 21 they hold the repaired recording
    out, out_size the buffer of the new file
    out_len       how many bytes the new file has, after 0 and FITREC_SAVE_NO_ROOM
-   summary       is filled after 0 and FITREC_SAVE_NO_ROOM
+   summary       is filled after 0, 20 and 21
 
-   Answers what a repair answers, or FITREC_SAVE_NO_ROOM. After every other answer than 0 the bytes of out may have changed. */
+   Answers what a repair answers, or one of these. After FITREC_SAVE_NO_ROOM the bytes of out may have changed. */
 enum {
     FITREC_SAVED = 0,
-    FITREC_SAVE_NO_ROOM = 20 /* the new file has no room in out; give fitrec_plain the data file and out_len bytes of room */
+    FITREC_SAVE_NO_ROOM = 20, /* the new file has no room in out; give fitrec_plain the data file and out_len bytes of room */
+    FITREC_SAVE_TOO_LONG = 21 /* the new file would be too large */
 };
 uint8_t fitrec_save(uint8_t *data, size_t data_size, uint64_t *data_len, uint8_t *journal, size_t journal_size,
                     uint64_t *journal_len, uint8_t *out, size_t out_size, uint64_t *out_len, struct fitrec_summary *summary);
@@ -177,7 +177,7 @@ uint8_t fitrec_check(const uint8_t *bytes, size_t size, struct fitrec_summary *s
    out_len       how many bytes the new file has, after 0 and FITREC_PLAIN_NO_ROOM
    fault_place   the place of the fault, after 1 to 9
 
-   Answers 0, one of 1 to 9 above, or one of these. After every other answer than 0 the bytes of out may have changed. */
+   Answers 0, one of 1 to 9 above, or one of these. After FITREC_PLAIN_NO_ROOM the bytes of out may have changed. */
 enum {
     FITREC_PLAIN = 0,
     FITREC_PLAIN_NO_ROOM = 20, /* the new file has no room in out */
@@ -191,10 +191,10 @@ uint8_t fitrec_plain(const uint8_t *bytes, size_t size, uint8_t *out, size_t out
    bytes, size   the file
    utc           write times as dates
    out, out_size the buffer of the text
-   out_len       how many bytes the text has, after 0 and FITREC_SHOW_NO_ROOM
+   out_len       how many bytes the text has, after 0 and FITREC_SHOW_NO_ROOM; 2^64 - 1 also if there are more
    fault_place   the place of the fault, after 1 to 9
 
-   Answers 0, one of 1 to 9 above, or FITREC_SHOW_NO_ROOM. After every other answer than 0 the bytes of out may have changed. */
+   Answers 0, one of 1 to 9 above, or FITREC_SHOW_NO_ROOM. After that the bytes of out may have changed. */
 enum {
     FITREC_SHOWN = 0,
     FITREC_SHOW_NO_ROOM = 20 /* the text has no room in out */
