@@ -130,13 +130,18 @@ def of_files(fitrec, program, count, seed):
         yield "a salvage of a whole file needs two bytes more", differs(said[1].split("\n")[0], "0")
 
 
+def place_in(said):
+    """The place that the first line of the program's standard error gives for a fault, or None."""
+    return re.match(r"fitrec: \w+(?:\(\d+\))? at (\d+)$", said[2].partition("\n")[0])
+
+
 def answers_that_differ(fitrec, program, source, mine):
     """What differs between the answers of the library and of the program about a file: its text and its JSON, with dates and without, and
     its check."""
     for words, part in (((), "show"), (("--utc",), "show"), (("--json",), "json"), (("--json", "--utc"), "json"), ((), "check")):
         wanted = run(fitrec, "check" if part == "check" else "show", *words, source)
         said = run(program, "check", source) if part == "check" else run(program, part, source, int("--utc" in words), mine)
-        place = re.match(r"fitrec: \w+(?:\(\d+\))? at (\d+)$", wanted[2].strip())
+        place = place_in(wanted)
         lines = "%d\n%s" % (answer_of(wanted), "at %s\n" % place[1] if place else wanted[1] if part == "check" else "")
         yield part, differs((said, bytes_of(mine)), ((0, lines, ""), wanted[1].encode() if part != "check" and not wanted[0] else None))
         mine.unlink(missing_ok=True)
@@ -148,7 +153,7 @@ def in_columns(fitrec, program, source, message, fields):
     names = ",".join(names.get(it, "field_%d" % it) for it in fields)
     wanted = run(fitrec, "table", "--raw", "--message", name or "message_%d" % message, "--fields", names, source)
     said = run(program, "columns", source, message, ",".join(map(str, fields)))
-    place = re.match(r"fitrec: \w+(?:\(\d+\))? at (\d+)$", wanted[2].strip())
+    place = place_in(wanted)
     lines = "at %s\n" % place[1] if place else wanted[1].replace("\r\n", "\n").partition("\n")[2]
     return differs(said, (0, "%d\n%s" % (answer_of(wanted), lines), ""))
 
@@ -157,7 +162,7 @@ def plainly(fitrec, program, source, mine, its):
     """What differs between the plain form by the library, which gives a place only for a fault of the file, and by the program."""
     said, wanted = run(program, "plain", source, mine), run(fitrec, "plain", source, its)
     answer = answer_of(wanted)
-    place = re.match(r"fitrec: \w+(?:\(\d+\))? at (\d+)$", wanted[2].strip())
+    place = place_in(wanted)
     lines = "%d\n%s" % (answer, "at %s\n" % place[1] if 1 <= answer <= 9 else "")
     difference = differs((said, bytes_of(mine)), ((0, lines, ""), bytes_of(its)))
     mine.unlink(missing_ok=True)
