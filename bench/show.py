@@ -1,6 +1,9 @@
 """`fitrec show`, with --json too, and `fitrec plain` over an activity file of 64 MiB, which a small proved program writes with the encoder of
 the tree; beside gpsbabel on the same file, if it is there."""
 
+import collections
+import itertools
+import os
 import shutil
 import subprocess
 
@@ -8,12 +11,16 @@ from tools import Took, launched, proved, run
 
 
 def last_line(*words):
-    return subprocess.run([str(it) for it in words], stdout=subprocess.PIPE, text=True).stdout.rstrip("\n").rpartition("\n")[2]
+    """The last line of what is printed, of which no more is kept: the peak of a child's memory is at least that of this process."""
+    with subprocess.Popen([str(it) for it in words], stdout=subprocess.PIPE, text=True) as child:
+        return collections.deque(child.stdout, 1).pop().rstrip("\n")
 
 
 def messages_of(program, file):
-    """What is shown of a file, without the line of its header."""
-    return run(program, "show", file).partition("\n")[2]
+    """The lines that are shown of a file, without that of its header."""
+    with subprocess.Popen([program, "show", file], stdout=subprocess.PIPE, text=True) as child:
+        next(child.stdout)
+        yield from child.stdout
 
 
 def figures(work):
@@ -24,8 +31,12 @@ def figures(work):
         if last_line(program, "show", *word, file) != wanted:
             raise SystemExit("show: the last line is another")
     # A file whose closing checksum is wrong is read and checked whole, and then refused: reading without showing.
-    data = file.read_bytes()
-    wrong.write_bytes(data[:-1] + bytes([255 - data[-1]]))
+    shutil.copy(file, wrong)
+    with open(wrong, "r+b") as out:
+        out.seek(-1, os.SEEK_END)
+        last = out.read(1)[0]
+        out.seek(-1, os.SEEK_END)
+        out.write(bytes([255 - last]))
 
     def speed(took):
         return "%.0f MB/s" % (size / 1e6 / took.clock)
@@ -37,7 +48,7 @@ def figures(work):
     yield "`show --json`", speed(json)
     yield "reading and judging; memory", "%s; %.2f of the file" % (speed(judged), judged.peak / size)
     made = Took([program, "plain", file, plain])
-    if messages_of(program, plain) != messages_of(program, file):
+    if any(one != other for one, other in itertools.zip_longest(messages_of(program, plain), messages_of(program, file))):
         raise SystemExit("show: the plain file is shown otherwise")
     yield "`fitrec plain`; memory", "%s; %.2f of both files" % (speed(made), made.peak / (size + plain.stat().st_size))
     if not shutil.which("gpsbabel"):
