@@ -1,7 +1,6 @@
 """Compares the columns of the shared library, and the tables of the program, with the second reader, cell by cell: over random files, whole
 and damaged, with every base type and size, both byte orders, compressed timestamps, fields that are there twice, and developer fields."""
 
-import csv
 import ctypes
 import datetime
 import fractions
@@ -12,7 +11,7 @@ import re
 import shutil
 import tempfile
 
-from tools import profile_table, reader
+from tools import cells, profile_table, reader
 from tools.checks import Skipped, differs, unless
 from tools.fit_files import damaged, made
 from tools.libraries import build
@@ -42,14 +41,19 @@ def value_of(base, big, data):
     return (int.from_bytes(data, "big" if big else "little", signed=name.startswith("sint")),)
 
 
-def rows_of(data, message):
+def held_by(base, big, data):
+    """A field as it is."""
+    return ((base, big, data),)
+
+
+def rows_of(data, message, value=value_of):
     """For each message of this number, the value of the first field of each number."""
     found = []
-    for number, fields, _ in reader.messages(data, False, value_of)[3]:
+    for number, fields, _ in reader.messages(data, False, value)[3]:
         if number == message:
             row = {}
-            for field, value in fields:
-                row.setdefault(field, value[0])
+            for field, own in fields:
+                row.setdefault(field, own[0])
             found.append(row)
     return found
 
@@ -136,6 +140,21 @@ def cell_text(message, field, value, form, alone):
     return ("-" if value / fractions.Fraction(parts) + more < 0 else "") + (text[:-places] + "." + text[-places:] if places else text)
 
 
+def cell_in(message, field, row, form, alone):
+    """A cell of a table, as `tools/cells` has it."""
+    held = row.get(field)
+    whole = value_of(*held)[0] if held else None
+    if whole is not None or held is None or "--profile" not in form:
+        text = cell_text(message, field, whole, form, alone)
+        return "" if text == '""' else text
+
+    def write(number, is_single):
+        text = cell_text(message, field, number, form, alone and is_single)
+        return "" if text == '""' else text
+
+    return cells.cell_of(*held, write)
+
+
 def name_of(message, field, form):
     known, names = reader.names_of(message)
     row = ROWS.get((message, field)) if "--profile" in form else None
@@ -153,13 +172,12 @@ def by_program(fitrec, source, message, fields, form):
     words = ["--message", title, "--fields", ",".join(name for name, _ in names)]
     said = run(fitrec, "table", *form, *words, source)
     try:
-        rows = rows_of(data, message)
+        rows = rows_of(data, message, held_by)
     except reader.Refused as refused:
         return differs(said, (1, "", refused.lines), data)
-    lines = [",".join(head for _, head in names)]
-    lines += [",".join(cell_text(message, field, row.get(field), form, len(fields) == 1) for field in fields) for row in rows]
-    difference = differs(said, (0, "".join(line + "\r\n" for line in lines), ""), data)
-    return difference or differs(len(list(csv.reader(said[1].splitlines()))), len(rows) + 1, "the number of lines")
+    table = [[cell_in(message, field, row, form, len(fields) == 1) for field in fields] for row in rows]
+    difference = differs(said[::2], (0, ""), data)
+    return difference or cells.table_differs(said[1], [head for _, head in names], table, data if len(data) < 4096 else source)
 
 
 def python_package(archive, given):

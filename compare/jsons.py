@@ -1,33 +1,96 @@
 """Compares `fitrec show --json` with the second reader: Python's `json` reads each line, over a ride that was recorded, over each change
-of one byte of a small file, and over random files, whole and damaged."""
+of one byte of a small file, and over random files, whole and damaged. With `--profile` each field is compared, digit by digit, with what
+the table of the Profile gives of the second reader's numbers: of every field of the Profile, and over the same files."""
 
 import json
 import pathlib
 import random
 import tempfile
 
+import columns
+from tools import reader
 from tools.checks import differs
 from tools.fit_files import changes, damaged, framed, kind_of, made
 from tools.program import room, run
-from tools.reader import Refused, show_json
+from tools.reader import BASE_TYPES, Refused, show_json, value_json
 from tools.rides import EXAMPLE
 
 NEEDS = ("fitrec",)
 
 
-def outcome(program, path, utc):
+def read(text):
+    """The value of a text, with each object as a list of pairs, and each number with a point by its digits."""
+    return json.loads(text, object_pairs_hook=list, parse_float=lambda digits: ("digits", digits))
+
+
+def outcome(program, path, utc, profile=False):
     """The status, the values of the lines, each a list of pairs, and the errors. Each line has to be UTF-8 and one object."""
-    status, out, err = run(program, "show", "--json", *["--utc"] * utc, path)
+    status, out, err = run(program, "show", "--json", *["--utc"] * utc, *["--profile"] * profile, path)
     lines = out.split("\n")
     assert lines.pop() == "", "the last line has no end"
-    return status, [json.loads(line, object_pairs_hook=list) for line in lines], err
+    return status, [read(line) for line in lines], err
 
 
-def wanted(data, utc):
+# The types that have units: whole numbers of at most four bytes.
+IN_UNITS = columns.WHOLE - {"byte"}
+
+
+def numbers_of(base, big, data):
+    """The whole numbers of a field that has units, None where one is invalid; of any other field its value without the Profile."""
+    name, size, _ = BASE_TYPES.get(base, ("raw", 1, None))
+    if name not in IN_UNITS or not data or len(data) % size:
+        return base, False, value_json(base, big, data)
+    return base, True, [columns.value_of(base, big, data[at:at + size])[0] for at in range(0, len(data), size)]
+
+
+def member(message, field, stated, form):
+    """The name and the value of a field, as the table of the Profile has them."""
+    base, in_units, value = stated
+    if not in_units:
+        # a unit that would change the number is not named
+        unit = columns.unit_of(message, field, form)
+        changes = unit and unit is not columns.TIME and (unit[1], unit[3]) != (1, 0)
+        return columns.name_of(message, field, ["--raw", *form] if changes else form)[1 if not changes else 0], value
+    texts = [columns.cell_text(message, field, it, form, False) for it in value]
+    is_date = "--utc" in form and columns.unit_of(message, field, form) is columns.TIME
+    values = [None if not it else it if is_date else read(it) for it in texts]
+    return columns.name_of(message, field, form)[1], values if len(values) > 1 else values[0]
+
+
+def by_profile(data, utc):
+    """The values of the lines with the names and units of the Profile."""
+    form, lines = ["--profile", *["--utc"] * utc], show_json(data)
+    for line, (message, fields, _) in zip(lines[1:], reader.messages(data, False, numbers_of)[3]):
+        line[2] = "name", columns.TITLES.get(message)
+        line[3] = "fields", [member(message, field, stated, form) for field, stated in fields]
+    return lines
+
+
+def wanted(data, utc, profile=False):
     try:
-        return 0, show_json(data, utc), ""
+        return 0, by_profile(data, utc) if profile else show_json(data, utc), ""
     except Refused as refused:
         return 1, [], refused.lines
+
+
+def each_field(pick):
+    """A file with each field of the Profile, of a type of whole numbers: one number, and several."""
+    records, messages = b"", {}
+    for message, field in columns.ROWS:
+        messages.setdefault(message, []).append(field)
+    for message, own in messages.items():
+        fields, content = b"", b""
+        for field in own:
+            base = pick.choice([code for code, (name, _, _) in BASE_TYPES.items() if name in IN_UNITS])
+            size = BASE_TYPES[base][1] * pick.choice([1, 1, 1, 2, 3])
+            fields += bytes([field, size, base])
+            content += bytes(pick.choice([0, 0x3B, 0x7F, 0x80, 0xFF, pick.randrange(256)]) for _ in range(size))
+        for at in range(0, len(fields), 3 * 255):
+            part = fields[at:at + 3 * 255]
+            size = sum(part[1::3])
+            records += bytes([0x40, 0, 0]) + message.to_bytes(2, "little") + bytes([len(part) // 3]) + part + b"\0" + content[:size]
+            content = content[size:]
+    return framed(records)
 
 
 def strings():
@@ -49,24 +112,26 @@ def recorded(fitrec):
 def made_files(given):
     """A ride, strings of each kind, each change of one byte of a small file, and random files, whole and damaged."""
     pick = random.Random(given.seed)
-    inputs = [(data, utc) for data in [strings(), *recorded(given.fitrec)] for utc in (False, True)]
-    inputs += [(data, False) for data in changes(given.small)]
+    forms = [(utc, profile) for utc in (False, True) for profile in (False, True)]
+    inputs = [(data, *form) for data in [strings(), *recorded(given.fitrec), *[each_field(pick) for _ in range(20)]] for form in forms]
+    inputs += [(data, False, at % 8 == 0) for at, data in enumerate(changes(given.small))]
     for _ in range(given.files // 2):
         data = made(pick)
         data = data if pick.random() < 0.7 else damaged(pick, data)
-        inputs += [(data, False), (data, True)]
+        inputs += [(data, *form) for form in forms]
     with room() as (place, _):
         def judge(number, row):
-            data, utc = row
+            data, utc, profile = row
             path = place.parent / ("%d.fit" % number)
             path.write_bytes(data)
             try:
-                said = outcome(given.fitrec, path, utc)
+                said = outcome(given.fitrec, path, utc, profile)
             except ValueError as error:
                 said = "no JSON", str(error)
             path.unlink()
-            expected = wanted(data, utc)
-            return kind_of(expected[2], "shown with dates" if utc else "shown"), differs(said, expected, data)
+            expected = wanted(data, utc, profile)
+            way = ("by the Profile" if profile else "shown") + (" with dates" if utc else "")
+            return kind_of(expected[2], way), differs(said, expected, data)
 
         yield from given.judged(judge, inputs)
 

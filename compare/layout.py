@@ -10,7 +10,7 @@ from tools.program import ROOT
 
 NEEDS = ("cc",)
 # Each struct of the header with the one that the library takes for it. Of a recorder and a recovery only the first fields are the host's.
-STRUCTS = {"summary": "RideSummary", "salvage_counts": "SalvageCounts", "call": "Call", "plan": "DevicePlan", "sample": "DeviceSample", "state": "DeviceState", "recorder": "Handle",
+STRUCTS = {"summary": "RideSummary", "salvage_counts": "SalvageCounts", "finish_counts": "FinishCounts", "piece": "FilePiece", "call": "Call", "plan": "DevicePlan", "sample": "DeviceSample", "state": "DeviceState", "recorder": "Handle",
            "recovery": "RecoveryHandle"}
 OTHER_NAMES = {"lon": "long"}
 OWN = ("numbers",)

@@ -2,10 +2,14 @@
 
      library repair SPARE DATA JOURNAL OUT   the data file goes to OUT; its buffer has SPARE bytes more than it
      library salvage SPARE IN OUT ALL        the new file goes to OUT; its buffer has SPARE bytes more than IN
+     library skip IN OUT ALL                 the new file goes to OUT, and its pieces are printed; both buffers have just as much room, and too
+                                             little at first
+     library split IN                        the sizes of the files that are chained
      library save DATA JOURNAL OUT           the plain form goes to OUT; its buffer has just as many bytes, and too few at first
      library uncommitted DATA JOURNAL        the number of bytes
      library earlier DATA JOURNAL OUT        saves without the last commit, if what it counts has changed
      library plain IN OUT
+     library finish IN OUT                   the finished file goes to OUT; its buffer has just as many bytes, and too few at first
      library check IN
      library show IN UTC OUT                 the text goes to OUT; its buffer has just as many bytes, and too few at first
      library json IN UTC OUT                 the same as JSON
@@ -227,6 +231,47 @@ static void plain(char **words) {
     check_guards(in);
 }
 
+/* Finishes into a buffer of so many bytes. */
+static unsigned finish_in(struct buffer in, size_t size, struct buffer *out, struct fitrec_finish_counts *counts, uint64_t *place) {
+    *out = room(size);
+    fill(counts, sizeof *counts);
+    fill(place, sizeof *place);
+    fill(&out->len, sizeof out->len);
+    unsigned answer = fitrec_finish(in.bytes, in.size, out->bytes, out->size, &out->len, counts, place);
+    bool is_refused = answer != FITREC_FINISHED && answer != FITREC_FINISH_NO_ROOM;
+    check_numbers(place, sizeof *place, !answer || answer > FITREC_TRAILING_BYTES);
+    check_numbers(counts, sizeof *counts, is_refused);
+    check_numbers(&out->len, sizeof out->len, is_refused);
+    if (is_refused)
+        check_numbers(out->bytes, out->size, true);
+    return answer;
+}
+
+static void finish(char **words) {
+    struct buffer in = file_at(words[0], 0), out;
+    struct fitrec_finish_counts counts;
+    uint64_t place;
+    unsigned answer = finish_in(in, 0, &out, &counts, &place);
+    check_guards(out);
+    if (answer == FITREC_FINISH_NO_ROOM) {
+        uint64_t needed = out.len;
+        if (needed > in.size + FITREC_CLOSING_ROOM)
+            fail("a file that is longer than documented");
+        if (finish_in(in, needed - 1, &out, &counts, &place) != FITREC_FINISH_NO_ROOM || out.len != needed)
+            fail("another answer to a buffer that lacks one byte");
+        check_guards(out);
+        answer = finish_in(in, needed, &out, &counts, &place);
+        keep(out, words[1]);
+        check_guards(out);
+    }
+    printf("%u\n", answer);
+    if (answer == FITREC_FINISHED)
+        printf("heard %llu entries, %llu left out\n", (unsigned long long)counts.heard, (unsigned long long)counts.left_out);
+    else if (answer <= FITREC_TRAILING_BYTES)
+        printf("at %llu\n", (unsigned long long)place);
+    check_guards(in);
+}
+
 static void check(char **words) {
     struct buffer in = file_at(words[0], 0);
     struct fitrec_summary sum;
@@ -359,6 +404,86 @@ static void salvage(char **words) {
     check_guards(out);
 }
 
+/* Skips into buffers of so many bytes and pieces. */
+static unsigned skip_in(struct buffer in, bool all, size_t size, size_t piece_room, struct buffer *out, struct buffer *pieces,
+                        struct fitrec_salvage_counts *counts) {
+    *out = room(size);
+    *pieces = room(piece_room * sizeof(struct fitrec_piece));
+    fill(counts, sizeof *counts);
+    fill(&out->len, sizeof out->len);
+    fill(&pieces->len, sizeof pieces->len);
+    unsigned answer = fitrec_skip(in.bytes, in.size, all, out->bytes, out->size, &out->len, (struct fitrec_piece *)pieces->bytes, piece_room,
+                                  &pieces->len, counts);
+    bool is_found = answer == FITREC_SKIPPED || answer == FITREC_SKIP_NO_ROOM;
+    check_numbers(counts, sizeof *counts, !is_found);
+    check_numbers(&out->len, sizeof out->len, !is_found);
+    check_numbers(&pieces->len, sizeof pieces->len, !is_found && answer != FITREC_SKIP_MORE_PIECES);
+    if (answer != FITREC_SKIPPED)
+        check_numbers(out->bytes, out->size, true);
+    return answer;
+}
+
+static void print_pieces(struct buffer pieces) {
+    const struct fitrec_piece *found = (const struct fitrec_piece *)pieces.bytes;
+    for (uint64_t at = 0; at < pieces.len; at++) {
+        if (pieces.bytes[at * sizeof *found + offsetof(struct fitrec_piece, kept)] > 1)
+            fail("neither kept nor left out");
+        printf("%s %llu to %llu\n", found[at].kept ? "kept" : "left out", (unsigned long long)found[at].start,
+               (unsigned long long)found[at].end);
+    }
+}
+
+static void skip(char **words) {
+    struct buffer in = file_at(words[0], 0), out, pieces;
+    struct fitrec_salvage_counts counts;
+    bool all = words[2][0] == '1';
+    uint64_t count = 0, needed = 0;
+    unsigned answer = skip_in(in, all, 0, 0, &out, &pieces, &counts);
+    if (answer == FITREC_SKIP_MORE_PIECES) {
+        count = pieces.len;
+        check_guards(out);
+        check_guards(pieces);
+        if (skip_in(in, all, in.size + FITREC_FRAME_ROOM, count - 1, &out, &pieces, &counts) != FITREC_SKIP_MORE_PIECES || pieces.len != count)
+            fail("another answer to a buffer that lacks one piece");
+        check_guards(out);
+        check_guards(pieces);
+        answer = skip_in(in, all, 0, count, &out, &pieces, &counts);
+    }
+    if (answer == FITREC_SKIP_NO_ROOM) {
+        needed = out.len;
+        check_guards(out);
+        check_guards(pieces);
+        if (skip_in(in, all, needed - 1, count, &out, &pieces, &counts) != FITREC_SKIP_NO_ROOM || out.len != needed || pieces.len != count)
+            fail("another answer to a buffer that lacks one byte");
+        check_guards(out);
+        check_guards(pieces);
+        answer = skip_in(in, all, needed, count, &out, &pieces, &counts);
+    }
+    printf("%u\n", answer);
+    if (answer == FITREC_SKIPPED) {
+        printf("kept %llu of %llu, %llu not looked at\n", (unsigned long long)counts.kept, (unsigned long long)counts.looked_at,
+               (unsigned long long)counts.not_looked_at);
+        print_pieces(pieces);
+        keep(out, words[1]);
+    }
+    check_guards(in);
+    check_guards(out);
+    check_guards(pieces);
+}
+
+static void split(char **words) {
+    struct buffer in = file_at(words[0], 0);
+    for (uint64_t at = 0, size; at < in.size; at += size) {
+        size = fitrec_first_file(in.bytes + at, in.size - at);
+        if (!size || size > in.size - at)
+            fail("a file that does not lie in the buffer");
+        printf("%llu\n", (unsigned long long)size);
+    }
+    if (fitrec_first_file(in.bytes, 0))
+        fail("a file of no bytes");
+    check_guards(in);
+}
+
 static void lengths(char **words) {
     struct buffer data = file_at(words[0], FITREC_CLOSING_ROOM), journal = file_at(words[1], 0), nothing = room(0);
     struct fitrec_summary sum;
@@ -384,6 +509,10 @@ int main(int count, char **words) {
         repair(words + 2);
     else if (count == 6 && !strcmp(words[1], "salvage"))
         salvage(words + 2);
+    else if (count == 5 && !strcmp(words[1], "skip"))
+        skip(words + 2);
+    else if (count == 3 && !strcmp(words[1], "split"))
+        split(words + 2);
     else if (count == 5 && !strcmp(words[1], "save"))
         save(words + 2);
     else if (count == 4 && !strcmp(words[1], "uncommitted"))
@@ -392,6 +521,8 @@ int main(int count, char **words) {
         earlier(words + 2);
     else if (count == 4 && !strcmp(words[1], "plain"))
         plain(words + 2);
+    else if (count == 4 && !strcmp(words[1], "finish"))
+        finish(words + 2);
     else if (count == 3 && !strcmp(words[1], "check"))
         check(words + 2);
     else if (count == 5 && !strcmp(words[1], "show"))

@@ -1,5 +1,5 @@
 """Compares the library for C (fit_c, include/fitrec.h) with the program, byte for byte: over recordings whose power went, over damaged
-ones, and over files that are salvaged, shown and checked. The C program is compiled with all warnings as errors, without and with sanitizers."""
+ones, and over files that are salvaged, finished, shown and checked. The C program is compiled with all warnings as errors, without and with sanitizers."""
 
 import pathlib
 import re
@@ -9,7 +9,7 @@ import tempfile
 from tools import release
 from tools.checks import differs
 from tools.libraries import build, declared, names_of, programs
-from tools.library_calls import ANSWERS, of_files, of_recordings, of_shown_and_checked
+from tools.library_calls import ANSWERS, of_files, of_finished, of_mended, of_recordings, of_shown_and_checked
 from tools.program import ROOT, run
 
 NEEDS = ("fitrec", "rt", "cc")
@@ -49,5 +49,5 @@ def check(given):
         with programs(ROOT / "compare/library.c", archive, words=("-std=c99", "-pedantic")) as made:
             for how, program in made.items():
                 yield from given.checks(of_recordings, given.fitrec, program, given.files // 12, given.seed, under=how)
-                for group in (of_files, of_shown_and_checked):
+                for group in (of_files, of_finished, of_mended, of_shown_and_checked):
                     yield from given.checks(group, given.fitrec, program, given.files // 48, given.seed, under=how)

@@ -1,30 +1,49 @@
+#!/usr/bin/env -S python3 -B
 """`fitrec salvage --skip` over rides with a hole: how many of the records outside are kept, and how many are made up. The rides are our own
-and those of other makers in Debian's source of goldencheetah. Chained files are split."""
+and those of other makers in Debian's source of goldencheetah. Chained files are split.
+
+    compare/mending.py SEED..
+
+prints the figures of these seeds for a table, with those of gpsbabel's recovery mode."""
 
 import collections
+import functools
 import os
 import pathlib
 import random
+import sys
 import tempfile
 import time
+from typing import NamedTuple
 
 from tools.checks import Skipped, differs, unless
 from tools.finished import finished
 from tools.fit_files import framed
 from tools.holes import KINDS, SIZES, hole, items, numbers, older, touches
 from tools.other_makers import rides
-from tools.program import bytes_of, run
-from tools.reader import show
+from tools.program import FITREC, bytes_of, run
+from tools.reader import Refused, show
 from tools.rides import recording
 
 NEEDS = ("fitrec",)
 
-# Of the records outside a hole, how many are kept at least, and of those that are kept, how many may be made up. A compressed timestamp
-# does not say of which ride it is, and our own rides have them.
-KEPT = 0.97
-MADE_UP = {"our rides": 3 / 100, "other makers": 1 / 1000}
-# These leave whole records of our own in other places, with other times.
-UNBOUND = "our rides", ("older content", "doubled")
+# Of the records outside a hole of so many bytes, how many are kept at least, and of those that are kept, how many may be made up.
+KEPT = {1: 0.99, 16: 0.99, 512: 0.99, 4096: 0.97}
+MADE_UP = 1 / 1000
+# How many may be of bytes of other moments, in a ride of heart rates alone: nearly all that stand in a hole of 512 bytes.
+MADE_UP_WITHOUT = 72 / 1000
+# One ride of another maker has so many records whose times are two years later.
+STRANGE = 14
+
+
+class Damaged(NamedTuple):
+    """A ride with holes: its file, the records that it had, those outside the holes, and whether a hole touches a definition."""
+
+    data: bytes
+    holes: int
+    whole: collections.Counter
+    outside: collections.Counter
+    is_undefined: bool
 
 
 def mended(fitrec, data, *words):
@@ -67,36 +86,42 @@ def own_rides(fitrec):
     return rides
 
 
-def count(fitrec, pick, data, kind, size, holes):
-    """Of one ride with so many holes of a kind: how many records stand, are kept, and are made up."""
+def damaged(pick, data, kind, size, holes):
+    """A ride with so many holes of a kind."""
     head, row = numbers(data)
     there = list(items(row))
-    old, whole = older(row), collections.Counter(it.what for it in there if it.what is not None)
-    places = [pick.randrange(200, len(row) - size - 20) for _ in range(holes)]
-    damaged = row
+    old, places = older(row), [pick.randrange(200, len(row) - size - 20) for _ in range(holes)]
     for at in sorted(places, reverse=True):
-        damaged = hole(pick, damaged, old, kind, size, at)
-    said, out = mended(fitrec, head + damaged + bytes(2), "--all")
-    touched = [[it for it in there if touches(it, kind, size, at)] for at in places]
-    outside = collections.Counter(it.what for it in there if it.what is not None and not any(it in some for some in touched))
-    kept = collections.Counter(it.what for it in records(out)) if out is not None else collections.Counter()
-    # The two records at the ends of a hole may be left with other values.
-    made_up = max(0, sum((kept - whole).values()) - 2 * holes)
-    broken = any(it.what is None for some in touched for it in some)
-    return said[0], broken, sum(outside.values()), sum((kept & outside).values()), made_up
+        row = hole(pick, row, old, kind, size, at)
+    touched = [it for it in there if any(touches(it, kind, size, at) for at in places)]
+    whole = collections.Counter(it.what for it in there if it.what is not None)
+    outside = whole - collections.Counter(it.what for it in touched if it.what is not None)
+    return Damaged(head + row + bytes(2), holes, whole, outside, any(it.what is None for it in touched))
 
 
-def judged(fitrec, seed, rides, kind, size, rounds, holes=1):
-    """The sums over all rides, beside holes that touch a definition, and in them."""
-    sums = {False: [0, 0, 0], True: [0, 0, 0]}
+def counts(ride, kept):
+    """How many records stand outside the holes, are kept of these, and are made up. The two at the ends of a hole may have other values."""
+    made_up = max(0, sum((kept - ride.whole).values()) - 2 * ride.holes)
+    return sum(ride.outside.values()), sum((kept & ride.outside).values()), made_up
+
+
+def by_salvage(fitrec, ride):
+    (status, out, err), file = mended(fitrec, ride.data, "--all")
+    return counts(ride, collections.Counter(it.what for it in records(file))) if status == 0 else None
+
+
+def damaged_rides(seed, rides, kind, size, rounds, holes=1):
+    """Each ride with its places of holes, by a seed."""
     pick = random.Random("%d %s %d %d" % (seed, kind, size, holes))
     for data in rides:
         for _ in range(rounds):
-            status, broken, *counts = count(fitrec, pick, data, kind, size, holes)
-            if status != 0:
-                return None
-            sums[broken] = [a + b for a, b in zip(sums[broken], counts)]
-    return sums
+            yield data, damaged(pick, data, kind, size, holes)
+
+
+def judged(fitrec, seed, rides, kind, size, rounds, holes=1):
+    """The sums over all rides of which no hole touches a definition."""
+    found = [by_salvage(fitrec, ride) for data, ride in damaged_rides(seed, rides, kind, size, rounds, holes) if not ride.is_undefined]
+    return None if None in found else [sum(each) for each in zip((0, 0, 0), *found)]
 
 
 def told(sums):
@@ -104,19 +129,13 @@ def told(sums):
     return "%.4f of %d kept, %d made up" % (kept / stood if stood else 1, stood, made_up)
 
 
-def is_enough(name, kind, sums):
-    stood, kept, made_up = sums
-    is_bound = name != UNBOUND[0] or kind not in UNBOUND[1]
-    return kept >= KEPT * stood and (made_up <= MADE_UP[name] * max(kept, 1) or not is_bound)
-
-
 def over(given, rides, name):
     rounds = max(1, given.files // 3000) * max(1, 8 // len(rides))
-    wanted = "%.2f kept, %.3f made up" % (KEPT, MADE_UP[name])
     for kind, size, holes in [(kind, size, 1) for size in SIZES for kind in KINDS] + [("noise", 512, 2)]:
         sums = judged(given.fitrec, given.seed, rides, kind, size, rounds, holes)
-        well = sums is not None and is_enough(name, kind, sums[False])
-        yield "%s, %d bytes %s, holes %d" % (name, size, kind, holes), unless(well, sums and told(sums[False]), wanted)
+        well = sums is not None and sums[1] >= KEPT[size] * sums[0] and sums[2] <= MADE_UP * sums[1]
+        wanted = "%.2f kept, %.3f made up" % (KEPT[size], MADE_UP)
+        yield "%s, %d bytes %s, holes %d" % (name, size, kind, holes), unless(well, sums and told(sums), wanted)
 
 
 def own(given):
@@ -131,8 +150,19 @@ def others(given):
         yield from over(given, rides, "other makers")
 
 
+def without_distances(given):
+    """Heart rates alone do not say of which moment they are, and compressed timestamps not of which minute: bytes of other moments fit in."""
+    pick = random.Random(given.seed)
+    lines = ["sample %d hr=%d" % (1000000000 + second, 120 + pick.randrange(-5, 6)) for second in range(1, 3600)]
+    ride = recording(given.fitrec, "start 1000000000 7 running", *lines, "stop 1000003600")["activity.fit"]
+    for kind in "older content", "doubled":
+        stood, kept, made_up = sums = judged(given.fitrec, given.seed, [ride], kind, 512, 16)
+        well = kept >= KEPT[512] * stood and made_up <= MADE_UP_WITHOUT * kept
+        yield "%s without distances" % kind, unless(well, told(sums), "%.2f kept, %.3f made up" % (KEPT[512], MADE_UP_WITHOUT))
+
+
 def whole(given):
-    """Nothing is left out of an undamaged file, and little of one that is cut off."""
+    """Nothing is left out of an undamaged file, and little of one that is cut off, or whose checksum is wrong or header gives no size."""
     found = of_other_makers()
     rides = own_rides(given.fitrec) + ([] if isinstance(found, Skipped) else found)
     for number, data in enumerate(rides):
@@ -140,6 +170,11 @@ def whole(given):
         (status, out, err), file = mended(given.fitrec, data)
         want = 0, "kept %d of %d, parts 1\n" % (len(row), len(row)), row
         yield "an undamaged file", differs((status, out, file and numbers(file)[1]), want, number)
+        full = len(records(data))
+        for name, bad in ("a wrong checksum", data[:-1] + bytes([data[-1] ^ 0x5A])), ("no size", data[:4] + bytes(4) + data[8:]):
+            file = mended(given.fitrec, bad)[1]
+            kept = file and len(records(file))
+            yield name, unless(kept in (full, full - STRANGE), kept, full)
         pick = random.Random("%d %d" % (given.seed, number))
         for _ in range(max(1, given.files // 1000)):
             end = pick.randrange(len(row) // 3, len(row))
@@ -147,8 +182,7 @@ def whole(given):
             before = sum(it.end <= end for it in records(data))
             file = mended(given.fitrec, cut)[1]
             kept = file and len(records(file))
-            # One ride has 14 records whose times are two years later.
-            yield "a file that is cut off", unless(file is not None and kept >= before - 14, kept, before)
+            yield "a file that is cut off", unless(file is not None and kept >= before - STRANGE, kept, before)
 
 
 def damaged_headers(given):
@@ -176,24 +210,32 @@ def noise(given):
     yield "10 MB of noise", unless(status == 0 and took[1] < 3 and took[1] < 4 * took[0] + 0.2, took, "a second, linear")
 
 
+def part_line(number, data):
+    """The line of a chained file of this number, with the fault that a second reader finds in it."""
+    try:
+        show(data)
+        fault = ""
+    except Refused as refused:
+        fault = ", %s" % refused
+    return "%d.fit: %d bytes%s\n" % (number, len(data), fault)
+
+
 def split(given):
-    """The files of a chained one are written as they are."""
+    """The files of a chained one are written as they are, and a line says of each how long it is and why it is no file."""
     files = own_rides(given.fitrec) + [given.small]
-    pick = random.Random(given.seed)
-    for name, end in ("whole", b""), ("the last one cut off", None), ("with bytes after it", b"\0\1\2"):
-        chain = [*files]
-        if end is None:
-            chain[-1] = chain[-1][:pick.randrange(14, len(chain[-1]))]
-        elif end:
-            chain.append(end)
+    end = random.Random(given.seed).randrange(14, len(given.small))
+    for name, chain in (
+            ("whole", files), ("the last one cut off", files[:-1] + [given.small[:end]]), ("with bytes after it", files + [b"\0\1\2"]),
+            ("with faults", [framed(b"\5"), files[0][:-1] + bytes([files[0][-1] ^ 1]), framed(b"\x40"), *files])):
         with tempfile.TemporaryDirectory() as folder:
             source = pathlib.Path(folder) / "in.fit"
             source.write_bytes(b"".join(chain))
             new = pathlib.Path(folder) / "new"
             new.mkdir()
-            status, out, err = run(given.fitrec, "split", source, new)
+            said = run(given.fitrec, "split", source, new)
             left = [bytes_of(new / ("%d.fit" % number)) for number in range(1, len(chain) + 1)]
-            yield name, differs((status, err, left, len(os.listdir(new)), len(out.splitlines())), (0, "", chain, len(chain), len(chain)))
+            lines = "".join(part_line(number, file) for number, file in enumerate(chain, 1))
+            yield name, differs((said, left, len(os.listdir(new))), ((0, lines, ""), chain, len(chain)))
 
 
 def finishes(given):
@@ -217,4 +259,46 @@ def check(given):
     yield from given.checks(finishes, given)
     yield from given.checks(noise, given)
     yield from given.checks(own, given)
+    yield from given.checks(without_distances, given)
     yield from given.checks(others, given)
+
+
+@functools.cache
+def points(data):
+    """The points that gpsbabel reads in its recovery mode, without their number and their time: it does not carry short times."""
+    with tempfile.TemporaryDirectory() as folder:
+        source = pathlib.Path(folder) / "in.fit"
+        source.write_bytes(data)
+        words = "-t", "-i", "garmin_fit,recoverymode=1", "-f", source, "-o", "unicsv,utc=0", "-F", "-"
+        lines = run("gpsbabel", *words)[1].splitlines()
+    names = lines[0].split(",") if lines else []
+    left_out = {names.index(name) for name in ("No", "Date", "Time") if name in names}
+    return collections.Counter(tuple(it for at, it in enumerate(line.split(",")) if at not in left_out) for line in lines[1:])
+
+
+def by_gpsbabel(data, ride):
+    """The same counts of gpsbabel, as far as it reads the points of the undamaged file."""
+    whole, found = points(data), points(ride.data)
+    stood = max(0, sum(whole.values()) - sum((ride.whole - ride.outside).values()))
+    return stood, min(stood, sum((found & whole).values())), max(0, sum((found - whole).values()) - 2 * ride.holes)
+
+
+def print_table(fitrec, seeds):
+    """What is kept and made up of all seeds, and at worst of one."""
+    for name, found in ("our rides", own_rides(fitrec)), ("other makers", of_other_makers()):
+        for size, kind in [(size, kind) for size in SIZES for kind in KINDS]:
+            holes = [[it for it in damaged_rides(seed, found, kind, size, max(1, 8 // len(found))) if not it[1].is_undefined] for seed in seeds]
+            print_line(name, size, kind, "salvage", [[by_salvage(fitrec, ride) for data, ride in each] for each in holes])
+            print_line(name, size, kind, "gpsbabel", [[by_gpsbabel(data, ride) for data, ride in each] for each in holes])
+
+
+def print_line(name, size, kind, program, found):
+    sums = [[sum(each) for each in zip((0, 0, 0), *some)] for some in found]
+    stood, kept, made_up = [sum(each) for each in zip(*sums)]
+    print("%-12s %5d %-13s %-8s kept %.5f, at worst %.5f; made up %.5f, at worst %.5f" % (
+        name, size, kind, program, kept / stood, min(it[1] / it[0] for it in sums), made_up / max(1, kept),
+        max(it[2] / max(1, it[1]) for it in sums)), flush=True)
+
+
+if __name__ == "__main__":
+    print_table(FITREC, [int(word) for word in sys.argv[1:]])

@@ -71,6 +71,48 @@ function salvage([spare, path, out, all]) {
   it.lookAtGuards();
 }
 
+function skip([path, out, all]) {
+  const source = file(path);
+  const skipped = (size, pieceRoom) => {
+    const it = place(source, { size }, number(), { size: 24 * pieceRoom }, number(), { size: 24 }), at = it.places;
+    const answer = it.call('fitrec_skip', at[0], source.size, all === '1', at[1], size, at[2], at[3], pieceRoom, at[4], at[5]);
+    it.lookAtGuards();
+    return { answer, length: it.long(2), count: it.long(4), file: it.result(1, size), pieces: it.result(3, 24 * pieceRoom),
+      counts: new BigUint64Array(it.result(5, 24).buffer) };
+  };
+  let it = skipped(0, 0), count = 0;
+  if (it.answer === 25) {
+    count = it.count;
+    const less = skipped(source.size + 16, count - 1);
+    if (less.answer !== 25 || less.count !== count) throw new Error('another answer to a buffer that lacks one piece');
+    it = skipped(0, count);
+  }
+  if (it.answer === 20) {
+    const needed = it.length, less = skipped(needed - 1, count);
+    if (less.answer !== 20 || less.length !== needed || less.count !== count) throw new Error('another answer to a buffer that lacks one byte');
+    it = skipped(needed, count);
+  }
+  print(String(it.answer));
+  if (it.answer === 0) {
+    print(`kept ${it.counts[0]} of ${it.counts[1]}, ${it.counts[2]} not looked at`);
+    const view = new DataView(it.pieces.buffer), words = ['left out', 'kept'];
+    for (let at = 0; at < 24 * count; at += 24)
+      print(`${words[view.getUint8(at + 16)]} ${view.getBigUint64(at, true)} to ${view.getBigUint64(at + 8, true)}`);
+    writeFileSync(out, it.file);
+  }
+}
+
+function split([path]) {
+  const source = file(path), it = place(source), at = it.places[0];
+  for (let start = 0, size; start < source.size; start += size) {
+    size = Number(it.call('fitrec_first_file', at + start, source.size - start));
+    if (!size || size > source.size - start) throw new Error('a file that does not lie in the buffer');
+    print(String(size));
+  }
+  if (it.call('fitrec_first_file', at, 0)) throw new Error('a file of no bytes');
+  it.lookAtGuards();
+}
+
 // Saves the recording of these files into a buffer of so many bytes.
 function saveIn([dataPath, journalPath], size) {
   const data = file(dataPath, CLOSING_ROOM), journal = file(journalPath);
@@ -128,6 +170,27 @@ function plain([path, out]) {
   }
   print(String(it.answer));
   if (it.answer) print('at ' + it.place);
+}
+
+function finish([path, out]) {
+  const source = file(path);
+  const finished = size => {
+    const it = place(source, { size }, number(), { size: 16 }, number()), at = it.places;
+    const answer = it.call('fitrec_finish', at[0], source.size, at[1], size, at[2], at[3], at[4]);
+    it.lookAtGuards();
+    return { answer, length: it.long(2), counts: new BigUint64Array(it.result(3, 16).buffer), place: it.long(4), file: it.result(1, size) };
+  };
+  let it = finished(0);
+  if (it.answer === 20) {
+    const needed = it.length, less = finished(needed - 1);
+    if (needed > source.size + CLOSING_ROOM) throw new Error('a file that is longer than documented');
+    if (less.answer !== 20 || less.length !== needed) throw new Error('another answer to a buffer that lacks one byte');
+    it = finished(needed);
+    writeFileSync(out, it.file);
+  }
+  print(String(it.answer));
+  if (it.answer === 0) print(`heard ${it.counts[0]} entries, ${it.counts[1]} left out`);
+  else if (it.answer <= 9) print('at ' + it.place);
 }
 
 function check([path]) {
@@ -199,5 +262,5 @@ function lengths([dataPath, journalPath]) {
 }
 
 const version = () => print(String(Number(place().call('fitrec_version') === 1)));
-const calls = { repair, save, uncommitted, earlier, salvage, plain, check, show, json, columns, lengths, version };
+const calls = { repair, save, uncommitted, earlier, salvage, skip, split, plain, finish, check, show, json, columns, lengths, version };
 calls[word](words);

@@ -20,10 +20,11 @@ from columns import refusal_of, rows_of
 from tools import reader, release
 from tools.checks import differs, unless
 from tools.fit_files import damaged, made
-from tools.library_calls import of_files, of_recordings, of_shown_and_checked
+from tools.library_calls import of_files, of_finished, of_mended, of_recordings, of_shown_and_checked
 from tools.needs import missing
 from tools.page_app import of_a_long_ride, of_an_app
 from tools.page_files import of_choosing, of_inputs
+from tools.page_holes import of_chains, of_holes
 from tools.page_people import of_people
 from tools.page_rides import of_looking, of_numbers
 from tools.pages import RIDE, both, recorded, tour
@@ -32,9 +33,21 @@ from tools.visits import PAGE
 
 NEEDS = ("fitrec", "rt", "node", "wasm-opt", "chromium")
 WEB, MODULE = ROOT / "web", ROOT / "compare/module.mjs"
-GROUPS = of_inputs, of_choosing, of_numbers, of_looking, of_people, of_an_app, of_a_long_ride
+GROUPS = of_inputs, of_choosing, of_holes, of_chains, of_numbers, of_looking, of_people, of_an_app, of_a_long_ride
 # The most bytes of the page.
 MOST = 160_000
+
+
+def pieces_of(said, front):
+    """What the lines of `salvage --skip` say of a file all of which was looked at, with the pieces that are kept between the others."""
+    kept, looked = (int(it) for it in re.match(r"kept (\d+) of (\d+), parts", said).groups())
+    pieces, at = [], front
+    for count, start in re.findall(r"left out (\d+) at (\d+)", said):
+        start, end = int(start), int(start) + int(count)
+        pieces += [{"start": at, "end": start, "kept": True}] * (at < start) + [{"start": start, "end": end, "kept": False}]
+        at = end
+    pieces += [{"start": at, "end": front + looked, "kept": True}] * (at < front + looked)
+    return {"kept": kept, "looked": looked, "more": 0, "pieces": pieces}
 
 
 def of_calls(fitrec, many, seed):
@@ -61,14 +74,24 @@ def of_calls(fitrec, many, seed):
         names = "records", "laps", "sessions", "start", "elapsed", "timer", "distance"
         summary = dict(zip(names, (int(it) for it in re.findall(r"=(\d+)", line))))
         run(fitrec, "salvage", torn / NAMES[0], folder / "kept.fit")
+        heard, left = re.findall(r"heard (\d+) entries, (\d+)", run(fitrec, "salvage", "--finish", torn / NAMES[0], folder / "whole.fit")[1])[0]
+        finished = {"file": (folder / "whole.fit").read_bytes().hex(), "heard": int(heard), "leftOut": int(left)}
         shutil.copytree(torn, folder / "mended")
         run(fitrec, "repair", folder / "mended")
-        ride = (folder / "ride.fit").read_bytes()
+        ride, hole = (folder / "ride.fit").read_bytes(), bytearray((torn / NAMES[0]).read_bytes())
+        hole[900:940] = bytes(40)
+        (folder / "hole.fit").write_bytes(hole)
+        (folder / "chain.fit").write_bytes(ride + ride + b"\0\1")
+        said = run(fitrec, "salvage", "--skip", folder / "hole.fit", folder / "skipped.fit")[1]
+        skipped = {**pieces_of(said, hole[0]), "file": (folder / "skipped.fit").read_bytes().hex()}
         rest = [("save", both(torn), {"file": ride.hex(), "summary": summary}),
                 ("repair", both(torn), {"file": (folder / "mended" / NAMES[0]).read_bytes().hex(), "summary": summary}),
                 ("save", [torn / NAMES[0], other / NAMES[1]], {"kind": "Damaged"}), ("check", [folder / "ride.fit"], summary),
-                ("check", [folder / "kept.fit"], {"kind": "NoSession"}), ("plain", [folder / "mended" / NAMES[0]], ride.hex()),
-                ("uncommitted", both(torn), 0), ("leaveChanged", both(torn), None), ("salvage", [torn / NAMES[1]], {"kind": "HeaderSize"})]
+                ("check", [folder / "kept.fit"], {"kind": "NoSession"}), ("finish", [folder / "kept.fit"], finished),
+                ("finish", [torn / NAMES[1]], {"kind": "HeaderSize", "place": 0}), ("plain", [folder / "mended" / NAMES[0]], ride.hex()),
+                ("uncommitted", both(torn), 0), ("leaveChanged", both(torn), None), ("salvage", [torn / NAMES[1]], {"kind": "HeaderSize"}),
+                ("skip", [folder / "hole.fit"], skipped), ("skip", [torn / NAMES[1]], {"kind": "HeaderSize"}),
+                ("split", [folder / "chain.fit"], [ride.hex(), ride.hex(), "0001"])]
         asked += [{"name": name, "files": files} for name, files, _ in rest]
         status, out, err = run(ROOT / "compare/calls.mjs", input=json.dumps(asked, default=str))
         yield "called", differs((status, err), (0, ""))
@@ -107,7 +130,8 @@ def check(given):
     # The module under Node does what the program does, and what the library for C does with its buffers.
     os.environ["FITREC_MODULE"] = str(WEB / "out/fit_c.wasm")
     count = given.files // 250
-    for group, many in ((of_recordings, count), (of_files, count // 2), (of_shown_and_checked, count // 4)):
+    for group, many in ((of_recordings, count), (of_files, count // 2), (of_mended, count // 4), (of_finished, count // 4),
+                        (of_shown_and_checked, count // 4)):
         yield from given.checks(group, given.fitrec, MODULE, many, given.seed, under="module")
     yield from given.checks(of_calls, given.fitrec, given.files // 60, given.seed)
     for group in GROUPS:

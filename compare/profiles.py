@@ -1,20 +1,24 @@
 """Checks the table of the public FIT Profile (python/fitrec/profile.txt): it has the names and units of the texts, the program's table is
 made of it, and it states what the Perl module in Debian's package pytrainer states, as perl reads that. The module is the one that is
-installed, or else the one that `apt-get download` fetches. Debian 12 has an older one with fewer fields."""
+installed, or else the one that `apt-get download` fetches. Debian 12 has an older one with fewer fields. And compares the cells of
+`table --profile` with the second reader, struct and csv: fields of every type, and the rides of other makers."""
 
 import collections
 import pathlib
+import random
 import re
+import struct
 import tempfile
 
 import columns
-from tools import reader
+from tools import other_makers, reader
 from tools.checks import Skipped, differs, unless
+from tools.fit_files import framed
 from tools.needs import is_there
 from tools.profile_table import TABLE, rows_of
 from tools.program import ROOT, run
 
-NEEDS = ("perl",)
+NEEDS = ("fitrec", "perl")
 MODULES = "usr/share/pytrainer/plugins/garmin-fit/bin/Geo/FIT.pm", "usr/share/pytrainer/plugins/garmin-fit/bin/Garmin/FIT.pm"
 
 # What is left out: messages and fields that the module itself calls undocumented, unknown or not present.
@@ -105,6 +109,111 @@ def of_the_module():
             yield "all fields are the module's", differs(sorted(set(table) - set(said)), [])
 
 
+# Values of each type that a table has to write in one way: limits, invalid ones, and floats of every size.
+FLOATS = [0.0, -0.0, 0.1, -12.5, 1 / 3, 1e-7, 123456.789, 16777216.0, 9007199254740993.0, 3.4028234663852886e38, 1.1754943508222875e-38, 1e-45,
+          5e-324, 1.7976931348623157e308, 2.2250738585072014e-308, 1e22, 1e23, float("inf"), float("-inf"), float("nan"), 5684341886080801.5]
+STRINGS = [b"", b"plain", b"a,b", b'say "so"', b'"', b"two\r\nlines", b"cr\r", b"lf\n", b"caf\xc3\xa9", b"caf\xe9", b"\xff\x80,\xe9", b"a|b", b" spaced ", b"\x01\x7f",
+           b"\xf0\x9f\x9a\xb4", b"=1+1", b"'"]
+
+
+def value_made(pick, name, size, invalid):
+    """The bytes of a value of a type, the high one first."""
+    if pick.random() < 0.2:
+        return invalid.to_bytes(size, "big")
+    if name.startswith("float") and pick.random() < 0.7:
+        try:
+            return struct.pack({4: ">f", 8: ">d"}[size], pick.choice(FLOATS))
+        except OverflowError:
+            pass
+    half = 1 << (8 * size - 1)
+    near = [0, 1, half - 2, half - 1, half, half + 1, 2 * half - 2, 2 * half - 1, pick.randrange(min(2 * half, 100000)), 1000000000]
+    return (pick.choice(near) % (2 * half) if pick.random() < 0.6 else pick.randrange(2 * half)).to_bytes(size, "big")
+
+
+def content_made(pick, base, big):
+    """The bytes of a field: one value or several, sometimes of an odd size."""
+    name, size, invalid = reader.BASE_TYPES[base]
+    if name == "string":
+        text = pick.choice(STRINGS) + pick.choice([b"", b"\0", b"\0rest, \"\n", pick.choice(STRINGS)])
+        return text[:pick.choice([255, 255, 255, pick.randrange(9)])]
+    values = [value_made(pick, name, size, invalid) for _ in range(pick.choice([0, 1, 1, 1, 2, 3, 5, 8]))]
+    if pick.random() < 0.1:
+        values = [invalid.to_bytes(size, "big") for _ in values]
+    data = b"".join(value if big else value[::-1] for value in values)
+    return data + bytes(pick.randrange(3)) if pick.random() < 0.05 else data
+
+
+def file_of_kinds(pick):
+    """A file with messages of one number, mostly one of the Profile, whose fields have any type; and that number, and the fields."""
+    message = pick.choice([20, 20, 18, 132, 227, *{number for number, _ in columns.ROWS}, pick.randrange(65536)])
+    known = [field for number, field in columns.ROWS if number == message]
+    # A word names one field: a message of the Profile may have a timestamp of its own.
+    usual = {253} - {253 for it in known if it != 253 and columns.ROWS[message, it][1] == "timestamp"}
+    fields, records = pick.sample(sorted({*known, *usual, *range(20, 30)}), 10), b""
+    for _ in range(pick.choice([1, 2, 5])):
+        big, local = pick.randrange(2), pick.randrange(4)
+        held = [(field, base, content_made(pick, base, big)) for field in pick.sample(fields, pick.choice([1, 3, 9]))
+                for base in [pick.choice(sorted(reader.BASE_TYPES))]]
+        records += bytes([0x40 | local, 0, big]) + message.to_bytes(2, "big" if big else "little") + bytes([len(held)])
+        records += b"".join(bytes([field, len(data), base]) for field, base, data in held)
+        records += bytes([pick.choice([local, 0x80 | local << 5 | pick.randrange(32)])]) + b"".join(data for _, _, data in held)
+        for _ in range(pick.randrange(3)):
+            records += bytes([local]) + bytes(pick.choice([0, 0xFF, 44, 34, pick.randrange(256)]) for _, _, data in held for _ in data)
+    return framed(records), message, fields
+
+
+def kinds(given):
+    """Fields of every type as the cells of a table."""
+    pick, inputs = random.Random(given.seed), []
+    for _ in range(given.files // 2):
+        form = ["--profile"] * (pick.random() < 0.9) + pick.choice([[], [], ["--raw"], ["--utc"], ["--raw", "--utc"]])
+        data, message, fields = file_of_kinds(pick)
+        inputs.append((data, message, fields[:pick.choice([1, 5, 10])], form))
+    with tempfile.TemporaryDirectory() as folder:
+        def judge(number, row):
+            data, message, fields, form = row
+            source = pathlib.Path(folder, "%d.fit" % number)
+            source.write_bytes(data)
+            return "a table of every type", columns.by_program(given.fitrec, source, message, fields, form)
+
+        yield from given.judged(judge, inputs)
+
+
+# The most bytes of such a ride: the second reader takes seconds for each number of messages of a longer one.
+MOST = 100_000
+
+
+def other_makers_rides(given):
+    """All messages that the Profile names of the shorter rides of other makers."""
+    rides = other_makers.rides()
+    if isinstance(rides, Skipped):
+        yield "tables of other makers' rides", rides
+        return
+    with tempfile.TemporaryDirectory() as folder:
+        inputs = []
+        for name, data in rides.items():
+            if len(data) > MOST:
+                continue
+            source = pathlib.Path(folder, name)
+            source.write_bytes(data)
+            try:
+                found = reader.messages(data, False, columns.held_by)[3]
+            except reader.Refused:
+                continue
+            for message in sorted({number for number, _, _ in found} & set(columns.TITLES)):
+                held = {field for number, fields, _ in found if number == message for field, _ in fields}
+                inputs.append((source, message, sorted(held)[:128]))
+
+        def judge(number, row):
+            source, message, fields = row
+            name = "%s: messages %d with the Profile" % (source.name, message)
+            return name, columns.by_program(given.fitrec, source, message, fields, ["--profile"])
+
+        yield from given.judged(judge, inputs)
+
+
 def check(given):
     for group in of_the_texts, of_the_rows, of_what_is_made, of_the_module:
         yield from given.checks(group)
+    for group in kinds, other_makers_rides:
+        yield from given.checks(group, given)

@@ -136,7 +136,7 @@ def of_a_clone(fitrec):
         if missing("node"):
             yield "the page of a clone", missing("node")
         else:
-            module = re.search(r"atob\('([\w+/=]+)'\)", (folder / "clone/release/fitrec.html").read_text())[1]
+            module = re.search(r"inflated\('([\w+/=]+)'\)", (folder / "clone/release/fitrec.html").read_text())[1]
             (folder / "module.wasm").write_bytes(zlib.decompress(base64.b64decode(module)))
             words = ["save", folder / "FOLDER/activity.fit", folder / "FOLDER/activity.frj", folder / "page.fit"]
             said = run(ROOT / "compare/module.mjs", *words, env=os.environ | {"FITREC_MODULE": str(folder / "module.wasm")})

@@ -8,7 +8,7 @@ _fitrec() {
     fi
     case ${COMP_WORDS[1]} in
         help) COMPREPLY=($(compgen -W 'show table check replay record save repair salvage split plain simulate version' -- "$word")); return ;;
-        show) options='--utc --json --help' ;;
+        show) options='--utc --json --profile --help' ;;
         table) options='--utc --raw --profile --message --fields --each --null --help' ;;
         check) options='--each --null --help' ;;
         replay) options='--checked --help' ;;

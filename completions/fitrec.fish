@@ -14,6 +14,7 @@ complete -c fitrec -n __fish_use_subcommand -a simulate -d 'Runs a script over a
 complete -c fitrec -n __fish_use_subcommand -a version -d 'Prints the version, and the kit and the logic that it was proved by'
 complete -c fitrec -n '__fish_seen_subcommand_from show' -l utc -d 'Shows times as dates in UTC'
 complete -c fitrec -n '__fish_seen_subcommand_from show' -l json -d 'Writes a JSON object on each line, for programs'
+complete -c fitrec -n '__fish_seen_subcommand_from show' -l profile -d 'Uses the names and units of the whole public FIT Profile, with --json'
 complete -c fitrec -n '__fish_seen_subcommand_from table' -l utc -d 'Shows times as dates in UTC'
 complete -c fitrec -n '__fish_seen_subcommand_from table' -l raw -d 'Writes the whole numbers of the file, without units'
 complete -c fitrec -n '__fish_seen_subcommand_from table' -l profile -d 'Uses the names and units of the whole public FIT Profile'

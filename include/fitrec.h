@@ -31,7 +31,7 @@ uint32_t fitrec_version(void);
 /* A number of a summary that is not there. */
 #define FITREC_ABSENT UINT32_MAX
 
-/* How many bytes a repair may add to a data file. */
+/* How many bytes a repair may add to a data file, and fitrec_finish to a file. */
 #define FITREC_CLOSING_ROOM 254
 
 /* How many bytes a salvage may add to a file. */
@@ -138,7 +138,48 @@ enum {
 uint8_t fitrec_salvage(const uint8_t *bytes, size_t size, bool all, uint8_t *out, size_t out_size, uint64_t *out_len,
                        struct fitrec_salvage_counts *counts);
 
-/* Why bytes are no FIT file, as fitrec_check, fitrec_show and fitrec_plain answer it. Each comes with the place of the fault, an offset in bytes: the
+/* Bytes of the old file, from start up to end, which a skip kept or left out. */
+struct fitrec_piece {
+    uint64_t start;
+    uint64_t end;
+    bool kept;
+};
+
+/* Copies what is readable of a damaged FIT file into a valid file, as a salvage does, and goes on after its faults: at the next place from
+   which messages follow that fit. That is a judgement by their times, values and forms. Of a file whose checksum is right all is
+   kept. Bytes that begin with no header are looked at as a whole, and get a new one.
+
+   bytes .. out_size   as for a salvage; size + FITREC_FRAME_ROOM bytes of room are enough
+   out_len       how many bytes the new file has, after 0 and FITREC_SKIP_NO_ROOM
+   pieces        which bytes of the old file are kept, and which are left out, in order and without a gap, after 0 and FITREC_SKIP_NO_ROOM:
+                 together all bytes that were looked at. The new file has the kept ones, one after another.
+   piece_room    how many pieces (not bytes) the buffer has room for
+   piece_count   how many pieces there are, after 0, FITREC_SKIP_NO_ROOM and FITREC_SKIP_MORE_PIECES
+   counts        is filled after 0 and FITREC_SKIP_NO_ROOM
+
+   Answers one of these, 1 to 4 only if nothing is kept. After every other answer than 0 the bytes of out and of pieces may have
+   changed. */
+enum {
+    FITREC_SKIPPED = 0,
+    FITREC_SKIP_TRUNCATED = 1,    /* the file ends in its header */
+    FITREC_SKIP_HEADER_SIZE = 2,  /* byte 0 is not 12 or 14 */
+    FITREC_SKIP_MAGIC = 3,        /* bytes 8 to 11 are not ".FIT" */
+    FITREC_SKIP_PROTOCOL = 4,     /* the major version of the protocol is not 1 or 2 */
+    FITREC_SKIP_NO_ROOM = 20,     /* the new file has no room in out */
+    FITREC_SKIP_TOO_LARGE = 22,   /* size is 4294967296 or more */
+    FITREC_SKIP_MORE_PIECES = 25  /* there are more pieces than piece_room; call again with room for piece_count */
+};
+uint8_t fitrec_skip(const uint8_t *bytes, size_t size, bool all, uint8_t *out, size_t out_size, uint64_t *out_len,
+                    struct fitrec_piece *pieces, size_t piece_room, uint64_t *piece_count, struct fitrec_salvage_counts *counts);
+
+/* How many bytes the first of several FIT files has that follow each other without a gap: up to the end of the records that its header
+   gives and the two bytes of a checksum, or all bytes, if they end before that or begin with no header. 0 only for no bytes. So the
+   others are found by calling again with what follows.
+
+   bytes, size   the files */
+uint64_t fitrec_first_file(const uint8_t *bytes, size_t size);
+
+/* Why bytes are no FIT file, as fitrec_check, fitrec_finish, fitrec_show and fitrec_plain answer it. Each comes with the place of the fault, an offset in bytes: the
    first item or number that is wrong. If several faults hold, it is the one that the first bytes show. */
 enum {
     FITREC_TRUNCATED = 1,       /* the bytes end before the closing checksum is whole */
@@ -169,6 +210,33 @@ enum {
     FITREC_NO_ACTIVITY = 15
 };
 uint8_t fitrec_check(const uint8_t *bytes, size_t size, struct fitrec_summary *summary, uint64_t *fault_place);
+
+/* The entries of an activity: samples, laps, and events of the timer after the first. */
+struct fitrec_finish_counts {
+    uint64_t heard;    /* those that were taken */
+    uint64_t left_out; /* those that a rule refused */
+};
+
+/* Adds the closing messages that an activity of any maker lacks: the stop of the timer, the last lap, the session and the activity message
+   that a recorder would write after its samples, laps and events of the timer. What the file has stays as it is. A file that is cut off or
+   damaged has to be salvaged first.
+
+   bytes, size   the file
+   out, out_size the buffer of the new file; size + FITREC_CLOSING_ROOM bytes are enough
+   out_len       how many bytes the new file has, after 0 and FITREC_FINISH_NO_ROOM
+   counts        is filled after 0 and FITREC_FINISH_NO_ROOM
+   fault_place   the place of the fault, after 1 to 9
+
+   Answers 0, one of 1 to 9 above, FITREC_NO_FILE_ID, FITREC_NOT_ACTIVITY, or one of these. After FITREC_FINISH_NO_ROOM the bytes of out may
+   have changed. */
+enum {
+    FITREC_FINISHED = 0,
+    FITREC_FINISH_NO_ROOM = 20,  /* the new file has no room in out */
+    FITREC_FINISH_TOO_LONG = 21, /* the new file could be too large */
+    FITREC_FINISH_NO_SAMPLE = 26 /* no sample was taken */
+};
+uint8_t fitrec_finish(const uint8_t *bytes, size_t size, uint8_t *out, size_t out_size, uint64_t *out_len,
+                      struct fitrec_finish_counts *counts, uint64_t *fault_place);
 
 /* Writes the plain form of a FIT file: the same messages, with every time written out.
 

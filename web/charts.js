@@ -90,7 +90,7 @@ function readerOf(ride, pictures) {
   const show = i => {
     const parts = [momentText(time[i])];
     at = i;
-    if (distance[i] >= 0) parts.push(text('km', { n: numberText(distance[i] / 1000, 2) }));
+    if (distance[i] >= 0) parts.push(text('km', { n: numberText(distance[i] / 100000, 2) }));
     for (const it of series) {
       const k = lastWith(it.values, time, i);
       if (k >= 0) parts.push(`${text(it.name)} ${valueText(it.name, it.values[k])}`);

@@ -17,44 +17,37 @@ function gridOf(from, to, least) {
   return { low, high, lines };
 }
 
-// The column of each sample.
+// The first sample of each column but the first. Samples are in the order of time.
 function columnsOf(time) {
-  const begin = time[0], seconds = time[time.length - 1] - begin || 1, found = new Uint16Array(time.length);
-  for (let i = 0; i < time.length; i++) found[i] = Math.min((time[i] - begin) * COLUMNS / seconds, COLUMNS - 1);
-  return found;
+  const begin = time[0], seconds = time[time.length - 1] - begin || 1;
+  return Array.from({ length: COLUMNS - 1 }, (_, k) => sampleAt(time, begin + (k + 1) * seconds / COLUMNS));
 }
 
 // A curve: a line through the average of each column, and for each column with several values a bar from its least to its greatest. After a
 // break in a column its values are a part of their own.
-function curveOf(columns, { values, breaks, from, to, least }) {
-  const parts = [];
-  let column = -1, low = 0, high = 0, sum = 0, count = 0, isBegin = 1;
-  for (let i = 0; i < values.length; i++) {
-    const n = values[i];
-    if (!(n >= from && n <= to)) continue;
-    if (columns[i] === column && !breaks[i]) {
-      if (n < low) low = n;
-      if (n > high) high = n;
-      sum += n;
-      count++;
-      continue;
-    }
-    if (count) parts.push({ column, low, high, average: sum / count, isBegin });
-    isBegin = count ? breaks[i] : 1;
-    column = columns[i];
-    low = high = sum = n;
-    count = 1;
+function curveOf(time, { parts, breaks, from, to, least }) {
+  const begin = time[0], seconds = time[time.length - 1] - begin || 1, drawn = [];
+  let last = null, k = 0;
+  for (const it of parts) {
+    const column = Math.min(Math.floor((time[it.first] - begin) * COLUMNS / seconds), COLUMNS - 1), passed = k;
+    while (k < breaks.length && breaks[k] <= it.first) k++;
+    if (last && last.column === column && k === passed) {
+      last.low = Math.min(last.low, it.low);
+      last.high = Math.max(last.high, it.high);
+      last.sum += it.sum;
+      last.count += it.count;
+    } else drawn.push(last = { ...it, column, isBegin: !last || k > passed });
   }
-  parts.push({ column, low, high, average: sum / count, isBegin });
-  return { ...gridOf(from, to, least), ...linesOf(parts, gridOf(from, to, least)) };
+  const grid = gridOf(from, to, least);
+  return { ...grid, ...linesOf(drawn, grid) };
 }
 
 function linesOf(parts, grid) {
   const y = n => ((grid.high - n) / (grid.high - grid.low) * CURVE).toFixed(1);
   let line = '', bars = '';
-  parts.forEach(({ column, low, high, average, isBegin }, k) => {
+  parts.forEach(({ column, low, high, sum, count, isBegin }, k) => {
     const isAlone = isBegin && (k + 1 === parts.length || parts[k + 1].isBegin);
-    line += `${isBegin ? 'M' : 'L'}${column} ${y(average)}${isAlone ? 'h1' : ''}`;
+    line += `${isBegin ? 'M' : 'L'}${column} ${y(sum / count)}${isAlone ? 'h1' : ''}`;
     if (low < high) bars += `M${column} ${y(low)}V${y(high)}`;
   });
   return { line, bars };
@@ -67,11 +60,11 @@ function trackOf({ lat, long, series, breaks }) {
   for (let i = 0; i < long.length; i++) {
     if (long[i] !== long[i] || lat[i] !== lat[i]) long[i] = NaN;
     else {
-      if (last === last) long[i] -= 360 * Math.round((long[i] - last) / 360);
+      if (Math.abs(long[i] - last) > 180) long[i] -= 360 * Math.round((long[i] - last) / 360);
       last = long[i];
     }
   }
-  const across = plausible(long, rangeOf(long), 0.002), up = plausible(lat, rangeOf(lat), 0.002);
+  const across = plausible(long, extremesOf(long), 0.002), up = plausible(lat, extremesOf(lat), 0.002);
   if (!(across.to >= across.from && up.to >= up.from)) return null;
   const narrow = Math.max(0.01, Math.cos((up.from + up.to) / 2 * Math.PI / 180)), wide = Math.max((across.to - across.from) * narrow, 2e-4);
   const tall = Math.max(up.to - up.from, 2e-4), { width, least, most, edge } = TRACK;
@@ -79,8 +72,8 @@ function trackOf({ lat, long, series, breaks }) {
   const frame = { width, height, scale, narrow, middleX: (across.from + across.to) / 2, middleY: (up.from + up.to) / 2 };
   const colours = series.filter(it => it.name === 'speed' || it.name === 'heart'), points = [];
   let count = 0, lastX = 0, lastY = 0;
-  for (let i = 0, isBroken = 1; i < lat.length; i++) {
-    isBroken |= breaks[i];
+  for (let i = 0, k = 0, isBroken = 1; i < lat.length; i++) {
+    if (i === breaks[k]) isBroken = ++k;
     if (!(long[i] >= across.from && long[i] <= across.to && lat[i] >= up.from && lat[i] <= up.to)) continue;
     const x = width / 2 + (long[i] - frame.middleX) * narrow * scale, y = height / 2 + (frame.middleY - lat[i]) * scale;
     count++;

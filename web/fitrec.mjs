@@ -8,15 +8,16 @@
 //
 // Files are given and answered as Uint8Array. What is refused is thrown as a FitError.
 
-const CLOSING_ROOM = 254, FRAME_ROOM = 16, ABSENT = 0xFFFFFFFF, NO_ROOM = 20, PAGE = 65536;
+const CLOSING_ROOM = 254, FRAME_ROOM = 16, ABSENT = 0xFFFFFFFF, NO_ROOM = 20, MORE_PIECES = 25, PAGE = 65536;
 
-// Why bytes are no FIT file; why a file is no activity; why a ride is not saved or salvaged.
+// Why bytes are no FIT file; why a file is no activity; why a ride is not saved, salvaged or finished.
 const FAULTS = { 1: 'Truncated', 2: 'HeaderSize', 3: 'Magic', 4: 'Protocol', 5: 'HeaderCrc', 6: 'UndefinedLocal', 7: 'SplitMessage',
   8: 'FileCrc', 9: 'TrailingBytes' };
 const CHECKED = { ...FAULTS, 11: 'NoFileId', 12: 'NotActivity', 13: 'NoLap', 14: 'NoSession', 15: 'NoActivity' };
 const SAVED = { 7: 'NothingRecorded', 8: 'Damaged', 16: 'Changed' };
 const SALVAGED = { 1: 'Truncated', 2: 'HeaderSize', 3: 'Magic', 4: 'Protocol', 22: 'TooLarge' };
 const PLAIN = { ...FAULTS, 21: 'TooLong' };
+const FINISHED = { ...FAULTS, 11: 'NoFileId', 12: 'NotActivity', 21: 'TooLarge', 26: 'NoSample' };
 
 // Why something was refused: its kind, such as 'Damaged', and the place in bytes, if a byte is at fault.
 export class FitError extends Error {
@@ -65,6 +66,13 @@ class Memory {
 
   // Pointers and lengths are numbers, and have 64 bits. A truth value and a Number object have 32.
   call(name, ...numbers) { return this.exports[name](...numbers.map(n => typeof n === 'number' ? BigInt(n) : n)); }
+
+  pieces(at, count) {
+    return Array.from({ length: count }, (_, i) => {
+      const piece = at + 24 * i;
+      return { start: this.long(piece), end: this.long(piece + 8), kept: this.bytes[piece + 16] === 1 };
+    });
+  }
 
   summary(at) {
     const [records, laps, sessions, start, elapsed, timer, distance] = [0, 1, 2, 3, 4, 5, 6].map(i => {
@@ -135,11 +143,45 @@ export async function open(source) {
       return { kept, looked, more, file: it.copy(out, it.long(length)) };
     },
 
+    // What is readable of a damaged file, also after its faults, as a new file; and which bytes of the old one are kept and left out.
+    async skip(file, all = false) {
+      const it = await memory(), room = file.length + FRAME_ROOM, at = it.put(file), out = it.room(room), length = it.number();
+      const counts = it.room(24), pieceCount = it.number(), free = it.end;
+      for (let pieceRoom = 64; ; pieceRoom = it.long(pieceCount)) {
+        it.end = free;
+        const pieces = it.room(24 * pieceRoom), given = [at, file.length, Boolean(all), out, room, length, pieces, pieceRoom, pieceCount, counts];
+        const code = it.call('fitrec_skip', ...given);
+        if (code === MORE_PIECES) continue;
+        refuseUnless0(code, SALVAGED);
+        const [kept, looked, more] = [0, 8, 16].map(i => it.long(counts + i));
+        return { kept, looked, more, file: it.copy(out, it.long(length)), pieces: it.pieces(pieces, it.long(pieceCount)) };
+      }
+    },
+
+    // The files that are chained in one, in order. What begins with no header comes last.
+    async split(file) {
+      const it = await memory(), at = it.put(file), files = [];
+      for (let start = 0; start < file.length;) {
+        const end = start + Number(it.call('fitrec_first_file', at + start, file.length - start));
+        files.push(file.slice(start, end));
+        start = end;
+      }
+      return files;
+    },
+
     // The summary of a file, which has to be a finished activity.
     async check(file) {
       const it = await memory(), at = it.put(file), summary = it.room(28), place = it.number();
       refuseUnless0(it.call('fitrec_check', at, file.length, summary, place), CHECKED, it.long(place));
       return it.summary(summary);
+    },
+
+    // The file with the closing messages that the activity lacks, and how many entries were heard and how many left out.
+    async finish(file) {
+      const it = await memory(), room = file.length + CLOSING_ROOM;
+      const at = it.put(file), out = it.room(room), length = it.number(), counts = it.room(16), place = it.number();
+      refuseUnless0(it.call('fitrec_finish', at, file.length, out, room, length, counts, place), FINISHED, it.long(place));
+      return { file: it.copy(out, it.long(length)), heard: it.long(counts), leftOut: it.long(counts + 8) };
     },
 
     // The file with every time in full.

@@ -2,12 +2,19 @@
 const EPOCH = 631065600, FIRST_DATE = 0x10000000;
 
 // The first language of the browser that the page has; numbers and dates follow its region. English has dates with the day first.
-const LOCALE = navigator.languages.find(it => it.split('-')[0] in TEXTS) || 'en-GB', LANGUAGE = LOCALE.split('-')[0];
+const LANGUAGES = ['en', 'de', 'fr', 'es', 'it'], LOCALE = navigator.languages.find(it => LANGUAGES.includes(it.split('-')[0])) || 'en-GB';
+const LANGUAGE = LOCALE.split('-')[0];
 
-// The text with what is filled in.
+// Adds the other languages to English.
+async function learn() {
+  Object.assign(TEXTS, JSON.parse(new TextDecoder().decode(await inflated(OTHERS))));
+}
+
+// The text with what is filled in: numbers, words, or a list of texts, each a key and its values.
 function text(key, values = {}) {
-  const shown = name => typeof values[name] === 'number' ? numberText(values[name]) : values[name];
-  return TEXTS[LANGUAGE][key].replace(/\{(\w+)\}/g, (_, name) => shown(name));
+  const list = its => new Intl.ListFormat(LOCALE).format(its.map(it => text(...it)));
+  const shown = it => typeof it === 'number' ? numberText(it) : Array.isArray(it) ? list(it) : it;
+  return TEXTS[LANGUAGE][key].replace(/\{(\w+)\}/g, (_, name) => shown(values[name]));
 }
 
 function numberText(n, decimals = 0) {
@@ -43,4 +50,10 @@ function dayText(t) {
 // A mark of the axis: the hour and minute, and seconds where the steps need them.
 function clockText(t, begin, step) {
   return isDated(t) ? shownTime(t, step < 60 ? SECOND : MINUTE) : durationText(1000 * (t - begin));
+}
+
+// What web/build has deflated.
+async function inflated(packed) {
+  const bytes = Uint8Array.from(atob(packed), it => it.charCodeAt(0));
+  return new Response(new Blob([bytes]).stream().pipeThrough(new DecompressionStream('deflate'))).arrayBuffer();
 }

@@ -11,6 +11,9 @@ for (const it of [saver, painter]) it.onmessage = ({ data: { number, step, answe
   asked.delete(number);
 };
 
+// The module of the library is compiled once, for both.
+inflated('@MODULE@').then(it => WebAssembly.compile(it)).then(module => [saver, painter].forEach(it => it.postMessage({ module })));
+
 let count = 0;
 function question(worker, about, lent = []) {
   return new Promise(done => {
@@ -25,6 +28,7 @@ function failure(reason) {
 
 // The answer to a ride, or to one of its offers. A recording is drawn while it is saved.
 async function ask(ride, how) {
+  const { data, journal } = ride, ahead = data && journal && !how.length ? question(painter, { recording: { data, journal } }) : null;
   progress(0);
   let given;
   try {
@@ -33,15 +37,24 @@ async function ask(ride, how) {
     return failure(error instanceof RangeError ? 'tooLarge' : 'unread');
   }
   progress(1);
-  const { data, journal } = given, ahead = data && journal && !how ? question(painter, { recording: { data, journal } }) : null;
-  const answer = await question(saver, { ride: given, how }, [data, journal].filter(it => it && it.length).map(it => it.buffer));
+  const lent = [given.data, given.journal].filter(it => it && it.length).map(it => it.buffer);
+  const answer = await question(saver, { ride: given, how }, lent);
   if (answer.failed) return failure(answer.failed);
   const { file, shown, ...said } = answer, bytes = file || shown;
   if (!bytes) return said;
   const isAhead = ahead && said.heading === 'saved', records = said.summary && said.summary.records;
-  const drawn = await (isAhead ? ahead : question(painter, { file: bytes, records }));
-  if (drawn.failed) return failure(drawn.failed);
-  return { ...said, file: file && new Blob([file], { type: 'application/octet-stream' }), ride: drawn };
+  const made = file && new Blob([file], { type: 'application/octet-stream' });
+  const drawn = isAhead && closed(await ahead, said.summary) || await question(painter, { file: bytes, records });
+  return drawn.failed ? failure(drawn.failed) : { ...said, file: made, ride: drawn };
+}
+
+// What was drawn ahead of a recording, with its last lap by the summary of the saved ride; null if that has other samples or laps.
+function closed(drawn, summary) {
+  if (drawn.failed || drawn.time.length !== summary.records || drawn.laps.length !== summary.laps) return null;
+  const before = drawn.laps.slice(), last = before.pop(), rest = key => summary[key] - before.reduce((sum, it) => sum + it[key], 0);
+  if (!last.isOpen) return drawn;
+  const start = before.length ? last.start : summary.start, distance = summary.distance === null ? null : rest('distance');
+  return { ...drawn, laps: [...before, { ...last, start, timer: rest('timer'), distance, isOpen: false }] };
 }
 
 // ---- progress, from 0.3 s on
@@ -93,14 +106,18 @@ async function take(files) {
   }
 }
 
-async function choose(ride, how) {
+async function choose(ride, how = []) {
   const mine = ++turn;
   current = ride;
   work(true);
   const answer = ride ? await ask(ride, how) : failure('noFile');
   if (mine !== turn) return;
+  if (answer.parts) {
+    rides = ridesIn(ride, answer.parts);
+    return presentAll(0, mine);
+  }
   if (answer.file) name(ride, answer);
-  present(answer);
+  present(answer, how);
   work(false);
 }
 
@@ -120,11 +137,16 @@ const startOf = ({ summary, ride }) => summary && summary.start !== null ? summa
 async function presentAll(others, mine) {
   const rows = [];
   current = null;
-  for (const [i, ride] of rides.entries()) {
+  for (let i = 0; i < rides.length; i++) {
+    const ride = rides[i];
     queue = ' ' + text('ofMany', { n: i + 1, all: rides.length });
     if (!byId('progress').hidden) byId('busy').textContent = text('busy') + queue;
-    const answer = await ask(ride);
+    const answer = await ask(ride, []);
     if (mine !== turn) return;
+    if (answer.parts) {
+      rides.splice(i--, 1, ...ridesIn(ride, answer.parts));
+      continue;
+    }
     if (answer.file) name(ride, answer);
     rows.push({ ride, heading: answer.heading, file: answer.file, name: answer.name, numbers: numbersOf(answer) });
   }
@@ -166,13 +188,13 @@ function numbersOf({ summary, ride, heading }) {
   return numbers;
 }
 
-function present(answer) {
+function present(answer, how = []) {
   const { heading, reasons, next, offers, file, name, ride } = answer, sentence = ([key, values]) => text(key, values);
   byId('heading').textContent = text(heading);
   const which = rides.length > 1 && current ? make('p', {}, make('strong', {}, current.folder + current.name)) : '';
   byId('reason').replaceChildren(which, make('p', {}, reasons.map(sentence).join(' ')));
-  byId('next').replaceChildren(...next.map(it => make('p', {}, ...withCommand(sentence(it)))));
-  byId('offers').replaceChildren(...offers.map(offerOf));
+  byId('next').replaceChildren(...next.map(it => make('p', {}, sentence(it))));
+  byId('offers').replaceChildren(...offers.map(it => offerOf(it, how)));
   byId('numbers').replaceChildren(...(ride ? Object.entries(numbersOf(answer)).map(pair) : []));
   byId('where').textContent = file ? text('where') : '';
   byId('where').hidden = !file;
@@ -180,12 +202,6 @@ function present(answer) {
   byId('result').hidden = false;
   draw(ride);
   byId('result').focus();
-}
-
-// A text with its command, if it ends in one, in one line.
-function withCommand(shown) {
-  const [before, command] = shown.split(/(?=fitrec salvage)/);
-  return [before, command ? make('code', {}, command) : null];
 }
 
 function draw(ride) {
@@ -200,9 +216,9 @@ function draw(ride) {
   byId('laps').replaceChildren(...(ride && ride.laps.length ? lapTable(ride.laps) : []));
 }
 
-function offerOf(how) {
-  const made = make('button', { type: 'button', className: 'button second' }, text('offer_' + how)), ride = current;
-  made.addEventListener('click', () => choose(ride, how));
+function offerOf(offer, how) {
+  const made = make('button', { type: 'button', className: 'button second' }, text('offer_' + offer)), ride = current;
+  made.addEventListener('click', () => choose(ride, [...how, offer]));
   return made;
 }
 
@@ -222,25 +238,30 @@ function link(element, file, name, label) {
 
 // ---- the page
 
-const isTouched = matchMedia('(pointer: coarse)').matches;
-document.documentElement.lang = LANGUAGE;
-for (const it of document.querySelectorAll('[data-text]')) it.textContent = text(it.dataset.text);
-byId('hint').textContent = text(isTouched ? 'hintTap' : 'hint');
-for (const it of document.querySelectorAll('[for=folder], #folder')) it.hidden = isTouched || !('webkitdirectory' in byId('folder'));
-for (const id of ['files', 'folder']) byId(id).addEventListener('change', async ({ target }) => {
-  await take(filesOf(target));
-  target.value = '';
-});
-byId('drop').addEventListener('submit', event => event.preventDefault());
-for (const kind of ['dragover', 'dragleave', 'drop']) {
-  addEventListener(kind, event => {
-    event.preventDefault();
-    byId('drop').classList.toggle('over', kind === 'dragover');
-    if (kind === 'drop') take(filesOf(event.dataTransfer));
+async function begin() {
+  const isTouched = matchMedia('(pointer: coarse)').matches;
+  if (!TEXTS[LANGUAGE]) await learn();
+  document.documentElement.lang = LANGUAGE;
+  for (const it of document.querySelectorAll('[data-text]')) it.textContent = text(it.dataset.text);
+  byId('hint').textContent = text(isTouched ? 'hintTap' : 'hint');
+  for (const it of document.querySelectorAll('[for=folder], #folder')) it.hidden = isTouched || !('webkitdirectory' in byId('folder'));
+  for (const id of ['files', 'folder']) byId(id).addEventListener('change', async ({ target }) => {
+    await take(filesOf(target));
+    target.value = '';
   });
+  byId('drop').addEventListener('submit', event => event.preventDefault());
+  for (const kind of ['dragover', 'dragleave', 'drop']) {
+    addEventListener(kind, event => {
+      event.preventDefault();
+      byId('drop').classList.toggle('over', kind === 'dragover');
+      if (kind === 'drop') take(filesOf(event.dataTransfer));
+    });
+  }
+  if (location.protocol.startsWith('http')) {
+    document.head.append(make('link', { rel: 'manifest', href: 'manifest.webmanifest' }), make('link', { rel: 'icon', href: 'icon.svg' }));
+    if (navigator.serviceWorker) navigator.serviceWorker.register('service-worker.js').catch(() => {});
+  }
+  document.title = text('title');
 }
-if (location.protocol.startsWith('http')) {
-  document.head.append(make('link', { rel: 'manifest', href: 'manifest.webmanifest' }), make('link', { rel: 'icon', href: 'icon.svg' }));
-  if (navigator.serviceWorker) navigator.serviceWorker.register('service-worker.js').catch(() => {});
-}
-document.title = text('title');
+
+begin();

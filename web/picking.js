@@ -73,6 +73,13 @@ function rideFrom(data, journal) {
   return { data: data && data.file, journal: journal && journal.file, name: file.name, folder };
 }
 
+// The rides of files that are chained in one.
+function ridesIn({ name, folder }, parts) {
+  return parts.map((bytes, i) => {
+    return { data: new Blob([bytes]), name: `${name} (${text('ofMany', { n: i + 1, all: parts.length })})`, folder, isPart: true };
+  });
+}
+
 // The bytes of a file up to the first that cannot be read, and that place, if there is one after the first byte.
 async function frontOf(file) {
   const parts = [], read = async part => new Uint8Array(await part.arrayBuffer());
@@ -92,7 +99,7 @@ async function frontOf(file) {
 }
 
 // What the worker is given of a ride.
-async function bytesOf({ data, journal, name }) {
+async function bytesOf({ data, journal, name, isPart }) {
   const front = data ? await frontOf(data) : {}, other = journal ? await frontOf(journal) : {};
-  return { name, journalName: journal && journal.name, data: front.bytes, unread: front.unread, journal: other.bytes };
+  return { name, isPart, journalName: journal && journal.name, data: front.bytes, unread: front.unread, journal: other.bytes };
 }

@@ -1,6 +1,8 @@
 // What the samples of a ride say: its series, from all samples, with their gaps, and its laps.
 
-const TIME = 253, RECORD = 20, LAP = 19, EVENT = 21, DATED = 0x10000000, SEMICIRCLE = 180 / 2 ** 31;
+const TIME = 253, RECORD = 20, LAP = 19, EVENT = 21, SEMICIRCLE = 180 / 2 ** 31;
+// A sample with most of the fields has some more bytes. No distance leaps so far, in centimetres.
+const SAMPLE = 20, FAR = 1e7;
 
 // A field of each series, and one that counts where the first is missing; in its unit a value is raw * scale + offset. `least` is the
 // smallest range of its picture, and `reach` a distance that is usual for it.
@@ -14,66 +16,100 @@ const SERIES = [
 ];
 const FIELDS = [TIME, 0, 1, 5, ...SERIES.flatMap(it => it.fields)];
 
-// The ride of a file. Times are seconds since 1989-12-31 00:00 UTC.
+// What a recording has up to its last commit, as a file without a summary: it is there long before the saved one.
+async function committedOf(fitrec, recording) {
+  const [data, journal] = await Promise.all([recording.data, recording.journal].map(async it => new Uint8Array(await it.arrayBuffer())));
+  const count = await fitrec.uncommitted(data, journal), { kept, file } = await fitrec.salvage(data, true);
+  return count ? (await fitrec.salvage(data.subarray(0, data[0] + kept - count), true)).file : file;
+}
+
+// The ride of a file. Times are seconds since 1989-12-31 00:00 UTC, positions are degrees, distances centimetres.
 async function rideOf(fitrec, file, expected) {
-  const asked = [[RECORD, FIELDS, expected || 4096], [EVENT, [TIME, 0, 1]], [LAP, [TIME, 2, 7, 8, 9], 1024]];
-  const [records, events, laps] = await fitrec.tables(file, asked), [time, lat, long, distance, ...values] = inTime(records);
+  const asked = [[RECORD, FIELDS, expected || Math.ceil(file.length / SAMPLE)], [EVENT, [TIME, 0, 1]], [LAP, [TIME, 2, 7, 8, 9], 1024]];
+  const [records, events, found] = await fitrec.tables(file, asked), [time, lat, long, distance, ...values] = inTime(records);
   const pauses = pausesOf(...events), resumed = pauses.map(([, to]) => sampleAt(time, to));
-  const breaks = breaksOf(time, time, resumed), series = [];
+  const laps = lapsOf(found, { time, distance, pauses, usual: plausible(distance, extremesOf(distance), FAR) });
+  const ends = [...columnsOf(time), ...laps.flatMap(it => [it.first, it.last])], breaks = breaksOf(time, time, resumed), series = [];
   let at = 0;
-  for (const { name, fields, scale, offset, least, reach } of SERIES) {
-    const raws = values.slice(at, at += fields.length), found = seriesOf(raws, scale, offset);
-    if (!found) continue;
-    const own = found.count < time.length ? breaksOf(time, found.values, resumed) : breaks;
-    const usual = plausible(found.values, found, reach), { from, to, faults } = usual;
-    if (faults) Object.assign(found, { low: from, high: to, average: rangeOf(found.values, 0, time.length, usual).average });
-    series.push({ name, least, ...found, ...usual, breaks: own });
+  for (const { fields, ...kind } of SERIES) {
+    const made = seriesOf(values.slice(at, at += fields.length), kind, { time, ends, breaks, resumed });
+    if (made) series.push(made);
+  }
+  for (const lap of laps) {
+    lap.series = {};
+    for (const { name, parts } of series) lap.series[name] = rangeOf(parts.filter(it => it.first >= lap.first && it.first < lap.last));
   }
   for (let i = 0; i < time.length; i++) {
     lat[i] *= SEMICIRCLE;
     long[i] *= SEMICIRCLE;
-    distance[i] /= 100;
   }
-  const ride = { time, lat, long, distance, series, pauses, breaks: breaksOf(time, lat, resumed) };
-  return { ...ride, ...totalsOf(ride), laps: lapsOf(laps, ride) };
+  const ride = { time, lat, long, distance, series, pauses, laps, breaks: breaksOf(time, lat, resumed) };
+  return { ...ride, ...totalsOf(ride) };
 }
 
 // The columns in the order of their times, without samples whose time is missing or far from all others.
 function inTime(columns) {
-  const [time] = columns, { from, to } = plausible(time, rangeOf(time), 86400);
-  let last = -Infinity, isInOrder = true;
-  for (const t of time) {
-    isInOrder = isInOrder && t >= last && t >= from && t <= to;
-    last = t;
+  const [time] = columns;
+  let isInOrder = true;
+  for (let i = 0, last = -Infinity; i < time.length && isInOrder; i++) {
+    isInOrder = time[i] >= last;
+    last = time[i];
   }
-  if (isInOrder) return columns;
+  const range = isInOrder ? { low: time[0], high: time[time.length - 1] } : extremesOf(time);
+  const { from, to, faults } = plausible(time, range, 86400);
+  if (isInOrder && !faults) return columns;
   const order = [...time.keys()].filter(i => time[i] >= from && time[i] <= to).sort((a, b) => time[a] - time[b] || a - b);
   return columns.map(it => Float64Array.from(order, i => it[i]));
 }
 
-// The values in their unit, with their least, greatest and average; null if there is none.
-function seriesOf([values, others], scale, offset) {
-  if (others) values.forEach((raw, i) => { if (raw !== raw) values[i] = others[i]; });
-  const range = rangeOf(values);
-  if (!range.count) return null;
-  if (scale !== 1) for (let i = 0; i < values.length; i++) values[i] = values[i] * scale + offset;
-  const { low, high, average } = range;
-  return { values, count: range.count, low: low * scale + offset, high: high * scale + offset, average: average * scale + offset };
+// A series in its unit, with its parts and what they amount to; null if it has no value. The parts end where a column of the picture or a
+// lap does, and where the line is interrupted.
+function seriesOf([values, others], { name, scale, offset, least, reach }, { time, ends, breaks, resumed }) {
+  if (others || scale !== 1) {
+    for (let i = 0; i < values.length; i++) values[i] = (others && values[i] !== values[i] ? others[i] : values[i]) * scale + offset;
+  }
+  let parts = partsOf(values, [...ends, ...breaks]);
+  if (!parts.length) return null;
+  const { count, ...all } = rangeOf(parts), usual = plausible(values, all, reach);
+  const own = count < time.length ? breaksOf(time, values, resumed) : breaks;
+  if (usual.faults || own !== breaks) parts = partsOf(values, [...ends, ...own], usual);
+  return { name, least, values, ...rangeOf(parts), ...usual, parts, breaks: own };
 }
 
-// The least, the greatest and the average of values, and how many there are; from one place to another, and in a range, if these are given.
-function rangeOf(values, first = 0, last = values.length, { from, to } = { from: -Infinity, to: Infinity }) {
-  let low = Infinity, high = -Infinity, sum = 0, count = 0;
-  for (let i = first; i < last; i++) {
-    const n = values[i];
-    if (!(n >= from && n <= to)) continue;
-    if (n < low) low = n;
-    if (n > high) high = n;
-    sum += n;
-    count++;
+// The least, the greatest, the sum and the number of the values up to each of these places, from the one before; without those that are
+// out of the range, and without parts that have none.
+function partsOf(values, ends, { from, to } = { from: -Infinity, to: Infinity }) {
+  const parts = [];
+  let first = 0;
+  for (const end of new Float64Array([...ends, values.length]).sort()) {
+    let low = Infinity, high = -Infinity, sum = 0, count = 0;
+    for (let i = first; i < end; i++) {
+      const n = values[i];
+      if (!(n >= from && n <= to)) continue;
+      if (n < low) low = n;
+      if (n > high) high = n;
+      sum += n;
+      count++;
+    }
+    if (count) parts.push({ first, low, high, sum, count });
+    first = end;
   }
-  return { low, high, average: sum / count, count };
+  return parts;
 }
+
+// The least, the greatest and the average of parts; null if there are none.
+function rangeOf(parts) {
+  let low = Infinity, high = -Infinity, sum = 0, count = 0;
+  for (const it of parts) {
+    low = Math.min(low, it.low);
+    high = Math.max(high, it.high);
+    sum += it.sum;
+    count += it.count;
+  }
+  return count ? { low, high, average: sum / count, count } : null;
+}
+
+const extremesOf = values => rangeOf(partsOf(values, [])) || { low: NaN, high: NaN };
 
 // The range that counts of values with this least and greatest. A value counts as a fault if it is far beyond 99 of 100 others: by more
 // than four times their distance from the median, and four times `reach`. `from` and `to` are the least and the greatest of the rest, and
@@ -81,7 +117,7 @@ function rangeOf(values, first = 0, last = values.length, { from, to } = { from:
 function plausible(values, { low, high }, reach) {
   const step = Math.ceil(values.length / 20000), some = [];
   for (let i = 0; i < values.length; i += step) if (values[i] === values[i]) some.push(values[i]);
-  const sorted = Float64Array.from(some).sort(), size = sorted.length, cut = Math.min(Math.max(1, Math.floor(size / 100)), (size - 1) >> 1);
+  const sorted = new Float64Array(some).sort(), size = sorted.length, cut = Math.min(Math.max(1, Math.floor(size / 100)), (size - 1) >> 1);
   const median = sorted[size >> 1], bottom = sorted[cut], top = sorted[size - 1 - cut];
   const lowest = bottom - 4 * Math.max(median - bottom, reach), highest = top + 4 * Math.max(top - median, reach);
   if (low >= lowest && high <= highest) return { from: low, to: high, faults: 0 };
@@ -121,20 +157,25 @@ function sampleAt(time, t) {
 // The places of samples before which a line through these values is interrupted: by a pause, or because none came for ten times the usual
 // seconds, and at least ten.
 function breaksOf(time, values, resumed) {
-  const stride = Math.ceil(values.length / 5000), steps = [], found = new Uint8Array(values.length);
-  let last = -1, count = 0;
+  const stride = Math.ceil(values.length / 5000), steps = [], found = [];
+  let last = -1, left = 0;
   for (let i = 0; i < values.length; i++) {
     if (values[i] !== values[i]) continue;
-    if (last >= 0 && count++ % stride === 0) steps.push(time[i] - time[last]);
+    if (last >= 0 && left-- === 0) {
+      steps.push(time[i] - time[last]);
+      left = stride - 1;
+    }
     last = i;
   }
-  const longest = 10 * Math.max(1, Float64Array.from(steps).sort()[steps.length >> 1] || 1);
+  const longest = 10 * Math.max(1, new Float64Array(steps).sort()[steps.length >> 1] || 1);
+  let k = 0, next = resumed.length ? resumed[0] : Infinity;
   last = -1;
-  for (let i = 0, k = 0; i < values.length; i++) {
+  for (let i = 0; i < values.length; i++) {
     if (values[i] !== values[i]) continue;
-    const isLong = last >= 0 && time[i] - time[last] > longest, isResumed = k < resumed.length && i >= resumed[k];
-    while (k < resumed.length && i >= resumed[k]) k++;
-    found[i] = isLong || isResumed ? 1 : 0;
+    if (i >= next || (last >= 0 && time[i] - time[last] > longest)) {
+      found.push(i);
+      while (i >= next) next = ++k < resumed.length ? resumed[k] : Infinity;
+    }
     last = i;
   }
   return found;
@@ -144,16 +185,17 @@ function breaksOf(time, values, resumed) {
 function totalsOf({ time, distance, series, pauses }) {
   const start = time.length ? time[0] : null, end = time.length ? time[time.length - 1] : null;
   const paused = pauses.reduce((sum, [from, to]) => sum + Math.max(0, Math.min(to, end) - Math.max(from, start)), 0);
-  const farthest = rangeOf(distance).high, height = series.find(it => it.name === 'height');
+  const farthest = plausible(distance, extremesOf(distance), FAR).to, height = series.find(it => it.name === 'height');
   const added = { records: time.length, start, elapsed: start === null ? null : (end - start) * 1000,
-    timer: start === null ? null : (end - start - paused) * 1000, distance: farthest >= 0 ? farthest * 100 : null };
+    timer: start === null ? null : (end - start - paused) * 1000, distance: farthest >= 0 ? farthest : null };
   return { added, ascent: height ? ascentOf(height) : null };
 }
 
 // How many metres are climbed. A rise counts from two metres on, so that the noise of a barometer does not.
 function ascentOf({ values, from, to }) {
   let ascent = 0, low = Infinity, high = -Infinity;
-  for (const n of values) {
+  for (let i = 0; i < values.length; i++) {
+    const n = values[i];
     if (!(n >= from && n <= to)) continue;
     if (n > high) high = n;
     if (n < low || high - n >= 2) {
@@ -164,21 +206,15 @@ function ascentOf({ values, from, to }) {
   return ascent + (high - low >= 2 ? high - low : 0);
 }
 
-function partOf(values, first, last, usual) {
-  const range = rangeOf(values, first, last, usual);
-  return range.count ? range : null;
-}
-
-// The laps that the file has, and what its samples say of each; after them the rest of a ride that was cut off.
-function lapsOf([end, start, elapsed, timer, length], { time, distance, series, pauses }) {
+// The laps that the file has, each with its samples from `first` up to `last`; after them the rest of a ride that was cut off.
+function lapsOf([end, start, elapsed, timer, length], { time, distance, pauses, usual }) {
   const laps = [];
   const of = (from, to, given) => {
-    const first = sampleAt(time, from), last = Math.min(sampleAt(time, to + (given.isLast ? 1 : 0)), time.length), part = {};
-    for (const it of series) part[it.name] = partOf(it.values, first, last, it);
+    const first = sampleAt(time, from), last = Math.min(sampleAt(time, to + (given.isLast ? 1 : 0)), time.length);
     const paused = pauses.reduce((sum, [a, b]) => sum + Math.max(0, Math.min(b, to) - Math.max(a, from)), 0);
-    const own = partOf(distance, first, last);
-    return { start: from, timer: given.timer >= 0 ? given.timer : (to - from - paused) * 1000,
-      distance: given.length >= 0 ? given.length : own ? (own.high - own.low) * 100 : null, series: part, isOpen: Boolean(given.isOpen) };
+    const own = given.length >= 0 ? null : rangeOf(partsOf(distance.subarray(first, last), [], usual));
+    return { start: from, first, last, timer: given.timer >= 0 ? given.timer : (to - from - paused) * 1000,
+      distance: given.length >= 0 ? given.length : own ? own.high - own.low : null, isOpen: Boolean(given.isOpen) };
   };
   for (let i = 0; i < end.length; i++) {
     const from = start[i] === start[i] ? start[i] : i ? end[i - 1] : time[0], to = end[i] === end[i] ? end[i] : from + elapsed[i] / 1000;

@@ -1,12 +1,12 @@
 // What can be saved of the files of a ride. What is said of it is named by keys of texts.js, each with its values.
 
 // `data` and `journal` are bytes or missing, `name` is that of the data file, and `unread` the first byte of it that cannot be read, if
-// there is one. `how` is empty, or one of the offers of an earlier answer.
+// there is one. `isPart` is of a file that was chained with others in one. `how` has the offers of earlier answers that were taken.
 async function answerTo(fitrec, ride, how) {
   if (!ride.data && ride.journal.length) return { ...nothing(['journalAlone'], 'journalAloneNext'), heading: 'missing' };
   if (!ride.data) return nothing(['emptyFile', { name: ride.journalName }], 'journalAloneNext');
   if (!ride.data.length) return nothing(['emptyFile', { name: ride.name }], ride.journal ? 'emptyNext' : 'emptyAloneNext');
-  return ride.journal && !how ? ofRecording(fitrec, ride) : ofFile(fitrec, ride, how);
+  return ride.journal && !how.length ? ofRecording(fitrec, ride) : ofFile(fitrec, ride, how);
 }
 
 function nothing(reason, next, offers = []) {
@@ -47,47 +47,74 @@ async function ofEarlier(fitrec, ride) {
 
 // One file. With an offer it is salvaged: the data file of a recording, that with the end which was not confirmed, or all its bytes.
 async function ofFile(fitrec, ride, how) {
-  const { data, unread } = ride, all = how === 'all' || how === 'end';
+  const { data, name, isPart } = ride;
   let why = unreadOf(ride);
   if (!why.length) {
-    const { summary, kind, place } = await judged(fitrec, data);
-    if (!kind && !how) return { heading: 'whole', reasons: [['wholeWhy']], next: [], offers: [], shown: data, summary };
-    if (kind in NO_ACTIVITY) {
-      const next = NO_ACTIVITY[kind] ? [['finishNext']] : [];
-      return { heading: 'noActivity', reasons: [['fault' + kind]], next, offers: [], shown: data };
-    }
-    why = kind ? [['fault' + kind, { place }]] : [];
+    const { summary, kind, place } = await judged(fitrec, data), own = isPart ? { file: data } : { shown: data };
+    const whole = { heading: 'whole', reasons: [[isPart ? 'partWhy' : 'wholeWhy']], next: [], offers: [] };
+    if (!kind && !how.length) return { ...whole, ...own, summary };
+    if (kind in NO_ACTIVITY && !how.length) return { heading: 'noActivity', reasons: [['fault' + kind]], ...finishable(kind), ...own };
+    const parts = kind && !how.length ? await fitrec.split(data) : [];
+    if (parts.length > 1 && hasHeader(parts[1])) return { parts };
+    why = kind && !(kind in NO_ACTIVITY) ? [['fault' + kind, { place }]] : [];
   }
   try {
-    return salvaged(fitrec, ride, why, await fitrec.salvage(data, all), how);
+    return await salvaged(fitrec, ride, why, how);
   } catch (error) {
     if (!error.kind) throw error;
-    return { ...nothing(['notFit', { name: ride.name }], 'notFitNext'), reasons: [['notFit', { name: ride.name }], ...why] };
+    return { ...nothing(['notFit', { name }], 'notFitNext'), reasons: [['notFit', { name }], ...why] };
   }
 }
 
-// A rest of so many bytes is one message that was cut off, or a few at most.
-const SHORT = 64;
+// A rest of so many bytes is one message that was cut off, or a few at most. So many places that are left out are named.
+const SHORT = 64, PLACES = 5;
 
 // Why a file is no activity, and whether a summary would make it one.
 const NO_ACTIVITY = { NoFileId: false, NotActivity: false, NoLap: true, NoSession: true, NoActivity: true };
 
-async function judged(fitrec, file) {
+const finishable = kind => NO_ACTIVITY[kind] ? { next: [['finishNext']], offers: ['finish'] } : { next: [], offers: [] };
+
+const hasHeader = bytes => String.fromCharCode(...bytes.subarray(8, 12)) === '.FIT';
+
+// What an answer is, or something else if it is refused.
+const orElse = (answer, other) => answer.catch(error => { if (error.kind) return other(error); throw error; });
+
+const judged = (fitrec, file) => orElse(fitrec.check(file).then(summary => ({ summary })), ({ kind, place }) => ({ kind, place }));
+
+// What is readable of a file up to its first fault. After the faults too, if that was offered and taken, or nothing else is readable; and
+// with a summary, if that was.
+async function salvaged(fitrec, ride, why, how) {
+  const { data, journal } = ride, all = how.includes('all') || how.includes('end');
+  let found = how.includes('skip') ? null : await orElse(fitrec.salvage(data, all), () => null);
+  if (!found || !found.kept) found = await fitrec.skip(data, all);
+  const { kept, looked, more, pieces } = found, isOpen = new DataView(data.buffer, data.byteOffset).getUint32(4, true) === 0;
+  const beside = isOpen && !journal ? [['journalBeside']] : [];
+  if (!kept) return { ...nothing(why[0] || ['noMessage'], 'notFitNext'), reasons: [...(why.length ? why : [['noMessage']]), ...beside] };
+  const made = how.includes('finish') ? await finished(fitrec, found.file) : { file: found.file, reasons: [] };
+  const file = await orElse(fitrec.plain(made.file), () => made.file), { summary, kind } = await judged(fitrec, file);
+  const isWhole = made.isFinished && kept === looked && !why.length;
+  const counts = pieces ? skippedOver(found) : isWhole ? [] : [['salvagedWhy', { kept, looked }]];
+  const reasons = [...beside, ...why, ...counts, ...(more ? [['salvagedMore', { more }]] : []), ...made.reasons];
+  const isCut = !pieces && looked - kept > SHORT, { next, offers } = made.reasons.length ? finishable() : finishable(kind);
+  return { heading: isWhole ? 'finished' : 'salvaged', reasons, next: [...(isCut ? [['skipNext']] : []), ...next],
+    offers: [...(more && !all ? ['all'] : []), ...(isCut ? ['skip'] : []), ...offers], file, summary };
+}
+
+// With laps and totals, or why there are none.
+async function finished(fitrec, file) {
   try {
-    return { summary: await fitrec.check(file) };
+    const made = await fitrec.finish(file), left = made.leftOut ? [['finishedLeft', { count: made.leftOut }]] : [];
+    return { file: made.file, isFinished: true, reasons: [['finishedWhy', { heard: made.heard }], ...left] };
   } catch (error) {
     if (!error.kind) throw error;
-    return { kind: error.kind, place: error.place };
+    return { file, reasons: [['fault' + error.kind]] };
   }
 }
 
-async function salvaged(fitrec, ride, why, { kept, looked, more, file }, how) {
-  const isOpen = new DataView(ride.data.buffer, ride.data.byteOffset).getUint32(4, true) === 0;
-  const beside = isOpen && !ride.journal ? [['journalBeside']] : [];
-  if (!kept) return { ...nothing(why[0] || ['noMessage'], 'notFitNext'), reasons: [...(why.length ? why : [['noMessage']]), ...beside] };
-  const plain = await fitrec.plain(file).catch(error => { if (error.kind) return file; throw error; });
-  const { summary } = await judged(fitrec, plain);
-  const reasons = [...beside, ...why, ['salvagedWhy', { kept, looked }], ...(more ? [['salvagedMore', { more }]] : [])];
-  const next = [...(looked - kept > SHORT ? [['skipNext']] : []), ...(summary ? [] : [['finishNext']])];
-  return { heading: 'salvaged', reasons, next, offers: more && how !== 'all' ? ['all'] : [], file: plain, summary };
+// What is said of the bytes that are kept around faults, and of those that are left out.
+function skippedOver({ kept, looked, pieces }) {
+  const count = pieces.filter(it => it.kept).length, left = pieces.filter(it => !it.kept);
+  const places = left.slice(0, PLACES).map(({ start, end }) => ['leftOutAt', { count: end - start, place: start }]);
+  if (left.length > PLACES) places.push(['leftOutMore', { count: left.length - PLACES }]);
+  return [[count === 1 ? 'skippedOne' : 'skippedWhy', { kept, looked, count }], ...(left.length ? [['leftOut', { places }]] : [])];
 }

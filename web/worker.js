@@ -1,21 +1,20 @@
 // What the workers do, so that the page never stands still: one judges and saves, while the other reads and draws. Both are of this source.
 
-const fitrec = (async () => {
-  const packed = Uint8Array.from(atob('@MODULE@'), c => c.charCodeAt(0));
-  const unpacked = new Blob([packed]).stream().pipeThrough(new DecompressionStream('deflate'));
-  return open(await new Response(unpacked).arrayBuffer());
-})();
+let ready;
+const opened = new Promise(done => { ready = done; });
 
-onmessage = async ({ data: { number, ride, how, file, records, recording } }) => {
+onmessage = async ({ data: { module, number, ride, how, file, records, recording } }) => {
+  if (module) return ready(open(module));
   const report = step => postMessage({ number, step });
   try {
+    const fitrec = await opened;
     if (ride) {
-      const answer = await answerTo(await fitrec, ride, how), bytes = answer.file || answer.shown;
-      return postMessage({ number, answer }, bytes ? [bytes.buffer] : []);
+      const answer = await answerTo(fitrec, ride, how), { file: made, shown = made, parts = [shown] } = answer;
+      return postMessage({ number, answer }, parts.filter(it => it).map(it => it.buffer));
     }
-    const found = recording ? await (await fitrec).repair(recording.data, recording.journal) : { file, summary: { records } };
+    const shown = file || await committedOf(fitrec, recording);
     report(2);
-    const answer = await drawn(await fitrec, found.file, found.summary.records, () => report(3));
+    const answer = await drawn(fitrec, shown, records, () => report(3));
     const lent = [answer.time, answer.lat, answer.long, answer.distance, ...answer.series.map(it => it.values)];
     postMessage({ number, answer }, lent.map(it => it.buffer));
   } catch (error) {
@@ -25,8 +24,10 @@ onmessage = async ({ data: { number, ride, how, file, records, recording } }) =>
 
 // What the page shows of a file's ride.
 async function drawn(fitrec, file, records, report) {
-  const { breaks, ...ride } = await rideOf(fitrec, file, records), columns = columnsOf(ride.time);
+  const { breaks, ...ride } = await rideOf(fitrec, file, records), track = trackOf({ ...ride, breaks });
   report();
-  const curves = ride.series.map(it => ride.time.length > 1 ? curveOf(columns, it) : null), track = trackOf({ ...ride, breaks });
-  return { ...ride, track, series: ride.series.map(({ breaks: own, ...it }, k) => ({ ...it, curve: curves[k] })) };
+  const series = ride.series.map(({ parts, breaks: own, ...it }) => {
+    return { ...it, curve: ride.time.length > 1 ? curveOf(ride.time, { ...it, parts, breaks: own }) : null };
+  });
+  return { ...ride, track, series };
 }

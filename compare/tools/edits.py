@@ -6,15 +6,19 @@ import re
 
 
 def functions_of(text):
-    """For each function its name, its first line, the line of its body's `{` and its last line. Relies on the layout of rt fmt."""
+    """For each function its name, its first line (that of its attributes, if it has any), the line of its body's `{` and its last line.
+    Relies on the layout of rt fmt."""
     lines, found, after = text.split("\n"), [], 0
     for first, line in enumerate(lines):
-        head = re.match(r"( {0,4})(?:[\w()]+ )*fn (\w+)", line)
+        head = re.match(r'( {0,4})(?:[\w()"]+ )*fn (\w+)', line)
         if head and first >= after and f"{head[1]}}}" in lines[first:]:
             after = lines.index(f"{head[1]}}}", first)
             opens = [i for i in range(first, after) if lines[i] == f"{head[1]}{{"]
             opens += [i for i in range(first, after) if lines[i].endswith(" {")]
-            found.append((head[2], first, (opens or [first])[0], after))
+            opens += [first]
+            while first and lines[first - 1].startswith(f"{head[1]}#["):
+                first -= 1
+            found.append((head[2], first, opens[0], after))
     return found
 
 

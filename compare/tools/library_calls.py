@@ -7,10 +7,11 @@ import re
 import shutil
 import tempfile
 
+from finishing import Maker, recorded, ride
 from tools.checks import differs
 from tools.fit_files import damaged, made
 from tools.program import NAMES, bytes_of, holds, room, run
-from tools.reader import names_of
+from tools.reader import checksum, names_of
 from tools.rides import damaged_pair, script_of, uncommitted
 
 # The most bytes that a repair and a salvage may add.
@@ -18,7 +19,7 @@ CLOSING, FRAME = 254, 16
 # The answer that each line of the program on standard error stands for: of a recording, and of a file.
 ANSWERS = {"NothingRecorded": 7, "Damaged": 8, "Truncated": 1, "HeaderSize": 2, "Magic": 3, "Protocol": 4, "HeaderCrc": 5, "UndefinedLocal": 6,
            "SplitMessage": 7, "FileCrc": 8, "TrailingBytes": 9, "NoFileId": 11, "NotActivity": 12, "NoLap": 13, "NoSession": 14, "NoActivity": 15,
-           "TooLong": 21}
+           "TooLong": 21, "TooLarge": 21, "NoSample": 26}
 
 
 def answer_of(said):
@@ -128,6 +129,112 @@ def of_files(fitrec, program, count, seed):
         # The new header may have two bytes more.
         said = run(program, "salvage", 2, source, mine, 0)
         yield "a salvage of a whole file needs two bytes more", differs(said[1].split("\n")[0], "0")
+
+
+def skipped(fitrec, program, source, mine, its, every):
+    """What differs between a file of which a fault is skipped by the library and one by the program, with the lines of its pieces."""
+    said = run(program, "skip", source, mine, int(every))
+    wanted = run(fitrec, "salvage", "--skip", *["--all"] * every, source, its)
+    answer, _, lines = said[1].partition("\n")
+    kept = re.match(r"(kept \d+ of \d+), (\d+) not looked at\n", lines)
+    pieces = re.findall(r"(?m)^(kept|left out) (\d+) to (\d+)$", lines)
+    places = [(int(start), int(end)) for _, start, end in pieces]
+    printed = "%s, parts %d\n" % (kept[1], sum(word == "kept" for word, _, _ in pieces)) if kept else ""
+    printed += "".join("left out %d at %d\n" % (end - start, start) for (word, _, _), (start, end) in zip(pieces, places) if word != "kept")
+    data, file = source.read_bytes(), bytes_of(mine)
+    joined = b"".join(data[start:end] for (word, _, _), (start, end) in zip(pieces, places) if word == "kept")
+    left = re.match(r"fitrec: (\d+) bytes after", wanted[2]) if wanted[0] == 0 else None
+    found = answer, printed, int(kept[2]) if kept else 0, file, file and file[14:-2], all(a[1] == b[0] for a, b in zip(places, places[1:]))
+    new = bytes_of(its)
+    difference = differs(found, (str(answer_of(wanted)), wanted[1], int(left[1]) if left else 0, new, new and joined, True), data)
+    mine.unlink(missing_ok=True)
+    its.unlink(missing_ok=True)
+    return difference
+
+
+def splits(fitrec, program, source, folder):
+    """What differs between the files that the library and the program find in a chained one."""
+    said, wanted = run(program, "split", source), run(fitrec, "split", source, folder)
+    lines = ["%s.fit: %s bytes" % (number, size) for number, size in enumerate(said[1].split(), 1)]
+    return differs((said[0], said[2], lines), (wanted[0], "", [line.partition(",")[0] for line in wanted[1].splitlines()]))
+
+
+def with_a_hole(pick, data):
+    """Bytes with some of them replaced, taken out or put in."""
+    at = pick.randrange(len(data) + 1)
+    end = min(len(data), at + pick.randrange(40))
+    return data[:at] + pick.choice([b"", pick.randbytes(end - at), bytes(end - at), pick.randbytes(pick.randrange(40))]) + data[end:]
+
+
+def of_mended(fitrec, program, count, seed):
+    """Files whose faults are skipped, and chained files."""
+    pick = random.Random(seed)
+    with room() as (script, new):
+        folder = pathlib.Path(new())
+        source, mine, its = (folder / name for name in ("in.fit", "mine.fit", "its.fit"))
+        script.write_text(script_of(60, 4))
+        run(fitrec, "replay", script, ride := new())
+        whole = holds(ride)[0]
+        files = [b"", whole, whole[14:], whole[:14], whole + whole, bytes(100), pick.randbytes(3000)]
+        for _ in range(count):
+            data = with_a_hole(pick, whole)
+            files += [data, with_a_hole(pick, data), damaged(pick, made(pick)), with_a_hole(pick, made(pick))]
+        for data in files:
+            source.write_bytes(data)
+            for every in (False, True):
+                yield "a file whose faults are skipped", skipped(fitrec, program, source, mine, its, every)
+        for at in range(count + 1):
+            chain = [made(pick) for _ in range(at % 4)]
+            source.write_bytes(b"".join(chain) + pick.choice([b"", b"\0\1\2", whole[:100]]))
+            yield "chained files", splits(fitrec, program, source, new())
+
+
+def finishing(program, source, mine, wanted, refusal, its):
+    """What differs between the finished file of a file by the library and what the program answers with --finish, whose file is `its`.
+    `refusal` is what a check of the file answers."""
+    said, place = run(program, "finish", source, mine), place_in(refusal)
+    if place:
+        lines, its = "%d\nat %s\n" % (answer_of(refusal), place[1]), None
+    else:
+        lines = "%d\n%s" % (answer_of(wanted), "".join(wanted[1].splitlines(True)[1:]))
+    difference = differs((said, bytes_of(mine)), ((0, lines, ""), its))
+    mine.unlink(missing_ok=True)
+    return difference
+
+
+def short_header(data):
+    """A file of the same records with a header of 12 bytes."""
+    start = b"\x0c" + data[1:12] + data[14:-2]
+    return start + checksum(start).to_bytes(2, "little")
+
+
+def of_finished(fitrec, program, count, seed):
+    """Activities of other makers and rides of our own, whole, cut off, plain and damaged, and files that are made at random: what the
+    program makes of them with --finish, the library makes of what a salvage keeps."""
+    pick = random.Random(seed)
+    with room() as (script, new):
+        folder = pathlib.Path(new())
+        source, kept, mine, its = (folder / name for name in ("in.fit", "kept.fit", "mine.fit", "its.fit"))
+        whole = [Maker(pick).activity() for _ in range(count)]
+        whole += [(recorded(fitrec, script, new, ride(pick)) / "activity.fit").read_bytes() for _ in range(count // 2)]
+        files = whole + [it[:pick.randrange(len(it) + 1)] for it in whole] + [damaged(pick, it) for it in whole] + [made(pick) for _ in range(count)]
+        for content in files:
+            for words in (), ("--plain",):
+                source.write_bytes(content)
+                wanted = run(fitrec, "salvage", "--finish", *words, source, its)
+                done = bytes_of(its)
+                if run(fitrec, "salvage", *words, source, kept)[0] == 0:
+                    yield "a finished activity", finishing(program, kept, mine, wanted, run(fitrec, "check", kept), done)
+                    source.write_bytes(short_header(kept.read_bytes()))
+                    yield "one with a short header", finishing(program, source, mine, wanted, (0, "", ""), done and short_header(done))
+                if done:
+                    yield "a finished file again", finishing(program, its, mine, run(fitrec, "salvage", "--finish", its, source), (0, "", ""), done)
+                its.unlink(missing_ok=True)
+                kept.unlink(missing_ok=True)
+            source.write_bytes(content)
+            refusal = run(fitrec, "check", source)
+            if place_in(refusal):
+                yield "no file to be finished", finishing(program, source, mine, None, refusal, None)
 
 
 def place_in(said):

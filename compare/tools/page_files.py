@@ -7,7 +7,7 @@ from tools.checks import differs, unless
 from tools.pages import RIDE, both, copy, recorded
 from tools.program import NAMES, bytes_of, run
 from tools.rides import uncommitted
-from tools.visits import NOTHING, READABLE, SAVED, WINDOWS, Browser
+from tools.visits import ADD, GO_ON, NOTHING, READABLE, SAVED, WINDOWS, Browser
 
 # Samples after the last commit, more than a recorder keeps back.
 NOT_COMMITTED = ["sample %d hr=100 power=200 dist=%d" % (1000000300 + at, 240000 + at) for at in range(120)]
@@ -35,7 +35,7 @@ def inputs(fitrec, folder):
     bytes_there[-1] ^= 1
     (changed / "activity.fit").write_bytes(bytes_there)
     count, left_out = uncommitted(*(it.read_bytes() for it in both(more))), len(bytes_there) - ride.stat().st_size
-    saved, end = (folder / "ride.fit").read_bytes(), ride.stat().st_size
+    saved, end, summary = (folder / "ride.fit").read_bytes(), ride.stat().st_size, [ADD]
     alone, the_end = ["Save what is readable of the ride file alone"], ["Save with the unconfirmed end, without a summary"]
     yield "a recording", both(torn), SAVED, "confirmed", saved, []
     yield "a recording and more messages", both(more), SAVED, "%s bytes of whole messages" % f"{count:,}", saved, the_end
@@ -46,10 +46,10 @@ def inputs(fitrec, folder):
     yield "a tail that cannot be read", both(more), SAVED, "from byte %s on" % f"{end:,}", saved, [], end
     yield "a body that cannot be read", both(more), NOTHING, "from byte 4,096 on", None, alone, 4096
     yield "a whole file", made("whole.fit", whole), "The file is whole", "checksum is right", None, []
-    yield "a file that was cut off", made("cut.fit", whole[:3000]), READABLE, "ends too soon", cut, []
-    yield "a ride without its journal", [ride], READABLE, "checksum of the file is wrong", salvage, []
+    yield "a file that was cut off", made("cut.fit", whole[:3000]), READABLE, "ends too soon", cut, summary
+    yield "a ride without its journal", [ride], READABLE, "checksum of the file is wrong", salvage, summary
     yield "a wrong checksum", [folder / "wrong.fit"], READABLE, "checksum of the file is wrong", (folder / "mended.fit").read_bytes(), []
-    yield "a file without a summary", [folder / "salvaged.fit"], "The file is readable", "no lap", None, []
+    yield "a file without a summary", [folder / "salvaged.fit"], "The file is readable", "no lap", None, summary
     yield "no FIT file", made("notes.fit", b"notes of a ride"), NOTHING, "notes.fit is not a FIT file", None, []
     yield "an empty file", made("empty.fit", b""), NOTHING, "empty.fit is empty", None, []
     yield "files of two rides", [ride, longer / NAMES[1]], NOTHING, "do not fit together", None, alone
@@ -105,8 +105,8 @@ def of_choosing(fitrec, folder, shots=None):
         take = [{"download": "#save"}]
         for name, order in (("the ride first", [ride, journal]), ("the journal first", [journal, ride])):
             browser.visit("%s, %s" % (name, window), [{"files": [it]} for it in order] + take, last(SAVED, saved), **WINDOWS[window])
-        browser.visit("the ride alone, %s" % window, [{"files": [ride]}, *take], last(READABLE, alone, "If activity.frj is beside it"),
-                      **WINDOWS[window])
+        browser.visit("the ride alone, %s" % window, [{"files": [ride]}, *take],
+                      last(READABLE, alone, "If activity.frj is beside it", offers=[ADD]), **WINDOWS[window])
     deep = folder / "card/GARMIN/ACTIVITY"
     deep.parent.mkdir(parents=True)
     copy(both(torn), deep, ["ACTIVITY.FIT", "ACTIVITY.FRJ"])
@@ -123,19 +123,21 @@ def of_choosing(fitrec, folder, shots=None):
                   last(READABLE, by("kept.fit", "salvage", "--plain", *longer), "goes on after its end",
                        offers=["Read the bytes after that length too"]))
     browser.visit("bytes after the end, read", [{"files": longer}, {"click": "#offers button"}, {"download": "#save"}],
-                  last(READABLE, by("all.fit", "salvage", "--all", "--plain", *longer)))
+                  last(READABLE, by("all.fit", "salvage", "--all", "--plain", *longer), offers=[GO_ON]))
     more = recorded(fitrec, folder / "more", [*RIDE, *NOT_COMMITTED])
     # A header that gives what was committed: until the ride is finished its bytes are free.
     data = (more / NAMES[0]).read_bytes()
     (more / NAMES[0]).write_bytes(data[:4] + (ride.stat().st_size - 14).to_bytes(4, "little") + data[8:])
     browser.visit("the end that was not confirmed", [{"files": both(more)}, {"click": "#offers button"}, {"download": "#save"}],
-                  last(READABLE, by("end.fit", "salvage", "--all", "--plain", more / NAMES[0]), next="fitrec salvage --finish"))
+                  last(READABLE, by("end.fit", "salvage", "--all", "--plain", more / NAMES[0]), next="laps and totals can be added",
+                       offers=[ADD]))
     other = recorded(fitrec, folder / "other", [*RIDE, "sample 1000000300 hr=100", "commit"])
     browser.visit("a journal of another ride", [{"files": [ride, other / NAMES[1]]}, {"click": "#offers button"}, {"download": "#save"}],
-                  last(READABLE, alone))
+                  last(READABLE, alone, offers=[ADD]))
     spoiled = made("spoiled.fit", whole[:3000] + bytes(80 * [0x0F]) + whole[3080:])
     browser.visit("a damaged middle", [{"files": spoiled}, {"download": "#save"}],
-                  last(READABLE, by("spoiled-kept.fit", "salvage", "--plain", *spoiled), next="fitrec salvage --skip"))
+                  last(READABLE, by("spoiled-kept.fit", "salvage", "--plain", *spoiled), next="more after the damage",
+                       offers=[GO_ON, ADD]))
     browser.visit("an empty ride with its journal", [{"files": [*made("activity.fit", b""), journal]}],
                   last(NOTHING, None, "activity.fit is empty: it has no bytes."))
     browser.visit("an empty journal", [{"files": [ride, *made("activity.frj", b"")]}],

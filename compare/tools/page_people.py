@@ -107,11 +107,13 @@ def of_people(fitrec, folder, shots=None):
         browser.visit("print, dark" if dark else "print", steps, of_print, print=True, dark=dark, width=700)
 
     # Each language has the same texts, with the same places for what is filled in, and each is used.
-    whole = """Object.fromEntries(Object.entries(TEXTS).map(([language, texts]) => [language,
-        Object.fromEntries(Object.entries(texts).map(([key, text]) => [key, (text.match(/\\{\\w+\\}/g) || []).sort()]))]))"""
+    whole = """learn().then(() => Object.fromEntries(Object.entries(TEXTS).map(([language, texts]) => [language,
+        Object.fromEntries(Object.entries(texts).map(([key, text]) => [key, (text.match(/\\{\\w+\\}/g) || []).sort()]))])))"""
+    commands = "Object.values(TEXTS).flatMap(texts => Object.values(texts)).filter(it => /fitrec (check|plain|repair|salvage|save|show|split)|--/.test(it))"
 
     def of_texts(shown, made):
         yield "languages", differs(sorted(made[0]), ["de", "en", "es", "fr", "it"])
+        yield "no command of the program", differs(made[1], [])
         for language, texts in made[0].items():
             yield "%s is whole" % language, differs(texts, made[0]["en"])
         sources = "".join((WEB / name).read_text() for name in os.listdir(WEB) if name.endswith((".js", ".html")) and name != "texts.js")
@@ -119,9 +121,9 @@ def of_people(fitrec, folder, shots=None):
         known = {it for found in words for it in found} | {"fault" + it for it in FAULTS}
         yield "no text is left over", differs([it for it in made[0]["en"] if it not in known and not it.startswith("offer_")], [])
 
-    browser.visit("texts", [{"evaluate": whole}], of_texts)
+    browser.visit("texts", [{"evaluate": whole}, {"evaluate": commands}], of_texts)
     yield from browser.outcomes()
 
 
 FAULTS = ("Truncated", "HeaderSize", "Magic", "Protocol", "HeaderCrc", "UndefinedLocal", "SplitMessage", "FileCrc", "TrailingBytes",
-          "NoFileId", "NotActivity", "NoLap", "NoSession", "NoActivity")
+          "NoFileId", "NotActivity", "NoLap", "NoSession", "NoActivity", "NoSample")

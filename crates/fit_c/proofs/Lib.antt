@@ -1,2 +1,4 @@
+mod Kept
 mod Recovered
 mod Written
+mod Finished

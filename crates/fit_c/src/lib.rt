@@ -1,5 +1,5 @@
-//! Recovers rides of a dead device, and shows and checks files and reads their columns, in the memory of a C program or of a page in a
-//! browser. `include/fitrec.h` documents the same calls for C.
+//! Recovers rides of a dead device, keeps what is readable of damaged files, and shows and checks files and reads their columns, in the
+//! memory of a C program or of a page in a browser. `include/fitrec.h` documents the same calls for C.
 //!
 //! Nothing here takes memory, keeps state, or makes a system call. A call reads and writes only the buffers that it is given,
 //! so calls on different buffers may run at the same time.
@@ -10,24 +10,31 @@ ghost use Rattle.std.specs.Prelude.{◌≡◌};
 mod checking;
 mod columns;
 mod committing;
+mod finishing;
+mod framing;
 mod json;
+mod pieces;
 mod plain;
 mod repairing;
 mod room;
 mod salvaging;
 mod saving;
 mod showing;
+mod skipping;
 mod tape;
 
 pub use checking::fitrec_check;
 pub use columns::fitrec_columns;
 pub use committing::{fitrec_leave_changed, fitrec_uncommitted};
+pub use finishing::{FinishCounts, fitrec_finish};
 pub use json::fitrec_json;
+pub use pieces::FilePiece;
 pub use plain::fitrec_plain;
 pub use repairing::{RideSummary, fitrec_repair};
 pub use salvaging::fitrec_salvage;
 pub use saving::fitrec_save;
 pub use showing::fitrec_show;
+pub use skipping::{fitrec_first_file, fitrec_skip};
 
 /// The version of these calls. It grows when one of them changes.
 #[unsafe(no_mangle)]

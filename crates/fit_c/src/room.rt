@@ -68,7 +68,7 @@ impl Sink for Room<'_> {
 }
 
 // Writes after what is already there.
-fn copy_to(room: &mut [u8], at: usize, bytes: &[u8])
+pub fn copy_to(room: &mut [u8], at: usize, bytes: &[u8])
     requires { at + length bytes.now ≤ length room.old }
     ensures content { take (at + length bytes.now) room.new ≡ take at room.old ++ bytes.now }
     ensures long { length room.new ≡ length room.old }

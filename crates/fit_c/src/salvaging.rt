@@ -10,7 +10,7 @@ use crate::room::Room;
 use fit_files::{Salvage, salvage_bytes};
 
 // The input has 4294967296 bytes or more.
-const TOO_LARGE: u8 = 22;
+pub const TOO_LARGE: u8 = 22;
 
 /// How much of a file was kept, in bytes.
 #[repr(C)]

@@ -176,17 +176,15 @@ abbrev pub IsNothingKept : Bor (List ℕ) → Fault → Type 0
 IsNothingKept file faults.NoMemory = Unit {0}
 IsNothingKept file reported = IsNoSalvage file reported
 
--- of printing a line that is made in memory
-abbrev pub IsLineReported : Fault → Type 0
-IsLineReported (faults.Write name) = name.now ≡ codes "-"
-IsLineReported faults.NoMemory = Unit {0}
-IsLineReported _ = ⊥
+-- of writing a file into a folder of this name, and printing its line
+abbrev pub IsPartReported : Bor (List ℕ) → Fault → Type 0
+IsPartReported folder (faults.Write name) = (name ≡ folder) ⊎ (name.now ≡ codes "-")
+IsPartReported folder faults.NoMemory = Unit {0}
+IsPartReported folder _ = ⊥
 
 -- of writing the files that are chained in one into a folder
 abbrev pub IsSplitReported : Bor (List ℕ) → Bor (List ℕ) → Fault → Type 0
 IsSplitReported file folder (faults.Open name) = name ≡ file
 IsSplitReported file folder (faults.Read name) = name ≡ file
-IsSplitReported file folder (faults.Write name) = (name ≡ folder) ⊎ (name.now ≡ codes "-")
 IsSplitReported file folder faults.TooLarge = Unit {0}
-IsSplitReported file folder faults.NoMemory = Unit {0}
-IsSplitReported file folder _ = ⊥
+IsSplitReported file folder reported = IsPartReported folder reported

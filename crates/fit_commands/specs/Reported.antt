@@ -5,14 +5,17 @@ use Rattle.std.specs.Io.KnownBytes.{Appends}
 use Rattle.fit_activity.specs.declared.activity.Summary.{Summary}
 use Rattle.fit_disk.specs.State.{Contents, seen_in}
 use Rattle.fit_disk.specs.Story.{Story}
+use Rattle.fit_grammar.specs.Calls.Output.{AppendsBeginning}
 use Rattle.fit_grammar.specs.Format.File.{FileValue, FileOf}
 use Rattle.fit_grammar.specs.Format.Message.{messages_of}
+use Rattle.fit_mending.specs.Chained.{AreChained}
 use Rattle.fit_files.specs.declared.mended.Mended.{Mended}
 use Rattle.fit_files.specs.declared.salvage.Salvage.{Salvage}
 use Rattle.fit_files.specs.declared.saving.SavedRide.{SavedRide}
 use Rattle.fit_files.specs.Calls.Reading.{ReadsAll}
 use Rattle.fit_files.specs.Calls.Rereading.{AreSumsOf}
 use Rattle.fit_files.specs.Printed.Mended.{IsMended, mended_text}
+use Rattle.fit_files.specs.Printed.Parts.{AreLines}
 use Rattle.fit_files.specs.Printed.PlainFile.{PlainsTo, messages_text}
 use Rattle.fit_files.specs.Printed.Finished.{finished_lines, finished_mended_lines}
 use Rattle.fit_files.specs.Printed.Repaired.{Repairs}
@@ -93,7 +96,7 @@ FinishesFile all plain old new =
 
 -- what is kept of some bytes by going on after their faults, as one row
 pub record IsRowOf (mended : Mended) (salvage : Salvage) : Type 0 where
-  pub frame : salvage.frame ≡ mended.frame
+  pub frame : salvage.frame ≡ mended.looked.frame
   pub row : salvage.row.now ≡ mended.skipped.row.items
 
 -- what is kept of some bytes by going on after their faults was found, and it has the form asked for; what was kept and what was left
@@ -113,6 +116,20 @@ FinishesMended all plain old new =
     × (salvage : Salvage) × IsRowOf mended salvage
     × (finished : Finished) × FinishesSalvage plain salvage finished
     × Appends old new (finished_mended_lines mended finished.taken finished.left_out)
+
+-- a line was printed for each of these files; after an Err, for the first of them, of which the last line may be cut off
+abbrev pub PrintsLines : List (List ℕ) → Option (List ℕ) → Option (List ℕ)
+    → Result (Unit {0}) Fault → Type 0
+PrintsLines files old new (Ok done) = (text : List ℕ) × AreLines 0 files text × Appends old new text
+PrintsLines files old new (Err fault) =
+    (some : List (List ℕ)) × (others : List (List ℕ)) × (files ≡ some ++ others)
+    × (text : List ℕ) × AreLines 0 some text × AppendsBeginning old new text
+
+-- the same of the files that are chained in some bytes
+abbrev pub SplitsFile : Option (List ℕ) → Option (List ℕ) → Result (Unit {0}) Fault → Type 0
+SplitsFile old new result =
+    (bytes : List ℕ) × (length bytes ≤ 268435456) × (files : List (List ℕ)) × AreChained bytes files
+    × PrintsLines files old new result
 
 -- it is the plain form of a file of some bytes
 abbrev pub IsFormOfFile : FileValue → Type 0

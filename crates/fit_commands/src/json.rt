@@ -10,19 +10,21 @@ use fit_files::show_json_input;
 use std::io::Write;
 use std::rt::Files;
 
-/// Prints the file of this name as JSON, an object on each line. With `utc`, times are dates.
+/// Prints the file of this name as JSON, an object on each line. With `profile`, names and units are those of the Profile; with `utc`,
+/// times are dates.
 pub fn show_as_json<'a, R: Files + AllocGlobal, O: Write>(
     rt: &R,
     name: &'a str,
+    profile: bool,
     utc: bool,
     out: &mut O,
 ) -> Result<(), Fault<'a>>
     ensures { ReportsRun name.entry (O.contents out.old) (O.contents out.new)
         (IsReportFault name.entry)
-        (ShowsJson utc (O.contents out.old) (O.contents out.new)) result }
+        (ShowsJson profile utc (O.contents out.old) (O.contents out.new)) result }
 {
     let mut file = open_file(rt, name)?;
-    match show_json_input(rt.alloc(), &mut file, MOST_BYTES, utc, out) {
+    match show_json_input(rt.alloc(), &mut file, MOST_BYTES, profile, utc, out) {
         Ok(()) => Ok(()),
         Err(fault) => Err(fault_of_report(name, fault)),
     }

@@ -1,15 +1,16 @@
 // The subcommand `split`: writes each of the files that are chained in one.
 
-ghost use Rattle.std.specs.Prelude.{IfErr};
-ghost use Rattle.fit_commands.specs.Faults.{IsLineReported, IsNotWritten, IsSplitReported};
+ghost use Rattle.std.specs.Prelude.{map, IfErr};
+ghost use Rattle.fit_commands.specs.Faults.{IsNotWritten, IsPartReported, IsSplitReported};
+ghost use Rattle.fit_commands.specs.Reported.{PrintsLines, SplitsFile};
 
 use crate::beside::write_whole;
 use crate::content::Content;
 use crate::fault::Fault;
-use crate::input::read_file;
-use fit_grammar::{EncodeFault, LentFile, Sink};
+use crate::input::{fault_of_report, read_file};
+use fit_files::print_part;
+use fit_grammar::{EncodeFault, Sink};
 use fit_mending::split_files;
-use std::alloc::{AllocError, Global};
 use std::io::Write;
 
 /// Writes each of the files that are chained in the file `name` into the folder `to`, as `1.fit`, `2.fit` and so on, which may exist.
@@ -21,18 +22,34 @@ pub fn split_file<'a, O: Write>(
     out: &mut O,
 ) -> Result<(), Fault<'a>>
     ensures reported { IfErr result (IsSplitReported name.entry to.entry) }
+    ensures lines { SplitsFile (O.contents out.old) (O.contents out.new) result }
 {
     let bytes = read_file(rt, name)?;
     let Ok(files) = split_files(rt.alloc(), bytes.as_slice()) else {
         return Err(Fault::NoMemory);
     };
+    write_parts(rt, to, files.as_slice(), out)
+}
+
+// Writes each of these files into the folder, and prints its line after it.
+fn write_parts<'a, O: Write>(
+    rt: &HostRuntime,
+    folder: &'a str,
+    files: &[&[u8]],
+    out: &mut O,
+) -> Result<(), Fault<'a>>
+    ensures reported { IfErr result (IsPartReported folder.entry) }
+    ensures lines { PrintsLines (map (λ file. file.now) files.now)
+        (O.contents out.old) (O.contents out.new) result }
+{
     let mut number: usize = 0;
-    for file in files.as_slice() {
-        number = number.saturating_add(1);
-        write_part(rt, to, number, file)?;
-        match print_part(rt.alloc(), number, file, out) {
-            Ok(()) => {}
-            Err(fault) => return Err(fault),
+    let mut rest = files;
+    while let [file, others @ ..] = rest {
+        number += 1;
+        write_part(rt, folder, number, file)?;
+        match print_part(number, file, out) {
+            Ok(()) => rest = others,
+            Err(fault) => return Err(fault_of_report(folder, fault)),
         }
     }
     Ok(())
@@ -69,34 +86,5 @@ fn write_part<'a>(
         Ok(()) => Ok(()),
         Err(Fault::NoMemory) => Err(Fault::NoMemory),
         Err(_) => Err(Fault::Write(folder)),
-    }
-}
-
-// Prints the line of a file.
-fn print_part<O: Write>(
-    alloc: Global,
-    number: usize,
-    bytes: &[u8],
-    out: &mut O,
-) -> Result<(), Fault<'static>>
-    ensures { IfErr result IsLineReported }
-{
-    let Ok(text) = line_of(alloc, number, bytes) else {
-        return Err(Fault::NoMemory);
-    };
-    match out.put(text.as_str().as_bytes()) {
-        Ok(()) => Ok(()),
-        Err(_) => Err(Fault::Write("-")),
-    }
-}
-
-fn line_of(alloc: Global, number: usize, bytes: &[u8]) -> Result<String, AllocError> {
-    let size = bytes.len();
-    match LentFile::read(bytes) {
-        Ok(_) => format!(in alloc; "{number}.fit: {size} bytes\n"),
-        Err(fault) => {
-            let (kind, place) = (fault.kind, fault.place);
-            format!(in alloc; "{number}.fit: {size} bytes, {kind:?} at {place}\n")
-        }
     }
 }

@@ -10,3 +10,4 @@ pub mod Lacking
 pub mod Tabled
 pub mod Finished
 pub mod Mended
+pub mod Parts

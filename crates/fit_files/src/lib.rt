@@ -3,9 +3,9 @@
 //! `show_input`, `show_json_input` and `check_input` print the text, the JSON or the summary of a file read from an input; `show_bytes`
 //! and `check_bytes` take its bytes. `table_input` prints its table, and `sum_up_input` gives the summary without printing it.
 //! `plain_input` makes the plain form of a file. `read_all` reads a whole input, and `read_front` what can be read of it. `salvage_bytes`
-//! finds the readable part of a file that has no journal, `skip_bytes` goes on after its faults, and `print_finished` says what was heard
-//! in it. `save_ride` makes a file from the two files of a recording, `Lack` says what they lack if nothing is recorded, and `repair`
-//! finishes the recording itself.
+//! finds the readable part of a file that has no journal; `skip_bytes` goes on after its faults, in the bytes that `look_at` finds, and
+//! `print_part` prints the line of a file that was chained with others. `print_finished` says what was heard in a file. `save_ride` makes a
+//! file from the two files of a recording, `Lack` says what they lack if nothing is recorded, and `repair` finishes the recording itself.
 //!
 //! Contracts use the definitions of `specs/`. `Printed` has what is printed of files. `Calls` has what is taken from an input, and the
 //! numbers of faults.
@@ -17,8 +17,10 @@ mod fault;
 mod finished;
 mod json;
 mod lack;
+mod looking;
 mod mended;
 mod mended_lines;
+mod parts;
 mod plain;
 mod printing;
 mod reading;
@@ -36,7 +38,9 @@ pub use fault::ReportFault;
 pub use finished::{print_finished, print_finished_mended};
 pub use json::show_json_input;
 pub use lack::Lack;
+pub use looking::{Looked, look_at};
 pub use mended::Mended;
+pub use parts::print_part;
 pub use plain::{count_messages, plain_input, print_messages};
 pub use printing::{flush, print, print_summary, put_line};
 pub use reading::{CHUNK, FrontRead, ReadFault, read_all, read_front, read_piece};

@@ -3,9 +3,9 @@
 ghost use Rattle.std.specs.Prelude.{◌<◌, ◌^◌, length};
 
 use crate::fault::ReportFault;
+use crate::looking::Looked;
 use crate::mended_lines::put_lines;
 use crate::salvage::Salvage;
-use fit_grammar::Frame;
 use fit_mending::Skipped;
 use fit_text::Pen;
 use std::io::Write;
@@ -13,12 +13,9 @@ use std::io::Write;
 /// What is kept of a damaged file: pieces of the bytes looked at, each a row of whole items.
 #[derive(Drop)]
 pub struct Mended {
-    /// The header of the file that is written.
-    pub frame: Frame,
-    /// The number of bytes looked at.
-    pub looked_at: usize,
-    /// The number of bytes after those looked at and the two of a checksum.
-    pub not_looked_at: usize,
+    /// Which bytes were looked at.
+    pub looked: Looked,
+    /// The pieces, and the row of those that are kept.
     pub skipped: Skipped,
     ghost short: { length skipped.row.items < 2 ^ 32 },
 }
@@ -31,16 +28,16 @@ impl Mended {
 
     /// The kept pieces as one row, which is written as a salvaged one is.
     pub fn salvage(&self) -> Salvage<'_>
-        ensures frame { result.frame ≡ self.now.frame }
+        ensures frame { result.frame ≡ self.now.looked.frame }
         ensures row { result.row.now ≡ self.now.skipped.row.items }
-        ensures looked_at { result.looked_at ≡ self.now.looked_at }
-        ensures not_looked_at { result.not_looked_at ≡ self.now.not_looked_at }
+        ensures looked_at { result.looked_at ≡ self.now.looked.looked_at }
+        ensures not_looked_at { result.not_looked_at ≡ self.now.looked.not_looked_at }
     {
         Salvage {
-            frame: self.frame,
+            frame: self.looked.frame,
             row: self.skipped.row.as_slice(),
-            looked_at: self.looked_at,
-            not_looked_at: self.not_looked_at,
+            looked_at: self.looked.looked_at,
+            not_looked_at: self.looked.not_looked_at,
         }
     }
 

@@ -21,7 +21,7 @@ pub(crate) fn put_lines<O: Write>(mended: &Mended, pen: &mut Pen<'_, O>) -> Resu
 {
     let kept = KeptLine {
         kept: mended.skipped.row.len(),
-        of: mended.looked_at,
+        of: mended.looked.looked_at,
         parts: count_kept(mended.skipped.pieces.as_slice()),
     };
     put_line(&kept, pen)?;

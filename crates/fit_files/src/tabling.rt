@@ -4,6 +4,7 @@ ghost use Rattle.std.specs.Prelude.{◌≡◌, ◌≤◌, ℕ, List, length, Opt
 ghost use Rattle.fit_grammar.specs.Calls.Output.{WritesText};
 ghost use Rattle.fit_columns.specs.declared.plans.TheConstants.{MOST_COLUMNS};
 ghost use Rattle.fit_table.specs.Table.{head_of};
+ghost use Rattle.fit_table.specs.Tokens.{Token, WritesTokens};
 ghost use Rattle.fit_files.specs.declared.fault.ReportFault.TheVariants.{Input};
 ghost use Rattle.fit_files.specs.declared.reading.ReadFault.{ReadFault};
 ghost use Rattle.fit_files.specs.Calls.Reading.{ReportsInput};
@@ -88,7 +89,7 @@ fn table_flushed<O: Write>(
     out: &mut O,
 ) -> Result<(), ReportFault>
     requires { length layout.now.fields.now ≤ MOST_COLUMNS }
-    ensures text { WritesText (O.contents out.old) (O.contents out.new) result
+    ensures text { WritesTokens (O.contents out.old) (O.contents out.new) result
         (tabled layout.now (option_map (λ text. text.now) front.entry) file.now) }
     ensures fault { IfErr result IsOutputFault }
 {
@@ -98,9 +99,9 @@ fn table_flushed<O: Write>(
 
 // Flushes the output, to which a text was written.
 fn flush_written<O: Write>(out: &mut O, written: Result<(), WriteFailed>) -> Result<(), ReportFault>
-    ensures text { (before : Option (List ℕ)) (text : List ℕ)
-        → WritesText before (O.contents out.old) written text
-        → WritesText before (O.contents out.new) result text }
+    ensures text { (before : Option (List ℕ)) (tokens : List Token)
+        → WritesTokens before (O.contents out.old) written tokens
+        → WritesTokens before (O.contents out.new) result tokens }
     ensures fault { IfErr result IsOutputFault }
 {
     let Ok(()) = written else {
@@ -119,7 +120,7 @@ fn write_chosen<O: Write>(
     out: &mut O,
 ) -> Result<(), WriteFailed>
     requires { length layout.now.fields.now ≤ MOST_COLUMNS }
-    ensures { WritesText (O.contents out.old) (O.contents out.new) result
+    ensures { WritesTokens (O.contents out.old) (O.contents out.new) result
         (tabled layout.now (option_map (λ text. text.now) front.entry) file.now) }
 {
     match front {

@@ -16,7 +16,7 @@ use Rattle.fit_activity.specs.Messages.ProfileMessage.{event_message, stop_all_t
 use Rattle.fit_activity.specs.Messages.RideMessages.{closing_messages_of}
 use Rattle.fit_activity.specs.Files.Activity.{has_global, begins_with_file_id, is_activity_file, messages_counted, activity_in, summary_of}
 use Rattle.fit_finishing.specs.declared.closing.Lacks.{Lacks}
-use Rattle.fit_finishing.specs.Finished.{lacks_in, lacks_lap, is_lacking, closing_for}
+use Rattle.fit_finishing.specs.Lacking.{lacks_in, lacks_lap, is_lacking, closing_for}
 
 -- a message that may be there
 counted-if : (global : ℕ) (b : Bool) (m : Message) (messages : List Message)

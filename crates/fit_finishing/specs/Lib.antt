@@ -1,4 +1,5 @@
 pub mod Entries
 pub mod Heard
+pub mod Lacking
 pub mod Finished
 pub mod Private

@@ -1,3 +1,2 @@
 -- What only private functions and proofs need.
 pub mod Ride
-pub mod Added

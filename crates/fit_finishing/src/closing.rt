@@ -1,18 +1,15 @@
 // The closing messages that a file lacks.
 
-ghost use Rattle.std.specs.Prelude.{◌≡◌, ◌++◌, ◌∷◌, [], List, OnOk, map};
-ghost use Rattle.std.specs.List.{filter, AllByRecursion};
+ghost use Rattle.std.specs.Prelude.{◌≡◌, List};
 ghost use Rattle.fit_grammar.specs.Format.Message.{messages_of};
 ghost use Rattle.fit_activity.specs.Rides.Recording.{Recorded};
 ghost use Rattle.fit_activity.specs.Rides.RunningTotals.{AreTotals};
 ghost use Rattle.fit_activity.specs.Files.Activity.{messages_counted};
-ghost use Rattle.fit_activity.specs.Messages.RideMessages.{closing};
 ghost use Rattle.fit_activity.specs.Messages.MessageBytes.{message_stated};
-ghost use Rattle.fit_finishing.specs.Finished.{lacks_in as lacks_of, lacks_lap as open_lap_lacks, is_lacking};
-ghost use Rattle.fit_finishing.specs.Private.Added.{HasLocal};
+ghost use Rattle.fit_finishing.specs.Lacking.{lacks_in as lacks_of, lacks_lap as open_lap_lacks, is_lacking};
 
-use fit_activity::{Speech, SpokenMessage, Totals, speak_closing};
-use fit_grammar::{File, LentFile, PutFault};
+use fit_activity::{SpokenMessage, Totals};
+use fit_grammar::LentFile;
 
 // Which closing messages a file lacks: the event that stops the timer, the open lap, the session, the activity message.
 #[derive(Clone, Copy)]
@@ -61,7 +58,7 @@ fn count_of(file: &LentFile<'_>, global: u16) -> u32
 
 impl Lacks {
     // Whether this closing message is one of them.
-    fn has(self, message: &SpokenMessage) -> bool
+    pub(crate) fn has(self, message: &SpokenMessage) -> bool
         ensures { result ≡ is_lacking self (message_stated message.now) }
     {
         match message.definition().global {
@@ -71,44 +68,4 @@ impl Lacks {
             _ => self.activity,
         }
     }
-}
-
-// Adds the closing messages that a file lacks. Each comes after its definition.
-pub(crate) fn add_closing(file: &mut File, totals: &Totals, lacks: Lacks) -> Result<(), PutFault>
-    requires { (list : List Recorded) × AreTotals totals.now list }
-    ensures added { (list : List Recorded) → AreTotals totals.now list
-        → OnOk result (messages_of file.new.items
-        ≡ messages_of file.old.items ++ filter (is_lacking lacks) (closing list)) }
-    ensures frame { OnOk result (file.new.frame ≡ file.old.frame) }
-{
-    let mut speech = Speech::new();
-    speak_closing(totals, &mut speech);
-    add_all(file, &speech, lacks)
-}
-
-// Adds those of these messages that a file lacks.
-fn add_all(file: &mut File, speech: &Speech, lacks: Lacks) -> Result<(), PutFault>
-    requires { AllByRecursion HasLocal speech.now }
-    ensures added { OnOk result (messages_of file.new.items
-        ≡ messages_of file.old.items
-        ++ filter (is_lacking lacks) (map message_stated speech.now)) }
-    ensures frame { OnOk result (file.new.frame ≡ file.old.frame) }
-{
-    for message in speech.messages() {
-        if lacks.has(message) {
-            add(file, message)?;
-        }
-    }
-    Ok(())
-}
-
-// Adds a message after its definition.
-fn add(file: &mut File, message: &SpokenMessage) -> Result<(), PutFault>
-    requires { HasLocal message.now }
-    ensures added { OnOk result (messages_of file.new.items
-        ≡ messages_of file.old.items ++ message_stated message.now ∷ []) }
-    ensures frame { OnOk result (file.new.frame ≡ file.old.frame) }
-{
-    file.define(&message.definition())?;
-    file.data(message.local(), None, message.content())
 }

@@ -1,15 +1,18 @@
 // An activity is finished with the closing messages that it lacks.
 
-ghost use Rattle.std.specs.Prelude.{◌≡◌, ◌⊎◌, IfOk, IfErr, OnOk, true, Err};
+ghost use Rattle.std.specs.Prelude.{◌≡◌, ◌≢◌, ◌⊎◌, IfOk, IfErr, OnOk, true, Err};
+ghost use Rattle.fit_grammar.specs.Format.Encoding.{encoded};
 ghost use Rattle.fit_grammar.specs.Format.Message.{messages_of};
+ghost use Rattle.fit_grammar.specs.Calls.Output.{WritesText};
 ghost use Rattle.fit_activity.specs.Files.Activity.{begins_with_file_id, is_activity_file, activity_in};
-ghost use Rattle.fit_finishing.specs.Finished.{IsFinished, IsNotFinished};
+ghost use Rattle.fit_finishing.specs.Finished.{IsFinished, IsFinishing, IsNotFinished, finished_by};
 
-use crate::closing::{add_closing, lacks_in};
+use crate::adding::{add_lacking, write_lacking};
+use crate::closing::{Lacks, lacks_in};
 use crate::hearing::{Hearing, hear};
 use crate::sport::sport_in;
-use fit_activity::{ActivityFault, check_activity};
-use fit_grammar::{File, LentFile};
+use fit_activity::{ActivityFault, Speech, check_activity, speak_closing};
+use fit_grammar::{File, LentFile, Sink, encode_extended};
 
 // The most bytes of closing messages.
 const MOST_CLOSING: u32 = 252;
@@ -19,6 +22,17 @@ const MOST_CLOSING: u32 = 252;
 pub struct Finished {
     /// The file with the closing messages.
     pub file: File,
+    /// How many entries were heard and taken, without the start.
+    pub taken: u32,
+    /// How many a rule refused.
+    pub left_out: u32,
+}
+
+/// What finishes an activity: the closing messages, which of them its file lacks, and how many entries were heard.
+#[derive(Drop)]
+pub struct Finishing {
+    speech: Speech,
+    lacks: Lacks,
     /// How many entries were heard and taken, without the start.
     pub taken: u32,
     /// How many a rule refused.
@@ -44,28 +58,59 @@ pub fn finish(mut file: File) -> Result<Finished, FinishFault>
     ensures finished { IfOk result (IsFinished file) }
     ensures refused { IfErr result (IsNotFinished file) }
 {
-    if let Err(fault) = check_kind(&file.lend()) {
-        return Err(FinishFault::Activity(fault));
-    }
-    let sport = sport_in(&file.lend());
-    let Hearing::Riding(ride) = hear(&file.lend(), sport) else {
-        return Err(FinishFault::NoSample);
+    let finishing = match Finishing::of(&file.lend()) {
+        Ok(finishing) => finishing,
+        Err(fault) => return Err(fault),
     };
-    if !ride.sampled {
-        return Err(FinishFault::NoSample);
-    }
-    if file.data_size() > u32::MAX - MOST_CLOSING {
-        return Err(FinishFault::TooLong);
-    }
-    let lacks = lacks_in(&file.lend(), &ride.totals);
-    let Ok(()) = add_closing(&mut file, &ride.totals, lacks) else {
+    let Ok(()) = add_lacking(&mut file, &finishing.speech, finishing.lacks) else {
         return Err(FinishFault::Memory);
     };
     Ok(Finished {
         file,
-        taken: ride.taken,
-        left_out: ride.left_out,
+        taken: finishing.taken,
+        left_out: finishing.left_out,
     })
+}
+
+impl Finishing {
+    /// What a file lacks. It takes no memory, and its fault is never `Memory`.
+    pub fn of(file: &LentFile<'_>) -> Result<Finishing, FinishFault>
+        ensures finishing { IfOk result (IsFinishing file.now) }
+        ensures refused { IfErr result (IsNotFinished file.now) }
+        ensures memory { IfErr result (λ fault. fault ≢ FinishFault.Memory) }
+    {
+        if let Err(fault) = check_kind(file) {
+            return Err(FinishFault::Activity(fault));
+        }
+        let Hearing::Riding(ride) = hear(file, sport_in(file)) else {
+            return Err(FinishFault::NoSample);
+        };
+        if !ride.sampled {
+            return Err(FinishFault::NoSample);
+        }
+        if file.data_size() > u32::MAX - MOST_CLOSING {
+            return Err(FinishFault::TooLong);
+        }
+        let mut speech = Speech::new();
+        speak_closing(&ride.totals, &mut speech);
+        Ok(Finishing {
+            speech,
+            lacks: lacks_in(file, &ride.totals),
+            taken: ride.taken,
+            left_out: ride.left_out,
+        })
+    }
+
+    /// Writes the finished file, given the file that it is made of; at an `Err`, a prefix of it. It takes no memory.
+    pub fn write<S: Sink>(&self, file: &LentFile<'_>, out: &mut S) -> Result<(), S::Fault>
+        requires { IsFinishing file.now self.now }
+        ensures { WritesText (S.held out.old) (S.held out.new) result
+            (encoded (finished_by file.now self.now)) }
+    {
+        let mut closing = [0; MOST_CLOSING as usize];
+        let used = write_lacking(&self.speech, self.lacks, &mut closing);
+        encode_extended(file, &closing[..used], out)
+    }
 }
 
 // Whether a file begins as an activity, whatever it has after that.

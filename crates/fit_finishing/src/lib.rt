@@ -8,6 +8,7 @@
 //! messages that are added.
 #![tactic(auto)]
 
+mod adding;
 mod closing;
 mod entries;
 mod finishing;
@@ -16,4 +17,4 @@ mod ride;
 mod sport;
 mod value;
 
-pub use finishing::{FinishFault, Finished, finish};
+pub use finishing::{FinishFault, Finished, Finishing, finish};

@@ -3,3 +3,4 @@ pub mod Output
 pub mod Checked
 pub mod Encoding
 pub mod Encoded
+pub mod Extended

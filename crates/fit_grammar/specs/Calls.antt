@@ -10,6 +10,7 @@ pub mod PlainForm
 pub mod PlainWriting
 pub mod Places
 pub mod Adding
+pub mod Extended
 pub mod Possible
 pub mod Pieces
 pub mod Fed

@@ -9,7 +9,7 @@ ghost use Rattle.fit_grammar.specs.Calls.PlainForm.{plain_of, IsPlain, too_long_
 
 mod fault;
 mod making;
-mod writing;
+pub(crate) mod writing;
 
 use crate::file::{File, Places};
 pub use fault::{PlainFault, PlainFaultKind};

@@ -1,5 +1,6 @@
 -- The pieces of damaged bytes, of which some are kept.
-use Rattle.std.specs.Prelude.{◌≡◌, ℕ, ◌<◌, ◌≤◌, Bool, true, false, List, [], ◌∷◌, ◌++◌, length, flat_map, slice_range}
+use Rattle.std.specs.Prelude.{◌≡◌, ℕ, ◌+◌, ◌<◌, ◌≤◌, Bool, true, false, List, [], ◌∷◌, ◌++◌, length, drop, flat_map, slice_range}
+use Rattle.fit_grammar.specs.Calls.LongestFront.{IsLongestFront}
 use Rattle.fit_grammar.specs.Format.Item.{Item}
 use Rattle.fit_grammar.specs.Format.Records.{Records, RecordsAfter}
 use Rattle.fit_mending.specs.declared.pieces.Piece.{Piece}
@@ -37,14 +38,42 @@ kept_by false own = []
 abbrev pub kept_of : List ℕ → Piece → List ℕ
 kept_of bytes piece = kept_by piece.kept (piece_bytes bytes piece)
 
--- the pieces are the bytes from one place to another, in order and without a gap; the row has the bytes of those that are kept, in
--- their order, and spells these items
-pub record AreCut (bytes : List ℕ) (from to : ℕ) (items : List Item) (skipped : Skipped) : Type 0 where
-  pub are_pieces : ArePieces bytes from to [] skipped.pieces.items items
-  pub row_is : skipped.row.items ≡ flat_map (kept_of bytes) skipped.pieces.items
-  pub are_records : Records skipped.row.items items
+-- each piece is within the bytes
+abbrev pub AreWithin : List ℕ → List Piece → Type 0
+AreWithin bytes [] = Unit {0}
+AreWithin bytes (piece ∷ pieces) = (piece.start ≤ piece.end) × (piece.end ≤ length bytes) × AreWithin bytes pieces
+
+-- the row: the bytes of the pieces that are kept, one after another
+abbrev pub kept_row : List ℕ → List Piece → List ℕ
+kept_row bytes pieces = flat_map (kept_of bytes) pieces
+
+-- the pieces are the bytes from one place to another, in order and without a gap; the row of those that are kept spells these items
+pub record AreCut (bytes : List ℕ) (from to : ℕ) (items : List Item) (pieces : List Piece) : Type 0 where
+  pub are_pieces : ArePieces bytes from to [] pieces items
+  pub are_records : Records (kept_row bytes pieces) items
 
 -- the same of all bytes from a place on
-abbrev pub IsSkipped : List ℕ → ℕ → Skipped → Type 0
-IsSkipped bytes from skipped =
-    (items : List Item) × AreCut bytes from (length bytes) items skipped
+abbrev pub AreCutFrom : List ℕ → ℕ → List Piece → Type 0
+AreCutFrom bytes from pieces = (items : List Item) × AreCut bytes from (length bytes) items pieces
+
+-- a piece that begins at this place and is no longer than the longest row of whole items there
+pub record BeginsRow (bytes : List ℕ) (from : ℕ) (piece : Piece) : Type 0 where
+  pub start : piece.start ≡ from
+  pub within : (longest : ℕ) → IsLongestFront (drop from bytes) longest → piece.end ≤ from + longest
+
+-- the first piece, if it is kept, begins the row that starts at this place
+abbrev pub HasFirst : List ℕ → ℕ → List Piece → Type 0
+HasFirst bytes from [] = Unit {0}
+HasFirst bytes from (piece ∷ pieces) = piece.kept ≡ true → BeginsRow bytes from piece
+
+-- how all bytes from a place on are cut: if they are trusted and a row of whole items, all are kept
+pub record CutsFaults (bytes : List ℕ) (from : ℕ) (trusted : Bool) (pieces : List Piece) : Type 0 where
+  pub cut : AreCutFrom bytes from pieces
+  pub whole : (items : List Item) → trusted ≡ true → Records (drop from bytes) items
+      → kept_row bytes pieces ≡ drop from bytes
+  pub first : HasFirst bytes from pieces
+
+-- the pieces of all bytes from a place on, and the row of those that are kept
+pub record IsSkipped (bytes : List ℕ) (from : ℕ) (skipped : Skipped) : Type 0 where
+  pub cut : AreCutFrom bytes from skipped.pieces.items
+  pub row_is : skipped.row.items ≡ kept_row bytes skipped.pieces.items

@@ -1,8 +1,9 @@
 //! Goes on after the faults of a damaged file, and splits chained files.
 //!
-//! `skip_faults` cuts the bytes of a damaged file into pieces, one after another. Some are kept: each is a row of whole items under
-//! the definitions of the kept pieces before it and its own. The others are left out. Which bytes are kept is a judgement: `Clock`
-//! judges items by their times and forms, and `follows` looks ahead. No proof says that a kept piece is no noise.
+//! `cut_faults` cuts the bytes of a damaged file into pieces, one after another, into whatever takes them (`TakesPieces`); `skip_faults`
+//! into a vector, with the row of those that are kept. Each of these is a row of whole items under the definitions of the kept pieces
+//! before it and its own. The others are left out. Which bytes are kept is a judgement: `Progress` judges items by their forms,
+//! times and values, `follows` looks ahead, and `after_stray` finds older content. No proof says that a kept piece is no noise.
 //!
 //! `split_files` cuts bytes into the files that are chained in them, each of which begins with its header.
 //!
@@ -11,11 +12,19 @@
 
 mod chained;
 mod clock;
+mod fitting;
+mod form;
 mod layout;
 mod pieces;
+mod progress;
+mod row;
 mod skipping;
+mod stray;
+mod taking;
 mod trial;
+mod values;
 
 pub use chained::{first_file, split_files};
 pub use pieces::{Piece, Skipped};
-pub use skipping::skip_faults;
+pub use skipping::{cut_faults, skip_faults};
+pub use taking::TakesPieces;

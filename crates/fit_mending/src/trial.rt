@@ -1,6 +1,7 @@
 // Looks ahead: whether whole items follow that fit.
 
-use crate::clock::Clock;
+use crate::form::may_begin;
+use crate::progress::Progress;
 use fit_grammar::{Latest, Step, step_after, take_over};
 
 // How many items are looked at.
@@ -13,23 +14,25 @@ pub(crate) struct Need {
     pub(crate) worth: i32,
     // Their worth where the bytes end.
     pub(crate) at_end: i32,
+    // Their worth where a fault comes.
+    pub(crate) at_fault: i32,
     // How many in a row may be worth nothing.
     pub(crate) idle: u32,
 }
 
-/// Whether the items that follow, under these definitions and after these times, are worth so much before a fault, or before the bytes
-/// end. It looks at a bounded number of items.
+/// Whether the items that follow, under these definitions and after this progress, are worth so much, before a fault or before the
+/// bytes end. It looks at a bounded number of items.
 pub(crate) fn follows<'a>(
     bytes: &'a [u8],
     latest: &Latest<'a>,
-    clock: &Clock,
+    progress: &Progress,
     need: &Need,
 ) -> bool {
     if !may_begin(bytes) || is_undefined(bytes, latest) {
         return false;
     }
     let mut own = latest.again();
-    let mut times = *clock;
+    let mut later = *progress;
     let mut worth: i32 = 0;
     let mut idle: u32 = 0;
     let mut rest = bytes;
@@ -37,11 +40,11 @@ pub(crate) fn follows<'a>(
         let (item, used) = match step_after(rest, &own) {
             Step::Item(item, used) => (item, used),
             Step::NeedMore => return worth >= need.at_end,
-            Step::Refused(_) => return false,
+            Step::Refused(_) => return worth >= need.at_fault,
         };
         let (own_bytes, others) = rest.split_at(used);
-        let Some(more) = times.judge(&item, own_bytes) else {
-            return false;
+        let Some(more) = later.judge(&item, own_bytes) else {
+            return worth >= need.at_fault;
         };
         worth = worth.saturating_add(more).max(0);
         if worth >= need.worth {
@@ -55,14 +58,6 @@ pub(crate) fn follows<'a>(
         rest = others;
     }
     false
-}
-
-// Whether the first bytes may be those of an item that a device writes.
-fn may_begin(bytes: &[u8]) -> bool {
-    match bytes {
-        [first, second, ..] => { *first < 16 || *first >= 128 || (*first >= 64 && *second == 0) }
-        _ => true,
-    }
 }
 
 // Whether the first byte is that of a data message without a definition.

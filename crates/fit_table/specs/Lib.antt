@@ -1,3 +1,6 @@
 pub mod Unit
 pub mod Number
+pub mod Cells
 pub mod Table
+pub mod Tokens
+pub mod Json

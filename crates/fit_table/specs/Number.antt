@@ -1,5 +1,5 @@
 -- Numbers in decimal, in units.
-use Rattle.std.specs.Prelude.{ℕ, ◌≤◌, zero, suc, ◌+◌, ◌*◌, ◌/◌, ◌%◌, ℤ, pos, negsuc, neg_ℤ, ◌≤ℤ◌, ◌-ℤ◌, ◌*ℤ◌, List, [], ◌∷◌, ◌++◌, Result, Ok, Err, codes, decimal, nat_le, ◌&&◌, if◌then◌else◌}
+use Rattle.std.specs.Prelude.{ℕ, ◌≤◌, zero, suc, ◌+◌, ◌*◌, ◌^◌, ◌/◌, ◌%◌, ℤ, pos, negsuc, neg_ℤ, ◌≤ℤ◌, ◌-ℤ◌, ◌*ℤ◌, List, [], ◌∷◌, ◌++◌, Result, Ok, Err, codes, decimal, nat_le, ◌&&◌, if◌then◌else◌}
 use Rattle.std.specs.Fmt.{signed_decimal}
 use Rattle.fit_text.specs.Date.{date_text}
 use Rattle.fit_table.specs.declared.unit.Unit.{Unit as AnyUnit}
@@ -59,6 +59,10 @@ limit = 8590983168
 
 abbrev pub IsWide : ℤ → Type 0
 IsWide value = (neg_ℤ (pos limit) ≤ℤ value) × (value ≤ℤ pos limit)
+
+-- whole numbers of up to this many bits, with or without a sign
+abbrev pub IsWithin : ℕ → ℤ → Type 0
+IsWithin bits value = (neg_ℤ (pos (2 ^ bits)) ≤ℤ value) × (value ≤ℤ pos (2 ^ bits))
 
 pub record AreSmallParts (parts : Parts) : Type 0 where
   pub multiplier : parts.multiplier ≤ 1125000000

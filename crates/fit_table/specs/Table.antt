@@ -1,18 +1,22 @@
 -- A table: a first line with the names of the columns, and a line for each message.
-use Rattle.std.specs.Prelude.{ℕ, ℤ, Bool, true, List, [], ◌∷◌, ◌++◌, length, Option, Some, None, codes, ◌==◌, if◌then◌else◌}
+use Rattle.std.specs.Prelude.{ℕ, ℤ, Bool, true, false, List, [], ◌∷◌, ◌++◌, length, Option, Some, None, codes, ◌==◌, if◌then◌else◌}
 use Rattle.std.specs.List.{flat_map}
 use Rattle.fit_base.specs.declared.order.Arch.{Arch}
-use Rattle.fit_grammar.specs.Format.Message.{Message}
+use Rattle.fit_base.specs.Base.{base_type}
+use Rattle.fit_grammar.specs.Format.Message.{Message, MessageField}
 use Rattle.fit_text.specs.Profile.{names_of_fields}
 use Rattle.fit_text.specs.Text.{field_name, message_name}
 use Rattle.fit_profile.specs.Facts.{FieldFacts, row_in}
 use Rattle.fit_profile.specs.Table.{fields_at, message_named}
 use Rattle.fit_columns.specs.declared.place.Place.{Place}
-use Rattle.fit_columns.specs.Columns.{cell_in, messages_numbered}
-use Rattle.fit_columns.specs.Places.{cell_with, place_cell}
+use Rattle.fit_columns.specs.Columns.{cell_in, found_in, messages_numbered}
+use Rattle.fit_columns.specs.Places.{cell_with, field_with, place_cell, place_field}
 use Rattle.fit_table.specs.declared.layout.Layout.{Layout}
+use Rattle.fit_table.specs.declared.unit.Unit.{Unit as AnyUnit}
 use Rattle.fit_table.specs.Unit.{unit_in, suffix_in}
 use Rattle.fit_table.specs.Number.{unit_text}
+use Rattle.fit_table.specs.Tokens.{Token, Text}
+use Rattle.fit_table.specs.Cells.{field_tokens}
 
 -- the end of a line
 abbrev pub line_end : List ℕ
@@ -57,33 +61,53 @@ head_of layout front = front ++ (names_from layout [] layout.fields.now ++ line_
 abbrev pub empty_of : Layout → List ℕ
 empty_of layout = if length layout.fields.now == 1 then codes "\"\"" else []
 
-abbrev pub cell_text : Layout → ℕ → Option ℤ → List ℕ
-cell_text layout number None = empty_of layout
-cell_text layout number (Some value) = unit_text (empty_of layout) (unit_in layout number) value
+-- a single whole number of at most 32 bits in its unit; with the Profile also what other fields hold
+abbrev pub cell_of : Layout → ℕ → Option ℤ → MessageField → List Token
+cell_of layout number (Some value) field =
+    Text (unit_text (empty_of layout) (unit_in layout number) value) ∷ []
+cell_of layout number None field =
+    if layout.profile
+    then field_tokens (empty_of layout) (unit_in layout number) (base_type field.base) field.values
+    else Text (empty_of layout) ∷ []
 
--- the values of the fields of these numbers, with commas between them
-abbrev pub cells_from : Layout → List ℕ → List ℕ → Message → List ℕ
+-- the cells of the first fields of these numbers, with commas between them
+abbrev pub cells_from : Layout → List ℕ → List ℕ → Message → List Token
 cells_from layout front [] m = []
 cells_from layout front (number ∷ numbers) m =
-    front ++ (cell_text layout number (cell_in number m.fields)
+    Text front ∷ (cell_of layout number (cell_in number m.fields) (found_in number m.fields)
     ++ cells_from layout (codes ",") numbers m)
 
-abbrev pub line_of : Layout → List ℕ → Message → List ℕ
-line_of layout front m = front ++ (cells_from layout [] layout.fields.now m ++ line_end)
+abbrev pub line_of : Layout → List ℕ → Message → List Token
+line_of layout front m =
+    Text front ∷ (cells_from layout [] layout.fields.now m ++ Text line_end ∷ [])
 
-abbrev pub lines_of : Layout → List ℕ → List Message → List ℕ
+abbrev pub lines_of : Layout → List ℕ → List Message → List Token
 lines_of layout front messages =
     flat_map (line_of layout front) (messages_numbered layout.message messages)
 
 -- the whole table of a file
-abbrev pub table_of : Layout → List Message → List ℕ
-table_of layout messages = head_of layout [] ++ lines_of layout [] messages
+abbrev pub table_of : Layout → List Message → List Token
+table_of layout messages = Text (head_of layout []) ∷ lines_of layout [] messages
 
 -- ---- the same cells, by the places of the values
 
-abbrev pub cells_at : Layout → Arch → Option ℕ → List ℕ → List ℕ → List Place → List ℕ
+abbrev pub cell_at : Layout → Arch → Option ℕ → List ℕ → Place → List Token
+cell_at layout arch time content place =
+    cell_of layout place.number (cell_with time place.number (place_cell place arch content))
+    (field_with time place.number (place_field place arch content))
+
+-- whether a column has the time of a compressed timestamp
+abbrev pub is_time : Option ℕ → ℕ → Bool
+is_time None number = false
+is_time (Some time) number = 253 == number
+
+-- what the field at a place holds
+abbrev pub held_at : List ℕ → AnyUnit → Place → Arch → List ℕ → List Token
+held_at empty unit place arch content =
+    field_tokens empty unit (base_type place.base) (place_field place arch content).values
+
+abbrev pub cells_at : Layout → Arch → Option ℕ → List ℕ → List ℕ → List Place → List Token
 cells_at layout arch time content front [] = []
 cells_at layout arch time content front (place ∷ places) =
-    front ++ (cell_text layout place.number
-    (cell_with time place.number (place_cell place arch content))
+    Text front ∷ (cell_at layout arch time content place
     ++ cells_at layout arch time content (codes ",") places)

@@ -1,16 +1,25 @@
-//! The values of some fields in the messages of one number, as lines of comma-separated values (CSV, RFC 4180).
+//! The values of fields in units: those of the messages of one number as lines of comma-separated values (CSV, RFC 4180), and all as JSON.
 //!
 //! A `Layout` says which messages are lines and which fields are columns. `write_table` writes the first line, which names the columns,
 //! and a line for each message. `write_head` and `write_lines` write them apart, for a table of many files. `Unit` is what a number
-//! counts; decimal digits come from whole numbers alone. `message_of_word` and `field_of_word` find what a word names.
+//! counts; its digits come from whole numbers, and those of a float from `ryu`. `message_of_word` and `field_of_word` find what a word names.
+//! `show_profile_json` writes a whole file as JSON, each field as its column is.
 #![tactic(auto)]
 
+mod array;
+mod cell;
+mod float;
+mod json;
 mod layout;
 mod number;
+mod string;
 mod table;
 mod unit;
+mod wide;
 mod words;
 
+pub use float::{put_float32, put_float64};
+pub use json::show_profile_json;
 pub use layout::Layout;
 pub use table::{write_head, write_lines, write_table};
 pub use unit::{Unit, usual_fields};

@@ -1,15 +1,12 @@
-// Values in units.
+// Values of at most 32 bits in units.
 
-ghost use Rattle.std.specs.Prelude.{◌≡◌, ◌≤◌, ◌++◌, codes, length, take, IfSome, IfOk, IfErr};
+ghost use Rattle.std.specs.Prelude.{◌≡◌, ◌≤◌, ◌++◌, codes, length, take, IfOk, IfErr};
 ghost use Rattle.fit_text.specs.Pen.{Puts};
 ghost use Rattle.fit_columns.specs.Places.{IsSmall};
 ghost use Rattle.fit_table.specs.Number.{digits, places_text, fixed_text, rounded, degrees_text, date_or, unit_text, split_of, limit, IsWide, nearest, decimals_text, scaled_text, AreSmallParts};
-ghost use Rattle.fit_table.specs.Unit.{AreUnits};
-ghost use Rattle.fit_table.specs.Table.{empty_of, cell_text};
 
-use crate::layout::Layout;
-use crate::unit::{Unit, unit_at};
-use fit_grammar::WriteFailed;
+use crate::unit::Unit;
+use fit_grammar::Sink;
 use fit_profile::{Parts, parts_of};
 use fit_text::{Pen, put_date};
 use std::io::Write;
@@ -17,44 +14,13 @@ use std::io::Write;
 // The first time that is a date. A time below it counts from when the device was switched on.
 const FIRST_DATE: i64 = 0x1000_0000;
 
-/// The value of a field, as its column has it.
-pub fn put_cell<W: Write>(
-    pen: &mut Pen<'_, W>,
-    layout: &Layout<'_>,
-    units: &[Unit; 256],
-    number: u8,
-    value: Option<i64>,
-) -> Result<(), WriteFailed>
-    requires small { IfSome value IsSmall }
-    requires units { AreUnits layout.now units.now }
-    ensures { Puts pen.old pen.new result (cell_text layout.now number value) }
-{
-    match value {
-        Some(value) => {
-            let unit = unit_at(layout, units, number);
-            put_value(pen, empty_of(layout), unit, value)
-        }
-        None => pen.put(empty_of(layout)),
-    }
-}
-
-// A cell without a value. In a table of one column it would be an empty line, which many readers skip.
-fn empty_of(layout: &Layout<'_>) -> &'static [u8]
-    ensures { result.now ≡ empty_of layout.now }
-{
-    if layout.fields.len() == 1 {
-        b"\"\""
-    } else {
-        b""
-    }
-}
-
-fn put_value<W: Write>(
-    pen: &mut Pen<'_, W>,
+/// A value in the unit of its column. `empty` is what a time without a date is.
+pub fn put_value<S: Sink>(
+    pen: &mut Pen<'_, S>,
     empty: &[u8],
     unit: Unit,
     value: i64,
-) -> Result<(), WriteFailed>
+) -> Result<(), S::Fault>
     requires { IsSmall value }
     ensures { Puts pen.old pen.new result (unit_text empty.now unit value) }
 {
@@ -71,7 +37,7 @@ fn put_value<W: Write>(
 }
 
 // A value of a scale of the Profile.
-fn put_scaled<W: Write>(pen: &mut Pen<'_, W>, parts: Parts, value: i64) -> Result<(), WriteFailed>
+fn put_scaled<S: Sink>(pen: &mut Pen<'_, S>, parts: Parts, value: i64) -> Result<(), S::Fault>
     requires small { IsSmall value }
     requires parts { AreSmallParts parts }
     ensures { Puts pen.old pen.new result (scaled_text parts value) }
@@ -92,7 +58,7 @@ fn nearest(parts: Parts, n: u64) -> u64
     (n * u64::from(parts.multiplier) + divisor / 2) / divisor
 }
 
-fn put_below_zero<W: Write>(pen: &mut Pen<'_, W>, parts: Parts, n: u64) -> Result<(), WriteFailed>
+fn put_below_zero<S: Sink>(pen: &mut Pen<'_, S>, parts: Parts, n: u64) -> Result<(), S::Fault>
     requires { AreSmallParts parts }
     ensures { Puts pen.old pen.new result
         (codes "-" ++ decimals_text parts.power parts.decimals n) }
@@ -101,7 +67,7 @@ fn put_below_zero<W: Write>(pen: &mut Pen<'_, W>, parts: Parts, n: u64) -> Resul
     put_decimals(pen, parts, n)
 }
 
-fn put_decimals<W: Write>(pen: &mut Pen<'_, W>, parts: Parts, n: u64) -> Result<(), WriteFailed>
+fn put_decimals<S: Sink>(pen: &mut Pen<'_, S>, parts: Parts, n: u64) -> Result<(), S::Fault>
     requires { AreSmallParts parts }
     ensures { Puts pen.old pen.new result (decimals_text parts.power parts.decimals n) }
 {
@@ -112,7 +78,7 @@ fn put_decimals<W: Write>(pen: &mut Pen<'_, W>, parts: Parts, n: u64) -> Result<
 }
 
 // A time as a date, or else an empty cell.
-fn put_date_or<W: Write>(pen: &mut Pen<'_, W>, empty: &[u8], value: i64) -> Result<(), WriteFailed>
+fn put_date_or<S: Sink>(pen: &mut Pen<'_, S>, empty: &[u8], value: i64) -> Result<(), S::Fault>
     ensures { Puts pen.old pen.new result (date_or empty.now value) }
 {
     if value >= FIRST_DATE && value <= 0xFFFF_FFFF {
@@ -123,12 +89,12 @@ fn put_date_or<W: Write>(pen: &mut Pen<'_, W>, empty: &[u8], value: i64) -> Resu
 }
 
 // A number of units of which `power` are one.
-fn put_fixed<W: Write>(
-    pen: &mut Pen<'_, W>,
+fn put_fixed<S: Sink>(
+    pen: &mut Pen<'_, S>,
     count: usize,
     power: u64,
     value: i64,
-) -> Result<(), WriteFailed>
+) -> Result<(), S::Fault>
     requires few { count ≤ 8 }
     requires some { 1 ≤ power }
     requires wide { IsWide value }
@@ -140,7 +106,7 @@ fn put_fixed<W: Write>(
     }
 }
 
-fn put_degrees<W: Write>(pen: &mut Pen<'_, W>, value: i64) -> Result<(), WriteFailed>
+fn put_degrees<S: Sink>(pen: &mut Pen<'_, S>, value: i64) -> Result<(), S::Fault>
     requires { IsWide value }
     ensures { Puts pen.old pen.new result (degrees_text value) }
 {
@@ -172,12 +138,12 @@ fn split(value: i64) -> Result<u64, u64>
     }
 }
 
-fn put_negative<W: Write>(
-    pen: &mut Pen<'_, W>,
+fn put_negative<S: Sink>(
+    pen: &mut Pen<'_, S>,
     count: usize,
     power: u64,
     n: u64,
-) -> Result<(), WriteFailed>
+) -> Result<(), S::Fault>
     requires few { count ≤ 8 }
     requires some { 1 ≤ power }
     ensures { Puts pen.old pen.new result (codes "-" ++ places_text power count n) }
@@ -186,12 +152,12 @@ fn put_negative<W: Write>(
     put_places(pen, count, power, n)
 }
 
-fn put_places<W: Write>(
-    pen: &mut Pen<'_, W>,
+fn put_places<S: Sink>(
+    pen: &mut Pen<'_, S>,
     count: usize,
     power: u64,
     n: u64,
-) -> Result<(), WriteFailed>
+) -> Result<(), S::Fault>
     requires few { count ≤ 8 }
     requires some { 1 ≤ power }
     ensures { Puts pen.old pen.new result (places_text power count n) }
@@ -201,7 +167,8 @@ fn put_places<W: Write>(
     put_digits(pen, count, n % power)
 }
 
-fn put_digits<W: Write>(pen: &mut Pen<'_, W>, count: usize, n: u64) -> Result<(), WriteFailed>
+/// The last digits of a number, at most eight.
+pub fn put_digits<S: Sink>(pen: &mut Pen<'_, S>, count: usize, n: u64) -> Result<(), S::Fault>
     requires { count ≤ 8 }
     ensures { Puts pen.old pen.new result (digits count n) }
 {

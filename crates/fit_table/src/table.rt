@@ -1,6 +1,6 @@
 // A table of a file's messages.
 
-ghost use Rattle.std.specs.Prelude.{◌≡◌, ◌≤◌, ◌++◌, [], length, codes, decimal, IfOk};
+ghost use Rattle.std.specs.Prelude.{◌≡◌, ◌≤◌, ◌∷◌, ◌++◌, [], length, codes, decimal, IfOk};
 ghost use Rattle.fit_grammar.specs.Calls.Output.{WritesText};
 ghost use Rattle.fit_grammar.specs.Format.Message.{messages_of};
 ghost use Rattle.fit_text.specs.Pen.{Puts};
@@ -9,14 +9,15 @@ ghost use Rattle.fit_text.specs.Text.{field_name as name_of_field};
 ghost use Rattle.fit_columns.specs.declared.plans.TheConstants.{MOST_COLUMNS};
 ghost use Rattle.fit_columns.specs.Places.{ArePlacesIn};
 ghost use Rattle.fit_table.specs.Unit.{AreUnits};
+ghost use Rattle.fit_table.specs.Tokens.{Text, PutsTokens, WritesTokens};
 ghost use Rattle.fit_table.specs.Table.{line_end, column_name, name_of, names_from, head_of, cells_at, lines_of, table_of};
 
+use crate::cell::put_cell;
 use crate::layout::Layout;
-use crate::number::put_cell;
 use crate::unit::{Unit, suffix_in, units_of};
 use fit_base::Arch;
-use fit_columns::{MOST_COLUMNS, Place, Plans, cell};
-use fit_grammar::{FileItem, LentFile, WriteFailed};
+use fit_columns::{MOST_COLUMNS, Place, Plans};
+use fit_grammar::{FileItem, LentFile, Sink, WriteFailed};
 use fit_profile::field_row;
 use fit_text::{Pen, field_name};
 use std::io::Write;
@@ -29,7 +30,7 @@ pub fn write_table<W: Write>(
     out: &mut W,
 ) -> Result<(), WriteFailed>
     requires { length layout.now.fields.now ≤ MOST_COLUMNS }
-    ensures { WritesText (W.contents out.old) (W.contents out.new) result
+    ensures { WritesTokens (W.contents out.old) (W.contents out.new) result
         (table_of layout.now (messages_of file.now.items)) }
 {
     let mut pen = Pen::new(out);
@@ -63,7 +64,7 @@ pub fn write_lines<W: Write>(
     out: &mut W,
 ) -> Result<(), WriteFailed>
     requires { length layout.now.fields.now ≤ MOST_COLUMNS }
-    ensures { WritesText (W.contents out.old) (W.contents out.new) result
+    ensures { WritesTokens (W.contents out.old) (W.contents out.new) result
         (lines_of layout.now front.now (messages_of file.now.items)) }
 {
     let mut pen = Pen::new(out);
@@ -78,7 +79,8 @@ fn put_table<W: Write>(
     file: &LentFile<'_>,
 ) -> Result<(), WriteFailed>
     requires { length layout.now.fields.now ≤ MOST_COLUMNS }
-    ensures text { Puts pen.old pen.new result (table_of layout.now (messages_of file.now.items)) }
+    ensures text { PutsTokens pen.old pen.new result
+        (table_of layout.now (messages_of file.now.items)) }
     ensures none { IfOk result (λ _. pen.new.waiting ≡ []) }
 {
     put_head(pen, layout, &[])?;
@@ -104,7 +106,7 @@ fn put_all_lines<W: Write>(
     file: &LentFile<'_>,
 ) -> Result<(), WriteFailed>
     requires { length layout.now.fields.now ≤ MOST_COLUMNS }
-    ensures text { Puts pen.old pen.new result
+    ensures text { PutsTokens pen.old pen.new result
         (lines_of layout.now front.now (messages_of file.now.items)) }
     ensures none { IfOk result (λ _. pen.new.waiting ≡ []) }
 {
@@ -178,7 +180,8 @@ fn put_plain_name<W: Write>(
     }
 }
 
-fn put_number_name<W: Write>(pen: &mut Pen<'_, W>, number: u8) -> Result<(), WriteFailed>
+/// The name of a field that has none.
+pub fn put_number_name<S: Sink>(pen: &mut Pen<'_, S>, number: u8) -> Result<(), S::Fault>
     ensures { Puts pen.old pen.new result (codes "field_" ++ decimal number) }
 {
     pen.put(b"field_")?;
@@ -192,7 +195,7 @@ fn put_lines<W: Write>(
     file: &LentFile<'_>,
 ) -> Result<(), WriteFailed>
     requires { length layout.now.fields.now ≤ MOST_COLUMNS }
-    ensures { Puts pen.old pen.new result
+    ensures { PutsTokens pen.old pen.new result
         (lines_of layout.now front.now (messages_of file.now.items)) }
 {
     let units = units_of(layout);
@@ -237,8 +240,9 @@ fn put_line<W: Write>(
 ) -> Result<(), WriteFailed>
     requires units { AreUnits layout.now units.now }
     requires inside { ArePlacesIn (length content.now) places.now }
-    ensures { Puts pen.old pen.new result
-        (front.now ++ (cells_at layout.now arch time content.now [] places.now ++ line_end)) }
+    ensures { PutsTokens pen.old pen.new result
+        (Text front.now ∷ (cells_at layout.now arch time content.now [] places.now
+        ++ Text line_end ∷ [])) }
 {
     pen.put(front)?;
     put_cells(pen, layout, units, places, arch, time, content)?;
@@ -256,15 +260,14 @@ fn put_cells<W: Write>(
 ) -> Result<(), WriteFailed>
     requires units { AreUnits layout.now units.now }
     requires inside { ArePlacesIn (length content.now) places.now }
-    ensures { Puts pen.old pen.new result
+    ensures { PutsTokens pen.old pen.new result
         (cells_at layout.now arch time content.now [] places.now) }
 {
     let mut front: &[u8] = &[];
     let mut left = places;
     while let [place, others @ ..] = left {
         pen.put(front)?;
-        let value = cell(place, arch, time, content);
-        put_cell(pen, layout, units, place.number, value)?;
+        put_cell(pen, layout, units, place, arch, time, content)?;
         front = b",";
         left = others;
     }

@@ -68,7 +68,8 @@ fn profile_unit(message: u16, number: u8) -> Unit
     }
 }
 
-fn scaled_unit(scale: Scale) -> Unit
+/// The unit of a scale of the Profile.
+pub fn scaled_unit(scale: Scale) -> Unit
     ensures { result ≡ scaled_unit scale }
 {
     match scale {
@@ -101,8 +102,8 @@ pub fn unit_at(layout: &Layout<'_>, units: &[Unit; 256], number: u8) -> Unit
     units[usize::from(number)]
 }
 
-// The unit of a field, as `specs/Unit` lists it.
-fn unit_of(message: u16, number: u8) -> Unit
+/// The unit of a field without the Profile, as `specs/Unit` lists it.
+pub fn unit_of(message: u16, number: u8) -> Unit
     ensures { result ≡ unit_of message number }
 {
     if number == 253 {
@@ -171,7 +172,8 @@ fn end_of(message: u16, number: u8) -> &'static [u8]
     }
 }
 
-fn suffix_of(unit: Unit) -> &'static [u8]
+/// The same, if the Profile does not give it.
+pub fn suffix_of(unit: Unit) -> &'static [u8]
     ensures { result.now ≡ suffix_of [] unit }
 {
     match unit {

@@ -1,6 +1,7 @@
 -- JSON by its parts: for `json/column`, `json/developer` and `json/message`.
 use Rattle.std.proofs.Common.{◌≡◌, ℕ, ◌-◌, ◌^◌, ◌<◌, ◌≤◌, Bool, true, false, List, [], ◌∷◌, ◌++◌, length, get_or, take, drop, sum_by, refl, sym, ap, ◌∙◌, append_assoc, codes, decimal, Option, Some, None, IfSome, arith}
-use Rattle.std.specs.Prelude.{not}
+use Rattle.std.specs.Prelude.{not, option_map}
+use Rattle.std.specs.Borrow.{Bor}
 use Rattle.std.proofs.lemmas.List.{take_all, length-append}
 use Rattle.std.proofs.Math.Seq.{take-append_seam}
 use Rattle.std.specs.Int.{to_le_bytes, w32}
@@ -13,14 +14,14 @@ use Rattle.fit_grammar.specs.declared.definition.Definition.{Definition}
 use Rattle.fit_grammar.specs.declared.definition.FieldDefinition.{FieldDefinition}
 use Rattle.fit_grammar.specs.declared.definition.DeveloperFieldDefinition.{DeveloperFieldDefinition}
 use Rattle.fit_grammar.specs.Format.Item.{fields_size}
-use Rattle.fit_grammar.specs.Format.Message.{Message, MessageDeveloperField, developer_of, fields_of, time_field, time_fields, message_under}
+use Rattle.fit_grammar.specs.Format.Message.{Message, MessageField, MessageDeveloperField, developer_of, fields_of, time_field, time_fields, message_under}
 use Rattle.fit_text.specs.declared.showing.plan.Column.{Column}
 use Rattle.fit_text.specs.declared.showing.plan.Plan.{Plan}
 use Rattle.fit_text.specs.Date.{dates_of}
-use Rattle.fit_text.specs.Json.{quoted, bytes_json, field_json, developer_json, name_json, message_json}
-use Rattle.fit_text.specs.Members.{separator, joined, inner, column_json, columns_json, time_json}
+use Rattle.fit_text.specs.Json.{quoted, bytes_json, field_json, developer_json, name_json, line_json}
+use Rattle.fit_text.specs.Members.{separator, joined, inner, field_in, column_json, columns_json, time_json, IsNamed, AreNamed}
 use Rattle.fit_text.specs.Plan.{field_at, json_at, time_field_definition, IsColumn, AreColumns, IsPlanOf}
-use Rattle.fit_text.specs.Profile.{FieldNames, message_named, names_of_fields}
+use Rattle.fit_text.specs.Profile.{FieldNames, names_of_fields}
 use Rattle.fit_text.specs.Text.{field_name}
 use Rattle.fit_text.proofs.PlanLemmas.{columns_size}
 
@@ -39,48 +40,79 @@ inner_of name =
     let long : length (codes " " ++ name ++ codes "=") - 2 ≡ length name = omega (arith, length-append name (codes "=")) in
     ap (λ n. take n (name ++ codes "=")) long ∙ take-append_seam name (codes "=")
 
--- the member of a column is that of its field
-column_is : (names : FieldNames) (dates : List ℕ) (arch : Arch) (field : FieldDefinition) (column : Column) (bytes : List ℕ) →
-    IsColumn names dates field column →
-    column_json dates arch column bytes ≡ field_json names dates (field_at field.number field.base arch bytes)
-column_is names dates arch field column bytes h =
+-- the member of a column under its label is that of its field
+pub column_is : (names : FieldNames) (dates : List ℕ) (arch : Arch) (column : Column) (bytes : List ℕ) → IsNamed names dates column →
+    column_json dates arch column bytes ≡ field_json names dates (field_in column arch bytes)
+column_is names dates arch column bytes h =
     ap (λ label. (quoted (inner label) ++ codes ":") ++ json_at dates column.number column.base arch bytes) h.label
-    ∙ ap (λ name. (quoted name ++ codes ":") ++ json_at dates column.number column.base arch bytes) (inner_of (field_name names field.number))
-    ∙ ap (λ n. (quoted (field_name names field.number) ++ codes ":") ++ json_at dates n column.base arch bytes) h.number
-    ∙ ap (λ b. (quoted (field_name names field.number) ++ codes ":") ++ json_at dates field.number b arch bytes) h.base
+    ∙ ap (λ name. (quoted name ++ codes ":") ++ json_at dates column.number column.base arch bytes) (inner_of (field_name names column.number))
+
+-- a column is that of its field, for every text of a field
+field_is : (member : MessageField → List ℕ) (names : FieldNames) (dates : List ℕ) (arch : Arch) (field : FieldDefinition) (column : Column)
+    (bytes : List ℕ) → IsColumn names dates field column →
+    member (field_in column arch bytes) ≡ member (field_at field.number field.base arch bytes)
+field_is member names dates arch field column bytes h =
+    ap (λ n. member (field_at n column.base arch bytes)) h.number ∙ ap (λ b. member (field_at field.number b arch bytes)) h.base
 
 -- the first member after some text, and the others
-next_is : (front : List ℕ) (names : FieldNames) (dates : List ℕ) (arch : Arch) (field : FieldDefinition) (column : Column)
-    (columns : List Column) (content others : List ℕ) → IsColumn names dates field column →
-    columns_json false dates arch columns (drop field.size content) ≡ others →
-    (front ++ column_json dates arch column (take column.size content)) ++ columns_json false dates arch columns (drop column.size content)
-    ≡ (front ++ field_json names dates (field_at field.number field.base arch (take field.size content))) ++ others
-next_is front names dates arch field column columns content others h rest =
-    ap (λ n. (front ++ column_json dates arch column (take n content)) ++ columns_json false dates arch columns (drop n content)) h.size
-    ∙ ap (λ t. (front ++ t) ++ columns_json false dates arch columns (drop field.size content))
-    (column_is names dates arch field column (take field.size content) h)
-    ∙ ap (λ t. (front ++ field_json names dates (field_at field.number field.base arch (take field.size content))) ++ t) rest
+next_is : (front : List ℕ) (member : MessageField → List ℕ) (names : FieldNames) (dates : List ℕ) (arch : Arch) (field : FieldDefinition)
+    (column : Column) (columns : List Column) (content others : List ℕ) → IsColumn names dates field column →
+    columns_json false member arch columns (drop field.size content) ≡ others →
+    (front ++ member (field_in column arch (take column.size content))) ++ columns_json false member arch columns (drop column.size content)
+    ≡ (front ++ member (field_at field.number field.base arch (take field.size content))) ++ others
+next_is front member names dates arch field column columns content others h rest =
+    ap (λ n. (front ++ member (field_in column arch (take n content))) ++ columns_json false member arch columns (drop n content)) h.size
+    ∙ ap (λ t. (front ++ t) ++ columns_json false member arch columns (drop field.size content))
+    (field_is member names dates arch field column (take field.size content) h)
+    ∙ ap (λ t. (front ++ member (field_at field.number field.base arch (take field.size content))) ++ t) rest
 
-columns_after : (names : FieldNames) (dates : List ℕ) (arch : Arch) (fields : List FieldDefinition) (columns : List Column)
-    (content : List ℕ) → AreColumns names dates fields columns →
-    columns_json false dates arch columns content ≡ joined false (field_json names dates) (fields_of arch fields content)
-columns_after names dates arch [] [] content h = refl
-columns_after names dates arch [] (column ∷ columns) content h = absurd h
-columns_after names dates arch (field ∷ fields) [] content h = absurd h
-columns_after names dates arch (field ∷ fields) (column ∷ columns) content h =
-    next_is (codes ",") names dates arch field column columns content _ h.0
-    (columns_after names dates arch fields columns (drop field.size content) h.1)
+columns_after : (member : MessageField → List ℕ) (names : FieldNames) (dates : List ℕ) (arch : Arch) (fields : List FieldDefinition)
+    (columns : List Column) (content : List ℕ) → AreColumns names dates fields columns →
+    columns_json false member arch columns content ≡ joined false member (fields_of arch fields content)
+columns_after member names dates arch [] [] content h = refl
+columns_after member names dates arch [] (column ∷ columns) content h = absurd h
+columns_after member names dates arch (field ∷ fields) [] content h = absurd h
+columns_after member names dates arch (field ∷ fields) (column ∷ columns) content h =
+    next_is (codes ",") member names dates arch field column columns content _ h.0
+    (columns_after member names dates arch fields columns (drop field.size content) h.1)
 
-columns_are : (first : Bool) (names : FieldNames) (dates : List ℕ) (arch : Arch) (fields : List FieldDefinition) (columns : List Column)
-    (content : List ℕ) → AreColumns names dates fields columns →
-    columns_json first dates arch columns content ≡ joined first (field_json names dates) (fields_of arch fields content)
-columns_are false names dates arch fields columns content h = columns_after names dates arch fields columns content h
-columns_are true names dates arch [] [] content h = refl
-columns_are true names dates arch [] (column ∷ columns) content h = absurd h
-columns_are true names dates arch (field ∷ fields) [] content h = absurd h
-columns_are true names dates arch (field ∷ fields) (column ∷ columns) content h =
-    next_is [] names dates arch field column columns content _ h.0
-    (columns_after names dates arch fields columns (drop field.size content) h.1)
+columns_are : (first : Bool) (member : MessageField → List ℕ) (names : FieldNames) (dates : List ℕ) (arch : Arch)
+    (fields : List FieldDefinition) (columns : List Column) (content : List ℕ) → AreColumns names dates fields columns →
+    columns_json first member arch columns content ≡ joined first member (fields_of arch fields content)
+columns_are false member names dates arch fields columns content h = columns_after member names dates arch fields columns content h
+columns_are true member names dates arch [] [] content h = refl
+columns_are true member names dates arch [] (column ∷ columns) content h = absurd h
+columns_are true member names dates arch (field ∷ fields) [] content h = absurd h
+columns_are true member names dates arch (field ∷ fields) (column ∷ columns) content h =
+    next_is [] member names dates arch field column columns content _ h.0
+    (columns_after member names dates arch fields columns (drop field.size content) h.1)
+
+-- ---- names and kinds
+
+pub column_named : (names : FieldNames) (dates : List ℕ) (field : FieldDefinition) (column : Column) → IsColumn names dates field column →
+    IsNamed names dates column
+column_named names dates field column h = record {
+  label = h.label ∙ ap (λ n. codes " " ++ field_name names n ++ codes "=") (sym h.number);
+  kind = h.kind;
+}
+
+columns_named : (names : FieldNames) (dates : List ℕ) (fields : List FieldDefinition) (columns : List Column) →
+    AreColumns names dates fields columns → AreNamed names dates columns
+columns_named names dates [] [] h = tt
+columns_named names dates [] (column ∷ columns) h = absurd h
+columns_named names dates (field ∷ fields) [] h = absurd h
+columns_named names dates (field ∷ fields) (column ∷ columns) h =
+    (column_named names dates field column h.0, columns_named names dates fields columns h.1)
+
+pub plan_named : (d : Definition) (plan : Plan) (columns : List Column) (developer : List DeveloperFieldDefinition) →
+    IsPlanOf d plan columns developer → AreNamed (names_of_fields plan.global) (dates_of plan.utc plan.global) columns
+plan_named d plan columns developer h =
+    rw h.global (columns_named (names_of_fields d.global) (dates_of plan.utc d.global) d.fields.items columns h.fields)
+
+pub time_named : (d : Definition) (plan : Plan) (columns : List Column) (developer : List DeveloperFieldDefinition) →
+    IsPlanOf d plan columns developer → IsNamed (names_of_fields plan.global) (dates_of plan.utc plan.global) plan.time
+time_named d plan columns developer h =
+    rw h.global (column_named (names_of_fields d.global) (dates_of plan.utc d.global) time_field_definition plan.time h.time)
 
 -- ---- the line of a message
 
@@ -90,34 +122,35 @@ flipped true false e = refl
 flipped false true e = refl
 flipped false false e = cc
 
-members_by : (names : FieldNames) (dates : List ℕ) (arch : Arch) (fields : List FieldDefinition) (columns : List Column) (content : List ℕ)
-    (column : Column) (time : Option ℕ) → IfSome time (λ time. time < 2 ^ 32) → IsColumn names dates time_field_definition column →
-    AreColumns names dates fields columns →
-    time_json dates column time ++ columns_json (is_none time) dates arch columns content
-    ≡ join_by (field_json names dates) (codes ",") (time_fields time ++ fields_of arch fields content)
-members_by names dates arch fields columns content column None fits is are = columns_are true names dates arch fields columns content are
-members_by names dates arch fields columns content column (Some time) fits is are =
+members_by : (member : MessageField → List ℕ) (names : FieldNames) (dates : List ℕ) (arch : Arch) (fields : List FieldDefinition)
+    (columns : List Column) (content : List ℕ) (column : Column) (time : Option ℕ) → IfSome time (λ time. time < 2 ^ 32) →
+    IsColumn names dates time_field_definition column → AreColumns names dates fields columns →
+    time_json member column time ++ columns_json (is_none time) member arch columns content
+    ≡ join_by member (codes ",") (time_fields time ++ fields_of arch fields content)
+members_by member names dates arch fields columns content column None fits is are =
+    columns_are true member names dates arch fields columns content are
+members_by member names dates arch fields columns content column (Some time) fits is are =
     let all : low_first (to_le_bytes w32 time) ≡ time = omega (arith, fits) in
-    ap (λ t. t ++ columns_json false dates arch columns content)
-    (column_is names dates Little time_field_definition column (to_le_bytes w32 time) is ∙ ap (λ n. field_json names dates (time_field n)) all)
-    ∙ ap (λ t. field_json names dates (time_field time) ++ t) (columns_are false names dates arch fields columns content are)
+    ap (λ t. t ++ columns_json false member arch columns content)
+    (field_is member names dates Little time_field_definition column (to_le_bytes w32 time) is ∙ ap (λ n. member (time_field n)) all)
+    ∙ ap (λ t. member (time_field time) ++ t) (columns_are false member names dates arch fields columns content are)
 
 line_parts : (head times fields developer : List ℕ) →
     head ++ (times ++ (fields ++ (codes "},\"developer\":[" ++ (developer ++ codes "]}\n"))))
     ≡ head ++ ((times ++ fields) ++ (codes "},\"developer\":[" ++ (developer ++ codes "]}\n")))
 line_parts head times fields developer = simp append_assoc
 
-abbrev head_json : ℕ → ℕ → List ℕ
-head_json number global =
-    codes "{\"number\":" ++ decimal number ++ codes ",\"message\":" ++ decimal global ++ codes ",\"name\":"
-    ++ name_json (message_named global) ++ codes ",\"fields\":{"
+abbrev head_json : ℕ → ℕ → Option (List ℕ) → List ℕ
+head_json number global name =
+    codes "{\"number\":" ++ decimal number ++ codes ",\"message\":" ++ decimal global ++ codes ",\"name\":" ++ name_json name
+    ++ codes ",\"fields\":{"
 
-whole_line : (number global : ℕ) (fields developer : List ℕ) →
-    head_json number global ++ (fields ++ (codes "},\"developer\":[" ++ (developer ++ codes "]}\n")))
+whole_line : (number global : ℕ) (name : Option (List ℕ)) (fields developer : List ℕ) →
+    head_json number global name ++ (fields ++ (codes "},\"developer\":[" ++ (developer ++ codes "]}\n")))
     ≡ codes "{\"number\":" ++ decimal number ++ codes ",\"message\":" ++ decimal global
-    ++ codes ",\"name\":" ++ name_json (message_named global) ++ codes ",\"fields\":{" ++ fields
+    ++ codes ",\"name\":" ++ name_json name ++ codes ",\"fields\":{" ++ fields
     ++ codes "},\"developer\":[" ++ developer ++ codes "]}\n"
-whole_line number global fields developer = simp append_assoc
+whole_line number global name fields developer = simp append_assoc
 
 regrouped_seven : (a b c d e f g : List ℕ) → (a ++ b) ++ ((c ++ d) ++ (e ++ (f ++ g))) ≡ a ++ b ++ c ++ d ++ e ++ f ++ g
 regrouped_seven a b c d e f g = simp append_assoc
@@ -134,38 +167,48 @@ head_parts number global g name is =
     (regrouped_three (codes "{\"number\":" ++ decimal number ++ codes ",\"message\":" ++ decimal global) (codes ",\"name\":") name
     (codes ",\"fields\":{"))
 
-pub name_begins : (name : List ℕ) →
-    (codes ",\"name\":\"" ++ name) ++ codes "\",\"fields\":{" ≡ codes ",\"name\":" ++ (quoted name ++ codes ",\"fields\":{")
+name_begins : (name : List ℕ) →
+    codes ",\"name\":\"" ++ (name ++ codes "\",\"fields\":{") ≡ codes ",\"name\":" ++ (quoted name ++ codes ",\"fields\":{")
 name_begins name = ap (λ t. codes ",\"name\":\"" ++ t) (sym (append_assoc name (codes "\"") (codes ",\"fields\":{")))
 
+pub some_begins : (o : Option (Bor (List ℕ))) (name : Bor (List ℕ)) → o ≡ Some name →
+    codes ",\"name\":\"" ++ (name.now ++ codes "\",\"fields\":{")
+    ≡ codes ",\"name\":" ++ (name_json (option_map (λ name. name.now) o) ++ codes ",\"fields\":{")
+some_begins o name is = rw is (name_begins name.now)
+
+pub none_begins : (o : Option (Bor (List ℕ))) → o ≡ None →
+    codes ",\"name\":null,\"fields\":{" ≡ codes ",\"name\":" ++ (name_json (option_map (λ name. name.now) o) ++ codes ",\"fields\":{")
+none_begins o is = rw is refl
+
 -- the parts of the line, in their order
-pub plan_json : (number : ℕ) (d : Definition) (time : Option ℕ) (content : List ℕ) (plan : Plan) (columns : List Column)
-    (developer : List DeveloperFieldDefinition) (dates : List ℕ) (first : Bool) → dates ≡ dates_of plan.utc plan.global →
+pub plan_json : (name : ℕ → Option (List ℕ)) (member : Bool → ℕ → MessageField → List ℕ) (number : ℕ) (d : Definition) (time : Option ℕ)
+    (content : List ℕ) (plan : Plan) (columns : List Column) (developer : List DeveloperFieldDefinition) (first : Bool) →
     IfSome time (λ time. time < 2 ^ 32) → first ≡ is_none time → IsPlanOf d plan columns developer →
-    head_json number plan.global
-    ++ (time_json dates plan.time time
-    ++ (columns_json first dates plan.arch columns content
+    head_json number plan.global (name plan.global)
+    ++ (time_json (member plan.utc plan.global) plan.time time
+    ++ (columns_json first (member plan.utc plan.global) plan.arch columns content
     ++ (codes "},\"developer\":["
     ++ (join_by developer_json (codes ",") (developer_of developer (drop (sum_by (λ c. c.size) columns) content)) ++ codes "]}\n"))))
-    ≡ message_json plan.utc number (message_under d time content)
-plan_json number d time content plan columns developer dates first is fits begins h =
+    ≡ line_json (name d.global) (member plan.utc d.global) number (message_under d time content)
+plan_json name member number d time content plan columns developer first fits begins h =
     let names = names_of_fields d.global in
     let shown = dates_of plan.utc d.global in
+    let own = member plan.utc d.global in
     let size = columns_size names shown d.fields.items columns h.fields in
     let after = join_by developer_json (codes ",") (developer_of d.developer.items (drop (fields_size d) content)) in
-    rw (is, begins, h.global, h.arch, h.developer, size)
-    (line_parts (head_json number d.global) (time_json shown plan.time time) (columns_json (is_none time) shown d.arch columns content) after
-    ∙ ap (λ t. head_json number d.global ++ (t ++ (codes "},\"developer\":[" ++ (after ++ codes "]}\n"))))
-    (members_by names shown d.arch d.fields.items columns content plan.time time fits h.time h.fields)
-    ∙ whole_line number d.global _ after)
+    rw (begins, h.global, h.arch, h.developer, size)
+    (line_parts (head_json number d.global (name d.global)) (time_json own plan.time time) (columns_json (is_none time) own d.arch columns content) after
+    ∙ ap (λ t. head_json number d.global (name d.global) ++ (t ++ (codes "},\"developer\":[" ++ (after ++ codes "]}\n"))))
+    (members_by own names shown d.arch d.fields.items columns content plan.time time fits h.time h.fields)
+    ∙ whole_line number d.global (name d.global) _ after)
 
 -- the line of a message begins so
-pub plan_head : (utc : Bool) (number global : ℕ) (m : Message) → global ≡ m.global →
-    head_json number global
-    ++ (join_by (field_json (names_of_fields m.global) (dates_of utc m.global)) (codes ",") m.fields
+pub plan_head : (name : ℕ → Option (List ℕ)) (member : MessageField → List ℕ) (number global : ℕ) (m : Message) → global ≡ m.global →
+    head_json number global (name global)
+    ++ (join_by member (codes ",") m.fields
     ++ (codes "},\"developer\":[" ++ (join_by developer_json (codes ",") m.developer ++ codes "]}\n")))
-    ≡ message_json utc number m
-plan_head utc number global m is = rw is (whole_line number m.global _ _)
+    ≡ line_json (name m.global) member number m
+plan_head name member number global m is = rw is (whole_line number m.global (name m.global) _ _)
 
 -- ---- developer fields
 
@@ -212,15 +255,27 @@ no_developer is_first (f ∷ fields) content none = absurd (omega arith)
 abbrev other_columns : List Column → List Column
 other_columns columns = take (length columns - 1) (drop 1 columns)
 
-pub next_column : (is_first : Bool) (dates : List ℕ) (arch : Arch) (columns : List Column) (column : Column) (content bytes after : List ℕ) (n : ℕ) →
+pub next_column : (is_first : Bool) (member : MessageField → List ℕ) (arch : Arch) (columns : List Column) (column : Column)
+    (content bytes after : List ℕ) (n : ℕ) →
     1 ≤ length columns → column ≡ get_or columns 0 column → bytes ≡ take n content → after ≡ drop n content → n ≡ column.size →
-    columns_json is_first dates arch columns content
-    ≡ (separator is_first ++ column_json dates arch column bytes) ++ columns_json false dates arch (other_columns columns) after
-next_column is_first dates arch [] column content bytes after n some is front back size = absurd (omega arith)
-next_column is_first dates arch (c ∷ columns) column content bytes after n some is front back size =
+    columns_json is_first member arch columns content
+    ≡ (separator is_first ++ member (field_in column arch bytes)) ++ columns_json false member arch (other_columns columns) after
+next_column is_first member arch [] column content bytes after n some is front back size = absurd (omega arith)
+next_column is_first member arch (c ∷ columns) column content bytes after n some is front back size =
     let rest : other_columns (c ∷ columns) ≡ columns = take_all _ columns (omega arith) in rw (front, back, size, is, rest) refl
 
-pub no_column : (is_first : Bool) (dates : List ℕ) (arch : Arch) (columns : List Column) (content : List ℕ) → length columns < 1 →
-    columns_json is_first dates arch columns content ≡ []
-no_column is_first dates arch [] content none = refl
-no_column is_first dates arch (column ∷ columns) content none = absurd (omega arith)
+pub no_column : (is_first : Bool) (member : MessageField → List ℕ) (arch : Arch) (columns : List Column) (content : List ℕ) →
+    length columns < 1 → columns_json is_first member arch columns content ≡ []
+no_column is_first member arch [] content none = refl
+no_column is_first member arch (column ∷ columns) content none = absurd (omega arith)
+
+pub first_named : (names : FieldNames) (dates : List ℕ) (columns : List Column) (column : Column) → 1 ≤ length columns →
+    column ≡ get_or columns 0 column → AreNamed names dates columns → IsNamed names dates column
+first_named names dates [] column some is h = absurd (omega arith)
+first_named names dates (c ∷ columns) column some is h = rw is h.0
+
+pub other_named : (names : FieldNames) (dates : List ℕ) (columns : List Column) → 1 ≤ length columns → AreNamed names dates columns →
+    AreNamed names dates (other_columns columns)
+other_named names dates [] some h = absurd (omega arith)
+other_named names dates (c ∷ columns) some h =
+    let rest : other_columns (c ∷ columns) ≡ columns = take_all _ columns (omega arith) in rw rest h.1

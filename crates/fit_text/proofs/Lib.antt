@@ -3,7 +3,7 @@ pub mod PenLemmas
 mod DecimalLemmas
 mod NameLemmas
 mod PlanLemmas
-mod TextLemmas
+pub mod TextLemmas
 mod FieldLemmas
 mod DateLemmas
 mod DeveloperLemmas

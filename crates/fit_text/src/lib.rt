@@ -25,9 +25,13 @@ mod profile;
 mod showing;
 mod writing;
 
-pub use form::file::ShowFault;
-pub use json::show_json;
+pub use form::file::{Form, ShowFault, write_file};
+pub use json::{
+    Members, put_json_count, put_json_header, put_json_value, put_message, put_quoted_date,
+    show_json,
+};
 pub use profile::{field_name, message_name};
 pub use showing::date::put_date;
+pub use showing::plan::{Column, Plan};
 pub use showing::show;
 pub use writing::Pen;

@@ -50,9 +50,9 @@ IsEachAskedBy name found _ = ⊥
 
 -- the subcommand of this name makes this request, with these words
 abbrev pub IsAskedBy : List ℕ → Found → Request → Type 0
-IsAskedBy name found (Show file utc json) =
+IsAskedBy name found (Show file utc json profile) =
     (name ≡ codes "show") × IsWord found (codes "FILE") file × IsFlag found (codes "utc") utc
-    × IsFlag found (codes "json") json
+    × IsFlag found (codes "json") json × IsFlag found (codes "profile") profile
 IsAskedBy name found (Check file) = (name ≡ codes "check") × IsWord found (codes "FILE") file
 IsAskedBy name found (CheckEach names) = ⊥
 IsAskedBy name found (Table file form) =

@@ -102,6 +102,16 @@ pub(crate) fn profile_option<'a>(alloc: Global) -> Arg<'a> {
         .action(ArgAction::SetTrue)
 }
 
+pub(crate) fn json_profile_option<'a>(alloc: Global) -> Result<Arg<'a>, Error> {
+    Ok(
+        Arg::new(alloc, "profile")
+            .long("profile")
+            .help("Uses the names and units of the whole public FIT Profile, with --json")
+            .action(ArgAction::SetTrue)
+            .requires_arg("json")?,
+    )
+}
+
 pub(crate) fn message_option<'a>(alloc: Global) -> Arg<'a> {
     Arg::new(alloc, "message")
         .long("message")

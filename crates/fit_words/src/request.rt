@@ -14,6 +14,8 @@ pub enum Request<'a> {
         file: &'a str,
         utc: bool,
         json: bool,
+        /// Only with `json`.
+        profile: bool,
     },
     Check {
         file: &'a str,
@@ -188,6 +190,7 @@ fn show_of<'a>(matches: &ArgMatches<'a>) -> Option<Request<'a>>
         file: matches.get_str("FILE")?,
         utc: matches.get_flag("utc"),
         json: matches.get_flag("json"),
+        profile: matches.get_flag("profile"),
     })
 }
 

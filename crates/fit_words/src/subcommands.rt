@@ -3,9 +3,9 @@
 use crate::arguments::{
     all_option, checked_option, choices_option, commit_option, each_option, earlier_option,
     fields_option, file_argument, finish_option, folder_argument, in_argument, into_argument,
-    json_option, message_option, more_argument, null_option, out_argument, plain_option,
-    profile_option, raw_option, script_argument, skip_option, table_argument, utc_option,
-    verify_option,
+    json_option, json_profile_option, message_option, more_argument, null_option, out_argument,
+    plain_option, profile_option, raw_option, script_argument, skip_option, table_argument,
+    utc_option, verify_option,
 };
 use clap::{Command, Error};
 use std::alloc::Global;
@@ -62,6 +62,7 @@ fn show_command<'a>(alloc: Global) -> Result<Command<'a>, Error> {
             .about("Shows every message of a FIT file, a line each")
             .arg(utc_option(alloc))?
             .arg(json_option(alloc))?
+            .arg(json_profile_option(alloc)?)?
             .arg(file_argument(alloc))?,
     )
 }

@@ -44,6 +44,7 @@ pub fn command<S: AsStr, O: Write, E: Write>(
                 file,
                 utc,
                 json: false,
+                profile: _,
             },
         ) => status(show_file(rt, file, utc, out), err),
         Ok(
@@ -51,8 +52,9 @@ pub fn command<S: AsStr, O: Write, E: Write>(
                 file,
                 utc,
                 json: true,
+                profile,
             },
-        ) => status(show_as_json(rt, file, utc, out), err),
+        ) => status(show_as_json(rt, file, profile, utc, out), err),
         Ok(Request::Check { file }) => status(check_file(rt, file, out), err),
         Ok(Request::CheckEach { names }) => status(check_each(rt, &names, out), err),
         Ok(Request::Table { file, form }) => table_chosen(rt, file, &form, out, err),

@@ -1,30 +1,49 @@
 -- What is kept of a damaged file by going on after its faults, and what is printed of it.
-use Rattle.std.specs.Prelude.{◌≡◌, ℕ, ◌+◌, ◌-◌, ◌≤◌, Bool, true, false, List, [], ◌∷◌, ◌++◌, length, take, drop, codes, decimal}
+use Rattle.std.specs.Prelude.{◌≡◌, ◌↔◌, ℕ, ◌+◌, ◌-◌, ◌≤◌, Bool, true, false, List, [], ◌∷◌, ◌++◌, length, take, drop, codes, decimal}
 use Rattle.fit_grammar.specs.declared.file.frame.Frame.{Frame}
-use Rattle.fit_grammar.specs.Format.File.{IsFrame}
+use Rattle.fit_grammar.specs.Format.File.{FileValue, FileOf, IsFrame}
 use Rattle.fit_grammar.specs.Calls.BeginningHeader.{BeginsWithHeader}
 use Rattle.fit_mending.specs.declared.pieces.Piece.{Piece}
-use Rattle.fit_mending.specs.Pieces.{IsSkipped}
+use Rattle.fit_mending.specs.Pieces.{CutsFaults, kept_row}
+use Rattle.fit_files.specs.declared.looking.Looked.{Looked}
 use Rattle.fit_files.specs.declared.mended.Mended.{Mended}
 use Rattle.fit_files.specs.Printed.Salvaged.{looked_at, not_looked_at, salvaged_frame}
 
--- what is looked at begins here, has so many bytes, and is written under this header: after the header that the bytes begin with, as far
--- as a salvage looks; or all bytes, if they begin with no header
-pub record LooksAt (all : Bool) (bytes : List ℕ) (front : ℕ) (mended : Mended) : Type 0 where
-  pub frame : IsFrame mended.frame
-  pub within : front + mended.looked_at ≤ length bytes
+-- the header that is written if the bytes begin with none
+abbrev pub bare_frame : Frame
+bare_frame = record { header_size = 14; protocol = 32; profile = 100 }
+
+-- what is looked at begins at `front`, has so many bytes, and is written under this header: after the header that the bytes begin with,
+-- as far as a salvage looks; or all bytes, if they begin with no header. It is trusted if the bytes are a file.
+pub record LooksAt (all : Bool) (bytes : List ℕ) (looked : Looked) : Type 0 where
+  pub frame : IsFrame looked.frame
+  pub long : looked.frame.header_size ≡ 14
+  pub within : looked.front + looked.looked_at ≤ length bytes
   pub headed : (frame : Frame) (size : ℕ) → BeginsWithHeader bytes frame size
-      → (front ≡ frame.header_size) × (mended.frame ≡ salvaged_frame frame)
-      × (mended.looked_at ≡ length (looked_at all size (drop front bytes)))
-      × (mended.not_looked_at ≡ not_looked_at all size (drop front bytes))
+      → (looked.front ≡ frame.header_size) × (looked.frame ≡ salvaged_frame frame)
+      × (looked.looked_at ≡ length (looked_at all size (drop looked.front bytes)))
+      × (looked.not_looked_at ≡ not_looked_at all size (drop looked.front bytes))
   pub bare : ((frame : Frame) (size : ℕ) → BeginsWithHeader bytes frame size → ⊥)
-      → (front ≡ 0) × (mended.looked_at ≡ length bytes) × (mended.not_looked_at ≡ 0)
+      → (looked.front ≡ 0) × (looked.frame ≡ bare_frame) × (looked.looked_at ≡ length bytes) × (looked.not_looked_at ≡ 0)
+  pub trusted : (looked.trusted ≡ true) ↔ ((file : FileValue) × FileOf bytes file)
+
+-- the bytes up to the end of what is looked at
+abbrev pub seen_of : List ℕ → Looked → List ℕ
+seen_of bytes looked = take (looked.front + looked.looked_at) bytes
 
 -- what is kept of these bytes: pieces of those looked at, by their places in the file
+pub record AreMended (all : Bool) (bytes : List ℕ) (looked : Looked) (pieces : List Piece) : Type 0 where
+  pub looks : LooksAt all bytes looked
+  pub cut : CutsFaults (seen_of bytes looked) looked.front looked.trusted pieces
+
+-- the row of those that are kept
+abbrev pub mended_row : List ℕ → Looked → List Piece → List ℕ
+mended_row bytes looked pieces = kept_row (seen_of bytes looked) pieces
+
+-- both
 pub record IsMended (all : Bool) (bytes : List ℕ) (mended : Mended) : Type 0 where
-  pub front : ℕ
-  pub looks : LooksAt all bytes front mended
-  pub skipped : IsSkipped (take (front + mended.looked_at) bytes) front mended.skipped
+  pub are : AreMended all bytes mended.looked mended.skipped.pieces.items
+  pub row_is : mended.skipped.row.items ≡ mended_row bytes mended.looked mended.skipped.pieces.items
 
 -- how many pieces are kept
 abbrev pub one_if : Bool → ℕ
@@ -58,5 +77,5 @@ pieces_text (piece ∷ pieces) = piece_text piece ++ pieces_text pieces
 -- the line of what is kept, and then those of what is left out
 abbrev pub mended_text : Mended → List ℕ
 mended_text mended =
-    (kept_line (length mended.skipped.row.items) mended.looked_at (kept_count mended.skipped.pieces.items) ++ codes "\n")
+    (kept_line (length mended.skipped.row.items) mended.looked.looked_at (kept_count mended.skipped.pieces.items) ++ codes "\n")
     ++ pieces_text mended.skipped.pieces.items

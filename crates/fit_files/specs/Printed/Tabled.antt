@@ -7,12 +7,13 @@ use Rattle.fit_grammar.specs.Format.Message.{messages_of}
 use Rattle.fit_grammar.specs.Format.Refusal.{IsFaultOf}
 use Rattle.fit_table.specs.declared.layout.Layout.{Layout}
 use Rattle.fit_table.specs.Table.{table_of, lines_of}
+use Rattle.fit_table.specs.Tokens.{Token, WritesTokens}
 use Rattle.fit_files.specs.declared.fault.ReportFault.{ReportFault}
 use Rattle.fit_files.specs.declared.fault.ReportFault.TheVariants as faults
-use Rattle.fit_files.specs.Printed.Shown.{ShowsBy}
+use Rattle.fit_files.specs.Printed.Shown.{IsOutputFault}
 
 -- the table of a file, or, with a text that begins each line, its lines alone
-abbrev pub tabled : Layout → Option (List ℕ) → FileValue → List ℕ
+abbrev pub tabled : Layout → Option (List ℕ) → FileValue → List Token
 tabled layout None v = table_of layout (messages_of v.items)
 tabled layout (Some front) v = lines_of layout front (messages_of v.items)
 
@@ -20,7 +21,15 @@ tabled layout (Some front) v = lines_of layout front (messages_of v.items)
 -- written
 abbrev pub ShowsTable : {T : Type 0} → Layout → Option (List ℕ) → Option (List ℕ)
     → Option (List ℕ) → List ℕ → Result T ReportFault → Type 0
-ShowsTable layout front old new bytes result = ShowsBy (tabled layout front) old new bytes result
+ShowsTable {T} layout front old new bytes (Ok done) =
+    (v : FileValue) × FileOf bytes v
+    × WritesTokens {T = T} {E = ReportFault} old new (Ok done) (tabled layout front v)
+ShowsTable {T} layout front old new bytes (Err (faults.File fault)) =
+    IsFaultOf bytes fault × (new ≡ old)
+ShowsTable {T} layout front old new bytes (Err fault) =
+    ((v : FileValue) × FileOf bytes v
+    × WritesTokens {T = T} {E = ReportFault} old new (Err fault) (tabled layout front v))
+    × IsOutputFault fault
 
 -- the summary of a file that is an activity, or why it is none
 abbrev pub SumsUpFile : FileValue → Result Summary ReportFault → Type 0

@@ -137,7 +137,7 @@ fn put_definition_before<S: Sink>(
     Ok(())
 }
 
-fn put_definition<S: Sink>(
+pub(crate) fn put_definition<S: Sink>(
     out: &mut S,
     checksum: &mut Crc,
     definition: &Definition,

@@ -44,6 +44,7 @@ pub trait Form {
         ensures { Puts pen.old pen.new result (header frame size) };
 
     fn put_line<S: Sink>(
+        &mut self,
         pen: &mut Pen<'_, S>,
         plan: &Plan,
         columns: &[Column],
@@ -63,6 +64,7 @@ pub trait Form {
 
 /// Writes a file, in one pass and without allocation, through a buffer of its own.
 pub fn write_file<F: Form, S: Sink>(
+    form: &mut F,
     file: &LentFile<'_>,
     utc: bool,
     out: &mut S,
@@ -70,24 +72,30 @@ pub fn write_file<F: Form, S: Sink>(
     ensures { WritesText (S.held out.old) (S.held out.new) result
         (lines_of F.header (F.line utc) F.count file.now) }
 {
-    match put_file::<F, S>(out, utc, file) {
+    match put_file(form, out, utc, file) {
         Ok(()) => Ok(()),
         Err(fault) => Err(ShowFault::Write(fault)),
     }
 }
 
-fn put_file<F: Form, S: Sink>(out: &mut S, utc: bool, file: &LentFile<'_>) -> Result<(), S::Fault>
+fn put_file<F: Form, S: Sink>(
+    form: &mut F,
+    out: &mut S,
+    utc: bool,
+    file: &LentFile<'_>,
+) -> Result<(), S::Fault>
     ensures { WritesText (S.held out.old) (S.held out.new) result
         (lines_of F.header (F.line utc) F.count file.now) }
 {
     let mut pen = Pen::new(out);
-    let done = put_all::<F, S>(&mut pen, utc, file);
+    let done = put_all(form, &mut pen, utc, file);
     let _ = pen.into_writer();
     done
 }
 
 // All lines. At Ok none of their text waits.
 fn put_all<F: Form, S: Sink>(
+    form: &mut F,
     pen: &mut Pen<'_, S>,
     utc: bool,
     file: &LentFile<'_>,
@@ -95,11 +103,12 @@ fn put_all<F: Form, S: Sink>(
     ensures text { Puts pen.old pen.new result (lines_of F.header (F.line utc) F.count file.now) }
     ensures none { IfOk result (λ _. pen.new.waiting ≡ []) }
 {
-    put_lines::<F, S>(pen, utc, file)?;
+    put_lines(form, pen, utc, file)?;
     pen.hand_over()
 }
 
 fn put_lines<F: Form, S: Sink>(
+    form: &mut F,
     pen: &mut Pen<'_, S>,
     utc: bool,
     file: &LentFile<'_>,
@@ -107,12 +116,13 @@ fn put_lines<F: Form, S: Sink>(
     ensures { Puts pen.old pen.new result (lines_of F.header (F.line utc) F.count file.now) }
 {
     F::put_header(pen, file.frame(), file.data_size())?;
-    let count = put_messages::<F, S>(pen, utc, file)?;
+    let count = put_messages(form, pen, utc, file)?;
     F::put_count(pen, count)
 }
 
 // The lines of the messages. Returns how many there are.
 fn put_messages<F: Form, S: Sink>(
+    form: &mut F,
     pen: &mut Pen<'_, S>,
     utc: bool,
     file: &LentFile<'_>,
@@ -133,7 +143,7 @@ fn put_messages<F: Form, S: Sink>(
             FileItem::Data(message, time) => {
                 plans.settle(message.local, &message.definition);
                 let (plan, columns, developer) = plans.get(message.local);
-                F::put_line(pen, plan, columns, developer, number, &message, time)?;
+                form.put_line(pen, plan, columns, developer, number, &message, time)?;
                 number += 1;
             }
         }

@@ -1,34 +1,39 @@
 // The fields of a message as members of a JSON object, by the columns of its plan.
 
 ghost use Rattle.std.specs.Prelude.{◌≡◌, ◌≤◌, ◌++◌, length, drop, sum_by, IfOk};
+ghost use Rattle.fit_text.specs.Date.{dates_of};
 ghost use Rattle.fit_text.specs.Pen.{Puts};
-ghost use Rattle.fit_text.specs.Plan.{IsKind, HaveKinds, json_at};
-ghost use Rattle.fit_text.specs.Members.{separator, column_json, columns_json};
+ghost use Rattle.fit_text.specs.Plan.{IsKind, json_at};
+ghost use Rattle.fit_text.specs.Profile.{names_of_fields};
+ghost use Rattle.fit_text.specs.Members.{separator, column_json, columns_json, AreNamed};
 
 use crate::form::whole::{add_signed, add_unsigned};
 use crate::json::field::put_shown;
+use crate::json::members::Members;
 use crate::json::notation::AsJson;
-use crate::showing::plan::{Column, Kind};
+use crate::showing::plan::{Column, Kind, Plan};
 use crate::writing::Pen;
 use fit_base::{Arch, FieldValue, number_of};
 use fit_grammar::Sink;
 
-/// The fields at the front of this content, each with its name, with commas between them. The first has none in front if `is_first`.
-/// Fields of the numbers `dates` are dates. Returns the bytes after them.
+/// The fields at the front of this content as members, with commas between them. The first has none in front if `is_first`.
+/// Returns the bytes after them.
 // Not inlined, so its loop keeps its variables in registers.
 #[inline(never)]
-pub fn put_columns<'c, S: Sink>(
+pub fn put_columns<'c, M: Members, S: Sink>(
+    members: &mut M,
     pen: &mut Pen<'_, S>,
-    dates: &[u8],
-    arch: Arch,
+    plan: &Plan,
     columns: &[Column],
     content: &'c [u8],
     is_first: bool,
 ) -> Result<&'c [u8], S::Fault>
-    requires kinds { HaveKinds dates.now columns.now }
+    requires named { AreNamed (names_of_fields plan.now.global)
+        (dates_of plan.now.utc plan.now.global) columns.now }
     requires within { sum_by (λ column. column.size) columns.now ≤ length content.now }
     ensures text { Puts pen.old pen.new result
-        (columns_json is_first dates.now arch columns.now content.now) }
+        (columns_json is_first (M.member plan.now.utc plan.now.global) plan.now.arch columns.now
+        content.now) }
     ensures after { IfOk result
         (λ after. after.now ≡ drop (sum_by (λ column. column.size) columns.now) content.now) }
 {
@@ -37,7 +42,7 @@ pub fn put_columns<'c, S: Sink>(
     let mut first = is_first;
     while let [column, others @ ..] = left {
         let (bytes, after) = rest.split_at(usize::from(column.size));
-        put_column(pen, dates, arch, column, bytes, first)?;
+        members.put_member(pen, plan, column, plan.arch, bytes, first)?;
         left = others;
         rest = after;
         first = false;

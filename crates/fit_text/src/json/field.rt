@@ -33,8 +33,8 @@ pub fn put_shown<S: Sink>(
     }
 }
 
-// A date between quotation marks.
-fn put_quoted_date<S: Sink>(pen: &mut Pen<'_, S>, time: u32) -> Result<(), S::Fault>
+/// A date between quotation marks.
+pub fn put_quoted_date<S: Sink>(pen: &mut Pen<'_, S>, time: u32) -> Result<(), S::Fault>
     ensures { Puts pen.old pen.new result (quoted (date_text time)) }
 {
     pen.put(b"\"")?;
@@ -42,8 +42,8 @@ fn put_quoted_date<S: Sink>(pen: &mut Pen<'_, S>, time: u32) -> Result<(), S::Fa
     pen.put(b"\"")
 }
 
-// The values of a field.
-fn put_value<S: Sink>(pen: &mut Pen<'_, S>, value: &FieldValue<'_>) -> Result<(), S::Fault>
+/// The values of a field.
+pub fn put_value<S: Sink>(pen: &mut Pen<'_, S>, value: &FieldValue<'_>) -> Result<(), S::Fault>
     ensures { Puts pen.old pen.new result
         (values_json (base_type value.now.base) (values_of value.now)) }
 {

@@ -1,14 +1,20 @@
 // A whole file as JSON.
 
 ghost use Rattle.fit_grammar.specs.Calls.Output.{WritesText};
-ghost use Rattle.fit_text.specs.Json.{json_of};
+ghost use Rattle.fit_text.specs.Json.{header_json, count_json, json_of};
+ghost use Rattle.fit_text.specs.Pen.{Puts};
 
 use crate::form::file::{Form, ShowFault, write_file};
 use crate::form::header::{HeaderWords, put_header_by, put_labelled};
+use crate::json::column::put_column;
+use crate::json::members::Members;
 use crate::json::message::put_message;
 use crate::json::notation::AsJson;
+use crate::profile;
+use crate::showing::date::dates_of;
 use crate::showing::plan::{Column, Plan};
 use crate::writing::Pen;
+use fit_base::Arch;
 use fit_grammar::{DataMessage, DeveloperFieldDefinition, Frame, LentFile, Sink};
 
 /// Writes a file as JSON, an object on each line, in one pass and without allocation, through a buffer of its own. If `utc` is set,
@@ -23,7 +29,7 @@ pub fn show_json<S: Sink>(
 ) -> Result<(), ShowFault<S::Fault>>
     ensures { WritesText (S.held out.old) (S.held out.new) result (json_of utc file.now) }
 {
-    write_file::<AsJson, S>(file, utc, out)
+    write_file(&mut AsJson, file, utc, out)
 }
 
 impl Form for AsJson {
@@ -36,17 +42,11 @@ impl Form for AsJson {
     ghost count = { count_json };
 
     fn put_header<S: Sink>(pen: &mut Pen<'_, S>, frame: Frame, size: u32) -> Result<(), S::Fault> {
-        let words = HeaderWords {
-            header: b"{\"header\":",
-            protocol: b",\"protocol\":\"",
-            profile: b"\",\"profile\":",
-            records: b",\"data\":",
-            end: b"}\n",
-        };
-        put_header_by(pen, &words, frame, size)
+        put_json_header(pen, frame, size)
     }
 
     fn put_line<S: Sink>(
+        &mut self,
         pen: &mut Pen<'_, S>,
         plan: &Plan,
         columns: &[Column],
@@ -55,11 +55,64 @@ impl Form for AsJson {
         message: &DataMessage<'_>,
         time: Option<u32>,
     ) -> Result<(), S::Fault> {
-        put_message(pen, plan, columns, developer, number, message, time)
+        put_message(self, pen, plan, columns, developer, number, message, time)
     }
 
     fn put_count<S: Sink>(pen: &mut Pen<'_, S>, messages: u64) -> Result<(), S::Fault> {
-        put_labelled(pen, b"{\"messages\":", messages)?;
-        pen.put(b"}\n")
+        put_json_count(pen, messages)
     }
+}
+
+impl Members for AsJson {
+    ghost use Rattle.fit_text.specs.Date.{dates_of};
+    ghost use Rattle.fit_text.specs.Json.{field_json};
+    ghost use Rattle.fit_text.specs.Profile.{message_named, names_of_fields};
+
+    ghost name = { message_named };
+
+    ghost member = { λ utc global. field_json (names_of_fields global) (dates_of utc global) };
+
+    fn message_name(global: u16) -> Option<&'static str> {
+        profile::message_name(global)
+    }
+
+    #[inline(always)]
+    fn put_member<S: Sink>(
+        &mut self,
+        pen: &mut Pen<'_, S>,
+        plan: &Plan,
+        column: &Column,
+        arch: Arch,
+        bytes: &[u8],
+        is_first: bool,
+    ) -> Result<(), S::Fault> {
+        let dates = dates_of(plan.utc, plan.global);
+        put_column(pen, dates, arch, column, bytes, is_first)
+    }
+}
+
+/// The first line: what the header states, for this many bytes of records.
+pub fn put_json_header<S: Sink>(
+    pen: &mut Pen<'_, S>,
+    frame: Frame,
+    size: u32,
+) -> Result<(), S::Fault>
+    ensures { Puts pen.old pen.new result (header_json frame size) }
+{
+    let words = HeaderWords {
+        header: b"{\"header\":",
+        protocol: b",\"protocol\":\"",
+        profile: b"\",\"profile\":",
+        records: b",\"data\":",
+        end: b"}\n",
+    };
+    put_header_by(pen, &words, frame, size)
+}
+
+/// The last line.
+pub fn put_json_count<S: Sink>(pen: &mut Pen<'_, S>, messages: u64) -> Result<(), S::Fault>
+    ensures { Puts pen.old pen.new result (count_json messages) }
+{
+    put_labelled(pen, b"{\"messages\":", messages)?;
+    pen.put(b"}\n")
 }

@@ -9,7 +9,8 @@ use crate::writing::Pen;
 use fit_grammar::Sink;
 
 /// JSON.
-pub enum AsJson {}
+#[derive(Drop)]
+pub struct AsJson;
 
 impl Notation for AsJson {
     ghost none = { codes "null" };

@@ -19,7 +19,7 @@ use fit_grammar::{DataMessage, DeveloperFieldDefinition, Frame, LentFile, Sink};
 pub fn show<S: Sink>(file: &LentFile<'_>, utc: bool, out: &mut S) -> Result<(), ShowFault<S::Fault>>
     ensures { WritesText (S.held out.old) (S.held out.new) result (text_of utc file.now) }
 {
-    write_file::<AsText, S>(file, utc, out)
+    write_file(&mut AsText, file, utc, out)
 }
 
 impl Form for AsText {
@@ -43,6 +43,7 @@ impl Form for AsText {
     }
 
     fn put_line<S: Sink>(
+        &mut self,
         pen: &mut Pen<'_, S>,
         plan: &Plan,
         columns: &[Column],

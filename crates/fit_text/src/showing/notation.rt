@@ -9,7 +9,8 @@ use crate::writing::Pen;
 use fit_grammar::Sink;
 
 /// The shown text.
-pub enum AsText {}
+#[derive(Drop)]
+pub struct AsText;
 
 impl Notation for AsText {
     ghost none = { codes "-" };

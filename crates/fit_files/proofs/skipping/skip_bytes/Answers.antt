@@ -1,8 +1,13 @@
-use Rattle.std.proofs.Common.{refl, inr}
-use Rattle.fit_files.proofs.Mending.{mended_bare}
+use Rattle.std.proofs.Common.{◌+◌, arith}
+use Rattle.std.proofs.lemmas.List.{length-take}
 use Rattle.fit_files.proofs.skipping.skip_bytes.Goals as goal
 
-pub returns-in_ok-skip_faults-in-Err : goal.returns-in_ok-skip_faults-in-Err
-returns-in_ok-skip_faults-in-Err c =
-    mended_bare c.args.all c.args.bytes.now _ c.in-Err.ensures.none (record { size = inr refl; major = inr refl }) refl refl
-    c.in_ok-skip_faults-in-Err.ensures.skipped
+pub invariant_of-result : goal.invariant_of-result
+invariant_of-result c = record {
+  short = omega (
+    arith,
+    c.requires,
+    c.in_ok-skipped.ensures.short,
+    length-take (c.look_at-looked.result.front + c.look_at-looked.result.looked_at) c.args.bytes.now,
+  );
+}

@@ -1,18 +1,19 @@
 use Rattle.std.proofs.Common.{option_map}
-use Rattle.fit_files.specs.Printed.Tabled.{tabled, ShowsTable}
-use Rattle.fit_files.proofs.Reported.Inputs.{shows_file, outcome_of, no_input}
+use Rattle.fit_files.specs.Printed.Tabled.{ShowsTable}
+use Rattle.fit_files.proofs.Reported.Inputs.{outcome_of, no_input}
+use Rattle.fit_files.proofs.Reported.Tabled.{shows_table}
 use Rattle.fit_files.proofs.tabling.table_input.Goals as goal
 
 pub returns-in-Ok-clause-shown : goal.returns-in-Ok-clause-shown
 returns-in-Ok-clause-shown g c =
     let read = c.in-Ok.ensures in
     let front = option_map (λ text. text.now) c.args.front in
-    let shown = shows_file (tabled c.args.layout.now front) _ _ read.0 c.in-Ok.file c.table_flushed.result read.2 c.table_flushed.ensures.text c.table_flushed.ensures.fault in
+    let shown = shows_table c.args.layout.now front _ _ read.0 c.in-Ok.file c.table_flushed.result read.2 c.table_flushed.ensures.text c.table_flushed.ensures.fault in
     outcome_of (ShowsTable c.args.layout.now front _ _) (λ bytes why outcome. outcome.1) c.args.most _ _ read.0 c.table_flushed.result read.1 shown
 
 pub returns-in-Ok-clause-quiet : goal.returns-in-Ok-clause-quiet
 returns-in-Ok-clause-quiet g c = λ why is.
     let read = c.in-Ok.ensures in
     let front = option_map (λ text. text.now) c.args.front in
-    let shown = shows_file (tabled c.args.layout.now front) _ _ read.0 c.in-Ok.file c.table_flushed.result read.2 c.table_flushed.ensures.text c.table_flushed.ensures.fault in
+    let shown = shows_table c.args.layout.now front _ _ read.0 c.in-Ok.file c.table_flushed.result read.2 c.table_flushed.ensures.text c.table_flushed.ensures.fault in
     no_input (ShowsTable c.args.layout.now front _ _) (λ bytes why outcome. outcome.1) read.0 why c.table_flushed.result shown is

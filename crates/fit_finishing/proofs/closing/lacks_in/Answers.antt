@@ -4,7 +4,7 @@ use Rattle.fit_grammar.specs.Format.Message.{messages_of}
 use Rattle.fit_activity.specs.Rides.Recording.{is_lap}
 use Rattle.fit_activity.specs.Rides.Timer.{runs_now}
 use Rattle.fit_activity.specs.Files.Activity.{messages_counted}
-use Rattle.fit_finishing.specs.Finished.{lacks_lap}
+use Rattle.fit_finishing.specs.Lacking.{lacks_lap}
 use Rattle.fit_finishing.proofs.closing.lacks_in.Goals as goal
 use Rattle.fit_finishing.proofs.closing.lacks_in.Goals.{then-running, else-running}
 

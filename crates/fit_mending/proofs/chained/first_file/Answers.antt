@@ -1,5 +1,4 @@
-use Rattle.std.proofs.Common.{◌≡◌, ℕ, List, length, refl, arith}
-use Rattle.fit_mending.specs.Chained.{EndsFirst}
+use Rattle.std.proofs.Common.{length, refl, arith}
 use Rattle.fit_mending.proofs.Files.{file_begins}
 use Rattle.fit_mending.proofs.chained.first_file.Goals as goal
 

@@ -1,7 +1,7 @@
 use Rattle.std.proofs.Common.{◌≡◌, ℕ, List, [], ◌∷◌, ◌++◌, length, refl, sym, ap, subst, ◌∙◌, Bor, arith}
 use Rattle.std.specs.Prelude.{map}
 use Rattle.std.proofs.lemmas.List.{map-append, take-append-drop}
-use Rattle.fit_mending.specs.Chained.{EndsFirst, AreChained}
+use Rattle.fit_mending.specs.Chained.{EndsFirst}
 use Rattle.fit_mending.proofs.Files.{EndsWith, ends_more, chained, joined}
 use Rattle.fit_mending.proofs.chained.split_files.Goals as goal
 

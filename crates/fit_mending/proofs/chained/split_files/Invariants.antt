@@ -1,5 +1,5 @@
-use Rattle.std.proofs.Common.{◌≡◌, List, ℕ, ◌++◌, length}
-use Rattle.std.specs.Prelude.{flat_map, map}
+use Rattle.std.proofs.Common.{length}
+use Rattle.std.specs.Prelude.{map}
 use Rattle.fit_mending.proofs.Files.{EndsWith}
 use Rattle.fit_mending.proofs.chained.split_files.Given as goal
 

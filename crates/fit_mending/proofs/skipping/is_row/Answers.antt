@@ -1,4 +1,4 @@
-use Rattle.std.proofs.Common.{◌≡◌, ◌≤◌, List, ℕ, length, take, sym, subst, arith, eq-eqb}
+use Rattle.std.proofs.Common.{◌≡◌, List, ℕ, length, sym, subst, arith, eq-eqb}
 use Rattle.std.proofs.lemmas.List.{take_all}
 use Rattle.fit_grammar.specs.Format.Records.{Records}
 use Rattle.fit_mending.proofs.skipping.is_row.Goals as goal

@@ -1,6 +1,5 @@
-use Rattle.std.proofs.Common.{append-nil}
-use Rattle.fit_text.proofs.PenLemmas.{puts_then, puts_same}
+use Rattle.fit_table.proofs.TokenLemmas.{tokens_nothing}
 use Rattle.fit_table.proofs.table.put_all_lines.Goals as goal
 
 pub returns-clause-text : goal.returns-clause-text
-returns-clause-text g c = puts_same (puts_then c.in_ok-put_lines.ensures c.hand_over.ensures.puts) (append-nil _)
+returns-clause-text g c = tokens_nothing c.in_ok-put_lines.ensures c.hand_over.ensures.puts

@@ -1,13 +1,13 @@
 use Rattle.std.proofs.Common.{length, []}
 use Rattle.fit_columns.specs.Places.{ArePlacesIn}
 use Rattle.fit_table.specs.Table.{cells_at}
-use Rattle.fit_text.proofs.PenLemmas.{Leaves}
+use Rattle.fit_table.proofs.TokenLemmas.{LeavesTokens}
 use Rattle.fit_table.proofs.table.put_cells.Given as goal
 
 abbrev pub invariant-loop-left : goal.invariant-loop-left
 invariant-loop-left g l = record {
   inside : ArePlacesIn (length l.content) l.left;
-  put : Leaves l.initial.pen l.pen (cells_at l.layout l.arch l.time l.content [] l.places)
+  put : LeavesTokens l.initial.pen l.pen (cells_at l.layout l.arch l.time l.content [] l.places)
       (cells_at l.layout l.arch l.time l.content l.front l.left);
 }
 

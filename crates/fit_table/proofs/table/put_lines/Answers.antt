@@ -5,8 +5,9 @@ use Rattle.fit_grammar.specs.Format.Records.{in_force}
 use Rattle.fit_grammar.specs.Calls.LentItem.{lent_item, messages_in}
 use Rattle.fit_grammar.specs.Calls.Table.{in_force_after}
 use Rattle.fit_columns.proofs.PlanLemmas.{places_in}
-use Rattle.fit_text.proofs.PenLemmas.{leaves_all, leaves_less, leaves_off, puts_same}
+use Rattle.fit_table.proofs.TokenLemmas.{begin_tokens, less_tokens, off_tokens, tokens_same}
 use Rattle.fit_table.specs.Table.{line_end}
+use Rattle.fit_table.specs.Tokens.{Text}
 use Rattle.fit_table.proofs.LineLemmas.{line_shows, next_line}
 use Rattle.fit_table.proofs.table.put_lines.Goals as goal
 
@@ -19,7 +20,7 @@ loop-item-init g c =
       record {
         under = rw all c.items-item-items.ensures.under;
         plans = c.new-plans.ensures c.args.layout.now.fields.now (in_force []);
-        put = rw stated (leaves_all _ _);
+        put = rw stated (begin_tokens _ _);
       },
     )
 
@@ -70,7 +71,7 @@ loop-item-preserved g c =
       record {
         under = under.2;
         plans = plans;
-        put = leaves_less _ (rw steps at kept.put) (puts_same c.in_ok-put_line-in-Data.ensures (ap (λ t. c.args.front.now ++ (t ++ line_end)) line))
+        put = less_tokens _ (rw steps at kept.put) (tokens_same c.in_ok-put_line-in-Data.ensures (ap (λ t. Text c.args.front.now ∷ (t ++ Text line_end ∷ [])) line))
             (next_line c.args.layout.now c.args.front.now found.definition c.in-Data.time found.content.now (messages_in c.next.new.self) is);
       },
     )
@@ -87,6 +88,6 @@ returns-in_err-put_line-in-Data g c =
     let own = plans found.local found.definition c.get-plan.result.now c.get-plan.ensures under.1 in
     let line = line_shows c.args.layout.now [] found.definition c.args.layout.now.fields.now c.as_slice.result.now c.in-Data.time c.get-plan.result.now.arch
     found.content.now own.arch (omega (arith, found.whole)) (rw c.as_slice.ensures.value own.places) in
-    leaves_off _ c.from_residual.ensures.0 (rw steps at kept.put)
-    (puts_same c.in_err-put_line-in-Data.ensures (ap (λ t. c.args.front.now ++ (t ++ line_end)) line))
+    off_tokens _ c.from_residual.ensures.0 (rw steps at kept.put)
+    (tokens_same c.in_err-put_line-in-Data.ensures (ap (λ t. Text c.args.front.now ∷ (t ++ Text line_end ∷ [])) line))
     (next_line c.args.layout.now c.args.front.now found.definition c.in-Data.time found.content.now (messages_in c.next.new.self) is)

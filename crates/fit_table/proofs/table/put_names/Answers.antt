@@ -1,5 +1,5 @@
 use Rattle.std.proofs.Common.{codes, refl}
-use Rattle.fit_text.proofs.PenLemmas.{leaves_all, leaves_less, leaves_off, leaves_none}
+use Rattle.fit_text.proofs.PenLemmas.{leaves_less, leaves_off}
 use Rattle.fit_table.proofs.LineLemmas.{first_name, later}
 use Rattle.fit_table.specs.Table.{names_from}
 use Rattle.fit_table.proofs.table.put_names.Goals as goal

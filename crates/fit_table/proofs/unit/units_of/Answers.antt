@@ -1,4 +1,4 @@
-use Rattle.std.proofs.Common.{◌≡◌, ◌<◌, length, ◌∙◌, arith}
+use Rattle.std.proofs.Common.{◌∙◌, arith}
 use Rattle.std.proofs.lemmas.List.{length-set}
 use Rattle.fit_table.specs.declared.unit.Unit.TheVariants.{Whole}
 use Rattle.fit_table.specs.Unit.{unit_in}

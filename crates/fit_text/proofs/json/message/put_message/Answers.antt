@@ -2,21 +2,23 @@ use Rattle.std.proofs.Common.{ap, length, sum_by, refl, arith}
 use Rattle.std.proofs.lemmas.List.{length-drop}
 use Rattle.fit_grammar.specs.Format.Message.{message_under}
 use Rattle.fit_text.proofs.PenLemmas.{puts_then, puts_stop, puts_same}
-use Rattle.fit_text.proofs.PlanLemmas.{plan_kinds, plan_size}
-use Rattle.fit_text.proofs.JsonLemmas.{plan_json, plan_head, flipped}
+use Rattle.fit_text.proofs.PlanLemmas.{plan_size}
+use Rattle.fit_text.proofs.JsonLemmas.{plan_json, plan_head, plan_named, time_named, flipped}
 use Rattle.fit_text.proofs.json.message.put_message.Goals as goal
 
 pub returns-in_err-put_head : goal.returns-in_err-put_head
 returns-in_err-put_head g c =
     let message = c.args.message.now in
-    puts_same (puts_stop c.from_residual.ensures.0 c.in_err-put_head.ensures _)
-    (plan_head c.args.plan.now.utc c.args.number c.args.plan.now.global (message_under message.definition c.args.time message.content.now) c.requires.global)
+    let plan = c.args.plan.now in
+    puts_same (puts_stop c.from_residual.ensures.0 (rw c.message_name.ensures at c.in_err-put_head.ensures) _)
+    (plan_head g.M.Members.name (g.M.Members.member plan.utc message.definition.global) c.args.number plan.global
+    (message_under message.definition c.args.time message.content.now) c.requires.global)
 
-pub put_time-requires-clause-kind : goal.put_time-requires-clause-kind
-put_time-requires-clause-kind g c = rw (c.dates_of-dates.ensures, c.requires.global) c.requires.time.kind
+pub put_time-requires-clause-named : goal.put_time-requires-clause-named
+put_time-requires-clause-named g c = time_named c.args.message.now.definition c.args.plan.now c.args.columns.now c.args.developer.now c.requires
 
-pub put_columns-requires-clause-kinds : goal.put_columns-requires-clause-kinds
-put_columns-requires-clause-kinds g c = plan_kinds c.args.message.now.definition c.args.plan.now c.args.columns.now c.args.developer.now _ c.dates_of-dates.ensures c.requires
+pub put_columns-requires-clause-named : goal.put_columns-requires-clause-named
+put_columns-requires-clause-named g c = plan_named c.args.message.now.definition c.args.plan.now c.args.columns.now c.args.developer.now c.requires
 
 pub put_columns-requires-clause-within : goal.put_columns-requires-clause-within
 put_columns-requires-clause-within g c =
@@ -42,35 +44,40 @@ put_developer_fields-requires g c =
 pub returns-in_err-put_time : goal.returns-in_err-put_time
 returns-in_err-put_time g c =
     let message = c.args.message.now in
-    puts_same (puts_then c.in_ok-put_head.ensures (puts_stop c.from_residual-in_err-put_time.ensures.0 c.in_err-put_time.ensures.text _))
-    (plan_json c.args.number message.definition c.args.time message.content.now c.args.plan.now c.args.columns.now c.args.developer.now _ _
-    c.dates_of-dates.ensures c.in_err-put_time.ensures.fits refl c.requires)
+    let head = rw c.message_name.ensures at c.in_ok-put_head.ensures in
+    puts_same (puts_then head (puts_stop c.from_residual-in_err-put_time.ensures.0 c.in_err-put_time.ensures.text _))
+    (plan_json g.M.Members.name g.M.Members.member c.args.number message.definition c.args.time message.content.now c.args.plan.now c.args.columns.now c.args.developer.now _
+    c.in_err-put_time.ensures.fits refl c.requires)
 
 pub returns-in_err-after : goal.returns-in_err-after
 returns-in_err-after g c =
     let message = c.args.message.now in
-    puts_same (puts_then c.in_ok-put_head.ensures (puts_then c.in_ok-put_time.ensures.text (puts_stop c.from_residual-in_err-after.ensures.0 c.in_err-after.ensures.text _)))
-    (plan_json c.args.number message.definition c.args.time message.content.now c.args.plan.now c.args.columns.now c.args.developer.now _ _
-    c.dates_of-dates.ensures c.in_ok-put_time.ensures.fits (flipped _ _ c.is_none.ensures) c.requires)
+    let head = rw c.message_name.ensures at c.in_ok-put_head.ensures in
+    puts_same (puts_then head (puts_then c.in_ok-put_time.ensures.text (puts_stop c.from_residual-in_err-after.ensures.0 c.in_err-after.ensures.text _)))
+    (plan_json g.M.Members.name g.M.Members.member c.args.number message.definition c.args.time message.content.now c.args.plan.now c.args.columns.now c.args.developer.now _
+    c.in_ok-put_time.ensures.fits (flipped _ _ c.is_none.ensures) c.requires)
 
 pub returns-in_err-put : goal.returns-in_err-put
 returns-in_err-put g c =
     let message = c.args.message.now in
-    puts_same (puts_then c.in_ok-put_head.ensures (puts_then c.in_ok-put_time.ensures.text (puts_then c.in_ok-after.ensures.text (puts_stop c.from_residual-in_err-put.ensures.0 c.in_err-put.ensures _))))
-    (plan_json c.args.number message.definition c.args.time message.content.now c.args.plan.now c.args.columns.now c.args.developer.now _ _
-    c.dates_of-dates.ensures c.in_ok-put_time.ensures.fits (flipped _ _ c.is_none.ensures) c.requires)
+    let head = rw c.message_name.ensures at c.in_ok-put_head.ensures in
+    puts_same (puts_then head (puts_then c.in_ok-put_time.ensures.text (puts_then c.in_ok-after.ensures.text (puts_stop c.from_residual-in_err-put.ensures.0 c.in_err-put.ensures _))))
+    (plan_json g.M.Members.name g.M.Members.member c.args.number message.definition c.args.time message.content.now c.args.plan.now c.args.columns.now c.args.developer.now _
+    c.in_ok-put_time.ensures.fits (flipped _ _ c.is_none.ensures) c.requires)
 
 pub returns-in_err-put_developer_fields : goal.returns-in_err-put_developer_fields
 returns-in_err-put_developer_fields g c =
     let message = c.args.message.now in
-    puts_same (puts_then c.in_ok-put_head.ensures (puts_then c.in_ok-put_time.ensures.text (puts_then c.in_ok-after.ensures.text (puts_then c.in_ok-put.ensures (puts_stop c.from_residual-in_err-put_developer_fields.ensures.0
+    let head = rw c.message_name.ensures at c.in_ok-put_head.ensures in
+    puts_same (puts_then head (puts_then c.in_ok-put_time.ensures.text (puts_then c.in_ok-after.ensures.text (puts_then c.in_ok-put.ensures (puts_stop c.from_residual-in_err-put_developer_fields.ensures.0
     (rw c.in_ok-after.ensures.after at c.in_err-put_developer_fields.ensures) _)))))
-    (plan_json c.args.number message.definition c.args.time message.content.now c.args.plan.now c.args.columns.now c.args.developer.now _ _
-    c.dates_of-dates.ensures c.in_ok-put_time.ensures.fits (flipped _ _ c.is_none.ensures) c.requires)
+    (plan_json g.M.Members.name g.M.Members.member c.args.number message.definition c.args.time message.content.now c.args.plan.now c.args.columns.now c.args.developer.now _
+    c.in_ok-put_time.ensures.fits (flipped _ _ c.is_none.ensures) c.requires)
 
 pub returns : goal.returns
 returns g c =
     let message = c.args.message.now in
-    puts_same (puts_then c.in_ok-put_head.ensures (puts_then c.in_ok-put_time.ensures.text (puts_then c.in_ok-after.ensures.text (puts_then c.in_ok-put.ensures (puts_then (rw c.in_ok-after.ensures.after at c.in_ok-put_developer_fields.ensures) c.put-2.ensures)))))
-    (plan_json c.args.number message.definition c.args.time message.content.now c.args.plan.now c.args.columns.now c.args.developer.now _ _
-    c.dates_of-dates.ensures c.in_ok-put_time.ensures.fits (flipped _ _ c.is_none.ensures) c.requires)
+    let head = rw c.message_name.ensures at c.in_ok-put_head.ensures in
+    puts_same (puts_then head (puts_then c.in_ok-put_time.ensures.text (puts_then c.in_ok-after.ensures.text (puts_then c.in_ok-put.ensures (puts_then (rw c.in_ok-after.ensures.after at c.in_ok-put_developer_fields.ensures) c.put-2.ensures)))))
+    (plan_json g.M.Members.name g.M.Members.member c.args.number message.definition c.args.time message.content.now c.args.plan.now c.args.columns.now c.args.developer.now _
+    c.in_ok-put_time.ensures.fits (flipped _ _ c.is_none.ensures) c.requires)

@@ -1,0 +1,47 @@
+// The form of items: first bytes, and stretches that nobody wrote.
+
+// The least number of bytes of an item that is an erased stretch if all its bytes are the same.
+const BLANK: usize = 4;
+
+// Whether the first bytes may be those of an item that a device writes.
+pub(crate) fn may_begin(bytes: &[u8]) -> bool {
+    match bytes {
+        [first, second, ..] => { *first < 16 || *first >= 128 || (*first >= 64 && *second == 0) }
+        _ => true,
+    }
+}
+
+// Whether the first byte of a data message announces a compressed timestamp.
+pub(crate) fn is_compressed(bytes: &[u8]) -> bool {
+    match bytes {
+        [first, ..] => *first >= 128,
+        [] => false,
+    }
+}
+
+// Whether the first byte of a data message has a reserved bit.
+pub(crate) fn is_reserved(bytes: &[u8]) -> bool {
+    match bytes {
+        [first, ..] => *first >= 16 && *first < 128,
+        [] => false,
+    }
+}
+
+// Whether these are bytes of an erased or unwritten stretch.
+pub(crate) fn is_blank(bytes: &[u8]) -> bool {
+    match bytes {
+        [first, rest @ ..] => {
+            (*first == 0 || *first == 0xFF) && bytes.len() >= BLANK && are_all(rest, *first)
+        }
+        [] => false,
+    }
+}
+
+fn are_all(bytes: &[u8], byte: u8) -> bool {
+    for other in bytes {
+        if *other != byte {
+            return false;
+        }
+    }
+    true
+}

@@ -1,0 +1,68 @@
+// Judges items by their form, their times and their values.
+
+use crate::clock::{COMPRESSED, Clock, DOUBTFUL, RECORD, STATED};
+use crate::form::{is_blank, is_compressed, is_reserved};
+use crate::layout::is_plausible;
+use crate::values::{Change, Values};
+use fit_grammar::{Item, message_of};
+
+/// How far the items so far have come: their times, and the distances and positions of the records.
+#[derive(Clone, Copy)]
+pub(crate) struct Progress {
+    clock: Clock,
+    values: Values,
+}
+
+impl Progress {
+    // Before any item.
+    pub(crate) fn new() -> Progress {
+        Progress {
+            clock: Clock::new(),
+            values: Values::new(),
+        }
+    }
+
+    // Whether no time is known that an item could contradict: before the first time, and for a definition.
+    pub(crate) fn takes(&self, item: &Item<'_>) -> bool {
+        match item {
+            Item::Definition(_) => true,
+            Item::Data(_) => !self.clock.is_set(),
+        }
+    }
+
+    // Whether the last time is the same.
+    pub(crate) fn is_at_time_of(&self, other: &Progress) -> bool {
+        self.clock.last == other.clock.last
+    }
+
+    // What an item is worth as a sign that these bytes are no noise, or none if it is a fault: a definition that no device writes, a
+    // reserved bit, an erased stretch, or a time, a distance or a position that falls or leaps. From here on its times and values are
+    // the last ones.
+    pub(crate) fn judge(&mut self, item: &Item<'_>, bytes: &[u8]) -> Option<i32> {
+        let Some(message) = message_of(item, self.clock.last) else {
+            return nothing_if(is_plausible(bytes));
+        };
+        if is_reserved(bytes) || is_blank(bytes) {
+            return None;
+        }
+        let worth = self.clock.hear(&message, is_compressed(bytes))?;
+        if message.global() != RECORD {
+            return Some(worth);
+        }
+        worth_by(self.values.follow(&message, self.clock.last), worth)
+    }
+}
+
+fn nothing_if(holds: bool) -> Option<i32> {
+    if holds { Some(0) } else { None }
+}
+
+// What a record of this worth is worth if its values change so. A compressed timestamp counts as a stated time if they go on as usual.
+fn worth_by(change: Change, worth: i32) -> Option<i32> {
+    match change {
+        Change::Unknown => Some(worth),
+        Change::Usual => Some(if worth == COMPRESSED { STATED } else { worth }),
+        Change::Large => Some(DOUBTFUL),
+        Change::Impossible => None,
+    }
+}

@@ -1,0 +1,92 @@
+-- Values in units, by the cases that the code distinguishes: for `json/number`, `json/member` and `json/known`.
+use Rattle.std.proofs.Common.{◌≡◌, ◌≢◌, ℕ, ◌+◌, ◌-◌, Bool, false, List, [], ◌∷◌, ◌++◌, ◌⊎◌, inl, inr, eq-zero-or-pos, length, get_or, append_assoc, refl, sym, ap, ◌∙◌, codes, Option, Some, None, arith}
+use Rattle.std.proofs.lemmas.Bool.{cases_lt}
+use Rattle.std.proofs.lemmas.List.{get_or-set_same, get_or-set_other, get_or_past, get_or-replicate, length-replicate, length-set}
+use lib.ListN.{replicate}
+use Rattle.std.specs.List.{join_by}
+use Rattle.std.specs.Prelude.{option_map, slice_set}
+use Rattle.fit_base.specs.declared.order.Arch.{Arch}
+use Rattle.fit_base.specs.declared.base.BaseType.{BaseType}
+use Rattle.fit_base.specs.Base.{base_type}
+use Rattle.fit_base.specs.Value.{numbers}
+use Rattle.fit_grammar.specs.Format.Message.{MessageField}
+use Rattle.fit_text.specs.Json.{quoted}
+use Rattle.fit_text.specs.Members.{separator}
+use Rattle.fit_text.specs.Text.{named}
+use Rattle.fit_table.specs.declared.json.known.Found.{Found}
+use Rattle.fit_table.specs.declared.json.words.Words.{Words}
+use Rattle.fit_table.specs.declared.unit.Unit.{Unit as AnyUnit}
+use Rattle.fit_table.specs.Json.{are_in_units, unit_for, field_unit, number_json, numbers_json, values_in, field_title, field_json, AreWordsOf, AreKnown}
+use Rattle.fit_table.specs.Unit.{shown_by, suffix_of}
+
+-- ---- rows of numbers
+
+-- the only number of a row of one
+pub only_number : (unit : AnyUnit) (type : BaseType) (arch : Arch) (size count : ℕ) (bytes : List ℕ) → count ≡ 1 →
+    number_json unit type (get_or (numbers arch size count bytes) 0 0) ≡ numbers_json unit type (numbers arch size count bytes)
+unfolding numbers_json
+only_number unit type arch size count bytes one = rw one refl
+
+array_by : (unit : AnyUnit) (type : BaseType) (ns : List ℕ) → (length ns ≡ 1 → ⊥) →
+    codes "[" ++ (join_by (number_json unit type) (codes ",") ns ++ codes "]") ≡ numbers_json unit type ns
+unfolding numbers_json
+array_by unit type [] more = refl
+array_by unit type (n ∷ []) more = absurd (more refl)
+array_by unit type (n ∷ m ∷ ns) more = refl
+
+pub array_parts : (unit : AnyUnit) (type : BaseType) (ns : List ℕ) (count : ℕ) → length ns ≡ count → count ≢ 1 →
+    codes "[" ++ (join_by (number_json unit type) (codes ",") ns ++ codes "]") ≡ numbers_json unit type ns
+array_parts unit type ns count long more = array_by unit type ns (λ one. more (sym long ∙ one))
+
+-- ---- a field
+
+member_parts : (first : Bool) (title values : List ℕ) →
+    (separator first ++ codes "\"") ++ (title ++ (codes "\":" ++ values)) ≡ separator first ++ ((quoted title ++ codes ":") ++ values)
+member_parts first title values = simp append_assoc
+
+pub field_parts : (utc first : Bool) (message : ℕ) (field : MessageField) (words : Words) (in_units : Bool) (unit : AnyUnit) →
+    AreWordsOf message field.number words → in_units ≡ are_in_units (base_type field.base) field.values
+    → unit ≡ unit_for in_units (shown_by false utc words.unit) →
+    (separator first ++ codes "\"")
+    ++ ((named (option_map (λ name. name.now) words.name) (codes "field_") field.number ++ suffix_of words.end.now unit)
+    ++ (codes "\":" ++ values_in unit (base_type field.base) field.values))
+    ≡ separator first ++ field_json utc message field
+field_parts utc first message field words in_units unit h known is =
+    let own : unit ≡ field_unit utc message field =
+    is ∙ ap (λ (it : Bool). unit_for it (shown_by false utc words.unit)) known
+    ∙ ap (λ u. unit_for (are_in_units (base_type field.base) field.values) (shown_by false utc u)) h.unit in
+    rw (own, h.name, h.end) (member_parts first (field_title utc message field) (values_in (field_unit utc message field) (base_type field.base) field.values))
+
+-- ---- what was looked up
+
+pub known_none : (count : ℕ) → AreKnown (replicate count None)
+known_none count at =
+    let free : Option Found = None in
+    elim (cases_lt at count) [
+      | inl lt ↦ let none = get_or-replicate count at free free lt in rw none tt
+      | inr ge ↦ let none = get_or_past (replicate count free) at free (omega (arith, ge, length-replicate count free)) in rw none tt
+    ]
+
+same_or_not : (a b : ℕ) → (a ≡ b) ⊎ (a ≢ b)
+same_or_not a b =
+    elim (eq-zero-or-pos ((a - b) + (b - a))) [
+      | inl none ↦ inl (omega arith)
+      | inr some ↦ inr (λ e. omega (arith, some, e))
+    ]
+
+-- with one more
+pub known_more : (places : List (Option Found)) (k : ℕ) (found : Found) → AreKnown places →
+    AreWordsOf found.message found.number found.words → AreKnown (slice_set places k (Some found))
+known_more places k found h is at =
+    elim (same_or_not at k) [
+      | inl here ↦ elim (cases_lt k (length places)) [
+        | inl lt ↦
+            let there : get_or (slice_set places k (Some found)) at None ≡ Some found =
+            ap (λ i. get_or (slice_set places k (Some found)) i None) here ∙ get_or-set_same places k (Some found) None lt in
+            rw there is
+        | inr ge ↦
+            let gone = get_or_past (slice_set places k (Some found)) at None (omega (arith, ge, here, length-set places k (Some found))) in
+            rw gone tt
+      ]
+      | inr other ↦ let same = get_or-set_other places k at (Some found) None other in rw same (h at)
+    ]

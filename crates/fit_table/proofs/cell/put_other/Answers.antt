@@ -1,0 +1,23 @@
+use Rattle.std.proofs.Common.{◌∷◌, [], sym, ap, ◌∙◌}
+use Rattle.fit_table.specs.Tokens.{Text}
+use Rattle.fit_table.proofs.LineLemmas.{no_profile, no_time, held_shows}
+use Rattle.fit_table.proofs.TokenLemmas.{tokens_same, tokens_text}
+use Rattle.fit_table.proofs.cell.put_other.Goals as goal
+
+pub returns-then-not-layout : goal.returns-then-not-layout
+returns-then-not-layout g c =
+    tokens_same (tokens_text c.put.ensures)
+    (ap (λ e. Text e ∷ []) c.empty_of-empty.ensures
+    ∙ no_profile c.args.layout.now c.args.arch c.args.time c.args.content.now c.args.place.now c.requires.none c.if-not-layout.true)
+
+pub returns-then-is_time : goal.returns-then-is_time
+returns-then-is_time g c =
+    tokens_same (tokens_text c.put-then-is_time.ensures)
+    (ap (λ e. Text e ∷ []) c.empty_of-empty.ensures
+    ∙ no_time c.args.layout.now c.args.arch c.args.time c.args.content.now c.args.place.now c.requires.none c.if-not-layout.false (sym c.if-is_time.ensures))
+
+pub returns : goal.returns
+returns g c =
+    tokens_same c.put_held.ensures
+    (rw (c.empty_of-empty.ensures, c.unit_at-unit.ensures)
+    (held_shows c.args.layout.now c.args.arch c.args.time c.args.content.now c.args.place.now c.requires.none c.if-not-layout.false (sym c.if-is_time.ensures)))

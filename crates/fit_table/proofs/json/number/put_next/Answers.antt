@@ -1,0 +1,13 @@
+use Rattle.std.proofs.Common.{◌≡◌, ◌==◌, false, rules}
+use Rattle.fit_text.proofs.PenLemmas.{puts_then, puts_stop}
+use Rattle.fit_table.proofs.json.number.put_next.Goals as goal
+
+pub returns-in_err-put : goal.returns-in_err-put
+returns-in_err-put g c =
+    let later : (c.args.i == 0) ≡ false = search rules in
+    rw later (puts_stop c.from_residual.ensures.0 c.in_err-put.ensures _)
+
+pub returns : goal.returns
+returns g c =
+    let later : (c.args.i == 0) ≡ false = search rules in
+    rw later (puts_then c.in_ok-put.ensures c.put_at-2.ensures)

@@ -1,0 +1,131 @@
+-- A file as JSON in the names and the units of the Profile. Each field is named and written as its column in a table is.
+use Rattle.std.specs.Prelude.{◌≡◌, ℕ, ℤ, pos, negsuc, Bool, true, false, List, [], ◌∷◌, ◌++◌, Option, Some, None, IfSome, slice_index_or, codes, option_map, nat_le, ◌==◌, ◌&&◌, if◌then◌else◌}
+use Rattle.std.specs.List.{join_by}
+use Rattle.fit_base.specs.declared.base.BaseType.{BaseType}
+use Rattle.fit_base.specs.declared.base.BaseType.TheVariants.{Byte}
+use Rattle.fit_base.specs.Number.{twos_complement}
+use Rattle.fit_base.specs.Base.{base_type, row_of, has_sign}
+use Rattle.fit_base.specs.Value.{Values, Numbers}
+use Rattle.fit_grammar.specs.Format.Message.{Message, MessageField}
+use Rattle.fit_grammar.specs.Format.File.{FileValue}
+use Rattle.fit_text.specs.Date.{date_text}
+use Rattle.fit_text.specs.Form.{lines_of}
+use Rattle.fit_text.specs.Json.{quoted, values_json, line_json, header_json, count_json}
+use Rattle.fit_text.specs.Text.{named}
+use Rattle.fit_profile.specs.declared.scale.Scale.{Scale}
+use Rattle.fit_profile.specs.declared.scale.Scale.TheVariants.{Whole as AsItIs}
+use Rattle.fit_profile.specs.Facts.{row_in}
+use Rattle.fit_profile.specs.Table.{fields_at, message_named}
+use Rattle.fit_columns.specs.Columns.{is_whole}
+use Rattle.fit_table.specs.declared.unit.Unit.{Unit as AnyUnit}
+use Rattle.fit_table.specs.declared.unit.Unit.TheVariants.{Whole, Date, Degrees, Height, Metres, Seconds, Speed, Scaled}
+use Rattle.fit_table.specs.declared.json.known.Found.{Found}
+use Rattle.fit_table.specs.declared.json.words.Words.{Words}
+use Rattle.fit_table.specs.Number.{unit_text}
+use Rattle.fit_table.specs.Table.{name_of}
+use Rattle.fit_table.specs.Unit.{unit_by, shown_by, suffix_of, end_of}
+
+-- ---- units
+
+-- the types whose values are written in units: whole numbers of at most four bytes
+abbrev pub has_units : Option BaseType → Bool
+has_units None = false
+has_units (Some Byte) = false
+has_units (Some type) = is_whole type
+
+-- the units whose values are the numbers of the file
+abbrev pub keeps_scale : Scale → Bool
+keeps_scale AsItIs = true
+keeps_scale scale = false
+
+abbrev pub keeps_number : AnyUnit → Bool
+keeps_number Degrees = false
+keeps_number Height = false
+keeps_number Metres = false
+keeps_number Seconds = false
+keeps_number Speed = false
+keeps_number (Scaled scale) = keeps_scale scale
+keeps_number unit = true
+
+-- whether the values of a field are written in units: numbers of such a type are
+abbrev pub are_in_units : Option BaseType → Values → Bool
+are_in_units type (Numbers (n ∷ numbers)) = has_units type
+are_in_units type values = false
+
+-- a unit as the values have it: they are in it, or they are as in the file, and then it has to keep the number
+abbrev pub unit_for : Bool → AnyUnit → AnyUnit
+unit_for in_units unit = if in_units then unit else if keeps_number unit then unit else Whole
+
+abbrev pub field_unit : Bool → ℕ → MessageField → AnyUnit
+field_unit utc message field =
+    unit_for (are_in_units (base_type field.base) field.values) (shown_by false utc (unit_by true message field.number))
+
+-- ---- values
+
+-- a time as a date, if it is a calendar time of 32 bits
+abbrev pub date_json : ℤ → List ℕ
+date_json (pos n) =
+    if nat_le 268435456 n && nat_le n 4294967295 then quoted (date_text n) else codes "null"
+date_json (negsuc n) = codes "null"
+
+-- a number in a unit, as the table writes it
+abbrev pub value_json : AnyUnit → ℤ → List ℕ
+value_json Date value = date_json value
+value_json unit value = unit_text [] unit value
+
+abbrev pub number_json : AnyUnit → BaseType → ℕ → List ℕ
+number_json unit type n =
+    if n == (row_of type).invalid then codes "null"
+    else value_json unit (if has_sign type then twos_complement (row_of type).size n else pos n)
+
+-- one number, or an array of several
+unfoldable pub numbers_json : AnyUnit → BaseType → List ℕ → List ℕ
+numbers_json unit type (n ∷ []) = number_json unit type n
+numbers_json unit type numbers =
+    codes "[" ++ join_by (number_json unit type) (codes ",") numbers ++ codes "]"
+
+-- the values of a field: numbers in the unit, if the type has units; others as without the Profile
+abbrev pub some_in : Bool → AnyUnit → Option BaseType → List ℕ → List ℕ
+some_in true unit (Some type) numbers = numbers_json unit type numbers
+some_in _ unit type numbers = values_json type (Numbers numbers)
+
+abbrev pub values_in : AnyUnit → Option BaseType → Values → List ℕ
+values_in unit type (Numbers (n ∷ numbers)) = some_in (has_units type) unit type (n ∷ numbers)
+values_in unit type values = values_json type values
+
+-- ---- fields and messages
+
+-- the name of a field, with its unit at the end
+abbrev pub field_title : Bool → ℕ → MessageField → List ℕ
+field_title utc message field =
+    name_of true message field.number
+    ++ suffix_of (end_of (row_in (fields_at message) field.number)) (field_unit utc message field)
+
+abbrev pub field_json : Bool → ℕ → MessageField → List ℕ
+field_json utc message field =
+    quoted (field_title utc message field) ++ codes ":"
+    ++ values_in (field_unit utc message field) (base_type field.base) field.values
+
+-- the line of a message
+abbrev pub message_json : Bool → ℕ → Message → List ℕ
+message_json utc number message =
+    line_json (message_named message.global) (field_json utc message.global) number message
+
+-- a whole file, with times as dates in UTC, or as numbers
+unfoldable pub profile_json_of : Bool → FileValue → List ℕ
+profile_json_of utc v = lines_of header_json (message_json utc) count_json v
+
+-- ---- what is looked up of a field
+
+-- the words of the fields of this number
+pub record AreWordsOf (message number : ℕ) (words : Words) : Type 0 where
+  pub name : named (option_map (λ name. name.now) words.name) (codes "field_") number
+      ≡ name_of true message number
+  pub end : words.end.now ≡ end_of (row_in (fields_at message) number)
+  pub unit : words.unit ≡ unit_by true message number
+
+-- what is known of fields that were looked up is so
+abbrev pub AreKnown : List (Option Found) → Type 0
+AreKnown places =
+    (at : ℕ) → IfSome (slice_index_or places at None)
+    (λ found. AreWordsOf found.message found.number found.words)

@@ -1,0 +1,9 @@
+// A file as JSON in the names and the units of the Profile.
+
+mod file;
+mod known;
+mod member;
+mod number;
+mod words;
+
+pub use file::show_profile_json;

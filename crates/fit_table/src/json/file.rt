@@ -1,0 +1,102 @@
+// A whole file.
+
+ghost use Rattle.fit_grammar.specs.Calls.Output.{WritesText};
+ghost use Rattle.fit_table.specs.Json.{profile_json_of};
+
+use crate::json::known::Known;
+use crate::json::member::put_field;
+use fit_base::{Arch, FieldValue};
+use fit_grammar::{DataMessage, DeveloperFieldDefinition, Frame, LentFile, Sink};
+use fit_text::{
+    Column, Form, Members, Pen, Plan, ShowFault, put_json_count, put_json_header, put_message,
+    write_file,
+};
+
+/// Writes a file as `show_json` of `fit_text` does, with the names and the units of the Profile.
+#[inline(never)]
+#[tactic(auto, unfolding(crate::specs::Json::profile_json_of))]
+pub fn show_profile_json<S: Sink>(
+    file: &LentFile<'_>,
+    utc: bool,
+    out: &mut S,
+) -> Result<(), ShowFault<S::Fault>>
+    ensures { WritesText (S.held out.old) (S.held out.new) result (profile_json_of utc file.now) }
+{
+    let mut form = AsProfile {
+        known: Known::new(),
+    };
+    write_file(&mut form, file, utc, out)
+}
+
+/// JSON by the Profile.
+#[derive(Drop)]
+struct AsProfile {
+    known: Known,
+}
+
+impl Form for AsProfile {
+    ghost use Rattle.fit_text.specs.Json.{header_json, count_json};
+    ghost use Rattle.fit_table.specs.Json.{message_json};
+
+    ghost header = { header_json };
+
+    ghost line = { message_json };
+
+    ghost count = { count_json };
+
+    fn put_header<S: Sink>(pen: &mut Pen<'_, S>, frame: Frame, size: u32) -> Result<(), S::Fault> {
+        put_json_header(pen, frame, size)
+    }
+
+    fn put_line<S: Sink>(
+        &mut self,
+        pen: &mut Pen<'_, S>,
+        plan: &Plan,
+        columns: &[Column],
+        developer: &[DeveloperFieldDefinition],
+        number: u64,
+        message: &DataMessage<'_>,
+        time: Option<u32>,
+    ) -> Result<(), S::Fault> {
+        put_message(self, pen, plan, columns, developer, number, message, time)
+    }
+
+    fn put_count<S: Sink>(pen: &mut Pen<'_, S>, messages: u64) -> Result<(), S::Fault> {
+        put_json_count(pen, messages)
+    }
+}
+
+impl Members for AsProfile {
+    ghost use Rattle.fit_profile.specs.Table.{message_named};
+    ghost use Rattle.fit_table.specs.Json.{field_json};
+
+    ghost name = { message_named };
+
+    ghost member = { field_json };
+
+    fn message_name(global: u16) -> Option<&'static str> {
+        fit_profile::message_name(global)
+    }
+
+    fn put_member<S: Sink>(
+        &mut self,
+        pen: &mut Pen<'_, S>,
+        plan: &Plan,
+        column: &Column,
+        arch: Arch,
+        bytes: &[u8],
+        is_first: bool,
+    ) -> Result<(), S::Fault> {
+        let words = self.known.words(plan.global, column.number);
+        let value = FieldValue::new(column.base, arch, bytes);
+        put_field(
+            pen,
+            plan.utc,
+            plan.global,
+            column.number,
+            &words,
+            &value,
+            is_first,
+        )
+    }
+}
