@@ -236,20 +236,17 @@ def riscv_programs(folder, made):
 
 def machine_programs(folder):
     """For each form of the crate its name, its emulator and the program; or why it cannot be run here."""
-    made, is_made = folder + "/made", False
     for tools, programs_of in ((ARM_TOOLS, arm_programs), (RISCV_TOOLS, riscv_programs)):
         if missing(*tools):
             yield "", missing(*tools), None
-            continue
-        if not is_made:
-            subprocess.run([ROOT / "device/build", made], check=True, capture_output=True)
-            is_made = True
-        yield from programs_of(folder, made)
+        else:
+            yield from programs_of(folder, folder + "/made")
 
 
 def of_32_bits(fitrec, count, seed):
     """The same answers and bytes on an emulated processor of 32 bits, within the stacks that docs/EMBEDDING.md gives."""
     with tempfile.TemporaryDirectory() as folder, room() as (script, new):
+        subprocess.run([ROOT / "device/build", folder + "/made"], check=True, capture_output=True)
         for form, emulator, program in machine_programs(folder):
             if isinstance(emulator, Skipped):
                 yield "a recorder of 32 bits", emulator
