@@ -10,6 +10,7 @@ ghost use Rattle.fit_text.specs.Members.{separator, column_json, columns_json, A
 use crate::form::whole::{add_signed, add_unsigned};
 use crate::json::field::put_shown;
 use crate::json::members::Members;
+use crate::showing::date::dates_of;
 use crate::json::notation::AsJson;
 use crate::showing::plan::{Column, Kind, Plan};
 use crate::writing::Pen;
@@ -54,17 +55,18 @@ pub fn put_columns<'c, M: Members, S: Sink>(
 #[inline(always)]
 pub fn put_column<S: Sink>(
     pen: &mut Pen<'_, S>,
-    dates: &[u8],
+    plan: &Plan,
     arch: Arch,
     column: &Column,
     bytes: &[u8],
     is_first: bool,
 ) -> Result<(), S::Fault>
-    requires kind { IsKind dates.now column.now.number column.now.base column.now.size
-        column.now.kind }
+    requires kind { IsKind (dates_of plan.now.utc plan.now.global) column.now.number
+        column.now.base column.now.size column.now.kind }
     requires size { length bytes.now ≡ column.now.size }
     ensures { Puts pen.old pen.new result
-        (separator is_first ++ column_json dates.now arch column.now bytes.now) }
+        (separator is_first
+        ++ column_json (dates_of plan.now.utc plan.now.global) arch column.now bytes.now) }
 {
     pen.room()?;
     pen.add_member(&column.label, is_first);
@@ -77,7 +79,7 @@ pub fn put_column<S: Sink>(
             add_signed::<AsJson, S>(pen, invalid, number_of(arch, bytes));
             Ok(())
         }
-        Kind::Other => put_other(pen, dates, arch, column, bytes),
+        Kind::Other => put_other(pen, plan, arch, column, bytes),
     }
 }
 
@@ -87,14 +89,16 @@ pub fn put_column<S: Sink>(
 #[inline(never)]
 fn put_other<S: Sink>(
     pen: &mut Pen<'_, S>,
-    dates: &[u8],
+    plan: &Plan,
     arch: Arch,
     column: &Column,
     bytes: &[u8],
 ) -> Result<(), S::Fault>
     ensures { Puts pen.old pen.new result
-        (json_at dates.now column.now.number column.now.base arch bytes.now) }
+        (json_at (dates_of plan.now.utc plan.now.global) column.now.number column.now.base arch
+        bytes.now) }
 {
+    let dates = dates_of(plan.utc, plan.global);
     let value = FieldValue::new(column.base, arch, bytes);
     put_shown(pen, dates, column.number, &value)
 }

@@ -11,7 +11,6 @@ use crate::json::members::Members;
 use crate::json::message::put_message;
 use crate::json::notation::AsJson;
 use crate::profile;
-use crate::showing::date::dates_of;
 use crate::showing::plan::{Column, Plan};
 use crate::writing::Pen;
 use fit_base::Arch;
@@ -86,8 +85,7 @@ impl Members for AsJson {
         bytes: &[u8],
         is_first: bool,
     ) -> Result<(), S::Fault> {
-        let dates = dates_of(plan.utc, plan.global);
-        put_column(pen, dates, arch, column, bytes, is_first)
+        put_column(pen, plan, arch, column, bytes, is_first)
     }
 }
 

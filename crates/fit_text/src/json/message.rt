@@ -35,7 +35,7 @@ pub fn put_message<M: Members, S: Sink>(
         (M.member plan.now.utc message.now.definition.global) number
         (message_under message.now.definition time message.now.content.now)) }
 {
-    put_head(pen, number, plan.global, M::message_name(plan.global))?;
+    put_head::<M, S>(pen, number, plan.global)?;
     put_time(members, pen, plan, time)?;
     let after = put_columns(members, pen, plan, columns, message.content, time.is_none())?;
     pen.put(b"},\"developer\":[")?;
@@ -44,23 +44,21 @@ pub fn put_message<M: Members, S: Sink>(
 }
 
 // What a line has before its fields.
-fn put_head<S: Sink>(
+fn put_head<M: Members, S: Sink>(
     pen: &mut Pen<'_, S>,
     number: u64,
     global: u16,
-    name: Option<&'static str>,
 ) -> Result<(), S::Fault>
     ensures { Puts pen.old pen.new result
         (codes "{\"number\":" ++ decimal number ++ codes ",\"message\":" ++ decimal global
-        ++ codes ",\"name\":" ++ name_json (option_map (λ name. name.now) name.entry)
-        ++ codes ",\"fields\":{") }
+        ++ codes ",\"name\":" ++ name_json (M.name global) ++ codes ",\"fields\":{") }
 {
     pen.room()?;
     pen.add(b"{\"number\":");
     pen.add_number(number);
     pen.add(b",\"message\":");
     pen.add_number(u64::from(global));
-    put_message_name(pen, name)
+    put_message_name(pen, M::message_name(global))
 }
 
 // The name of a message, and the beginning of its fields.

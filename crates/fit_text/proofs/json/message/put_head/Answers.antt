@@ -34,5 +34,5 @@ pub returns : goal.returns
 returns g c =
     puts_same
     (puts_then (puts_more (puts_more (puts_more (puts_more c.in_ok-room.ensures.puts c.add.ensures) c.add_number.ensures) c.add-2.ensures)
-    c.add_number-2.ensures) c.put_message_name.ensures)
+    c.add_number-2.ensures) (rw c.message_name.ensures at c.put_message_name.ensures))
     (head_parts c.args.number c.args.global _ _ c.from.ensures)

@@ -10,7 +10,7 @@ pub returns-in_err-put_head : goal.returns-in_err-put_head
 returns-in_err-put_head g c =
     let message = c.args.message.now in
     let plan = c.args.plan.now in
-    puts_same (puts_stop c.from_residual.ensures.0 (rw c.message_name.ensures at c.in_err-put_head.ensures) _)
+    puts_same (puts_stop c.from_residual.ensures.0 c.in_err-put_head.ensures _)
     (plan_head g.M.Members.name (g.M.Members.member plan.utc message.definition.global) c.args.number plan.global
     (message_under message.definition c.args.time message.content.now) c.requires.global)
 
@@ -44,7 +44,7 @@ put_developer_fields-requires g c =
 pub returns-in_err-put_time : goal.returns-in_err-put_time
 returns-in_err-put_time g c =
     let message = c.args.message.now in
-    let head = rw c.message_name.ensures at c.in_ok-put_head.ensures in
+    let head = c.in_ok-put_head.ensures in
     puts_same (puts_then head (puts_stop c.from_residual-in_err-put_time.ensures.0 c.in_err-put_time.ensures.text _))
     (plan_json g.M.Members.name g.M.Members.member c.args.number message.definition c.args.time message.content.now c.args.plan.now c.args.columns.now c.args.developer.now _
     c.in_err-put_time.ensures.fits refl c.requires)
@@ -52,7 +52,7 @@ returns-in_err-put_time g c =
 pub returns-in_err-after : goal.returns-in_err-after
 returns-in_err-after g c =
     let message = c.args.message.now in
-    let head = rw c.message_name.ensures at c.in_ok-put_head.ensures in
+    let head = c.in_ok-put_head.ensures in
     puts_same (puts_then head (puts_then c.in_ok-put_time.ensures.text (puts_stop c.from_residual-in_err-after.ensures.0 c.in_err-after.ensures.text _)))
     (plan_json g.M.Members.name g.M.Members.member c.args.number message.definition c.args.time message.content.now c.args.plan.now c.args.columns.now c.args.developer.now _
     c.in_ok-put_time.ensures.fits (flipped _ _ c.is_none.ensures) c.requires)
@@ -60,7 +60,7 @@ returns-in_err-after g c =
 pub returns-in_err-put : goal.returns-in_err-put
 returns-in_err-put g c =
     let message = c.args.message.now in
-    let head = rw c.message_name.ensures at c.in_ok-put_head.ensures in
+    let head = c.in_ok-put_head.ensures in
     puts_same (puts_then head (puts_then c.in_ok-put_time.ensures.text (puts_then c.in_ok-after.ensures.text (puts_stop c.from_residual-in_err-put.ensures.0 c.in_err-put.ensures _))))
     (plan_json g.M.Members.name g.M.Members.member c.args.number message.definition c.args.time message.content.now c.args.plan.now c.args.columns.now c.args.developer.now _
     c.in_ok-put_time.ensures.fits (flipped _ _ c.is_none.ensures) c.requires)
@@ -68,7 +68,7 @@ returns-in_err-put g c =
 pub returns-in_err-put_developer_fields : goal.returns-in_err-put_developer_fields
 returns-in_err-put_developer_fields g c =
     let message = c.args.message.now in
-    let head = rw c.message_name.ensures at c.in_ok-put_head.ensures in
+    let head = c.in_ok-put_head.ensures in
     puts_same (puts_then head (puts_then c.in_ok-put_time.ensures.text (puts_then c.in_ok-after.ensures.text (puts_then c.in_ok-put.ensures (puts_stop c.from_residual-in_err-put_developer_fields.ensures.0
     (rw c.in_ok-after.ensures.after at c.in_err-put_developer_fields.ensures) _)))))
     (plan_json g.M.Members.name g.M.Members.member c.args.number message.definition c.args.time message.content.now c.args.plan.now c.args.columns.now c.args.developer.now _
@@ -77,7 +77,7 @@ returns-in_err-put_developer_fields g c =
 pub returns : goal.returns
 returns g c =
     let message = c.args.message.now in
-    let head = rw c.message_name.ensures at c.in_ok-put_head.ensures in
+    let head = c.in_ok-put_head.ensures in
     puts_same (puts_then head (puts_then c.in_ok-put_time.ensures.text (puts_then c.in_ok-after.ensures.text (puts_then c.in_ok-put.ensures (puts_then (rw c.in_ok-after.ensures.after at c.in_ok-put_developer_fields.ensures) c.put-2.ensures)))))
     (plan_json g.M.Members.name g.M.Members.member c.args.number message.definition c.args.time message.content.now c.args.plan.now c.args.columns.now c.args.developer.now _
     c.in_ok-put_time.ensures.fits (flipped _ _ c.is_none.ensures) c.requires)

@@ -6,12 +6,9 @@ use Rattle.fit_text.proofs.JsonLemmas.{column_is}
 use Rattle.fit_text.proofs.PenLemmas.{puts_same}
 use Rattle.fit_text.proofs.json.file.AsJsonMembers.put_member.Goals as goal
 
-pub put_column-requires-clause-kind : goal.put_column-requires-clause-kind
-put_column-requires-clause-kind g c = rw c.dates_of-dates.ensures c.requires.column.kind
-
 pub returns : goal.returns
 returns g c =
     let plan = c.args.plan.now in
     let shown = dates_of plan.utc plan.global in
-    puts_same (rw c.dates_of-dates.ensures at c.put_column.ensures)
+    puts_same c.put_column.ensures
     (ap (λ t. separator c.args.is_first ++ t) (column_is (names_of_fields plan.global) shown c.args.arch c.args.column.now c.args.bytes.now c.requires.column))
