@@ -70,12 +70,13 @@ impl<'a> Message<'a> {
     pub fn developer_fields(&self) -> DeveloperFields<'_>
         ensures { result ≡ self.now.message.developer }
     {
+        let arch = self.definition.arch();
         let fields = self.definition.developer();
         if fields.is_empty() {
-            return DeveloperFields::new(fields, &[]);
+            return DeveloperFields::new(arch, fields, &[]);
         }
         let (_, content) = self.content.split_at(self.definition.fields_size());
-        DeveloperFields::new(fields, content)
+        DeveloperFields::new(arch, fields, content)
     }
 
     /// The time that the message gives, in seconds since 1989-12-31 00:00 UTC: that of its compressed timestamp, or else the

@@ -42,7 +42,7 @@ developer_again d Big time content =
     ∙ drop-append-add (time_bytes Big time) content (fields_size d)
 
 abbrev message_by : Definition → List MessageField → List ℕ → Message
-message_by d fields content = record { global = d.global; fields = fields; developer = developer_of d.developer.items content }
+message_by d fields content = record { global = d.global; fields = fields; developer = developer_of d.arch d.developer.items content }
 
 message_again : (d : Definition) (time : Option ℕ) (content : List ℕ)
     → message_under (timed_definition (is_some time) d) None (time_front d.arch time ++ content) ≡ message_under d time content

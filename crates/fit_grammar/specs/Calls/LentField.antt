@@ -13,11 +13,12 @@ field_view field =
       values = values_of field.value;
     }
 
--- a developer field's index, number and bytes
+-- a developer field's index, number and bytes, with their order
 abbrev pub developer_view : DeveloperField → MessageDeveloperField
 developer_view field =
     record {
       index = field.index;
       number = field.number;
+      arch = field.arch;
       bytes = field.bytes.now;
     }

@@ -15,13 +15,14 @@ pub record MessageField : Type 0 where
   pub base : ℕ
   pub values : Values
 
--- a developer field of a message: its developer data index, its number, and its bytes, which are not interpreted
+-- a developer field of a message: its developer data index, its number, and its bytes, which are not interpreted, with their order
 pub record MessageDeveloperField : Type 0 where
   pub index : ℕ
   pub number : ℕ
+  pub arch : Arch
   pub bytes : List ℕ
 
--- a message is the same whatever architecture and header it was written under
+-- a message is the same whatever architecture its fields and whatever header it were written under
 pub record Message : Type 0 where
   pub global : ℕ
   pub fields : List MessageField
@@ -39,11 +40,16 @@ fields_of arch (field ∷ fields) content =
     } ∷ fields_of arch fields (drop field.size content)
 
 -- the developer fields of the content, one after another; they come after the fields
-abbrev pub developer_of : List DeveloperFieldDefinition → List ℕ → List MessageDeveloperField
-developer_of [] content = []
-developer_of (field ∷ fields) content =
-    record { index = field.index; number = field.number; bytes = take field.size content }
-    ∷ developer_of fields (drop field.size content)
+abbrev pub developer_of : Arch → List DeveloperFieldDefinition → List ℕ
+    → List MessageDeveloperField
+developer_of arch [] content = []
+developer_of arch (field ∷ fields) content =
+    record {
+      index = field.index;
+      number = field.number;
+      arch = arch;
+      bytes = take field.size content;
+    } ∷ developer_of arch fields (drop field.size content)
 
 -- the least number that is not below the time before and equals the offset modulo 32, wrapped at 2^32
 abbrev pub next_time : ℕ → ℕ → ℕ
@@ -62,7 +68,7 @@ message_under d time content =
     record {
       global = d.global;
       fields = time_fields time ++ fields_of d.arch d.fields.items content;
-      developer = developer_of d.developer.items (drop (fields_size d) content);
+      developer = developer_of d.arch d.developer.items (drop (fields_size d) content);
     }
 
 -- the time in the values of a field: one number, and not the invalid one

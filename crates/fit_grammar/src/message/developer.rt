@@ -1,19 +1,22 @@
 // The developer fields of a message.
 
+use fit_base::Arch;
 use std::marker::Model;
 
-/// A developer field of a message: its developer data index, its number, and its bytes. Other messages of the file describe
-/// what the bytes mean; this crate does not read them.
+/// A developer field of a message: its developer data index, its number, and its bytes, with their order. Other messages of the file
+/// describe what the bytes mean; this crate does not read them.
 #[derive(Drop)]
 pub struct DeveloperField<'m> {
     pub index: u8,
     pub number: u8,
+    pub arch: Arch,
     pub bytes: &'m [u8],
 }
 
 /// The developer fields of a message in order.
 #[derive(Drop)]
 pub struct DeveloperFields<'m> {
+    arch: Arch,
     // Three bytes for each field.
     fields: &'m [u8],
     content: &'m [u8],
@@ -26,7 +29,7 @@ impl<'m> Model for DeveloperFields<'m> {
 
     ghost Value = { List MessageDeveloperField };
 
-    ghost view = { λ s. developer_of (developer_in s.fields.now) s.content.now };
+    ghost view = { λ s. developer_of s.arch (developer_in s.fields.now) s.content.now };
 
     ghost invariant = { λ s.
         sum_by (λ field. field.size) (developer_in s.fields.now) ≤ length s.content.now };
@@ -38,11 +41,15 @@ impl<'m> DeveloperFields<'m> {
     ghost use Rattle.fit_grammar.specs.Private.DefinitionBytes.{developer_in};
 
     // The developer fields of this content, which begins with their bytes.
-    pub(crate) fn new(fields: &'m [u8], content: &'m [u8]) -> Self
+    pub(crate) fn new(arch: Arch, fields: &'m [u8], content: &'m [u8]) -> Self
         requires { sum_by (λ field. field.size) (developer_in fields.now) ≤ length content.now }
-        ensures { result ≡ developer_of (developer_in fields.now) content.now }
+        ensures { result ≡ developer_of arch (developer_in fields.now) content.now }
     {
-        DeveloperFields { fields, content }
+        DeveloperFields {
+            arch,
+            fields,
+            content,
+        }
     }
 }
 
@@ -66,6 +73,7 @@ impl<'m> Iterator for DeveloperFields<'m> {
         Some(DeveloperField {
             index: *index,
             number: *number,
+            arch: self.arch,
             bytes,
         })
     }
