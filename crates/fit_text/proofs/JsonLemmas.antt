@@ -181,21 +181,22 @@ pub none_begins : (o : Option (Bor (List ℕ))) → o ≡ None →
 none_begins o is = rw is refl
 
 -- the parts of the line, in their order
-pub plan_json : (name : ℕ → Option (List ℕ)) (member : Bool → ℕ → MessageField → List ℕ) (number : ℕ) (d : Definition) (time : Option ℕ)
+pub plan_json : (name : ℕ → Option (List ℕ)) (member : Bool → ℕ → MessageField → List ℕ) (object : MessageDeveloperField → List ℕ)
+    (number : ℕ) (d : Definition) (time : Option ℕ)
     (content : List ℕ) (plan : Plan) (columns : List Column) (developer : List DeveloperFieldDefinition) (first : Bool) →
     IfSome time (λ time. time < 2 ^ 32) → first ≡ is_none time → IsPlanOf d plan columns developer →
     head_json number plan.global (name plan.global)
     ++ (time_json (member plan.utc plan.global) plan.time time
     ++ (columns_json first (member plan.utc plan.global) plan.arch columns content
     ++ (codes "},\"developer\":["
-    ++ (join_by developer_json (codes ",") (developer_of developer (drop (sum_by (λ c. c.size) columns) content)) ++ codes "]}\n"))))
-    ≡ line_json (name d.global) (member plan.utc d.global) number (message_under d time content)
-plan_json name member number d time content plan columns developer first fits begins h =
+    ++ (join_by object (codes ",") (developer_of plan.arch developer (drop (sum_by (λ c. c.size) columns) content)) ++ codes "]}\n"))))
+    ≡ line_json (name d.global) (member plan.utc d.global) object number (message_under d time content)
+plan_json name member object number d time content plan columns developer first fits begins h =
     let names = names_of_fields d.global in
     let shown = dates_of plan.utc d.global in
     let own = member plan.utc d.global in
     let size = columns_size names shown d.fields.items columns h.fields in
-    let after = join_by developer_json (codes ",") (developer_of d.developer.items (drop (fields_size d) content)) in
+    let after = join_by object (codes ",") (developer_of d.arch d.developer.items (drop (fields_size d) content)) in
     rw (begins, h.global, h.arch, h.developer, size)
     (line_parts (head_json number d.global (name d.global)) (time_json own plan.time time) (columns_json (is_none time) own d.arch columns content) after
     ∙ ap (λ t. head_json number d.global (name d.global) ++ (t ++ (codes "},\"developer\":[" ++ (after ++ codes "]}\n"))))
@@ -203,22 +204,23 @@ plan_json name member number d time content plan columns developer first fits be
     ∙ whole_line number d.global (name d.global) _ after)
 
 -- the line of a message begins so
-pub plan_head : (name : ℕ → Option (List ℕ)) (member : MessageField → List ℕ) (number global : ℕ) (m : Message) → global ≡ m.global →
+pub plan_head : (name : ℕ → Option (List ℕ)) (member : MessageField → List ℕ) (object : MessageDeveloperField → List ℕ)
+    (number global : ℕ) (m : Message) → global ≡ m.global →
     head_json number global (name global)
     ++ (join_by member (codes ",") m.fields
-    ++ (codes "},\"developer\":[" ++ (join_by developer_json (codes ",") m.developer ++ codes "]}\n")))
-    ≡ line_json (name m.global) member number m
-plan_head name member number global m is = rw is (whole_line number m.global (name m.global) _ _)
+    ++ (codes "},\"developer\":[" ++ (join_by object (codes ",") m.developer ++ codes "]}\n")))
+    ≡ line_json (name m.global) member object number m
+plan_head name member object number global m is = rw is (whole_line number m.global (name m.global) _ _)
 
 -- ---- developer fields
 
-abbrev member_from : ℕ → ℕ → List ℕ → MessageDeveloperField
-member_from index number bytes = record { index = index; number = number; bytes = bytes }
+abbrev member_from : ℕ → ℕ → Arch → List ℕ → MessageDeveloperField
+member_from index number arch bytes = record { index = index; number = number; arch = arch; bytes = bytes }
 
-pub developer_parts : (index number i n : ℕ) (bytes : List ℕ) → i ≡ index → n ≡ number →
+pub developer_parts : (index number i n : ℕ) (arch : Arch) (bytes : List ℕ) → i ≡ index → n ≡ number →
     (codes "{\"index\":" ++ decimal i) ++ ((codes ",\"number\":" ++ decimal n) ++ (codes ",\"bytes\":" ++ (bytes_json bytes ++ codes "}")))
-    ≡ developer_json (member_from index number bytes)
-developer_parts index number i n bytes is also =
+    ≡ developer_json (member_from index number arch bytes)
+developer_parts index number i n arch bytes is also =
     rw (is, also)
     (regrouped_seven (codes "{\"index\":") (decimal index) (codes ",\"number\":") (decimal number) (codes ",\"bytes\":") (bytes_json bytes) (codes "}"))
 
@@ -228,27 +230,29 @@ first fields = get_or fields 0 (record { number = 0; size = 0; index = 0 })
 abbrev others : List DeveloperFieldDefinition → List DeveloperFieldDefinition
 others fields = take (length fields - 1) (drop 1 fields)
 
-next_by : (is_first : Bool) (f : DeveloperFieldDefinition) (fields : List DeveloperFieldDefinition) (content : List ℕ) →
-    joined is_first developer_json (developer_of (f ∷ fields) content)
-    ≡ (separator is_first ++ developer_json (member_from f.index f.number (take f.size content)))
-    ++ joined false developer_json (developer_of fields (drop f.size content))
-next_by true f fields content = refl
-next_by false f fields content = refl
+next_by : (object : MessageDeveloperField → List ℕ) (is_first : Bool) (arch : Arch) (f : DeveloperFieldDefinition)
+    (fields : List DeveloperFieldDefinition) (content : List ℕ) →
+    joined is_first object (developer_of arch (f ∷ fields) content)
+    ≡ (separator is_first ++ object (member_from f.index f.number arch (take f.size content)))
+    ++ joined false object (developer_of arch fields (drop f.size content))
+next_by object true arch f fields content = refl
+next_by object false arch f fields content = refl
 
-pub next_developer : (is_first : Bool) (fields : List DeveloperFieldDefinition) (content bytes after : List ℕ) (n : ℕ) → 1 ≤ length fields →
+pub next_developer : (object : MessageDeveloperField → List ℕ) (is_first : Bool) (arch : Arch) (fields : List DeveloperFieldDefinition)
+    (content bytes after : List ℕ) (n : ℕ) → 1 ≤ length fields →
     bytes ≡ take n content → after ≡ drop n content → n ≡ (first fields).size →
-    joined is_first developer_json (developer_of fields content)
-    ≡ (separator is_first ++ developer_json (member_from (first fields).index (first fields).number bytes))
-    ++ joined false developer_json (developer_of (others fields) after)
-next_developer is_first [] content bytes after n some front back size = absurd (omega arith)
-next_developer is_first (f ∷ fields) content bytes after n some front back size =
-    let rest : others (f ∷ fields) ≡ fields = take_all _ fields (omega arith) in rw (front, back, size, rest) (next_by is_first f fields content)
+    joined is_first object (developer_of arch fields content)
+    ≡ (separator is_first ++ object (member_from (first fields).index (first fields).number arch bytes))
+    ++ joined false object (developer_of arch (others fields) after)
+next_developer object is_first arch [] content bytes after n some front back size = absurd (omega arith)
+next_developer object is_first arch (f ∷ fields) content bytes after n some front back size =
+    let rest : others (f ∷ fields) ≡ fields = take_all _ fields (omega arith) in rw (front, back, size, rest) (next_by object is_first arch f fields content)
 
-pub no_developer : (is_first : Bool) (fields : List DeveloperFieldDefinition) (content : List ℕ) → length fields < 1 →
-    joined is_first developer_json (developer_of fields content) ≡ []
-no_developer true [] content none = refl
-no_developer false [] content none = refl
-no_developer is_first (f ∷ fields) content none = absurd (omega arith)
+pub no_developer : (object : MessageDeveloperField → List ℕ) (is_first : Bool) (arch : Arch) (fields : List DeveloperFieldDefinition)
+    (content : List ℕ) → length fields < 1 → joined is_first object (developer_of arch fields content) ≡ []
+no_developer object true arch [] content none = refl
+no_developer object false arch [] content none = refl
+no_developer object is_first arch (f ∷ fields) content none = absurd (omega arith)
 
 -- ---- columns
 

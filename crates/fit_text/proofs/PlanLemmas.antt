@@ -329,11 +329,11 @@ pub plan_text : (number : ℕ) (d : Definition) (time : Option ℕ) (content : L
     (decimal number ++ plan.name)
     ++ (time_text dates plan.time time
     ++ (columns_text dates plan.arch columns content
-    ++ (flat_map developer_text (developer_of developer (drop (sum_by (λ c. c.size) columns) content)) ++ codes "\n")))
+    ++ (flat_map developer_text (developer_of plan.arch developer (drop (sum_by (λ c. c.size) columns) content)) ++ codes "\n")))
     ≡ message_text plan.utc number (message_under d time content)
 plan_text number d time content plan columns developer dates is fits h =
     let size = columns_size (names_of_fields d.global) (dates_of plan.utc d.global) d.fields.items columns h.fields in
-    let in_force_after = flat_map developer_text (developer_of d.developer.items (drop (fields_size d) content)) in
+    let in_force_after = flat_map developer_text (developer_of d.arch d.developer.items (drop (fields_size d) content)) in
     let names = names_of_fields d.global in
     let shown = dates_of plan.utc d.global in
     let texts = flat_map-append (field_text names shown) (time_fields time) (fields_of d.arch d.fields.items content) in

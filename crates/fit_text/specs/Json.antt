@@ -90,21 +90,23 @@ abbrev pub name_json : Option (List ℕ) → List ℕ
 name_json None = codes "null"
 name_json (Some name) = quoted name
 
--- the line of a message, with its place among the messages, its name if it has one, and each field as a member
-abbrev pub line_json : Option (List ℕ) → (MessageField → List ℕ) → ℕ → Message → List ℕ
-line_json name member number message =
+-- the line of a message, with its place among the messages, its name if it has one, each field as a member, and its developer fields
+abbrev pub line_json : Option (List ℕ) → (MessageField → List ℕ)
+    → (MessageDeveloperField → List ℕ) → ℕ → Message → List ℕ
+line_json name member developer number message =
     codes "{\"number\":" ++ decimal number ++ codes ",\"message\":" ++ decimal message.global
     ++ codes ",\"name\":" ++ name_json name
     ++ codes ",\"fields\":{"
     ++ join_by member (codes ",") message.fields
-    ++ codes "},\"developer\":[" ++ join_by developer_json (codes ",") message.developer
+    ++ codes "},\"developer\":[" ++ join_by developer (codes ",") message.developer
     ++ codes "]}\n"
 
 -- with the names of the shown text
 abbrev pub message_json : Bool → ℕ → Message → List ℕ
 message_json utc number message =
     line_json (message_named message.global)
-    (field_json (names_of_fields message.global) (dates_of utc message.global)) number message
+    (field_json (names_of_fields message.global) (dates_of utc message.global)) developer_json
+    number message
 
 -- ---- files
 

@@ -35,7 +35,7 @@ pub trait Form {
     ghost header: { AnyFrame → ℕ → List ℕ };
 
     // The line of a message, by its place among the messages. Times are dates or numbers.
-    ghost line: { Bool → ℕ → Message → List ℕ };
+    ghost line: { Self → Bool → ℕ → Message → List ℕ };
 
     // The line that says how many messages there are.
     ghost count: { ℕ → List ℕ };
@@ -54,9 +54,10 @@ pub trait Form {
         time: Option<u32>,
     ) -> Result<(), S::Fault>
         requires { IsPlanOf message.now.definition plan.now columns.now developer.now }
-        ensures { Puts pen.old pen.new result
-            (line plan.now.utc number
-            (message_under message.now.definition time message.now.content.now)) };
+        ensures text { Puts pen.old pen.new result
+            (line self.old plan.now.utc number
+            (message_under message.now.definition time message.now.content.now)) }
+        ensures same { line self.new ≡ line self.old };
 
     fn put_count<S: Sink>(pen: &mut Pen<'_, S>, messages: u64) -> Result<(), S::Fault>
         ensures { Puts pen.old pen.new result (count messages) };
@@ -70,7 +71,7 @@ pub fn write_file<F: Form, S: Sink>(
     out: &mut S,
 ) -> Result<(), ShowFault<S::Fault>>
     ensures { WritesText (S.held out.old) (S.held out.new) result
-        (lines_of F.header (F.line utc) F.count file.now) }
+        (lines_of F.header (F.line form.old utc) F.count file.now) }
 {
     match put_file(form, out, utc, file) {
         Ok(()) => Ok(()),
@@ -85,7 +86,7 @@ fn put_file<F: Form, S: Sink>(
     file: &LentFile<'_>,
 ) -> Result<(), S::Fault>
     ensures { WritesText (S.held out.old) (S.held out.new) result
-        (lines_of F.header (F.line utc) F.count file.now) }
+        (lines_of F.header (F.line form.old utc) F.count file.now) }
 {
     let mut pen = Pen::new(out);
     let done = put_all(form, &mut pen, utc, file);
@@ -100,7 +101,8 @@ fn put_all<F: Form, S: Sink>(
     utc: bool,
     file: &LentFile<'_>,
 ) -> Result<(), S::Fault>
-    ensures text { Puts pen.old pen.new result (lines_of F.header (F.line utc) F.count file.now) }
+    ensures text { Puts pen.old pen.new result
+        (lines_of F.header (F.line form.old utc) F.count file.now) }
     ensures none { IfOk result (λ _. pen.new.waiting ≡ []) }
 {
     put_lines(form, pen, utc, file)?;
@@ -113,7 +115,7 @@ fn put_lines<F: Form, S: Sink>(
     utc: bool,
     file: &LentFile<'_>,
 ) -> Result<(), S::Fault>
-    ensures { Puts pen.old pen.new result (lines_of F.header (F.line utc) F.count file.now) }
+    ensures { Puts pen.old pen.new result (lines_of F.header (F.line form.old utc) F.count file.now) }
 {
     F::put_header(pen, file.frame(), file.data_size())?;
     let count = put_messages(form, pen, utc, file)?;
@@ -129,7 +131,7 @@ fn put_messages<F: Form, S: Sink>(
 ) -> Result<u64, S::Fault>
     requires { length (messages_of file.now.items) < 2 ^ 32 }
     ensures text { Puts pen.old pen.new result
-        (numbered (F.line utc) (messages_of file.now.items)) }
+        (numbered (F.line form.old utc) (messages_of file.now.items)) }
     ensures count { IfOk result (λ count. count ≡ length (messages_of file.now.items)) }
 {
     let mut plans = Plans::new(utc);

@@ -37,6 +37,7 @@ pub fn put_columns<'c, M: Members, S: Sink>(
         content.now) }
     ensures after { IfOk result
         (λ after. after.now ≡ drop (sum_by (λ column. column.size) columns.now) content.now) }
+    ensures same { M.developer members.new ≡ M.developer members.old }
 {
     let mut left = columns;
     let mut rest = content;

@@ -7,6 +7,7 @@ ghost use Rattle.fit_text.specs.Pen.{Puts};
 use crate::form::file::{Form, ShowFault, write_file};
 use crate::form::header::{HeaderWords, put_header_by, put_labelled};
 use crate::json::column::put_column;
+use crate::json::developer::put_developer_bytes;
 use crate::json::members::Members;
 use crate::json::message::put_message;
 use crate::json::notation::AsJson;
@@ -36,7 +37,7 @@ impl Form for AsJson {
 
     ghost header = { header_json };
 
-    ghost line = { message_json };
+    ghost line = { λ _. message_json };
 
     ghost count = { count_json };
 
@@ -64,12 +65,14 @@ impl Form for AsJson {
 
 impl Members for AsJson {
     ghost use Rattle.fit_text.specs.Date.{dates_of};
-    ghost use Rattle.fit_text.specs.Json.{field_json};
+    ghost use Rattle.fit_text.specs.Json.{developer_json, field_json};
     ghost use Rattle.fit_text.specs.Profile.{message_named, names_of_fields};
 
     ghost name = { message_named };
 
     ghost member = { λ utc global. field_json (names_of_fields global) (dates_of utc global) };
+
+    ghost developer = { λ _ number. developer_json };
 
     fn message_name(global: u16) -> Option<&'static str> {
         profile::message_name(global)
@@ -86,6 +89,17 @@ impl Members for AsJson {
         is_first: bool,
     ) -> Result<(), S::Fault> {
         put_column(pen, plan, arch, column, bytes, is_first)
+    }
+
+    fn put_developer<S: Sink>(
+        &self,
+        pen: &mut Pen<'_, S>,
+        arch: Arch,
+        number: u64,
+        field: &DeveloperFieldDefinition,
+        bytes: &[u8],
+    ) -> Result<(), S::Fault> {
+        put_developer_bytes(pen, field, bytes)
     }
 }
 

@@ -30,16 +30,17 @@ pub fn put_message<M: Members, S: Sink>(
     time: Option<u32>,
 ) -> Result<(), S::Fault>
     requires { IsPlanOf message.now.definition plan.now columns.now developer.now }
-    ensures { Puts pen.old pen.new result
+    ensures text { Puts pen.old pen.new result
         (line_json (M.name message.now.definition.global)
-        (M.member plan.now.utc message.now.definition.global) number
-        (message_under message.now.definition time message.now.content.now)) }
+        (M.member plan.now.utc message.now.definition.global) (M.developer members.old number)
+        number (message_under message.now.definition time message.now.content.now)) }
+    ensures same { M.developer members.new ≡ M.developer members.old }
 {
     put_head::<M, S>(pen, number, plan.global)?;
     put_time(members, pen, plan, time)?;
     let after = put_columns(members, pen, plan, columns, message.content, time.is_none())?;
     pen.put(b"},\"developer\":[")?;
-    put_developer_fields(pen, developer, after)?;
+    put_developer_fields(members, pen, plan.arch, number, developer, after)?;
     pen.put(b"]}\n")
 }
 
@@ -94,6 +95,7 @@ fn put_time<M: Members, S: Sink>(
     ensures text { Puts pen.old pen.new result
         (time_json (M.member plan.now.utc plan.now.global) plan.now.time time) }
     ensures fits { IfSome time (λ time. time < 2 ^ 32) }
+    ensures same { M.developer members.new ≡ M.developer members.old }
 {
     match time {
         None => Ok(()),

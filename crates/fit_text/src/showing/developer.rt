@@ -2,6 +2,7 @@
 
 ghost use Rattle.std.specs.Prelude.{◌≡◌, ◌≤◌, length, sum_by};
 ghost use Rattle.std.specs.List.{flat_map};
+ghost use Rattle.fit_base.specs.declared.order.Arch.{Arch as AnyArch};
 ghost use Rattle.fit_grammar.specs.Format.Message.{developer_of};
 ghost use Rattle.fit_text.specs.Pen.{Puts};
 ghost use Rattle.fit_text.specs.Text.{developer_text};
@@ -17,8 +18,8 @@ pub fn put_developer_fields<S: Sink>(
     content: &[u8],
 ) -> Result<(), S::Fault>
     requires { sum_by (λ field. field.size) fields.now ≤ length content.now }
-    ensures { Puts pen.old pen.new result
-        (flat_map developer_text (developer_of fields.now content.now)) }
+    ensures { (arch : AnyArch) → Puts pen.old pen.new result
+        (flat_map developer_text (developer_of arch fields.now content.now)) }
 {
     let mut left = fields;
     let mut rest = content;
@@ -37,8 +38,14 @@ fn put_developer_field<S: Sink>(
     field: &DeveloperFieldDefinition,
     bytes: &[u8],
 ) -> Result<(), S::Fault>
-    ensures { Puts pen.old pen.new result
-        (developer_text (record { index = field.now.index; number = field.now.number; bytes = bytes.now })) }
+    ensures { (arch : AnyArch) → Puts pen.old pen.new result
+        (developer_text (record {
+          index =
+              field.now.index;
+          number = field.now.number;
+          arch = arch;
+          bytes = bytes.now;
+        })) }
 {
     pen.room()?;
     pen.add(b" developer_");

@@ -27,7 +27,7 @@ impl Form for AsText {
 
     ghost header = { header_text };
 
-    ghost line = { message_text };
+    ghost line = { λ _. message_text };
 
     ghost count = { count_text };
 

@@ -1,4 +1,4 @@
-use Rattle.std.proofs.Common.{◌≡◌, ◌∷◌, [], length, ap, sym, ◌∙◌, arith}
+use Rattle.std.proofs.Common.{◌≡◌, ◌∷◌, [], length, refl, ap, sym, ◌∙◌, arith}
 use Rattle.std.specs.List.{flat_map, enumerate_from}
 use Rattle.fit_grammar.specs.Format.Item.{Defines}
 use Rattle.fit_grammar.specs.Format.Message.{messages_of}
@@ -19,6 +19,7 @@ loop-item-init g c =
         under = rw all c.items-item-items.ensures.under;
         plans = c.new-plans.ensures.plans (in_force []);
         utc = c.new-plans.ensures.utc;
+        same = refl;
         put = rw stated (leaves_all _ _);
         count = omega (arith, ap length stated);
       },
@@ -42,6 +43,7 @@ loop-item-preserved-in-Definition g c =
         under = under.1;
         plans = c.forget.ensures.plans definition_for d (sym c.local.ensures) kept.plans;
         utc = c.forget.ensures.utc ∙ kept.utc;
+        same = kept.same;
         put = rw steps at kept.put;
         count = rw steps at kept.count;
       },
@@ -81,8 +83,8 @@ returns-in_err-put_line-in-Data-clause-text g c =
     let plans = c.settle.ensures.plans definition_for under.1 kept.plans in
     let got = plan_got definition_for _ message.local message.definition _ _ _ c.get.ensures.plan c.get.ensures.columns c.get.ensures.developer under.1 plans in
     let utc = got.1 ∙ c.settle.ensures.utc ∙ kept.utc in
-    leaves_off _ c.from_residual.ensures.0 kept.put (rw utc at c.in_err-put_line-in-Data.ensures)
-    (ap (λ items. flat_map (λ row. g.F.Form.line c.args.utc row.0 row.1) (enumerate_from c.loop-item.number (messages_in items))) steps)
+    leaves_off _ c.from_residual.ensures.0 kept.put (rw (utc, kept.same) at c.in_err-put_line-in-Data.ensures.text)
+    (ap (λ items. flat_map (λ row. g.F.Form.line c.args.form.now c.args.utc row.0 row.1) (enumerate_from c.loop-item.number (messages_in items))) steps)
 
 pub loop-item-preserved : goal.loop-item-preserved
 loop-item-preserved g c =
@@ -99,8 +101,9 @@ loop-item-preserved g c =
         under = under.2;
         plans = plans;
         utc = c.settle.ensures.utc ∙ kept.utc;
-        put = leaves_less _ kept.put (rw utc at c.in_ok-put_line-in-Data.ensures)
-            (ap (λ items. flat_map (λ row. g.F.Form.line c.args.utc row.0 row.1) (enumerate_from c.loop-item.number (messages_in items))) steps);
+        same = c.in_ok-put_line-in-Data.ensures.same ∙ kept.same;
+        put = leaves_less _ kept.put (rw (utc, kept.same) at c.in_ok-put_line-in-Data.ensures.text)
+            (ap (λ items. flat_map (λ row. g.F.Form.line c.args.form.now c.args.utc row.0 row.1) (enumerate_from c.loop-item.number (messages_in items))) steps);
         count = omega (arith, kept.count, ap (λ items. length (messages_in items)) steps);
       },
     )

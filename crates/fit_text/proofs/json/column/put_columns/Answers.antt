@@ -7,7 +7,7 @@ use Rattle.fit_text.proofs.JsonLemmas.{next_column, first_named, other_named}
 use Rattle.fit_text.proofs.json.column.put_columns.Goals as goal
 
 pub loop-left-init : goal.loop-left-init
-loop-left-init g c = record { named = c.requires.named; within = c.requires.within; after = refl; put = leaves_all _ _ }
+loop-left-init g c = record { named = c.requires.named; within = c.requires.within; after = refl; same = refl; put = leaves_all _ _ }
 
 pub put_member-requires-clause-column : goal.put_member-requires-clause-column
 put_member-requires-clause-column g c =
@@ -18,7 +18,7 @@ put_member-requires-clause-column g c =
 pub returns-in_err-put_member-clause-text : goal.returns-in_err-put_member-clause-text
 returns-in_err-put_member-clause-text g c =
     let plan = c.args.plan.now in
-    leaves_off _ c.from_residual.ensures.0 c.loop-left.invariant.put c.in_err-put_member.ensures
+    leaves_off _ c.from_residual.ensures.0 c.loop-left.invariant.put c.in_err-put_member.ensures.text
     (next_column c.loop-left.first (g.M.Members.member plan.utc plan.global) plan.arch c.loop-left.left.now c.column-item.result
     c.loop-left.rest.now _ _ _ c.in-len1-up.len_at_least c.column-item.is c.split_at.ensures.front c.split_at.ensures.back c.from.ensures)
 
@@ -33,7 +33,8 @@ loop-left-preserved g c =
       within = omega (arith, size, c.loop-left.invariant.within, c.split_at.ensures.back_len, c.from.ensures);
       after = first_after left column c.loop-left.rest.now _ _ c.in-len1-up.len_at_least c.column-item.is c.split_at.ensures.back c.from.ensures
           ∙ c.loop-left.invariant.after;
-      put = leaves_less _ c.loop-left.invariant.put c.in_ok-put_member.ensures
+      same = c.in_ok-put_member.ensures.same ∙ c.loop-left.invariant.same;
+      put = leaves_less _ c.loop-left.invariant.put c.in_ok-put_member.ensures.text
           (next_column c.loop-left.first (g.M.Members.member plan.utc plan.global) plan.arch left column c.loop-left.rest.now _ _ _
           c.in-len1-up.len_at_least c.column-item.is c.split_at.ensures.front c.split_at.ensures.back c.from.ensures);
     }

@@ -11,6 +11,7 @@ invariant-loop-left g l =
       named : AreNamed (names_of_fields l.plan.global) (dates_of l.plan.utc l.plan.global) l.left;
       within : sum_by (λ column. column.size) l.left ≤ length l.rest;
       after : drop (sum_by (λ column. column.size) l.left) l.rest ≡ drop (sum_by (λ column. column.size) l.initial.left) l.initial.rest;
+      same : g.M.Members.developer l.members ≡ g.M.Members.developer l.initial.members;
       put : Leaves l.initial.pen l.pen (columns_json l.initial.first member l.plan.arch l.initial.left l.initial.rest)
           (columns_json l.first member l.plan.arch l.left l.rest);
     }

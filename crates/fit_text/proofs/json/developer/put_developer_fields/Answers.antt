@@ -1,6 +1,5 @@
 use Rattle.std.proofs.Common.{List, ℕ, subst, true, arith}
 use Rattle.fit_grammar.specs.Format.Message.{developer_of}
-use Rattle.fit_text.specs.Json.{developer_json}
 use Rattle.fit_text.specs.Members.{joined}
 use Rattle.fit_text.proofs.PenLemmas.{Leaves, leaves_all, leaves_less, leaves_off, leaves_none}
 use Rattle.fit_text.proofs.DeveloperLemmas.{first_size}
@@ -22,7 +21,7 @@ split_at-requires g c =
 pub returns-in_err-put_next : goal.returns-in_err-put_next
 returns-in_err-put_next g c =
     leaves_off _ c.from_residual.ensures.0 c.loop-left.invariant.put c.in_err-put_next.ensures
-    (next_developer c.loop-left.first c.loop-left.left.now c.loop-left.rest.now _ _ _ c.in-len1-up.len_at_least
+    (next_developer (g.M.Members.developer c.args.members.now c.args.number) c.loop-left.first c.args.arch c.loop-left.left.now c.loop-left.rest.now _ _ _ c.in-len1-up.len_at_least
     c.split_at.ensures.front c.split_at.ensures.back c.from.ensures)
 
 pub loop-left-preserved : goal.loop-left-preserved
@@ -32,12 +31,13 @@ loop-left-preserved g c =
     record {
       within = omega (arith, size, c.loop-left.invariant.within, c.split_at.ensures.back_len, c.from.ensures);
       put = leaves_less _ c.loop-left.invariant.put c.in_ok-put_next.ensures
-          (next_developer c.loop-left.first left c.loop-left.rest.now _ _ _ c.in-len1-up.len_at_least
+          (next_developer (g.M.Members.developer c.args.members.now c.args.number) c.loop-left.first c.args.arch left c.loop-left.rest.now _ _ _ c.in-len1-up.len_at_least
           c.split_at.ensures.front c.split_at.ensures.back c.from.ensures);
     }
 
 pub returns : goal.returns
 returns g c =
+    let object = g.M.Members.developer c.args.members.now c.args.number in
     let P : List ℕ → Type 0 = λ t. Leaves c.args.pen.now c.loop-left.pen
-    (joined true developer_json (developer_of c.args.fields.now c.args.content.now)) t in
-    leaves_none tt (subst P (no_developer c.loop-left.first c.loop-left.left.now c.loop-left.rest.now c.in_default.len_below) c.loop-left.invariant.put)
+    (joined true object (developer_of c.args.arch c.args.fields.now c.args.content.now)) t in
+    leaves_none tt (subst P (no_developer object c.loop-left.first c.args.arch c.loop-left.left.now c.loop-left.rest.now c.in_default.len_below) c.loop-left.invariant.put)

@@ -1,16 +1,16 @@
 use Rattle.std.proofs.Common.{◌≤◌, length, sum_by, true}
 use Rattle.fit_grammar.specs.Format.Message.{developer_of}
-use Rattle.fit_text.specs.Json.{developer_json}
 use Rattle.fit_text.specs.Members.{joined}
 use Rattle.fit_text.proofs.PenLemmas.{Leaves}
 use Rattle.fit_text.proofs.json.developer.put_developer_fields.Given as goal
 
 abbrev pub invariant-loop-left : goal.invariant-loop-left
-invariant-loop-left g l = record {
-  within : sum_by (λ field. field.size) l.left ≤ length l.rest;
-  put : Leaves l.initial.pen l.pen (joined true developer_json (developer_of l.initial.left l.initial.rest))
-      (joined l.first developer_json (developer_of l.left l.rest));
-}
+invariant-loop-left g l =
+    let object = g.M.Members.developer l.members l.number in record {
+      within : sum_by (λ field. field.size) l.left ≤ length l.rest;
+      put : Leaves l.initial.pen l.pen (joined true object (developer_of l.arch l.initial.left l.initial.rest))
+          (joined l.first object (developer_of l.arch l.left l.rest));
+    }
 
 abbrev pub decreases-loop-left : goal.decreases-loop-left
 decreases-loop-left g l = length l.left

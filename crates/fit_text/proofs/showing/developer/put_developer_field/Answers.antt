@@ -5,7 +5,7 @@ use Rattle.fit_text.proofs.DeveloperLemmas.{developer_parts}
 use Rattle.fit_text.proofs.showing.developer.put_developer_field.Goals as goal
 
 pub returns-in_err-room : goal.returns-in_err-room
-returns-in_err-room g c = puts_stop c.from_residual.ensures.0 c.in_err-room.ensures.puts _
+returns-in_err-room g c arch = puts_stop c.from_residual.ensures.0 c.in_err-room.ensures.puts _
 
 pub add-requires-2 : goal.add-requires-2
 add-requires-2 g c =
@@ -45,11 +45,11 @@ add-requires-3 g c =
     )
 
 pub returns : goal.returns
-returns g c =
+returns g c arch =
     puts_same (puts_then (puts_more (puts_more (puts_more (puts_more (puts_more c.in_ok-room.ensures.puts c.add.ensures)
     c.add_number.ensures)
     c.add-2.ensures)
     c.add_number-2.ensures)
     c.add-3.ensures)
     c.put_hex.ensures)
-    (developer_parts c.args.field.now.index c.args.field.now.number c.args.bytes.now _ _ c.from.ensures c.from-2.ensures)
+    (developer_parts c.args.field.now.index c.args.field.now.number arch c.args.bytes.now _ _ c.from.ensures c.from-2.ensures)

@@ -1,7 +1,13 @@
-use Rattle.std.proofs.Common.{arith}
-use Rattle.fit_text.proofs.PenLemmas.{leaves_less, leaves_off}
-use Rattle.fit_text.proofs.DeveloperLemmas.{first_size, first_text}
+use Rattle.std.proofs.Common.{List, ℕ, subst, arith}
+use Rattle.std.specs.List.{flat_map}
+use Rattle.fit_grammar.specs.Format.Message.{developer_of}
+use Rattle.fit_text.specs.Text.{developer_text}
+use Rattle.fit_text.proofs.PenLemmas.{Leaves, leaves_all, leaves_less, leaves_none, leaves_off}
+use Rattle.fit_text.proofs.DeveloperLemmas.{first_size, first_text, no_text}
 use Rattle.fit_text.proofs.showing.developer.put_developer_fields.Goals as goal
+
+pub loop-left-init : goal.loop-left-init
+loop-left-init g c = record { within = c.requires; put = λ arch. leaves_all _ _ }
 
 pub split_at-requires : goal.split_at-requires
 split_at-requires g c =
@@ -13,9 +19,9 @@ split_at-requires g c =
     )
 
 pub returns-in_err-put_developer_field : goal.returns-in_err-put_developer_field
-returns-in_err-put_developer_field g c =
-    leaves_off _ c.from_residual.ensures.0 c.loop-left.invariant.put c.in_err-put_developer_field.ensures
-    (first_text c.loop-left.left.now c.loop-left.rest.now _ _ _ c.in-len1-up.len_at_least
+returns-in_err-put_developer_field g c arch =
+    leaves_off _ c.from_residual.ensures.0 (c.loop-left.invariant.put arch) (c.in_err-put_developer_field.ensures arch)
+    (first_text arch c.loop-left.left.now c.loop-left.rest.now _ _ _ c.in-len1-up.len_at_least
     c.split_at.ensures.front c.split_at.ensures.back c.from.ensures)
 
 pub loop-left-preserved : goal.loop-left-preserved
@@ -24,7 +30,13 @@ loop-left-preserved g c =
     let size = first_size left c.in-len1-up.len_at_least in
     record {
       within = omega (arith, size, c.loop-left.invariant.within, c.split_at.ensures.back_len, c.from.ensures);
-      put = leaves_less _ c.loop-left.invariant.put c.in_ok-put_developer_field.ensures
-          (first_text left c.loop-left.rest.now _ _ _ c.in-len1-up.len_at_least
+      put = λ arch. leaves_less _ (c.loop-left.invariant.put arch) (c.in_ok-put_developer_field.ensures arch)
+          (first_text arch left c.loop-left.rest.now _ _ _ c.in-len1-up.len_at_least
           c.split_at.ensures.front c.split_at.ensures.back c.from.ensures);
     }
+
+pub returns : goal.returns
+returns g c arch =
+    let P : List ℕ → Type 0 = λ t. Leaves c.args.pen.now c.loop-left.pen
+    (flat_map developer_text (developer_of arch c.args.fields.now c.args.content.now)) t in
+    leaves_none tt (subst P (no_text arch c.loop-left.left.now c.loop-left.rest.now c.in_default.len_below) (c.loop-left.invariant.put arch))

@@ -69,7 +69,7 @@ returns-in_err-put_developer_fields g c =
     (puts_then c.in_ok-put_time.ensures.text
     (puts_then c.in_ok-after.ensures.text
     (puts_stop c.from_residual-in_err-put_developer_fields.ensures.0
-    (rw c.in_ok-after.ensures.after at c.in_err-put_developer_fields.ensures) _))))
+    (rw c.in_ok-after.ensures.after at c.in_err-put_developer_fields.ensures c.args.plan.now.arch) _))))
     (plan_text c.args.number message.definition c.args.time message.content.now c.args.plan.now c.args.columns.now c.args.developer.now _
     c.dates_of-dates.ensures c.in_ok-put_time.ensures.fits c.requires)
 
@@ -79,6 +79,6 @@ returns g c =
     puts_same (puts_then (puts_more (puts_more c.in_ok-room.ensures.puts c.add_number.ensures) c.add_label.ensures.label)
     (puts_then c.in_ok-put_time.ensures.text
     (puts_then c.in_ok-after.ensures.text
-    (puts_then (rw c.in_ok-after.ensures.after at c.in_ok-put_developer_fields.ensures) c.put.ensures))))
+    (puts_then (rw c.in_ok-after.ensures.after at c.in_ok-put_developer_fields.ensures c.args.plan.now.arch) c.put.ensures))))
     (plan_text c.args.number message.definition c.args.time message.content.now c.args.plan.now c.args.columns.now c.args.developer.now _
     c.dates_of-dates.ensures c.in_ok-put_time.ensures.fits c.requires)

@@ -6,8 +6,8 @@ use Rattle.fit_text.proofs.JsonLemmas.{column_is}
 use Rattle.fit_text.proofs.PenLemmas.{puts_same}
 use Rattle.fit_text.proofs.json.file.AsJsonMembers.put_member.Goals as goal
 
-pub returns : goal.returns
-returns g c =
+pub returns-clause-text : goal.returns-clause-text
+returns-clause-text g c =
     let plan = c.args.plan.now in
     let shown = dates_of plan.utc plan.global in
     puts_same c.put_column.ensures
