@@ -18,7 +18,7 @@ use Rattle.fit_grammar.specs.Format.Message.{Message, MessageField, MessageDevel
 use Rattle.fit_text.specs.declared.showing.plan.Column.{Column}
 use Rattle.fit_text.specs.declared.showing.plan.Plan.{Plan}
 use Rattle.fit_text.specs.Date.{dates_of}
-use Rattle.fit_text.specs.Json.{quoted, bytes_json, field_json, developer_json, name_json, line_json}
+use Rattle.fit_text.specs.Json.{quoted, field_json, developer_key, name_json, line_json}
 use Rattle.fit_text.specs.Members.{separator, joined, inner, field_in, column_json, columns_json, time_json, IsNamed, AreNamed}
 use Rattle.fit_text.specs.Plan.{field_at, json_at, time_field_definition, IsColumn, AreColumns, IsPlanOf}
 use Rattle.fit_text.specs.Profile.{FieldNames, names_of_fields}
@@ -152,9 +152,6 @@ whole_line : (number global : ℕ) (name : Option (List ℕ)) (fields developer 
     ++ codes "},\"developer\":[" ++ developer ++ codes "]}\n"
 whole_line number global name fields developer = simp append_assoc
 
-regrouped_seven : (a b c d e f g : List ℕ) → (a ++ b) ++ ((c ++ d) ++ (e ++ (f ++ g))) ≡ a ++ b ++ c ++ d ++ e ++ f ++ g
-regrouped_seven a b c d e f g = simp append_assoc
-
 -- what a line has before its fields, by its parts
 regrouped_three : (a b c d : List ℕ) → a ++ (b ++ (c ++ d)) ≡ a ++ b ++ c ++ d
 regrouped_three a b c d = simp append_assoc
@@ -217,12 +214,9 @@ plan_head name member object number global m is = rw is (whole_line number m.glo
 abbrev member_from : ℕ → ℕ → Arch → List ℕ → MessageDeveloperField
 member_from index number arch bytes = record { index = index; number = number; arch = arch; bytes = bytes }
 
-pub developer_parts : (index number i n : ℕ) (arch : Arch) (bytes : List ℕ) → i ≡ index → n ≡ number →
-    (codes "{\"index\":" ++ decimal i) ++ ((codes ",\"number\":" ++ decimal n) ++ (codes ",\"bytes\":" ++ (bytes_json bytes ++ codes "}")))
-    ≡ developer_json (member_from index number arch bytes)
-developer_parts index number i n arch bytes is also =
-    rw (is, also)
-    (regrouped_seven (codes "{\"index\":") (decimal index) (codes ",\"number\":") (decimal number) (codes ",\"bytes\":") (bytes_json bytes) (codes "}"))
+pub key_parts : (index number i n : ℕ) → i ≡ index → n ≡ number →
+    (codes "{\"index\":" ++ decimal i) ++ (codes ",\"number\":" ++ decimal n) ≡ developer_key index number
+key_parts index number i n is also = rw (is, also) refl
 
 abbrev first : List DeveloperFieldDefinition → DeveloperFieldDefinition
 first fields = get_or fields 0 (record { number = 0; size = 0; index = 0 })

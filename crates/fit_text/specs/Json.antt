@@ -78,12 +78,16 @@ abbrev pub field_json : FieldNames → List ℕ → MessageField → List ℕ
 field_json names dates field =
     quoted (field_name names field.number) ++ codes ":" ++ shown_json (date_in dates field) field
 
--- a developer field: the index of its developer data, its number and its bytes
+-- how the object of a developer field begins: with the index of its developer data, and its number
+abbrev pub developer_key : ℕ → ℕ → List ℕ
+developer_key index number =
+    (codes "{\"index\":" ++ decimal index) ++ (codes ",\"number\":" ++ decimal number)
+
+-- a developer field by its bytes
 abbrev pub developer_json : MessageDeveloperField → List ℕ
 developer_json field =
-    codes "{\"index\":" ++ decimal field.index ++ codes ",\"number\":" ++ decimal field.number
-    ++ codes ",\"bytes\":"
-    ++ bytes_json field.bytes ++ codes "}"
+    developer_key field.index field.number
+    ++ (codes ",\"bytes\":" ++ (bytes_json field.bytes ++ codes "}"))
 
 -- the name of a message, if it has one
 abbrev pub name_json : Option (List ℕ) → List ℕ

@@ -27,8 +27,8 @@ mod writing;
 
 pub use form::file::{Form, ShowFault, write_file};
 pub use json::{
-    Members, put_json_count, put_json_header, put_json_value, put_message, put_quoted_date,
-    show_json,
+    Members, put_developer_bytes, put_developer_key, put_json_count, put_json_header,
+    put_json_string, put_json_value, put_message, put_quoted_date, show_json,
 };
 pub use profile::{field_name, message_name};
 pub use showing::date::put_date;

@@ -5,7 +5,7 @@ ghost use Rattle.std.specs.List.{join_by};
 ghost use Rattle.fit_base.specs.declared.order.Arch.{Arch as AnyArch};
 ghost use Rattle.fit_grammar.specs.Format.Message.{developer_of};
 ghost use Rattle.fit_text.specs.Pen.{Puts};
-ghost use Rattle.fit_text.specs.Json.{developer_json};
+ghost use Rattle.fit_text.specs.Json.{developer_json, developer_key};
 ghost use Rattle.fit_text.specs.Members.{separator};
 
 use crate::form::header::put_labelled;
@@ -70,7 +70,18 @@ fn put_next<M: Members, S: Sink>(
     members.put_developer(pen, arch, number, field, bytes)
 }
 
-/// A developer field as an object: the index of its developer data, its number, and its bytes.
+/// How the object of a developer field begins: with the index of its developer data, and its number.
+pub fn put_developer_key<S: Sink>(
+    pen: &mut Pen<'_, S>,
+    field: &DeveloperFieldDefinition,
+) -> Result<(), S::Fault>
+    ensures { Puts pen.old pen.new result (developer_key field.now.index field.now.number) }
+{
+    put_labelled(pen, b"{\"index\":", u64::from(field.index))?;
+    put_labelled(pen, b",\"number\":", u64::from(field.number))
+}
+
+/// A developer field by its bytes.
 pub fn put_developer_bytes<S: Sink>(
     pen: &mut Pen<'_, S>,
     field: &DeveloperFieldDefinition,
@@ -85,8 +96,7 @@ pub fn put_developer_bytes<S: Sink>(
           bytes = bytes.now;
         })) }
 {
-    put_labelled(pen, b"{\"index\":", u64::from(field.index))?;
-    put_labelled(pen, b",\"number\":", u64::from(field.number))?;
+    put_developer_key(pen, field)?;
     pen.put(b",\"bytes\":")?;
     put_quoted_bytes(pen, bytes)?;
     pen.put(b"}")
