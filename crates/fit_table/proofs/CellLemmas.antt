@@ -175,7 +175,7 @@ string_numbers arch bytes =
     let whole : length bytes / 1 ≡ length bytes = omega arith in
     rw (rest, whole) (numbers_bytes arch bytes)
 
-string_bytes : (field : Field) → base_type field.base ≡ Some String →
+pub string_bytes : (field : Field) → base_type field.base ≡ Some String →
     numbers field.arch (value_size field) (count_of field) field.bytes ≡ field.bytes
 string_bytes field e =
     ap (λ o. numbers field.arch (size_by o) (if raw_by o (length field.bytes) then 0 else length field.bytes / size_by o) field.bytes) e

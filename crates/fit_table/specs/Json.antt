@@ -5,12 +5,12 @@ use Rattle.fit_base.specs.declared.base.BaseType.{BaseType}
 use Rattle.fit_base.specs.declared.base.BaseType.TheVariants.{Byte}
 use Rattle.fit_base.specs.Number.{twos_complement}
 use Rattle.fit_base.specs.Base.{base_type, row_of, has_sign}
-use Rattle.fit_base.specs.Value.{Values, Numbers}
-use Rattle.fit_grammar.specs.Format.Message.{Message, MessageField}
+use Rattle.fit_base.specs.Value.{Values, Numbers, values_of}
+use Rattle.fit_grammar.specs.Format.Message.{Message, MessageField, MessageDeveloperField, messages_of}
 use Rattle.fit_grammar.specs.Format.File.{FileValue}
 use Rattle.fit_text.specs.Date.{date_text}
 use Rattle.fit_text.specs.Form.{lines_of}
-use Rattle.fit_text.specs.Json.{quoted, values_json, line_json, header_json, count_json}
+use Rattle.fit_text.specs.Json.{quoted, string_json, values_json, developer_key, developer_json, line_json, header_json, count_json}
 use Rattle.fit_text.specs.Text.{named}
 use Rattle.fit_profile.specs.declared.scale.Scale.{Scale}
 use Rattle.fit_profile.specs.declared.scale.Scale.TheVariants.{Whole as AsItIs}
@@ -21,6 +21,7 @@ use Rattle.fit_table.specs.declared.unit.Unit.{Unit as AnyUnit}
 use Rattle.fit_table.specs.declared.unit.Unit.TheVariants.{Whole, Date, Degrees, Height, Metres, Seconds, Speed, Scaled}
 use Rattle.fit_table.specs.declared.json.known.Found.{Found}
 use Rattle.fit_table.specs.declared.json.words.Words.{Words}
+use Rattle.fit_table.specs.Described.{Description, described_in, descriptions_of}
 use Rattle.fit_table.specs.Number.{unit_text}
 use Rattle.fit_table.specs.Table.{name_of}
 use Rattle.fit_table.specs.Unit.{unit_by, shown_by, suffix_of, end_of}
@@ -106,14 +107,35 @@ field_json utc message field =
     quoted (field_title utc message field) ++ codes ":"
     ++ values_in (field_unit utc message field) (base_type field.base) field.values
 
+-- a developer field with the name, the units and the type that its description gives
+abbrev pub described_json : Description → MessageDeveloperField → List ℕ
+described_json d field =
+    developer_key field.index field.number
+    ++ (codes ",\"name\":" ++ (string_json d.name
+    ++ (codes ",\"units\":" ++ (string_json d.units
+    ++ (codes ",\"value\":" ++ (values_in Whole (base_type d.base)
+    (values_of (record { base = d.base; arch = field.arch; bytes = field.bytes }))
+    ++ codes "}"))))))
+
+abbrev pub developer_json_by : Option Description → MessageDeveloperField → List ℕ
+developer_json_by None field = developer_json field
+developer_json_by (Some d) field = described_json d field
+
+-- the last description before its message counts
+abbrev pub developer_json_in : List Description → ℕ → MessageDeveloperField → List ℕ
+developer_json_in known number field =
+    developer_json_by (described_in known number field.index field.number) field
+
 -- the line of a message
-abbrev pub message_json : Bool → ℕ → Message → List ℕ
-message_json utc number message =
-    line_json (message_named message.global) (field_json utc message.global) number message
+abbrev pub message_json : List Description → Bool → ℕ → Message → List ℕ
+message_json known utc number message =
+    line_json (message_named message.global) (field_json utc message.global)
+    (developer_json_in known number) number message
 
 -- a whole file, with times as dates in UTC, or as numbers
 unfoldable pub profile_json_of : Bool → FileValue → List ℕ
-profile_json_of utc v = lines_of header_json (message_json utc) count_json v
+profile_json_of utc v =
+    lines_of header_json (message_json (descriptions_of (messages_of v.items)) utc) count_json v
 
 -- ---- what is looked up of a field
 

@@ -1,4 +1,5 @@
 pub mod Unit
+pub mod Described
 pub mod Number
 pub mod Cells
 pub mod Table

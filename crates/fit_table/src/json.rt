@@ -1,5 +1,6 @@
 // A file as JSON in the names and the units of the Profile.
 
+mod developer;
 mod file;
 mod known;
 mod member;

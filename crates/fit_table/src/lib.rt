@@ -8,6 +8,7 @@
 
 mod array;
 mod cell;
+mod described;
 mod float;
 mod json;
 mod layout;

@@ -1,10 +1,15 @@
 // A whole file.
 
 ghost use Rattle.fit_grammar.specs.Calls.Output.{WritesText};
+ghost use Rattle.std.specs.Prelude.{◌≡◌, option_map};
+ghost use Rattle.fit_text.specs.Pen.{Puts};
 ghost use Rattle.fit_table.specs.Json.{profile_json_of};
 
+use crate::described::{Described, MOST_DESCRIPTIONS, descriptions_of};
+use crate::json::developer::put_developer;
 use crate::json::known::Known;
 use crate::json::member::put_field;
+use arrayvec::ArrayVec;
 use fit_base::{Arch, FieldValue};
 use fit_grammar::{DataMessage, DeveloperFieldDefinition, Frame, LentFile, Sink};
 use fit_text::{
@@ -24,27 +29,31 @@ pub fn show_profile_json<S: Sink>(
 {
     let mut form = AsProfile {
         known: Known::new(),
+        descriptions: descriptions_of(file),
     };
     write_file(&mut form, file, utc, out)
 }
 
 /// JSON by the Profile.
 #[derive(Drop)]
-struct AsProfile {
+struct AsProfile<'a> {
     known: Known,
+    descriptions: ArrayVec<Described<'a>, MOST_DESCRIPTIONS>,
 }
 
-impl Form for AsProfile {
+impl<'a> Form for AsProfile<'a> {
     ghost use Rattle.fit_text.specs.Json.{header_json, count_json};
     ghost use Rattle.fit_table.specs.Json.{message_json};
 
     ghost header = { header_json };
 
-    ghost line = { message_json };
+    ghost line = { λ form. message_json form.descriptions.items };
 
     ghost count = { count_json };
 
-    fn put_header<S: Sink>(pen: &mut Pen<'_, S>, frame: Frame, size: u32) -> Result<(), S::Fault> {
+    fn put_header<S: Sink>(pen: &mut Pen<'_, S>, frame: Frame, size: u32) -> Result<(), S::Fault>
+        ensures { Puts pen.old pen.new result (header_json frame size) }
+    {
         put_json_header(pen, frame, size)
     }
 
@@ -61,20 +70,26 @@ impl Form for AsProfile {
         put_message(self, pen, plan, columns, developer, number, message, time)
     }
 
-    fn put_count<S: Sink>(pen: &mut Pen<'_, S>, messages: u64) -> Result<(), S::Fault> {
+    fn put_count<S: Sink>(pen: &mut Pen<'_, S>, messages: u64) -> Result<(), S::Fault>
+        ensures { Puts pen.old pen.new result (count_json messages) }
+    {
         put_json_count(pen, messages)
     }
 }
 
-impl Members for AsProfile {
+impl<'a> Members for AsProfile<'a> {
     ghost use Rattle.fit_profile.specs.Table.{message_named};
-    ghost use Rattle.fit_table.specs.Json.{field_json};
+    ghost use Rattle.fit_table.specs.Json.{field_json, developer_json_in};
 
     ghost name = { message_named };
 
     ghost member = { field_json };
 
-    fn message_name(global: u16) -> Option<&'static str> {
+    ghost developer = { λ form. developer_json_in form.descriptions.items };
+
+    fn message_name(global: u16) -> Option<&'static str>
+        ensures { option_map (λ name. name.now) result ≡ message_named global }
+    {
         fit_profile::message_name(global)
     }
 
@@ -97,6 +112,24 @@ impl Members for AsProfile {
             &words,
             &value,
             is_first,
+        )
+    }
+
+    fn put_developer<S: Sink>(
+        &self,
+        pen: &mut Pen<'_, S>,
+        arch: Arch,
+        number: u64,
+        field: &DeveloperFieldDefinition,
+        bytes: &[u8],
+    ) -> Result<(), S::Fault> {
+        put_developer(
+            pen,
+            self.descriptions.as_slice(),
+            number,
+            arch,
+            field,
+            bytes,
         )
     }
 }

@@ -1,0 +1,171 @@
+// What a file says of its developer fields.
+
+ghost use Rattle.std.specs.Prelude.{◌≡◌, ◌≤◌, ℕ, Option, length, sum_by, option_map};
+ghost use Rattle.fit_grammar.specs.Format.Message.{fields_of, message_under, messages_of};
+ghost use Rattle.fit_columns.specs.Columns.{cell_in, found_in};
+ghost use Rattle.fit_table.specs.Described.{base_in, description, descriptions_of, described_in, describes, is_number, known_after, string_of};
+
+use arrayvec::ArrayVec;
+use fit_base::{Arch, BaseType, FieldValue};
+use fit_columns::{Place, cell};
+use fit_grammar::{DataMessage, DeveloperFieldDefinition, FieldDefinition, FileItem, LentFile};
+use std::marker::Model;
+
+/// The most descriptions of a file that are known.
+pub const MOST_DESCRIPTIONS: usize = 256;
+
+// The global number of messages that describe developer fields.
+const FIELD_DESCRIPTION: u16 = 206;
+
+/// What a message field_description says of a developer field.
+#[derive(Drop, Default)]
+pub struct Described<'a> {
+    // The place of the message among those of its file.
+    place: u64,
+    index: Option<i64>,
+    number: Option<i64>,
+    /// The base type byte.
+    pub base: u8,
+    /// A string, which ends before its first zero byte.
+    pub name: &'a [u8],
+    /// A string, such as `watts`.
+    pub units: &'a [u8],
+}
+
+impl<'a> Model for Described<'a> {
+    ghost use Rattle.fit_table.specs.Described.{Description};
+
+    ghost Value = { Description };
+
+    ghost view = { λ d. record {
+      place = d.place;
+      index = d.index;
+      number = d.number;
+      base = d.base;
+      name = d.name.now;
+      units = d.units.now;
+    } };
+}
+
+/// The descriptions of a file, in order, and no more than 256.
+pub fn descriptions_of<'a>(file: &LentFile<'a>) -> ArrayVec<Described<'a>, MOST_DESCRIPTIONS>
+    ensures { result.items ≡ descriptions_of (messages_of file.now.items) }
+{
+    let _ = file.data_size(); // Its contract bounds how many messages there are.
+    let mut known = ArrayVec::new();
+    let mut place = 0;
+    for item in file.items() {
+        if let FileItem::Data(message, time) = item {
+            let _ = time; // It is of field 253, which describes nothing.
+            note(&mut known, place, &message);
+            place += 1;
+        }
+    }
+    known
+}
+
+// Adds what the message in this place describes.
+fn note<'a>(
+    known: &mut ArrayVec<Described<'a>, MOST_DESCRIPTIONS>,
+    place: u64,
+    message: &DataMessage<'a>,
+)
+    ensures { (time : Option ℕ) → known.new.items
+        ≡ known_after known.old.items place
+        (message_under message.now.definition time message.now.content.now) }
+{
+    if message.definition.global() == FIELD_DESCRIPTION && !known.is_full() {
+        known.push(description(place, message));
+    }
+}
+
+#[inline(never)]
+fn description<'a>(place: u64, message: &DataMessage<'a>) -> Described<'a>
+    ensures { (time : Option ℕ) → result
+        ≡ description place (message_under message.now.definition time message.now.content.now) }
+{
+    let _ = message.definition.content_size(); // Its contract bounds the sizes.
+    let definition = message.definition.read();
+    let arch = definition.arch;
+    let fields = definition.fields.as_slice();
+    Described {
+        place,
+        index: number_in(fields, arch, message.content, 0),
+        number: number_in(fields, arch, message.content, 1),
+        base: base_in(number_in(fields, arch, message.content, 2)),
+        name: string_in(fields, arch, message.content, 3),
+        units: string_in(fields, arch, message.content, 8),
+    }
+}
+
+// The number in the first field of this number.
+fn number_in(fields: &[FieldDefinition], arch: Arch, content: &[u8], number: u8) -> Option<i64>
+    requires sizes { sum_by (λ field. field.size) fields.now ≤ 130050 }
+    requires whole { sum_by (λ field. field.size) fields.now ≤ length content.now }
+    ensures { result ≡ cell_in number (fields_of arch fields.now content.now) }
+{
+    let place = Place::new(fields, number);
+    cell(&place, arch, None, content)
+}
+
+fn base_in(number: Option<i64>) -> u8
+    ensures { result ≡ base_in number }
+{
+    match number {
+        Some(n) if n >= 0 && n <= 255 => n as u8,
+        _ => 255,
+    }
+}
+
+// The bytes of the first field of this number, if it is a string.
+fn string_in<'a>(fields: &[FieldDefinition], arch: Arch, content: &'a [u8], number: u8) -> &'a [u8]
+    requires sizes { sum_by (λ field. field.size) fields.now ≤ 130050 }
+    requires whole { sum_by (λ field. field.size) fields.now ≤ length content.now }
+    ensures { result.now ≡ string_of (found_in number (fields_of arch fields.now content.now)) }
+{
+    let place = Place::new(fields, number);
+    match BaseType::of(place.base) {
+        Some(BaseType::String) => {
+            let at = place.at as usize;
+            &content[at..at + usize::from(place.size)]
+        }
+        _ => &[],
+    }
+}
+
+/// The last description of a developer field that comes before the message in this place.
+pub fn described_in<'k, 'a>(
+    known: &'k [Described<'a>],
+    place: u64,
+    field: &DeveloperFieldDefinition,
+) -> Option<&'k Described<'a>>
+    ensures { option_map (λ d. d.now) result
+        ≡ described_in known.now place field.now.index field.now.number }
+{
+    let mut found = None;
+    let mut left = known;
+    while let [first, others @ ..] = left {
+        if describes(first, place, field) {
+            found = Some(first);
+        }
+        left = others;
+    }
+    found
+}
+
+fn describes(described: &Described<'_>, place: u64, field: &DeveloperFieldDefinition) -> bool
+    ensures { result ≡ describes described.now place field.now.index field.now.number }
+{
+    described.place < place
+        && is_number(described.index, field.index)
+        && is_number(described.number, field.number)
+}
+
+fn is_number(found: Option<i64>, number: u8) -> bool
+    ensures { result ≡ is_number found number }
+{
+    match found {
+        Some(found) => found == i64::from(number),
+        None => false,
+    }
+}

@@ -1,0 +1,77 @@
+// A developer field as its file describes it.
+
+ghost use Rattle.std.specs.Prelude.{◌≡◌};
+ghost use Rattle.fit_text.specs.Json.{string_json};
+ghost use Rattle.fit_text.specs.Pen.{Puts};
+ghost use Rattle.fit_table.specs.Described.{described_in};
+ghost use Rattle.fit_table.specs.Json.{described_json, developer_json_by};
+
+use crate::described::{Described, described_in};
+use crate::json::number::put_values;
+use crate::unit::Unit;
+use fit_base::{Arch, BaseType, FieldValue};
+use fit_grammar::{DeveloperFieldDefinition, Sink};
+use fit_text::{Pen, put_developer_bytes, put_developer_key, put_json_string};
+
+/// A developer field of the message in this place, by its description among these. One that has none is written by its bytes.
+pub fn put_developer<S: Sink>(
+    pen: &mut Pen<'_, S>,
+    known: &[Described<'_>],
+    place: u64,
+    arch: Arch,
+    field: &DeveloperFieldDefinition,
+    bytes: &[u8],
+) -> Result<(), S::Fault>
+    ensures { Puts pen.old pen.new result
+        (developer_json_by (described_in known.now place field.now.index field.now.number)
+        (record {
+          index =
+              field.now.index;
+          number = field.now.number;
+          arch = arch;
+          bytes = bytes.now;
+        })) }
+{
+    match described_in(known, place, field) {
+        Some(described) => put_described(pen, described, arch, field, bytes),
+        None => put_developer_bytes(pen, field, bytes),
+    }
+}
+
+// A field with its name, its units and its values.
+fn put_described<S: Sink>(
+    pen: &mut Pen<'_, S>,
+    described: &Described<'_>,
+    arch: Arch,
+    field: &DeveloperFieldDefinition,
+    bytes: &[u8],
+) -> Result<(), S::Fault>
+    ensures { Puts pen.old pen.new result
+        (described_json described.now (record {
+          index =
+              field.now.index;
+          number = field.now.number;
+          arch = arch;
+          bytes = bytes.now;
+        })) }
+{
+    put_developer_key(pen, field)?;
+    pen.put(b",\"name\":")?;
+    put_string(pen, described.name)?;
+    pen.put(b",\"units\":")?;
+    put_string(pen, described.units)?;
+    pen.put(b",\"value\":")?;
+    put_values(
+        pen,
+        Unit::Whole,
+        &FieldValue::new(described.base, arch, bytes),
+    )?;
+    pen.put(b"}")
+}
+
+fn put_string<S: Sink>(pen: &mut Pen<'_, S>, bytes: &[u8]) -> Result<(), S::Fault>
+    ensures { Puts pen.old pen.new result (string_json bytes.now) }
+{
+    let field = FieldValue::new(BaseType::String.code(), Arch::Little, bytes);
+    put_json_string(pen, &field)
+}
