@@ -44,7 +44,10 @@ pub use item::{
     DataMessage, FileItem, Item, ItemFault, Items, Step, least_length, longest_front, next_item,
     step_after, take_over, write_data, write_definition, write_native_definition,
 };
-pub use message::{DeveloperField, DeveloperFields, Field, Fields, Message, Messages, message_of};
+pub use message::{
+    DeveloperField, DeveloperFields, Field, Fields, Message, Messages, developer_fields_of,
+    message_of,
+};
 pub use plain::{
     PlainFault, PlainFaultKind, WritePlainFault, plain_file, write_plain, write_plain_records,
 };

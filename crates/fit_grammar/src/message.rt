@@ -1,7 +1,8 @@
 // Messages: data messages, read under their definitions and with their times.
 
-ghost use Rattle.std.specs.Prelude.{◌≡◌};
-ghost use Rattle.fit_grammar.specs.Format.Message.{message_under};
+ghost use Rattle.std.specs.Prelude.{◌≡◌, ◌≤◌, ℕ, length, drop, Option};
+ghost use Rattle.fit_grammar.specs.Format.Item.{content_size, fields_size as fields_size_of};
+ghost use Rattle.fit_grammar.specs.Format.Message.{developer_of, message_under};
 ghost use Rattle.fit_grammar.specs.Calls.LentMessage.{message_lent};
 
 mod developer;
@@ -70,13 +71,7 @@ impl<'a> Message<'a> {
     pub fn developer_fields(&self) -> DeveloperFields<'_>
         ensures { result ≡ self.now.message.developer }
     {
-        let arch = self.definition.arch();
-        let fields = self.definition.developer();
-        if fields.is_empty() {
-            return DeveloperFields::new(arch, fields, &[]);
-        }
-        let (_, content) = self.content.split_at(self.definition.fields_size());
-        DeveloperFields::new(arch, fields, content)
+        developer_fields_in(&self.definition, self.content)
     }
 
     /// The time that the message gives, in seconds since 1989-12-31 00:00 UTC: that of its compressed timestamp, or else the
@@ -103,6 +98,34 @@ pub fn message_of<'a>(item: &Item<'a>, before: u32) -> Option<Message<'a>>
         Item::Definition(_) => None,
         Item::Data(data) => Some(message_in(data, compressed_time(before, data.offset))),
     }
+}
+
+/// The developer fields of a data message, in order.
+pub fn developer_fields_of<'a>(m: &DataMessage<'a>) -> DeveloperFields<'a>
+    ensures fields { (time : Option ℕ) → result
+        ≡ (message_under m.now.definition time m.now.content.now).developer }
+    ensures bound { length result ≤ 255 }
+{
+    developer_fields_in(&m.definition, m.content)
+}
+
+// The developer fields of a content under its definition.
+fn developer_fields_in<'a>(
+    definition: &DefinitionMessage<'a>,
+    content: &'a [u8],
+) -> DeveloperFields<'a>
+    requires { content_size definition.now ≡ length content.now }
+    ensures fields { result ≡ developer_of definition.now.arch definition.now.developer.items
+        (drop (fields_size_of definition.now) content.now) }
+    ensures bound { length result ≤ 255 }
+{
+    let arch = definition.arch();
+    let fields = definition.developer();
+    if fields.is_empty() {
+        return DeveloperFields::new(arch, fields, &[]);
+    }
+    let (_, content) = content.split_at(definition.fields_size());
+    DeveloperFields::new(arch, fields, content)
 }
 
 // The message of a data message, if this is the time of its compressed timestamp.
