@@ -1,12 +1,13 @@
 -- Descriptions of developer fields: for `described`.
 use Rattle.std.proofs.Common.{◌≡◌, ℕ, ◌+◌, ◌-◌, ◌<◌, ◌≤◌, ◌==◌, ◌%◌, Bool, true, false, List, [], ◌∷◌, length, get_or, take, drop, refl, sym, ap, ◌∙◌, Option, Some, None, if◌then◌else◌, eq-eqb, arith}
+use Rattle.std.specs.List.{before_first}
 use Rattle.std.specs.Option.{option_or}
 use Rattle.std.proofs.lemmas.List.{take_all}
 use Rattle.fit_base.specs.declared.base.BaseType.{BaseType}
 use Rattle.fit_base.specs.declared.base.BaseType.TheVariants.{String}
 use Rattle.fit_base.specs.Base.{base_type}
 use Rattle.fit_base.specs.Value.{Field, Values, Numbers, Raw, raw_by, is_raw, count_of, value_size, values_of, numbers}
-use Rattle.fit_table.specs.Described.{Description, string_by, describes, one_if, described_in}
+use Rattle.fit_table.specs.Described.{Description, text_by, describes, one_if, described_in}
 use Rattle.fit_table.proofs.CellLemmas.{string_bytes}
 
 -- ---- strings
@@ -15,20 +16,16 @@ whole_string : (o : Option BaseType) (bytes : List ℕ) → o ≡ Some String �
 whole_string o bytes e =
     let rest : (length bytes % 1 == 0) ≡ true = eq-eqb _ _ (omega arith) in rw (e, rest) refl
 
-string_if : (o : Option BaseType) (b : Bool) (bytes ns : List ℕ) → o ≡ Some String → b ≡ false →
-    ns ≡ string_by o (if b then Raw bytes else Numbers ns)
-string_if o b bytes ns e f = rw (e, f) refl
+text_if : (o : Option BaseType) (b : Bool) (bytes ns : List ℕ) → o ≡ Some String → b ≡ false →
+    before_first (λ byte. byte == 0) ns ≡ text_by o (if b then Raw bytes else Numbers ns)
+text_if o b bytes ns e f = rw (e, f) refl
 
--- the bytes of a field that is a string
-pub string_is : (field : Field) → base_type field.base ≡ Some String → field.bytes ≡ string_by (base_type field.base) (values_of field)
-string_is field e =
-    sym (string_bytes field e)
-    ∙ string_if (base_type field.base) (is_raw field) field.bytes _ e (whole_string (base_type field.base) field.bytes e)
-
-string_none : (o : Option BaseType) (values : Values) → (o ≡ Some String → ⊥) → [] ≡ string_by o values
-string_none None values h = refl
-string_none (Some String) values h = absurd (h refl)
-string_none (Some _) values h = refl
+-- the text of a field that is a string
+pub text_is : (field : Field) → base_type field.base ≡ Some String →
+    before_first (λ byte. byte == 0) field.bytes ≡ text_by (base_type field.base) (values_of field)
+text_is field e =
+    ap (before_first (λ byte. byte == 0)) (sym (string_bytes field e))
+    ∙ text_if (base_type field.base) (is_raw field) field.bytes _ e (whole_string (base_type field.base) field.bytes e)
 
 -- ---- the last of several
 
@@ -47,8 +44,3 @@ next_described [] d place index number found some is = absurd (omega arith)
 next_described (first ∷ known) d place index number found some is =
     let rest : others (first ∷ known) ≡ known = take_all _ known (omega arith) in
     rw (is, rest) (either (described_in known place index number) (one_if (describes first place index number) first) found)
-
-pub none_described : (known : List Description) (place index number : ℕ) (found : Option Description) → length known < 1 →
-    option_or (described_in known place index number) found ≡ found
-none_described [] place index number found none = refl
-none_described (first ∷ known) place index number found none = absurd (omega arith)

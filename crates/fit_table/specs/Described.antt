@@ -1,5 +1,6 @@
 -- Developer fields, as the messages field_description of their file describe them (FIT protocol, "Developer data").
 use Rattle.std.specs.Prelude.{ℕ, ◌+◌, ℤ, pos, Bool, false, List, [], ◌∷◌, ◌++◌, length, Option, Some, None, ◌==◌, ◌&&◌, nat_le, nat_lt, if◌then◌else◌}
+use Rattle.std.specs.List.{before_first}
 use Rattle.std.specs.Option.{option_or}
 use Rattle.fit_base.specs.declared.base.BaseType.{BaseType}
 use Rattle.fit_base.specs.declared.base.BaseType.TheVariants.{String}
@@ -7,16 +8,19 @@ use Rattle.fit_base.specs.Base.{base_type}
 use Rattle.fit_base.specs.Value.{Values, Numbers}
 use Rattle.fit_grammar.specs.Format.Message.{Message, MessageField}
 use Rattle.fit_columns.specs.Columns.{cell_in, found_in}
+use Rattle.fit_table.specs.declared.unit.Unit.{Unit as AnyUnit}
+use Rattle.fit_table.specs.declared.unit.Unit.TheVariants.{Whole}
 
 -- ---- one description
 
--- what a message says of a developer field: the place of the message in its file, which field it is, its base type byte, its name and its
--- units
+-- what a message says of a developer field: the place of the message in its file, which field it is, its base type byte, the unit of its
+-- numbers by their scale, its name and its units
 pub record Description : Type 0 where
   pub place : ℕ
   pub index : Option ℤ
   pub number : Option ℤ
   pub base : ℕ
+  pub unit : AnyUnit
   pub name : List ℕ
   pub units : List ℕ
 
@@ -25,13 +29,13 @@ abbrev pub base_in : Option ℤ → ℕ
 base_in (Some (pos n)) = if nat_le n 255 then n else 255
 base_in _ = 255
 
--- the bytes of the first field of this number, if it is a string
-abbrev pub string_by : Option BaseType → Values → List ℕ
-string_by (Some String) (Numbers bytes) = bytes
-string_by _ _ = []
+-- the text of a field: the bytes before the first zero byte, if it is a string
+abbrev pub text_by : Option BaseType → Values → List ℕ
+text_by (Some String) (Numbers bytes) = before_first (λ byte. byte == 0) bytes
+text_by _ _ = []
 
-abbrev pub string_of : MessageField → List ℕ
-string_of field = string_by (base_type field.base) field.values
+abbrev pub text_in : MessageField → List ℕ
+text_in field = text_by (base_type field.base) field.values
 
 -- the fields are developer_data_index, field_definition_number, fit_base_type_id, field_name and units
 abbrev pub description : ℕ → Message → Description
@@ -41,8 +45,9 @@ description place m =
       index = cell_in 0 m.fields;
       number = cell_in 1 m.fields;
       base = base_in (cell_in 2 m.fields);
-      name = string_of (found_in 3 m.fields);
-      units = string_of (found_in 8 m.fields);
+      unit = Whole;
+      name = text_in (found_in 3 m.fields);
+      units = text_in (found_in 8 m.fields);
     }
 
 -- ---- the descriptions of a file
@@ -67,7 +72,7 @@ abbrev pub is_number : Option ℤ → ℕ → Bool
 is_number (Some (pos n)) number = n == number
 is_number _ number = false
 
--- whether it describes a field of this index and number in the message in this place, which comes after it
+-- whether it describes the developer fields of this index and number in the message in this place, which comes after it
 abbrev pub describes : Description → ℕ → ℕ → ℕ → Bool
 describes d place index number =
     nat_lt d.place place && (is_number d.index index && is_number d.number number)

@@ -113,7 +113,7 @@ described_json d field =
     developer_key field.index field.number
     ++ (codes ",\"name\":" ++ (string_json d.name
     ++ (codes ",\"units\":" ++ (string_json d.units
-    ++ (codes ",\"value\":" ++ (values_in Whole (base_type d.base)
+    ++ (codes ",\"value\":" ++ (values_in d.unit (base_type d.base)
     (values_of (record { base = d.base; arch = field.arch; bytes = field.bytes }))
     ++ codes "}"))))))
 

@@ -1,6 +1,5 @@
 -- A table: a first line with the names of the columns, and a line for each message.
-use Rattle.std.specs.Prelude.{ℕ, ℤ, Bool, true, false, List, [], ◌∷◌, ◌++◌, length, Option, Some, None, codes, ◌==◌, if◌then◌else◌}
-use Rattle.std.specs.List.{flat_map}
+use Rattle.std.specs.Prelude.{ℕ, ◌+◌, ℤ, Bool, true, false, List, [], ◌∷◌, ◌++◌, length, Option, Some, None, codes, ◌==◌, if◌then◌else◌}
 use Rattle.fit_base.specs.declared.order.Arch.{Arch}
 use Rattle.fit_base.specs.Base.{base_type}
 use Rattle.fit_grammar.specs.Format.Message.{Message, MessageField}
@@ -9,7 +8,7 @@ use Rattle.fit_text.specs.Text.{field_name, message_name}
 use Rattle.fit_profile.specs.Facts.{FieldFacts, row_in}
 use Rattle.fit_profile.specs.Table.{fields_at, message_named}
 use Rattle.fit_columns.specs.declared.place.Place.{Place}
-use Rattle.fit_columns.specs.Columns.{cell_in, found_in, messages_numbered}
+use Rattle.fit_columns.specs.Columns.{cell_in, found_in}
 use Rattle.fit_columns.specs.Places.{cell_with, field_with, place_cell, place_field}
 use Rattle.fit_table.specs.declared.layout.Layout.{Layout}
 use Rattle.fit_table.specs.declared.unit.Unit.{Unit as AnyUnit}
@@ -17,6 +16,8 @@ use Rattle.fit_table.specs.Unit.{unit_in, suffix_in}
 use Rattle.fit_table.specs.Number.{unit_text}
 use Rattle.fit_table.specs.Tokens.{Token, Text}
 use Rattle.fit_table.specs.Cells.{field_tokens}
+use Rattle.fit_table.specs.Described.{Description, descriptions_of}
+use Rattle.fit_table.specs.Named.{named_cells, names_in, titles}
 
 -- the end of a line
 abbrev pub line_end : List ℕ
@@ -51,9 +52,13 @@ names_from layout front [] = []
 names_from layout front (number ∷ numbers) =
     front ++ (column_name layout number ++ names_from layout (codes ",") numbers)
 
--- the text `front` begins each line; it is a first cell with its comma, or nothing
+-- the text `front` begins each line; it is a first cell with its comma, or nothing. The names of developer fields follow
+abbrev pub head_with : Layout → List (List ℕ) → List ℕ → List ℕ
+head_with layout names front =
+    front ++ (names_from layout [] layout.fields.now ++ (titles names ++ line_end))
+
 abbrev pub head_of : Layout → List ℕ → List ℕ
-head_of layout front = front ++ (names_from layout [] layout.fields.now ++ line_end)
+head_of layout front = head_with layout [] front
 
 -- ---- the other lines
 
@@ -77,17 +82,35 @@ cells_from layout front (number ∷ numbers) m =
     Text front ∷ (cell_of layout number (cell_in number m.fields) (found_in number m.fields)
     ++ cells_from layout (codes ",") numbers m)
 
-abbrev pub line_of : Layout → List ℕ → Message → List Token
-line_of layout front m =
-    Text front ∷ (cells_from layout [] layout.fields.now m ++ Text line_end ∷ [])
+-- the line of the message in this place, with the cells of developer fields of these names
+abbrev pub line_of : Layout → List Description → List (List ℕ) → List ℕ → ℕ → Message → List Token
+line_of layout known names front place m =
+    Text front ∷ (cells_from layout [] layout.fields.now m
+    ++ (named_cells known place names m.developer ++ Text line_end ∷ []))
+
+abbrev pub line_if : Bool → List Token → List Token
+line_if is line = if is then line else []
+
+-- the lines of messages, of which the first has this place
+abbrev pub lines_from : Layout → List Description → List (List ℕ) → List ℕ → ℕ → List Message
+    → List Token
+lines_from layout known names front place [] = []
+lines_from layout known names front place (m ∷ messages) =
+    line_if (m.global == layout.message) (line_of layout known names front place m)
+    ++ lines_from layout known names front (place + 1) messages
 
 abbrev pub lines_of : Layout → List ℕ → List Message → List Token
-lines_of layout front messages =
-    flat_map (line_of layout front) (messages_numbered layout.message messages)
+lines_of layout front messages = lines_from layout [] [] front 0 messages
 
--- the whole table of a file
+-- the whole table of a file, given the descriptions of its developer fields
+abbrev pub table_with : Layout → List Description → List Message → List Token
+table_with layout known messages =
+    Text (head_with layout (names_in known) [])
+    ∷ lines_from layout known (names_in known) [] 0 messages
+
 abbrev pub table_of : Layout → List Message → List Token
-table_of layout messages = Text (head_of layout []) ∷ lines_of layout [] messages
+table_of layout messages =
+    table_with layout (if layout.developer then descriptions_of messages else []) messages
 
 -- ---- the same cells, by the places of the values
 

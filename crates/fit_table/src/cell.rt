@@ -117,8 +117,8 @@ fn put_held<W: Write>(
     put_field(pen, empty, unit, &FieldValue::new(place.base, arch, bytes))
 }
 
-// The values of a field. One that is carried raw has none.
-fn put_field<W: Write>(
+/// The values of a field. One that is carried raw has none.
+pub fn put_field<W: Write>(
     pen: &mut Pen<'_, W>,
     empty: &[u8],
     unit: Unit,

@@ -3,12 +3,13 @@
 ghost use Rattle.std.specs.Prelude.{◌≡◌, ◌≤◌, ℕ, Option, length, sum_by, option_map};
 ghost use Rattle.fit_grammar.specs.Format.Message.{fields_of, message_under, messages_of};
 ghost use Rattle.fit_columns.specs.Columns.{cell_in, found_in};
-ghost use Rattle.fit_table.specs.Described.{base_in, description, descriptions_of, described_in, describes, is_number, known_after, string_of};
+ghost use Rattle.fit_table.specs.Described.{base_in, description, descriptions_of, described_in, describes, is_number, known_after, text_in};
 
+use crate::unit::Unit;
 use arrayvec::ArrayVec;
 use fit_base::{Arch, BaseType, FieldValue};
 use fit_columns::{Place, cell};
-use fit_grammar::{DataMessage, DeveloperFieldDefinition, FieldDefinition, FileItem, LentFile};
+use fit_grammar::{DataMessage, FieldDefinition, FileItem, LentFile};
 use std::marker::Model;
 
 /// The most descriptions of a file that are known.
@@ -26,9 +27,11 @@ pub struct Described<'a> {
     number: Option<i64>,
     /// The base type byte.
     pub base: u8,
-    /// A string, which ends before its first zero byte.
+    /// The unit of its numbers.
+    pub unit: Unit,
+    /// The name, UTF-8 or not; empty if there is none.
     pub name: &'a [u8],
-    /// A string, such as `watts`.
+    /// The units in words, such as `watts`.
     pub units: &'a [u8],
 }
 
@@ -42,6 +45,7 @@ impl<'a> Model for Described<'a> {
       index = d.index;
       number = d.number;
       base = d.base;
+      unit = d.unit;
       name = d.name.now;
       units = d.units.now;
     } };
@@ -93,8 +97,9 @@ fn description<'a>(place: u64, message: &DataMessage<'a>) -> Described<'a>
         index: number_in(fields, arch, message.content, 0),
         number: number_in(fields, arch, message.content, 1),
         base: base_in(number_in(fields, arch, message.content, 2)),
-        name: string_in(fields, arch, message.content, 3),
-        units: string_in(fields, arch, message.content, 8),
+        unit: Unit::Whole,
+        name: text_in(fields, arch, message.content, 3),
+        units: text_in(fields, arch, message.content, 8),
     }
 }
 
@@ -117,35 +122,36 @@ fn base_in(number: Option<i64>) -> u8
     }
 }
 
-// The bytes of the first field of this number, if it is a string.
-fn string_in<'a>(fields: &[FieldDefinition], arch: Arch, content: &'a [u8], number: u8) -> &'a [u8]
+// The text of the first field of this number, if it is a string.
+fn text_in<'a>(fields: &[FieldDefinition], arch: Arch, content: &'a [u8], number: u8) -> &'a [u8]
     requires sizes { sum_by (λ field. field.size) fields.now ≤ 130050 }
     requires whole { sum_by (λ field. field.size) fields.now ≤ length content.now }
-    ensures { result.now ≡ string_of (found_in number (fields_of arch fields.now content.now)) }
+    ensures { result.now ≡ text_in (found_in number (fields_of arch fields.now content.now)) }
 {
     let place = Place::new(fields, number);
     match BaseType::of(place.base) {
         Some(BaseType::String) => {
             let at = place.at as usize;
-            &content[at..at + usize::from(place.size)]
+            let bytes = &content[at..at + usize::from(place.size)];
+            FieldValue::new(place.base, arch, bytes).text_bytes()
         }
         _ => &[],
     }
 }
 
-/// The last description of a developer field that comes before the message in this place.
+/// The last description of the developer fields of this index and number that comes before the message in this place.
 pub fn described_in<'k, 'a>(
     known: &'k [Described<'a>],
     place: u64,
-    field: &DeveloperFieldDefinition,
+    index: u8,
+    number: u8,
 ) -> Option<&'k Described<'a>>
-    ensures { option_map (λ d. d.now) result
-        ≡ described_in known.now place field.now.index field.now.number }
+    ensures { option_map (λ d. d.now) result ≡ described_in known.now place index number }
 {
     let mut found = None;
     let mut left = known;
     while let [first, others @ ..] = left {
-        if describes(first, place, field) {
+        if describes(first, place, index, number) {
             found = Some(first);
         }
         left = others;
@@ -153,12 +159,12 @@ pub fn described_in<'k, 'a>(
     found
 }
 
-fn describes(described: &Described<'_>, place: u64, field: &DeveloperFieldDefinition) -> bool
-    ensures { result ≡ describes described.now place field.now.index field.now.number }
+fn describes(described: &Described<'_>, place: u64, index: u8, number: u8) -> bool
+    ensures { result ≡ describes described.now place index number }
 {
     described.place < place
-        && is_number(described.index, field.index)
-        && is_number(described.number, field.number)
+        && is_number(described.index, index)
+        && is_number(described.number, number)
 }
 
 fn is_number(found: Option<i64>, number: u8) -> bool

@@ -13,4 +13,6 @@ pub struct Layout<'a> {
     pub utc: bool,
     /// Whether names and units are those of the whole public Profile.
     pub profile: bool,
+    /// Whether columns of developer fields follow, each by the name that the file gives it. There are at most 128 more of them.
+    pub developer: bool,
 }

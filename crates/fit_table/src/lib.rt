@@ -12,6 +12,7 @@ mod described;
 mod float;
 mod json;
 mod layout;
+mod named;
 mod number;
 mod string;
 mod table;

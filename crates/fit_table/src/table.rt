@@ -1,23 +1,25 @@
 // A table of a file's messages.
 
-ghost use Rattle.std.specs.Prelude.{◌≡◌, ◌≤◌, ◌∷◌, ◌++◌, [], length, codes, decimal, IfOk};
+ghost use Rattle.std.specs.Prelude.{◌≡◌, ◌≤◌, ◌++◌, [], length, map, codes, decimal, IfOk};
 ghost use Rattle.fit_grammar.specs.Calls.Output.{WritesText};
-ghost use Rattle.fit_grammar.specs.Format.Message.{messages_of};
+ghost use Rattle.fit_grammar.specs.Format.Message.{message_under, messages_of};
 ghost use Rattle.fit_text.specs.Pen.{Puts};
 ghost use Rattle.fit_text.specs.Profile.{names_of_fields};
 ghost use Rattle.fit_text.specs.Text.{field_name as name_of_field};
 ghost use Rattle.fit_columns.specs.declared.plans.TheConstants.{MOST_COLUMNS};
-ghost use Rattle.fit_columns.specs.Places.{ArePlacesIn};
+ghost use Rattle.fit_columns.specs.Places.{ArePlacesIn, IsPlanOf};
 ghost use Rattle.fit_table.specs.Unit.{AreUnits};
-ghost use Rattle.fit_table.specs.Tokens.{Text, PutsTokens, WritesTokens};
-ghost use Rattle.fit_table.specs.Table.{line_end, column_name, name_of, names_from, head_of, cells_at, lines_of, table_of};
+ghost use Rattle.fit_table.specs.Tokens.{PutsTokens, WritesTokens};
+ghost use Rattle.fit_table.specs.Table.{column_name, name_of, names_from, head_of, head_with, cells_at, line_of, lines_from, lines_of, table_of, table_with};
 
 use crate::cell::put_cell;
+use crate::described::{Described, descriptions_of};
 use crate::layout::Layout;
+use crate::named::{names_of, put_named_cells, put_titles};
 use crate::unit::{Unit, suffix_in, units_of};
 use fit_base::Arch;
-use fit_columns::{MOST_COLUMNS, Place, Plans};
-use fit_grammar::{FileItem, LentFile, Sink, WriteFailed};
+use fit_columns::{MOST_COLUMNS, Place, Plan, Plans};
+use fit_grammar::{DataMessage, FileItem, LentFile, Sink, WriteFailed};
 use fit_profile::field_row;
 use fit_text::{Pen, field_name};
 use std::io::Write;
@@ -68,7 +70,7 @@ pub fn write_lines<W: Write>(
         (lines_of layout.now front.now (messages_of file.now.items)) }
 {
     let mut pen = Pen::new(out);
-    let done = put_all_lines(&mut pen, layout, front, file);
+    let done = put_all_lines(&mut pen, layout, &[], &[], front, file);
     let _ = pen.into_writer();
     done
 }
@@ -83,8 +85,27 @@ fn put_table<W: Write>(
         (table_of layout.now (messages_of file.now.items)) }
     ensures none { IfOk result (λ _. pen.new.waiting ≡ []) }
 {
-    put_head(pen, layout, &[])?;
-    put_all_lines(pen, layout, &[], file)
+    if layout.developer {
+        return put_described_table(pen, layout, descriptions_of(file).as_slice(), file);
+    }
+    put_described_table(pen, layout, &[], file)
+}
+
+// The table of a file, with columns for the developer fields that these describe.
+fn put_described_table<W: Write>(
+    pen: &mut Pen<'_, W>,
+    layout: &Layout<'_>,
+    known: &[Described<'_>],
+    file: &LentFile<'_>,
+) -> Result<(), WriteFailed>
+    requires { length layout.now.fields.now ≤ MOST_COLUMNS }
+    ensures text { PutsTokens pen.old pen.new result
+        (table_with layout.now known.now (messages_of file.now.items)) }
+    ensures none { IfOk result (λ _. pen.new.waiting ≡ []) }
+{
+    let names = names_of(known);
+    put_head(pen, layout, names.as_slice(), &[])?;
+    put_all_lines(pen, layout, known, names.as_slice(), &[], file)
 }
 
 fn put_whole_head<W: Write>(
@@ -95,34 +116,40 @@ fn put_whole_head<W: Write>(
     ensures text { Puts pen.old pen.new result (head_of layout.now front.now) }
     ensures none { IfOk result (λ _. pen.new.waiting ≡ []) }
 {
-    put_head(pen, layout, front)?;
+    put_head(pen, layout, &[], front)?;
     pen.hand_over()
 }
 
 fn put_all_lines<W: Write>(
     pen: &mut Pen<'_, W>,
     layout: &Layout<'_>,
+    known: &[Described<'_>],
+    names: &[&[u8]],
     front: &[u8],
     file: &LentFile<'_>,
 ) -> Result<(), WriteFailed>
     requires { length layout.now.fields.now ≤ MOST_COLUMNS }
     ensures text { PutsTokens pen.old pen.new result
-        (lines_of layout.now front.now (messages_of file.now.items)) }
+        (lines_from layout.now known.now (map (λ name. name.now) names.now) front.now 0
+        (messages_of file.now.items)) }
     ensures none { IfOk result (λ _. pen.new.waiting ≡ []) }
 {
-    put_lines(pen, layout, front, file)?;
+    put_lines(pen, layout, known, names, front, file)?;
     pen.hand_over()
 }
 
 fn put_head<W: Write>(
     pen: &mut Pen<'_, W>,
     layout: &Layout<'_>,
+    names: &[&[u8]],
     front: &[u8],
 ) -> Result<(), WriteFailed>
-    ensures { Puts pen.old pen.new result (head_of layout.now front.now) }
+    ensures { Puts pen.old pen.new result
+        (head_with layout.now (map (λ name. name.now) names.now) front.now) }
 {
     pen.put(front)?;
     put_names(pen, layout)?;
+    put_titles(pen, names)?;
     pen.put(b"\r\n")
 }
 
@@ -191,15 +218,20 @@ pub fn put_number_name<S: Sink>(pen: &mut Pen<'_, S>, number: u8) -> Result<(), 
 fn put_lines<W: Write>(
     pen: &mut Pen<'_, W>,
     layout: &Layout<'_>,
+    known: &[Described<'_>],
+    names: &[&[u8]],
     front: &[u8],
     file: &LentFile<'_>,
 ) -> Result<(), WriteFailed>
     requires { length layout.now.fields.now ≤ MOST_COLUMNS }
     ensures { PutsTokens pen.old pen.new result
-        (lines_of layout.now front.now (messages_of file.now.items)) }
+        (lines_from layout.now known.now (map (λ name. name.now) names.now) front.now 0
+        (messages_of file.now.items)) }
 {
+    let _ = file.data_size(); // Its contract bounds how many messages there are.
     let units = units_of(layout);
     let mut plans = Plans::new();
+    let mut next = 0;
     for item in file.items() {
         match item {
             FileItem::Definition(definition) => {
@@ -207,20 +239,15 @@ fn put_lines<W: Write>(
                 continue;
             }
             FileItem::Data(found, time) => {
+                let place = next;
+                next += 1;
                 if found.definition.global() != layout.message {
                     continue;
                 }
                 plans.settle(found.local, &found.definition, layout.fields);
                 let plan = plans.get(found.local);
                 put_line(
-                    pen,
-                    layout,
-                    front,
-                    &units,
-                    plan.places.as_slice(),
-                    plan.arch,
-                    time,
-                    found.content,
+                    pen, layout, known, names, front, &units, plan, place, time, &found,
                 )?;
             }
         }
@@ -231,21 +258,25 @@ fn put_lines<W: Write>(
 fn put_line<W: Write>(
     pen: &mut Pen<'_, W>,
     layout: &Layout<'_>,
+    known: &[Described<'_>],
+    names: &[&[u8]],
     front: &[u8],
     units: &[Unit; 256],
-    places: &[Place],
-    arch: Arch,
+    plan: &Plan,
+    place: u64,
     time: Option<u32>,
-    content: &[u8],
+    found: &DataMessage<'_>,
 ) -> Result<(), WriteFailed>
     requires units { AreUnits layout.now units.now }
-    requires inside { ArePlacesIn (length content.now) places.now }
+    requires plan { IsPlanOf layout.now.fields.now found.now.definition plan.now }
     ensures { PutsTokens pen.old pen.new result
-        (Text front.now ∷ (cells_at layout.now arch time content.now [] places.now
-        ++ Text line_end ∷ [])) }
+        (line_of layout.now known.now (map (λ name. name.now) names.now) front.now place
+        (message_under found.now.definition time found.now.content.now)) }
 {
     pen.put(front)?;
-    put_cells(pen, layout, units, places, arch, time, content)?;
+    let places = plan.places.as_slice();
+    put_cells(pen, layout, units, places, plan.arch, time, found.content)?;
+    put_named_cells(pen, known, place, names, found)?;
     pen.put(b"\r\n")
 }
 

@@ -9,9 +9,10 @@ use crate::layout::Layout;
 use fit_profile::{Scale, field_row};
 
 /// What the numbers of a column count, and how they are written.
-#[derive(Clone, Copy, Debug)]
+#[derive(Clone, Copy, Debug, Default)]
 pub enum Unit {
     /// The whole number that the file has.
+    #[default]
     Whole,
     /// Seconds since 1989-12-31T00:00:00Z.
     Time,

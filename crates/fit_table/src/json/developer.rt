@@ -8,7 +8,6 @@ ghost use Rattle.fit_table.specs.Json.{described_json, developer_json_by};
 
 use crate::described::{Described, described_in};
 use crate::json::number::put_values;
-use crate::unit::Unit;
 use fit_base::{Arch, BaseType, FieldValue};
 use fit_grammar::{DeveloperFieldDefinition, Sink};
 use fit_text::{Pen, put_developer_bytes, put_developer_key, put_json_string};
@@ -32,7 +31,7 @@ pub fn put_developer<S: Sink>(
           bytes = bytes.now;
         })) }
 {
-    match described_in(known, place, field) {
+    match described_in(known, place, field.index, field.number) {
         Some(described) => put_described(pen, described, arch, field, bytes),
         None => put_developer_bytes(pen, field, bytes),
     }
@@ -63,7 +62,7 @@ fn put_described<S: Sink>(
     pen.put(b",\"value\":")?;
     put_values(
         pen,
-        Unit::Whole,
+        described.unit,
         &FieldValue::new(described.base, arch, bytes),
     )?;
     pen.put(b"}")

@@ -1,14 +1,13 @@
-use Rattle.std.proofs.Common.{◌≡◌, ◌∷◌, ◌++◌, [], length, ap, sym, ◌∙◌, arith}
+use Rattle.std.proofs.Common.{◌≡◌, ◌∷◌, length, map, ap, sym, ◌∙◌, arith}
+use Rattle.fit_activity.proofs.FinishedActivity.Counted.{few_messages}
 use Rattle.fit_grammar.specs.Format.Item.{Defines}
 use Rattle.fit_grammar.specs.Format.Message.{messages_of}
 use Rattle.fit_grammar.specs.Format.Records.{in_force}
 use Rattle.fit_grammar.specs.Calls.LentItem.{lent_item, messages_in}
 use Rattle.fit_grammar.specs.Calls.Table.{in_force_after}
-use Rattle.fit_columns.proofs.PlanLemmas.{places_in}
-use Rattle.fit_table.proofs.TokenLemmas.{begin_tokens, less_tokens, off_tokens, tokens_same}
-use Rattle.fit_table.specs.Table.{line_end}
-use Rattle.fit_table.specs.Tokens.{Text}
-use Rattle.fit_table.proofs.LineLemmas.{line_shows, next_line}
+use Rattle.fit_table.proofs.NamedLemmas.{name_of}
+use Rattle.fit_table.proofs.TokenLemmas.{begin_tokens, less_tokens, off_tokens}
+use Rattle.fit_table.proofs.LineLemmas.{next_line, other_line}
 use Rattle.fit_table.proofs.table.put_lines.Goals as goal
 
 pub loop-item-init : goal.loop-item-init
@@ -20,6 +19,7 @@ loop-item-init g c =
       record {
         under = rw all c.items-item-items.ensures.under;
         plans = c.new-plans.ensures c.args.layout.now.fields.now (in_force []);
+        count = omega (arith, ap length stated);
         put = rw stated (begin_tokens _ _);
       },
     )
@@ -35,7 +35,38 @@ loop-item-preserved-in-Definition g c =
       record {
         under = under.1;
         plans = c.forget.ensures c.args.layout.now.fields.now definition_for d (sym c.local.ensures) kept.plans;
+        count = rw steps at kept.count;
         put = rw steps at kept.put;
+      },
+    )
+
+pub overflow_add-next : goal.overflow_add-next
+overflow_add-next g c =
+    let steps = c.in-Some.ensures.steps ∙ ap (λ item. lent_item item ∷ c.next.new.self) c.in-Data.is in
+    omega (
+      arith,
+      few_messages c.args.file.now.items,
+      c.data_size.ensures,
+      c.loop-item.invariant.1.count,
+      ap (λ items. length (messages_in items)) steps,
+    )
+
+pub loop-item-preserved-then-global-layout : goal.loop-item-preserved-then-global-layout
+loop-item-preserved-then-global-layout g c =
+    let definition_for = c.loop-item.invariant.0 in
+    let kept = c.loop-item.invariant.1 in
+    let found = c.in-Data.found in
+    let layout = c.args.layout.now in
+    let steps = c.in-Some.ensures.steps ∙ ap (λ item. lent_item item ∷ c.next.new.self) c.in-Data.is in
+    let under = rw steps at kept.under in (
+      definition_for,
+      record {
+        under = under.2;
+        plans = kept.plans;
+        count = omega (arith, kept.count, ap (λ items. length (messages_in items)) steps);
+        put = rw (steps,
+            other_line layout c.args.known.now (map name_of c.args.names.now) c.args.front.now c.loop-item.next found.definition c.in-Data.time found.content.now
+            (messages_in c.next.new.self) (λ e. c.if-global-layout.true (c.global.ensures ∙ e))) at kept.put;
       },
     )
 
@@ -47,12 +78,9 @@ put_line-requires g c =
     let steps = c.in-Some.ensures.steps ∙ ap (λ item. lent_item item ∷ c.next.new.self) c.in-Data.is in
     let under = rw steps at kept.under in
     let plans = c.settle.ensures.plans definition_for under.1 kept.plans in
-    let own = plans found.local found.definition c.get-plan.result.now c.get-plan.ensures under.1 in
     record {
       units = c.units_of-units.ensures;
-      inside = rw c.as_slice.ensures.value
-          (places_in found.definition.fields.items c.args.layout.now.fields.now c.get-plan.result.now.places.items (length found.content.now)
-          (omega (arith, found.whole)) own.places);
+      plan = plans found.local found.definition c.get-plan.result.now c.get-plan.ensures under.1;
     }
 
 pub loop-item-preserved : goal.loop-item-preserved
@@ -60,34 +88,27 @@ loop-item-preserved g c =
     let definition_for = c.loop-item.invariant.0 in
     let kept = c.loop-item.invariant.1 in
     let found = c.in-Data.found in
+    let layout = c.args.layout.now in
     let steps = c.in-Some.ensures.steps ∙ ap (λ item. lent_item item ∷ c.next.new.self) c.in-Data.is in
     let under = rw steps at kept.under in
-    let is = sym c.global.ensures ∙ c.if-global-layout.false in
-    let plans = c.settle.ensures.plans definition_for under.1 kept.plans in
-    let own = plans found.local found.definition c.get-plan.result.now c.get-plan.ensures under.1 in
-    let line = line_shows c.args.layout.now [] found.definition c.args.layout.now.fields.now c.as_slice.result.now c.in-Data.time c.get-plan.result.now.arch
-    found.content.now own.arch (omega (arith, found.whole)) (rw c.as_slice.ensures.value own.places) in (
+    let is = sym c.global.ensures ∙ c.if-global-layout.false in (
       definition_for,
       record {
         under = under.2;
-        plans = plans;
-        put = less_tokens _ (rw steps at kept.put) (tokens_same c.in_ok-put_line-in-Data.ensures (ap (λ t. Text c.args.front.now ∷ (t ++ Text line_end ∷ [])) line))
-            (next_line c.args.layout.now c.args.front.now found.definition c.in-Data.time found.content.now (messages_in c.next.new.self) is);
+        plans = c.settle.ensures.plans definition_for under.1 kept.plans;
+        count = omega (arith, kept.count, ap (λ items. length (messages_in items)) steps);
+        put = less_tokens _ (rw steps at kept.put) c.in_ok-put_line-in-Data.ensures
+            (next_line layout c.args.known.now (map name_of c.args.names.now) c.args.front.now c.loop-item.next found.definition c.in-Data.time found.content.now
+            (messages_in c.next.new.self) is);
       },
     )
 
 pub returns-in_err-put_line-in-Data : goal.returns-in_err-put_line-in-Data
 returns-in_err-put_line-in-Data g c =
-    let definition_for = c.loop-item.invariant.0 in
     let kept = c.loop-item.invariant.1 in
     let found = c.in-Data.found in
     let steps = c.in-Some.ensures.steps ∙ ap (λ item. lent_item item ∷ c.next.new.self) c.in-Data.is in
-    let under = rw steps at kept.under in
     let is = sym c.global.ensures ∙ c.if-global-layout.false in
-    let plans = c.settle.ensures.plans definition_for under.1 kept.plans in
-    let own = plans found.local found.definition c.get-plan.result.now c.get-plan.ensures under.1 in
-    let line = line_shows c.args.layout.now [] found.definition c.args.layout.now.fields.now c.as_slice.result.now c.in-Data.time c.get-plan.result.now.arch
-    found.content.now own.arch (omega (arith, found.whole)) (rw c.as_slice.ensures.value own.places) in
-    off_tokens _ c.from_residual.ensures.0 (rw steps at kept.put)
-    (tokens_same c.in_err-put_line-in-Data.ensures (ap (λ t. Text c.args.front.now ∷ (t ++ Text line_end ∷ [])) line))
-    (next_line c.args.layout.now c.args.front.now found.definition c.in-Data.time found.content.now (messages_in c.next.new.self) is)
+    off_tokens _ c.from_residual.ensures.0 (rw steps at kept.put) c.in_err-put_line-in-Data.ensures
+    (next_line c.args.layout.now c.args.known.now (map name_of c.args.names.now) c.args.front.now c.loop-item.next found.definition c.in-Data.time
+    found.content.now (messages_in c.next.new.self) is)

@@ -1,9 +1,10 @@
-use Rattle.std.proofs.Common.{ℕ, Option}
+use Rattle.std.proofs.Common.{◌≡◌, ◌+◌, ℕ, Option, length, map}
 use Rattle.fit_grammar.specs.declared.definition.Definition.{Definition}
 use Rattle.fit_grammar.specs.Format.Message.{messages_of}
 use Rattle.fit_grammar.specs.Calls.LentItem.{AllUnder, messages_in}
 use Rattle.fit_columns.specs.Places.{ArePlansFor}
-use Rattle.fit_table.specs.Table.{lines_of}
+use Rattle.fit_table.specs.Table.{lines_from}
+use Rattle.fit_table.proofs.NamedLemmas.{name_of}
 use Rattle.fit_table.proofs.TokenLemmas.{LeavesTokens}
 use Rattle.fit_table.proofs.table.put_lines.Given as goal
 
@@ -12,6 +13,7 @@ invariant-loop-item g l =
     (definition_for : ℕ → Option Definition) × record {
       under : AllUnder definition_for l.item-iterator;
       plans : ArePlansFor l.layout.fields.now definition_for l.plans;
-      put : LeavesTokens l.initial.pen l.pen (lines_of l.layout l.front (messages_of l.file.items))
-          (lines_of l.layout l.front (messages_in l.item-iterator));
+      count : l.next + length (messages_in l.item-iterator) ≡ length (messages_of l.file.items);
+      put : LeavesTokens l.initial.pen l.pen (lines_from l.layout l.known (map name_of l.names) l.front 0 (messages_of l.file.items))
+          (lines_from l.layout l.known (map name_of l.names) l.front l.next (messages_in l.item-iterator));
     }
