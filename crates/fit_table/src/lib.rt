@@ -13,6 +13,7 @@ mod float;
 mod json;
 mod layout;
 mod number;
+mod stated;
 mod string;
 mod table;
 mod unit;
