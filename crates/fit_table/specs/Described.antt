@@ -1,5 +1,5 @@
 -- Developer fields, as the messages field_description of their file describe them (FIT protocol, "Developer data").
-use Rattle.std.specs.Prelude.{ℕ, ◌+◌, ℤ, pos, Bool, false, List, [], ◌∷◌, ◌++◌, length, Option, Some, None, ◌==◌, ◌&&◌, nat_le, nat_lt, if◌then◌else◌}
+use Rattle.std.specs.Prelude.{ℕ, zero, ◌+◌, ℤ, pos, negsuc, Bool, false, List, [], ◌∷◌, ◌++◌, length, Option, Some, None, ◌==◌, ◌&&◌, nat_le, nat_lt, if◌then◌else◌}
 use Rattle.std.specs.Option.{option_or}
 use Rattle.fit_base.specs.declared.base.BaseType.{BaseType}
 use Rattle.fit_base.specs.declared.base.BaseType.TheVariants.{String}
@@ -7,6 +7,8 @@ use Rattle.fit_base.specs.Base.{base_type}
 use Rattle.fit_base.specs.Value.{Values, Numbers}
 use Rattle.fit_grammar.specs.Format.Message.{Message, MessageField}
 use Rattle.fit_columns.specs.Columns.{cell_in, found_in}
+use Rattle.fit_table.specs.declared.unit.Unit.{Unit}
+use Rattle.fit_table.specs.declared.unit.Unit.TheVariants.{Whole, Stated}
 
 -- ---- one description
 
@@ -80,3 +82,23 @@ abbrev pub described_in : List Description → ℕ → ℕ → ℕ → Option De
 described_in [] place index number = None
 described_in (d ∷ known) place index number =
     option_or (described_in known place index number) (one_if (describes d place index number) d)
+
+-- ---- the unit of its values
+
+-- a scale is uint8 and not 0, an offset is sint8; any other or none is 1 and 0
+abbrev pub scale_in : Option ℤ → ℕ
+scale_in (Some (pos n)) = if nat_le 1 n && nat_le n 255 then n else 1
+scale_in _ = 1
+
+abbrev pub offset_in : Option ℤ → ℤ
+offset_in (Some (pos n)) = if nat_le n 127 then pos n else pos 0
+offset_in (Some (negsuc n)) = if nat_le n 127 then negsuc n else pos 0
+offset_in None = pos 0
+
+-- a scale of 1 with an offset of 0 leaves the number as it is
+abbrev pub unit_with : ℕ → ℤ → Unit
+unit_with scale (pos zero) = if scale == 1 then Whole else Stated scale (pos zero)
+unit_with scale offset = Stated scale offset
+
+abbrev pub unit_stated : Option ℤ → Option ℤ → Unit
+unit_stated scale offset = unit_with (scale_in scale) (offset_in offset)

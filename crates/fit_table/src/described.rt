@@ -3,8 +3,9 @@
 ghost use Rattle.std.specs.Prelude.{◌≡◌, ◌≤◌, ℕ, Option, length, sum_by, option_map};
 ghost use Rattle.fit_grammar.specs.Format.Message.{fields_of, message_under, messages_of};
 ghost use Rattle.fit_columns.specs.Columns.{cell_in, found_in};
-ghost use Rattle.fit_table.specs.Described.{base_in, description, descriptions_of, described_in, describes, is_number, known_after, string_of};
+ghost use Rattle.fit_table.specs.Described.{base_in, description, descriptions_of, described_in, describes, is_number, known_after, offset_in, scale_in, string_of, unit_stated};
 
+use crate::unit::Unit;
 use arrayvec::ArrayVec;
 use fit_base::{Arch, BaseType, FieldValue};
 use fit_columns::{Place, cell};
@@ -167,5 +168,33 @@ fn is_number(found: Option<i64>, number: u8) -> bool
     match found {
         Some(found) => found == i64::from(number),
         None => false,
+    }
+}
+
+/// The unit of values whose description states this scale and this offset.
+pub fn unit_stated(scale: Option<i64>, offset: Option<i64>) -> Unit
+    ensures { result ≡ unit_stated scale offset }
+{
+    match (scale_in(scale), offset_in(offset)) {
+        (1, 0) => Unit::Whole,
+        (scale, offset) => Unit::Stated(scale, offset),
+    }
+}
+
+fn scale_in(scale: Option<i64>) -> u8
+    ensures { result ≡ scale_in scale }
+{
+    match scale {
+        Some(n) if n >= 1 && n <= 255 => n as u8,
+        _ => 1,
+    }
+}
+
+fn offset_in(offset: Option<i64>) -> i8
+    ensures { result ≡ offset_in offset }
+{
+    match offset {
+        Some(n) if n >= -128 && n <= 127 => n as i8,
+        _ => 0,
     }
 }
