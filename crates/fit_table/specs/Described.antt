@@ -1,5 +1,5 @@
 -- Developer fields, as the messages field_description of their file describe them (FIT protocol, "Developer data").
-use Rattle.std.specs.Prelude.{ℕ, ◌+◌, ℤ, pos, Bool, false, List, [], ◌∷◌, ◌++◌, length, Option, Some, None, ◌==◌, ◌&&◌, nat_le, nat_lt, if◌then◌else◌}
+use Rattle.std.specs.Prelude.{ℕ, zero, ◌+◌, ℤ, pos, negsuc, Bool, false, List, [], ◌∷◌, ◌++◌, length, Option, Some, None, ◌==◌, ◌&&◌, nat_le, nat_lt, if◌then◌else◌}
 use Rattle.std.specs.List.{before_first}
 use Rattle.std.specs.Option.{option_or}
 use Rattle.fit_base.specs.declared.base.BaseType.{BaseType}
@@ -9,7 +9,27 @@ use Rattle.fit_base.specs.Value.{Values, Numbers}
 use Rattle.fit_grammar.specs.Format.Message.{Message, MessageField}
 use Rattle.fit_columns.specs.Columns.{cell_in, found_in}
 use Rattle.fit_table.specs.declared.unit.Unit.{Unit as AnyUnit}
-use Rattle.fit_table.specs.declared.unit.Unit.TheVariants.{Whole}
+use Rattle.fit_table.specs.declared.unit.Unit.TheVariants.{Whole, Stated}
+
+-- ---- the unit of the values
+
+-- a scale is uint8 and not 0, an offset is sint8; any other or none is 1 and 0
+abbrev pub scale_in : Option ℤ → ℕ
+scale_in (Some (pos n)) = if nat_le 1 n && nat_le n 255 then n else 1
+scale_in _ = 1
+
+abbrev pub offset_in : Option ℤ → ℤ
+offset_in (Some (pos n)) = if nat_le n 127 then pos n else pos 0
+offset_in (Some (negsuc n)) = if nat_le n 127 then negsuc n else pos 0
+offset_in None = pos 0
+
+-- a scale of 1 with an offset of 0 leaves the number as it is
+abbrev pub unit_with : ℕ → ℤ → AnyUnit
+unit_with scale (pos zero) = if scale == 1 then Whole else Stated scale (pos zero)
+unit_with scale offset = Stated scale offset
+
+abbrev pub unit_stated : Option ℤ → Option ℤ → AnyUnit
+unit_stated scale offset = unit_with (scale_in scale) (offset_in offset)
 
 -- ---- one description
 
@@ -37,7 +57,7 @@ text_by _ _ = []
 abbrev pub text_in : MessageField → List ℕ
 text_in field = text_by (base_type field.base) field.values
 
--- the fields are developer_data_index, field_definition_number, fit_base_type_id, field_name and units
+-- the fields are developer_data_index, field_definition_number, fit_base_type_id, field_name, scale, offset and units
 abbrev pub description : ℕ → Message → Description
 description place m =
     record {
@@ -45,7 +65,7 @@ description place m =
       index = cell_in 0 m.fields;
       number = cell_in 1 m.fields;
       base = base_in (cell_in 2 m.fields);
-      unit = Whole;
+      unit = unit_stated (cell_in 6 m.fields) (cell_in 7 m.fields);
       name = text_in (found_in 3 m.fields);
       units = text_in (found_in 8 m.fields);
     }

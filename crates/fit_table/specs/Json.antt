@@ -18,7 +18,7 @@ use Rattle.fit_profile.specs.Facts.{row_in}
 use Rattle.fit_profile.specs.Table.{fields_at, message_named}
 use Rattle.fit_columns.specs.Columns.{is_whole}
 use Rattle.fit_table.specs.declared.unit.Unit.{Unit as AnyUnit}
-use Rattle.fit_table.specs.declared.unit.Unit.TheVariants.{Whole, Date, Degrees, Height, Metres, Seconds, Speed, Scaled}
+use Rattle.fit_table.specs.declared.unit.Unit.TheVariants.{Whole, Date, Degrees, Height, Metres, Seconds, Speed, Scaled, Stated}
 use Rattle.fit_table.specs.declared.json.known.Found.{Found}
 use Rattle.fit_table.specs.declared.json.words.Words.{Words}
 use Rattle.fit_table.specs.Described.{Description, described_in, descriptions_of}
@@ -46,6 +46,7 @@ keeps_number Metres = false
 keeps_number Seconds = false
 keeps_number Speed = false
 keeps_number (Scaled scale) = keeps_scale scale
+keeps_number (Stated scale offset) = false
 keeps_number unit = true
 
 -- whether the values of a field are written in units: numbers of such a type are

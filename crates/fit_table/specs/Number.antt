@@ -1,11 +1,11 @@
 -- Numbers in decimal, in units.
-use Rattle.std.specs.Prelude.{ℕ, ◌≤◌, zero, suc, ◌+◌, ◌*◌, ◌^◌, ◌/◌, ◌%◌, ℤ, pos, negsuc, neg_ℤ, ◌≤ℤ◌, ◌-ℤ◌, ◌*ℤ◌, List, [], ◌∷◌, ◌++◌, Result, Ok, Err, codes, decimal, nat_le, ◌&&◌, if◌then◌else◌}
+use Rattle.std.specs.Prelude.{ℕ, ◌≤◌, zero, suc, ◌+◌, ◌*◌, ◌^◌, ◌/◌, ◌%◌, ℤ, pos, negsuc, neg_ℤ, ◌≤ℤ◌, ◌-ℤ◌, ◌*ℤ◌, List, [], ◌∷◌, ◌++◌, Result, Ok, Err, codes, decimal, nat_le, ◌==◌, ◌&&◌, if◌then◌else◌}
 use Rattle.std.specs.Fmt.{signed_decimal}
 use Rattle.fit_text.specs.Date.{date_text}
 use Rattle.fit_table.specs.declared.unit.Unit.{Unit as AnyUnit}
-use Rattle.fit_table.specs.declared.unit.Unit.TheVariants.{Whole, Time, Date, Degrees, Height, Metres, Seconds, Speed, Beats, Turns, Watts, Celsius, Scaled}
+use Rattle.fit_table.specs.declared.unit.Unit.TheVariants.{Whole, Time, Date, Degrees, Height, Metres, Seconds, Speed, Beats, Turns, Watts, Celsius, Scaled, Stated}
 use Rattle.fit_profile.specs.declared.scale.Parts.{Parts}
-use Rattle.fit_profile.specs.Scale.{parts_of}
+use Rattle.fit_profile.specs.Scale.{parts, parts_of}
 
 -- the last digits of a number, this many
 abbrev pub digits : ℕ → ℕ → List ℕ
@@ -48,6 +48,26 @@ scaled_text parts value =
     signed_text (λ n. decimals_text parts.power parts.decimals (nearest parts n))
     (split_of (value -ℤ parts.shift))
 
+-- a value of a scale and an offset that a file states is the number / scale - offset; a scale of 0 counts as 1
+abbrev pub scale_or_one : ℕ → ℕ
+scale_or_one zero = 1
+scale_or_one scale = scale
+
+abbrev pub stated_with : ℕ → ℤ → ℕ → ℕ → Parts
+stated_with scale offset power decimals =
+    parts (offset *ℤ pos scale) power scale power decimals
+
+-- values are exact by the scales 1, 10 and 100; by others they are the nearest with eight decimals
+abbrev pub stated_by : ℕ → ℤ → Parts
+stated_by scale offset =
+    if scale == 1 then stated_with scale offset 1 0
+    else if scale == 10 then stated_with scale offset 10 1
+    else if scale == 100 then stated_with scale offset 100 2
+    else stated_with scale offset 100000000 8
+
+abbrev pub stated_parts : ℕ → ℤ → Parts
+stated_parts scale offset = stated_by (scale_or_one scale) offset
+
 -- a time as a date, if it is a calendar time of 32 bits
 abbrev pub date_or : List ℕ → ℤ → List ℕ
 date_or empty (pos n) = if nat_le 268435456 n && nat_le n 4294967295 then date_text n else empty
@@ -64,14 +84,15 @@ IsWide value = (neg_ℤ (pos limit) ≤ℤ value) × (value ≤ℤ pos limit)
 abbrev pub IsWithin : ℕ → ℤ → Type 0
 IsWithin bits value = (neg_ℤ (pos (2 ^ bits)) ≤ℤ value) × (value ≤ℤ pos (2 ^ bits))
 
+-- parts that leave room in 64 bits; 32640 is 128 * 255, the most that an offset shifts by a scale that a file states
 pub record AreSmallParts (parts : Parts) : Type 0 where
   pub multiplier : parts.multiplier ≤ 1125000000
   pub divisor : 1 ≤ parts.divisor
   pub half : parts.divisor ≤ 134217728
   pub power : 1 ≤ parts.power
   pub decimals : parts.decimals ≤ 8
-  pub low : neg_ℤ (pos 2500) ≤ℤ parts.shift
-  pub high : parts.shift ≤ℤ pos 2500
+  pub low : neg_ℤ (pos 32640) ≤ℤ parts.shift
+  pub high : parts.shift ≤ℤ pos 32640
 
 -- a value in its unit; the first text is that of a cell without a value
 abbrev pub unit_text : List ℕ → AnyUnit → ℤ → List ℕ
@@ -88,3 +109,4 @@ unit_text empty Turns value = signed_decimal value
 unit_text empty Watts value = signed_decimal value
 unit_text empty Celsius value = signed_decimal value
 unit_text empty (Scaled scale) value = scaled_text (parts_of scale) value
+unit_text empty (Stated scale offset) value = scaled_text (stated_parts scale offset) value

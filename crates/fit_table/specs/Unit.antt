@@ -2,7 +2,7 @@
 use Rattle.std.specs.Prelude.{◌≡◌, ℕ, ◌+◌, ◌≤◌, Bool, true, false, Option, Some, None, List, [], ◌∷◌, slice_index_or, codes, ◌==◌, ◌||◌, if◌then◌else◌}
 use Rattle.fit_table.specs.declared.layout.Layout.{Layout}
 use Rattle.fit_table.specs.declared.unit.Unit.{Unit as AnyUnit}
-use Rattle.fit_table.specs.declared.unit.Unit.TheVariants.{Whole, Time, Date, Degrees, Height, Metres, Seconds, Speed, Beats, Turns, Watts, Celsius, Scaled}
+use Rattle.fit_table.specs.declared.unit.Unit.TheVariants.{Whole, Time, Date, Degrees, Height, Metres, Seconds, Speed, Beats, Turns, Watts, Celsius, Scaled, Stated}
 use Rattle.fit_profile.specs.declared.scale.Scale.{Scale}
 use Rattle.fit_profile.specs.declared.scale.Scale.TheVariants.{Time as InSeconds}
 use Rattle.fit_profile.specs.Facts.{FieldFacts, row_in}
@@ -87,6 +87,7 @@ suffix_of own Turns = codes "_rpm"
 suffix_of own Watts = codes "_w"
 suffix_of own Celsius = codes "_c"
 suffix_of own (Scaled scale) = own
+suffix_of own (Stated scale offset) = []
 
 abbrev pub end_of : Option FieldFacts → List ℕ
 end_of None = []

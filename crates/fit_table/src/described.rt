@@ -3,7 +3,7 @@
 ghost use Rattle.std.specs.Prelude.{◌≡◌, ◌≤◌, ℕ, Option, length, sum_by, option_map};
 ghost use Rattle.fit_grammar.specs.Format.Message.{fields_of, message_under, messages_of};
 ghost use Rattle.fit_columns.specs.Columns.{cell_in, found_in};
-ghost use Rattle.fit_table.specs.Described.{base_in, description, descriptions_of, described_in, describes, is_number, known_after, text_in};
+ghost use Rattle.fit_table.specs.Described.{base_in, description, descriptions_of, described_in, describes, is_number, known_after, offset_in, scale_in, text_in, unit_stated};
 
 use crate::unit::Unit;
 use arrayvec::ArrayVec;
@@ -97,7 +97,10 @@ fn description<'a>(place: u64, message: &DataMessage<'a>) -> Described<'a>
         index: number_in(fields, arch, message.content, 0),
         number: number_in(fields, arch, message.content, 1),
         base: base_in(number_in(fields, arch, message.content, 2)),
-        unit: Unit::Whole,
+        unit: unit_stated(
+            number_in(fields, arch, message.content, 6),
+            number_in(fields, arch, message.content, 7),
+        ),
         name: text_in(fields, arch, message.content, 3),
         units: text_in(fields, arch, message.content, 8),
     }
@@ -173,5 +176,33 @@ fn is_number(found: Option<i64>, number: u8) -> bool
     match found {
         Some(found) => found == i64::from(number),
         None => false,
+    }
+}
+
+// The unit of values whose description states this scale and this offset.
+fn unit_stated(scale: Option<i64>, offset: Option<i64>) -> Unit
+    ensures { result ≡ unit_stated scale offset }
+{
+    match (scale_in(scale), offset_in(offset)) {
+        (1, 0) => Unit::Whole,
+        (scale, offset) => Unit::Stated(scale, offset),
+    }
+}
+
+fn scale_in(scale: Option<i64>) -> u8
+    ensures { result ≡ scale_in scale }
+{
+    match scale {
+        Some(n) if n >= 1 && n <= 255 => n as u8,
+        _ => 1,
+    }
+}
+
+fn offset_in(offset: Option<i64>) -> i8
+    ensures { result ≡ offset_in offset }
+{
+    match offset {
+        Some(n) if n >= -128 && n <= 127 => n as i8,
+        _ => 0,
     }
 }

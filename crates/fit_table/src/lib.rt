@@ -14,6 +14,7 @@ mod json;
 mod layout;
 mod named;
 mod number;
+mod stated;
 mod string;
 mod table;
 mod unit;

@@ -5,6 +5,7 @@ ghost use Rattle.fit_text.specs.Pen.{Puts};
 ghost use Rattle.fit_columns.specs.Places.{IsSmall};
 ghost use Rattle.fit_table.specs.Number.{digits, places_text, fixed_text, rounded, degrees_text, date_or, unit_text, split_of, limit, IsWide, nearest, decimals_text, scaled_text, AreSmallParts};
 
+use crate::stated::stated_parts;
 use crate::unit::Unit;
 use fit_grammar::Sink;
 use fit_profile::{Parts, parts_of};
@@ -31,12 +32,13 @@ pub fn put_value<S: Sink>(
         Unit::Seconds | Unit::Speed => put_fixed(pen, 3, 1000, value),
         Unit::Date => put_date_or(pen, empty, value),
         Unit::Scaled(scale) => put_scaled(pen, parts_of(scale), value),
+        Unit::Stated(scale, offset) => put_scaled(pen, stated_parts(scale, offset), value),
         Unit::Whole | Unit::Time | Unit::Beats | Unit::Turns | Unit::Watts | Unit::Celsius =>
             pen.put_signed(value),
     }
 }
 
-// A value of a scale of the Profile.
+// A value of a scale.
 fn put_scaled<S: Sink>(pen: &mut Pen<'_, S>, parts: Parts, value: i64) -> Result<(), S::Fault>
     requires small { IsSmall value }
     requires parts { AreSmallParts parts }

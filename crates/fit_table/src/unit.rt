@@ -36,6 +36,8 @@ pub enum Unit {
     Celsius,
     /// A unit of the Profile, by its scale.
     Scaled(Scale),
+    /// A scale and an offset that a file states: a value is the number / scale - offset.
+    Stated(u8, i8),
 }
 
 /// The unit of a column.
@@ -187,7 +189,7 @@ pub fn suffix_of(unit: Unit) -> &'static [u8]
         Unit::Turns => b"_rpm",
         Unit::Watts => b"_w",
         Unit::Celsius => b"_c",
-        Unit::Scaled(_) => b"",
+        Unit::Scaled(_) | Unit::Stated(..) => b"",
     }
 }
 

@@ -5,6 +5,7 @@ ghost use Rattle.fit_text.specs.Pen.{Puts};
 ghost use Rattle.fit_table.specs.Number.{places_text, date_or, unit_text, split_of, IsWithin, nearest, decimals_text, scaled_text, AreSmallParts};
 
 use crate::number::put_digits;
+use crate::stated::stated_parts;
 use crate::unit::Unit;
 use fit_grammar::WriteFailed;
 use fit_profile::{Parts, Scale, parts_of};
@@ -35,6 +36,7 @@ pub fn put_wide<W: Write>(
         Unit::Seconds | Unit::Speed => put_scaled(pen, parts_of(Scale::Thousandth), value),
         Unit::Date => put_date_or(pen, empty, value),
         Unit::Scaled(scale) => put_scaled(pen, parts_of(scale), value),
+        Unit::Stated(scale, offset) => put_scaled(pen, stated_parts(scale, offset), value),
         Unit::Whole | Unit::Time | Unit::Beats | Unit::Turns | Unit::Watts | Unit::Celsius => {
             let mut buffer = Buffer::new();
             pen.put(buffer.format(value).as_bytes())
@@ -53,7 +55,7 @@ fn put_date_or<W: Write>(pen: &mut Pen<'_, W>, empty: &[u8], value: i128) -> Res
     }
 }
 
-// A value of a scale of the Profile.
+// A value of a scale.
 fn put_scaled<W: Write>(pen: &mut Pen<'_, W>, parts: Parts, value: i128) -> Result<(), WriteFailed>
     requires wide { IsWithin 66 value }
     requires parts { AreSmallParts parts }

@@ -84,6 +84,7 @@ fn keeps_number(unit: Unit) -> bool
     match unit {
         Unit::Degrees | Unit::Height | Unit::Metres | Unit::Seconds | Unit::Speed => false,
         Unit::Scaled(scale) => keeps_scale(scale),
+        Unit::Stated(..) => false,
         _ => true,
     }
 }
