@@ -44,7 +44,7 @@ pub returns : goal.returns
 returns c = λ time.
     elim c.match-next.branch [
       | in-None w ↦ rw c.new.ensures (read_no_field (map seen c.loop-field.left.now) c.args.name.now c.loop-field.field-iterator w.in-None.ensures.steps.0
-        ∙ c.loop-field.invariant time)
+          ∙ c.loop-field.invariant time)
       | in-Some+in_default w ↦ rw c.new.ensures (read_no_told (map seen c.loop-field.left.now) c.args.name.now c.loop-field.field-iterator
-        (none_viewed seen c.loop-field.left.now w.in_default.len_below) ∙ c.loop-field.invariant time)
+          (none_viewed seen c.loop-field.left.now w.in_default.len_below) ∙ c.loop-field.invariant time)
     ]

@@ -1,4 +1,4 @@
-use Rattle.std.proofs.Common.{◌≡◌, ◌∷◌, length, map, ap, sym, ◌∙◌, arith}
+use Rattle.std.proofs.Common.{◌≡◌, ◌∷◌, [], length, map, ap, sym, ◌∙◌, arith}
 use Rattle.fit_activity.proofs.FinishedActivity.Counted.{few_messages}
 use Rattle.fit_grammar.specs.Format.Item.{Defines}
 use Rattle.fit_grammar.specs.Format.Message.{messages_of}
@@ -64,9 +64,11 @@ loop-item-preserved-then-global-layout g c =
         under = under.2;
         plans = kept.plans;
         count = omega (arith, kept.count, ap (λ items. length (messages_in items)) steps);
-        put = rw (steps,
-            other_line layout c.args.known.now (map name_of c.args.names.now) c.args.front.now c.loop-item.next found.definition c.in-Data.time found.content.now
-            (messages_in c.next.new.self) (λ e. c.if-global-layout.true (c.global.ensures ∙ e))) at kept.put;
+        put = rw (
+          steps,
+          other_line layout c.args.known.now (map name_of c.args.names.now) c.args.front.now c.loop-item.next found.definition c.in-Data.time found.content.now
+              (messages_in c.next.new.self) (λ e. c.if-global-layout.true (c.global.ensures ∙ e)),
+        ) at kept.put;
       },
     )
 
