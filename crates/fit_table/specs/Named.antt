@@ -63,14 +63,20 @@ read_in _ name _ = record { base = 0; unit = Whole; values = Numbers [] }
 abbrev pub told_in : List Description → ℕ → List MessageDeveloperField → List (Option Description)
 told_in known place fields = map (λ field. described_in known place field.index field.number) fields
 
-abbrev pub read_cell : ReadField → List Token
-read_cell read = field_tokens [] read.unit (base_type read.base) read.values
+-- its numbers are those of the file if `raw` is set
+abbrev pub unit_if : Bool → AnyUnit → AnyUnit
+unit_if raw unit = if raw then Whole else unit
+
+abbrev pub read_cell : Bool → ReadField → List Token
+read_cell raw read = field_tokens [] (unit_if raw read.unit) (base_type read.base) read.values
 
 -- the cells of these names, each after a comma
-abbrev pub cells_by : List (Option Description) → List (List ℕ) → List MessageDeveloperField → List Token
-cells_by told [] fields = []
-cells_by told (name ∷ names) fields =
-    Text (codes ",") ∷ (read_cell (read_in told name fields) ++ cells_by told names fields)
+abbrev pub cells_by : Bool → List (Option Description) → List (List ℕ)
+    → List MessageDeveloperField → List Token
+cells_by raw told [] fields = []
+cells_by raw told (name ∷ names) fields =
+    Text (codes ",") ∷ (read_cell raw (read_in told name fields) ++ cells_by raw told names fields)
 
-abbrev pub named_cells : List Description → ℕ → List (List ℕ) → List MessageDeveloperField → List Token
-named_cells known place names fields = cells_by (told_in known place fields) names fields
+abbrev pub named_cells : Bool → List Description → ℕ → List (List ℕ)
+    → List MessageDeveloperField → List Token
+named_cells raw known place names fields = cells_by raw (told_in known place fields) names fields

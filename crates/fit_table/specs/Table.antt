@@ -86,7 +86,7 @@ cells_from layout front (number ∷ numbers) m =
 abbrev pub line_of : Layout → List Description → List (List ℕ) → List ℕ → ℕ → Message → List Token
 line_of layout known names front place m =
     Text front ∷ (cells_from layout [] layout.fields.now m
-    ++ (named_cells known place names m.developer ++ Text line_end ∷ []))
+    ++ (named_cells layout.raw known place names m.developer ++ Text line_end ∷ []))
 
 abbrev pub line_if : Bool → List Token → List Token
 line_if is line = if is then line else []

@@ -6,7 +6,7 @@ ghost use Rattle.fit_base.specs.Value.{values_of};
 ghost use Rattle.fit_grammar.specs.Format.Message.{message_under};
 ghost use Rattle.fit_grammar.specs.Calls.LentField.{developer_view};
 ghost use Rattle.fit_text.specs.Pen.{Puts};
-ghost use Rattle.fit_table.specs.Named.{cells_by, is_new, named_cells, names_in, read_cell, read_in, titles, told_in};
+ghost use Rattle.fit_table.specs.Named.{cells_by, is_new, named_cells, names_in, read_cell, read_in, titles, told_in, unit_if};
 ghost use Rattle.fit_table.specs.Tokens.{PutsTokens};
 
 use crate::cell::put_field;
@@ -76,23 +76,25 @@ pub fn put_titles<W: Write>(pen: &mut Pen<'_, W>, names: &[&[u8]]) -> Result<(),
     Ok(())
 }
 
-/// The cells of these names in the line of the message in this place, each after a comma.
+/// The cells of these names in the line of the message in this place, each after a comma. Numbers are those of the file if `raw`
+/// is set.
 pub fn put_named_cells<W: Write>(
     pen: &mut Pen<'_, W>,
     known: &[Described<'_>],
     place: u64,
+    raw: bool,
     names: &[&[u8]],
     message: &DataMessage<'_>,
 ) -> Result<(), WriteFailed>
     ensures { (time : Option ℕ) → PutsTokens pen.old pen.new result
-        (named_cells known.now place (map (λ name. name.now) names.now)
+        (named_cells raw known.now place (map (λ name. name.now) names.now)
         (message_under message.now.definition time message.now.content.now).developer) }
 {
     if names.is_empty() {
         return Ok(());
     }
     let told = told_of(known, place, message);
-    put_cells_by(pen, told.as_slice(), names, message)
+    put_cells_by(pen, told.as_slice(), raw, names, message)
 }
 
 // The descriptions of the message's developer fields.
@@ -115,18 +117,19 @@ fn told_of<'k, 'a>(
 fn put_cells_by<W: Write>(
     pen: &mut Pen<'_, W>,
     told: &[Option<&Described<'_>>],
+    raw: bool,
     names: &[&[u8]],
     message: &DataMessage<'_>,
 ) -> Result<(), WriteFailed>
     ensures { (time : Option ℕ) → PutsTokens pen.old pen.new result
-        (cells_by (map (λ told. option_map (λ d. d.now) told) told.now)
+        (cells_by raw (map (λ told. option_map (λ d. d.now) told) told.now)
         (map (λ name. name.now) names.now)
         (message_under message.now.definition time message.now.content.now).developer) }
 {
     let mut left = names;
     while let [first, others @ ..] = left {
         pen.put(b",")?;
-        put_read(pen, told, first, message)?;
+        put_read(pen, told, raw, first, message)?;
         left = others;
     }
     Ok(())
@@ -136,15 +139,23 @@ fn put_cells_by<W: Write>(
 fn put_read<W: Write>(
     pen: &mut Pen<'_, W>,
     told: &[Option<&Described<'_>>],
+    raw: bool,
     name: &[u8],
     message: &DataMessage<'_>,
 ) -> Result<(), WriteFailed>
     ensures { (time : Option ℕ) → PutsTokens pen.old pen.new result
-        (read_cell (read_in (map (λ told. option_map (λ d. d.now) told) told.now) name.now
+        (read_cell raw (read_in (map (λ told. option_map (λ d. d.now) told) told.now) name.now
         (message_under message.now.definition time message.now.content.now).developer)) }
 {
     let (unit, field) = read_in(told, name, message);
-    put_field(pen, b"", unit, &field)
+    put_field(pen, b"", unit_if(raw, unit), &field)
+}
+
+// The unit, unless the numbers are those of the file.
+fn unit_if(raw: bool, unit: Unit) -> Unit
+    ensures { result ≡ unit_if raw unit }
+{
+    if raw { Unit::Whole } else { unit }
 }
 
 // The first developer field whose description gives it this name, or one without values.

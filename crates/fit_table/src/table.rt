@@ -276,7 +276,7 @@ fn put_line<W: Write>(
     pen.put(front)?;
     let places = plan.places.as_slice();
     put_cells(pen, layout, units, places, plan.arch, time, found.content)?;
-    put_named_cells(pen, known, place, names, found)?;
+    put_named_cells(pen, known, place, layout.raw, names, found)?;
     pen.put(b"\r\n")
 }
 

@@ -7,9 +7,9 @@ use Rattle.fit_table.proofs.named.put_cells_by.Given as goal
 abbrev pub invariant-loop-left : goal.invariant-loop-left
 invariant-loop-left g l =
     (time : Option ℕ) → LeavesTokens l.initial.pen l.pen
-    (cells_by (map (λ told. option_map (λ d. d.now) told) l.told) (map (λ name. name.now) l.names)
+    (cells_by l.raw (map (λ told. option_map (λ d. d.now) told) l.told) (map (λ name. name.now) l.names)
     (message_under l.message.definition time l.message.content.now).developer)
-    (cells_by (map (λ told. option_map (λ d. d.now) told) l.told) (map (λ name. name.now) l.left)
+    (cells_by l.raw (map (λ told. option_map (λ d. d.now) told) l.told) (map (λ name. name.now) l.left)
     (message_under l.message.definition time l.message.content.now).developer)
 
 abbrev pub decreases-loop-left : goal.decreases-loop-left
