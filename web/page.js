@@ -261,6 +261,7 @@ async function begin() {
     if (navigator.serviceWorker) navigator.serviceWorker.register('service-worker.js').catch(() => {});
   }
   document.title = text('title');
+  rehearse();
 }
 
 begin();
