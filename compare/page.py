@@ -27,7 +27,7 @@ from tools.page_files import of_choosing, of_inputs
 from tools.page_holes import of_chains, of_holes
 from tools.page_people import of_people
 from tools.page_rides import of_looking, of_numbers
-from tools.pages import RIDE, both, recorded, tour
+from tools.pages import RIDE, START, both, recorded, tour
 from tools.program import FITREC, NAMES, ROOT, run
 from tools.visits import PAGE
 
@@ -84,7 +84,7 @@ def of_calls(fitrec, many, seed):
         (folder / "chain.fit").write_bytes(ride + ride + b"\0\1")
         said = run(fitrec, "salvage", "--skip", folder / "hole.fit", folder / "skipped.fit")[1]
         skipped = {**pieces_of(said, hole[0]), "file": (folder / "skipped.fit").read_bytes().hex()}
-        rest = [("save", both(torn), {"file": ride.hex(), "summary": summary}),
+        rest = [("save", both(torn), {"file": ride.hex(), "summary": summary, "uncommitted": 0}),
                 ("repair", both(torn), {"file": (folder / "mended" / NAMES[0]).read_bytes().hex(), "summary": summary}),
                 ("save", [torn / NAMES[0], other / NAMES[1]], {"kind": "Damaged"}), ("check", [folder / "ride.fit"], summary),
                 ("check", [folder / "kept.fit"], {"kind": "NoSession"}), ("finish", [folder / "kept.fit"], finished),
@@ -92,7 +92,12 @@ def of_calls(fitrec, many, seed):
                 ("uncommitted", both(torn), 0), ("leaveChanged", both(torn), None), ("salvage", [torn / NAMES[1]], {"kind": "HeaderSize"}),
                 ("skip", [folder / "hole.fit"], skipped), ("skip", [torn / NAMES[1]], {"kind": "HeaderSize"}),
                 ("split", [folder / "chain.fit"], [ride.hex(), ride.hex(), "0001"])]
-        asked += [{"name": name, "files": files} for name, files, _ in rest]
+        # Up to its last commit, without what follows: the times, and a speed in its unit.
+        more = recorded(fitrec, folder / "more", [*tour(400), *("sample %d power=%d" % (START + 9999 + at, at) for at in range(999))])
+        run(fitrec, "save", more, folder / "saved.fit")
+        found, speed = rows_of((folder / "saved.fit").read_bytes(), 20), {"fields": [73, 6], "scale": 0.0036, "offset": 1}
+        rest += [("committed", both(more), [[[row[253] for row in found], [row.get(73, row.get(6)) * 0.0036 + 1 for row in found]]])]
+        asked += [{"name": name, "files": files, "more": [[[20, [253, speed]]]] if name == "committed" else []} for name, files, _ in rest]
         status, out, err = run(ROOT / "compare/calls.mjs", input=json.dumps(asked, default=str))
         yield "called", differs((status, err), (0, ""))
         for it, answer, right in zip(asked, json.loads(out or "[]"), [*wanted, *(it for _, _, it in rest)]):

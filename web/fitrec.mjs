@@ -62,7 +62,8 @@ class Memory {
   }
 
   long(at) { return Number(this.view.getBigUint64(at, true)); }
-  copy(at, length) { return this.bytes.slice(at, at + length); }
+  part(at, length) { return this.bytes.subarray(at, at + length); }
+  copy(at, length) { return this.part(at, length).slice(); }
 
   // Pointers and lengths are numbers, and have 64 bits. A truth value and a Number object have 32.
   call(name, ...numbers) { return this.exports[name](...numbers.map(n => typeof n === 'number' ? BigInt(n) : n)); }
@@ -102,15 +103,18 @@ export async function open(source) {
   }
 
   const fitrec = {
-    // The ride of a recording, as a file with every time in full, and its summary.
-    async save(data, journal) {
+    // The ride of a recording, as a file with every time in full, its summary, and how many bytes of whole messages follow its last commit.
+    // A file that is lent lies in the memory of the module, and is to be copied.
+    async save(data, journal, isLent = false) {
       const it = await memory(), room = data.length + CLOSING_ROOM, outRoom = 2 * data.length + 1024;
       const atData = it.put(data, CLOSING_ROOM), length = it.number(data.length), atJournal = it.put(journal);
       const journalLength = it.number(journal.length), out = it.room(outRoom), outLength = it.number(), summary = it.room(28);
+      const uncommitted = uncommittedAt(it, atData, data.length, atJournal, journal.length);
       const code = it.call('fitrec_save', atData, room, length, atJournal, journal.length, journalLength, out, outRoom, outLength, summary);
-      if (code === NO_ROOM) return { file: await fitrec.plain(it.copy(atData, it.long(length))), summary: it.summary(summary) };
+      const saved = { summary: it.summary(summary), uncommitted };
+      if (code === NO_ROOM) return { file: await fitrec.plain(it.copy(atData, it.long(length))), ...saved };
       refuseUnless0(code, SAVED);
-      return { file: it.copy(out, it.long(outLength)), summary: it.summary(summary) };
+      return { file: isLent ? it.part(out, it.long(outLength)) : it.copy(out, it.long(outLength)), ...saved };
     },
 
     // The same with the times in the short form of recorders.
@@ -123,8 +127,8 @@ export async function open(source) {
 
     // How many bytes of whole messages follow the last commit of a recording.
     async uncommitted(data, journal) {
-      const it = await memory(), atData = it.put(data), atJournal = it.put(journal);
-      return Number(it.call('fitrec_uncommitted', atData, data.length, atJournal, journal.length));
+      const it = await memory();
+      return uncommittedAt(it, it.put(data), data.length, it.put(journal), journal.length);
     },
 
     // The journal without its last commit, if what that counts has changed, and how many bytes that leaves out; or null.
@@ -136,11 +140,8 @@ export async function open(source) {
 
     // What is readable of a file, as a new file. With `all` the length in its header does not count.
     async salvage(file, all = false) {
-      const it = await memory(), room = file.length + FRAME_ROOM;
-      const at = it.put(file), out = it.room(room), length = it.number(), counts = it.room(24);
-      refuseUnless0(it.call('fitrec_salvage', at, file.length, Boolean(all), out, room, length, counts), SALVAGED);
-      const [kept, looked, more] = [0, 8, 16].map(i => it.long(counts + i));
-      return { kept, looked, more, file: it.copy(out, it.long(length)) };
+      const it = await memory(), { at, length, ...counts } = salvagedAt(it, it.put(file), file.length, all);
+      return { ...counts, file: it.copy(at, length) };
     },
 
     // What is readable of a damaged file, also after its faults, as a new file; and which bytes of the old one are kept and left out.
@@ -195,33 +196,68 @@ export async function open(source) {
     // `expected` is how many messages there may be; with more the call is made twice.
     columns: async (file, message, fields, expected) => (await fitrec.tables(file, [[message, fields, expected]]))[0],
 
-    // The same for several messages of a file.
+    // The same for several messages of a file. A field may be { fields, scale, offset } too: the first of these that a message has, in a
+    // unit, as value * scale + offset.
     async tables(file, asked) {
-      const it = await memory(), at = it.put(file), rows = it.number(), place = it.number(), free = it.end;
-      return asked.map(([message, fields, expected = 64]) => {
-        for (let room = expected; ;) {
-          it.end = free;
-          const atFields = it.put(fields), size = fields.length * room, out = it.room(8 * size);
-          const given = [at, file.length, new Number(message), atFields, fields.length, room, out, size, rows, place];
-          const code = it.call('fitrec_columns', ...given);
-          if (code !== NO_ROOM) {
-            refuseUnless0(code, FAULTS, it.long(place));
-            return fields.map((_, k) => numbersAt(it, out + 8 * k * room, it.long(rows)));
-          }
-          room = it.long(rows);
-        }
-      });
+      const it = await memory();
+      return tablesAt(it, it.put(file), file.length, asked);
+    },
+
+    // The same of what a recording has up to its last commit. It is there long before the ride is saved.
+    async committed(data, journal, asked) {
+      const it = await memory(), atData = it.put(data), count = uncommittedAt(it, atData, data.length, it.put(journal), journal.length);
+      let found = salvagedAt(it, atData, data.length, true);
+      if (count) found = salvagedAt(it, atData, data[0] + found.kept - count, true);
+      return tablesAt(it, found.at, found.length, asked);
     },
   };
   return fitrec;
 }
 
-// Values of 64 bits that have at most 33, or are the one that means none.
-function numbersAt(it, at, count) {
-  const halves = new Int32Array(it.exports.memory.buffer, at, 2 * count), found = new Float64Array(count);
-  for (let i = 0; i < count; i++) {
-    const high = halves[2 * i + 1];
-    found[i] = high === -0x80000000 ? NaN : high * 2 ** 32 + (halves[2 * i] >>> 0);
+const uncommittedAt = (it, ...given) => Number(it.call('fitrec_uncommitted', ...given));
+
+// What is readable of the bytes at a place: where it is, and counts.
+function salvagedAt(it, from, size, all) {
+  const room = size + FRAME_ROOM, at = it.room(room), end = it.number(), counts = it.room(24);
+  refuseUnless0(it.call('fitrec_salvage', from, size, Boolean(all), at, room, end, counts), SALVAGED);
+  const [kept, looked, more] = [0, 8, 16].map(i => it.long(counts + i));
+  return { kept, looked, more, at, length: it.long(end) };
+}
+
+// The tables of the file at a place.
+function tablesAt(it, at, size, asked) {
+  const rows = it.number(), place = it.number(), free = it.end;
+  return asked.map(([message, columns, expected = 64]) => {
+    const kinds = columns.map(column => column.fields ? column : { fields: [column] }), fields = kinds.flatMap(kind => kind.fields);
+    for (let room = expected; ;) {
+      it.end = free;
+      const atFields = it.put(fields), outSize = fields.length * room, out = it.room(8 * outSize);
+      const code = it.call('fitrec_columns', at, size, new Number(message), atFields, fields.length, room, out, outSize, rows, place);
+      if (code !== NO_ROOM) {
+        refuseUnless0(code, FAULTS, it.long(place));
+        let k = 0;
+        return kinds.map(kind => numbersAt(it, kind.fields.map(() => out + 8 * room * k++), it.long(rows), kind));
+      }
+      room = it.long(rows);
+    }
+  });
+}
+
+// Values of 64 bits that have at most 33, or are the one that means none. Where there is none at one place, it is taken from the next.
+function numbersAt(it, places, count, { scale = 1, offset = 0 }) {
+  const found = new Float64Array(count);
+  let missing = count;
+  for (let k = 0; k < places.length && missing; k++) {
+    const halves = new Int32Array(it.exports.memory.buffer, places[k], 2 * count);
+    missing = 0;
+    for (let i = 0; i < count; i++) {
+      const high = halves[2 * i + 1];
+      if (k && found[i] === found[i]) continue;
+      if (high === -0x80000000) {
+        found[i] = NaN;
+        missing++;
+      } else found[i] = (high * 2 ** 32 + (halves[2 * i] >>> 0)) * scale + offset;
+    }
   }
   return found;
 }

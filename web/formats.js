@@ -17,9 +17,9 @@ function text(key, values = {}) {
   return TEXTS[LANGUAGE][key].replace(/\{(\w+)\}/g, (_, name) => shown(values[name]));
 }
 
-function numberText(n, decimals = 0) {
-  return n.toLocaleString(LOCALE, { minimumFractionDigits: decimals, maximumFractionDigits: decimals });
-}
+// By the count of decimals. What formats takes long to make.
+const NUMBERS = [0, 1, 2].map(it => new Intl.NumberFormat(LOCALE, { minimumFractionDigits: it, maximumFractionDigits: it }));
+const numberText = (n, decimals = 0) => NUMBERS[decimals].format(n);
 
 function durationText(ms) {
   const seconds = Math.floor(ms / 1000), two = n => String(n).padStart(2, '0');
@@ -29,17 +29,18 @@ function durationText(ms) {
 // A time in seconds since 1989-12-31 00:00 UTC is a date from FIRST_DATE on, and below counts from when the device was switched on.
 const isDated = t => t >= FIRST_DATE && t < 0xFFFFFFFF;
 const dateOf = t => new Date((t + EPOCH) * 1000);
-const HOUR = new Intl.DateTimeFormat(LOCALE, { hour: 'numeric' }).resolvedOptions().hour12 ? 'numeric' : '2-digit';
-const MINUTE = { hour: HOUR, minute: '2-digit' }, SECOND = { ...MINUTE, second: '2-digit' }, ZONE = { timeZoneName: 'short' };
-const DAY = { day: 'numeric', month: 'long', year: 'numeric' };
-const shownTime = (t, how) => isDated(t) ? dateOf(t).toLocaleString(LOCALE, how) : durationText(1000 * t);
+const timesBy = how => new Intl.DateTimeFormat(LOCALE, how);
+const HOUR = timesBy({ hour: 'numeric' }).resolvedOptions().hour12 ? 'numeric' : '2-digit', CLOCK = { hour: HOUR, minute: '2-digit' };
+const MINUTE = timesBy(CLOCK), SECOND = timesBy({ ...CLOCK, second: '2-digit' });
+const shownTime = (t, times) => isDated(t) ? times.format(dateOf(t)) : durationText(1000 * t);
 
 // With the zone, which is the browser's.
-const startText = t => shownTime(t, { ...DAY, ...MINUTE, ...ZONE }), momentText = t => shownTime(t, { ...SECOND, ...ZONE });
+const MOMENT = timesBy({ ...CLOCK, second: '2-digit', timeZoneName: 'short' });
+const START = timesBy({ ...CLOCK, day: 'numeric', month: 'long', year: 'numeric', timeZoneName: 'short' });
+const startText = t => shownTime(t, START), momentText = t => shownTime(t, MOMENT);
 
 function zoneText(t) {
-  if (!isDated(t)) return '';
-  return new Intl.DateTimeFormat(LOCALE, ZONE).formatToParts(dateOf(t)).find(it => it.type === 'timeZoneName').value;
+  return isDated(t) ? MOMENT.formatToParts(dateOf(t)).find(it => it.type === 'timeZoneName').value : '';
 }
 
 function dayText(t) {
@@ -52,8 +53,9 @@ function clockText(t, begin, step) {
   return isDated(t) ? shownTime(t, step < 60 ? SECOND : MINUTE) : durationText(1000 * (t - begin));
 }
 
+const bytesIn = base64 => Uint8Array.from(atob(base64), it => it.charCodeAt(0));
+
 // What web/build has deflated.
 async function inflated(packed) {
-  const bytes = Uint8Array.from(atob(packed), it => it.charCodeAt(0));
-  return new Response(new Blob([bytes]).stream().pipeThrough(new DecompressionStream('deflate'))).arrayBuffer();
+  return new Response(new Blob([bytesIn(packed)]).stream().pipeThrough(new DecompressionStream('deflate'))).arrayBuffer();
 }

@@ -28,7 +28,7 @@ function failure(reason) {
 
 // The answer to a ride, or to one of its offers. A recording is drawn while it is saved.
 async function ask(ride, how) {
-  const { data, journal } = ride, ahead = data && journal && !how.length ? question(painter, { recording: { data, journal } }) : null;
+  const { data, journal } = ride, ahead = data && journal && !how.length ? question(painter, { files: [data, journal] }) : null;
   progress(0);
   let given;
   try {
@@ -40,12 +40,11 @@ async function ask(ride, how) {
   const lent = [given.data, given.journal].filter(it => it && it.length).map(it => it.buffer);
   const answer = await question(saver, { ride: given, how }, lent);
   if (answer.failed) return failure(answer.failed);
-  const { file, shown, ...said } = answer, bytes = file || shown;
-  if (!bytes) return said;
+  const { shown = answer.file, ...said } = answer;
+  if (!shown) return said;
   const isAhead = ahead && said.heading === 'saved', records = said.summary && said.summary.records;
-  const made = file && new Blob([file], { type: 'application/octet-stream' });
-  const drawn = isAhead && closed(await ahead, said.summary) || await question(painter, { file: bytes, records });
-  return drawn.failed ? failure(drawn.failed) : { ...said, file: made, ride: drawn };
+  const drawn = isAhead && closed(await ahead, said.summary) || await question(painter, { files: [shown], records });
+  return drawn.failed ? failure(drawn.failed) : { ...said, ride: drawn };
 }
 
 // What was drawn ahead of a recording, with its last lap by the summary of the saved ride; null if that has other samples or laps.
@@ -262,6 +261,7 @@ async function begin() {
     if (navigator.serviceWorker) navigator.serviceWorker.register('service-worker.js').catch(() => {});
   }
   document.title = text('title');
+  rehearse();
 }
 
 begin();

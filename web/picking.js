@@ -100,6 +100,6 @@ async function frontOf(file) {
 
 // What the worker is given of a ride.
 async function bytesOf({ data, journal, name, isPart }) {
-  const front = data ? await frontOf(data) : {}, other = journal ? await frontOf(journal) : {};
+  const [front, other] = await Promise.all([data, journal].map(it => it ? frontOf(it) : {}));
   return { name, isPart, journalName: journal && journal.name, data: front.bytes, unread: front.unread, journal: other.bytes };
 }

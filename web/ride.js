@@ -14,37 +14,29 @@ const SERIES = [
   { name: 'cadence', fields: [4], scale: 1, offset: 0, least: 5, reach: 50 },
   { name: 'warmth', fields: [13], scale: 1, offset: 0, least: 2, reach: 20 },
 ];
-const FIELDS = [TIME, 0, 1, 5, ...SERIES.flatMap(it => it.fields)];
+const POSITION = [0, 1].map(it => ({ fields: [it], scale: SEMICIRCLE }));
 
-// What a recording has up to its last commit, as a file without a summary: it is there long before the saved one.
-async function committedOf(fitrec, recording) {
-  const [data, journal] = await Promise.all([recording.data, recording.journal].map(async it => new Uint8Array(await it.arrayBuffer())));
-  const count = await fitrec.uncommitted(data, journal), { kept, file } = await fitrec.salvage(data, true);
-  return count ? (await fitrec.salvage(data.subarray(0, data[0] + kept - count), true)).file : file;
+// What is read of a ride: of a finished file all, of the two files of a recording what is there up to its last commit.
+async function tablesOf(fitrec, files, records) {
+  const [data, journal] = await Promise.all(files.map(async it => new Uint8Array(await it.arrayBuffer())));
+  const samples = [RECORD, [TIME, ...POSITION, 5, ...SERIES], records || Math.ceil(data.length / SAMPLE)];
+  const asked = [samples, [EVENT, [TIME, 0, 1]], [LAP, [TIME, 2, 7, 8, 9], 1024]];
+  return journal ? fitrec.committed(data, journal, asked) : fitrec.tables(data, asked);
 }
 
-// The ride of a file. Times are seconds since 1989-12-31 00:00 UTC, positions are degrees, distances centimetres.
-async function rideOf(fitrec, file, expected) {
-  const asked = [[RECORD, FIELDS, expected || Math.ceil(file.length / SAMPLE)], [EVENT, [TIME, 0, 1]], [LAP, [TIME, 2, 7, 8, 9], 1024]];
-  const [records, events, found] = await fitrec.tables(file, asked), [time, lat, long, distance, ...values] = inTime(records);
-  const pauses = pausesOf(...events), resumed = pauses.map(([, to]) => sampleAt(time, to));
-  const laps = lapsOf(found, { time, distance, pauses, usual: plausible(distance, extremesOf(distance), FAR) });
-  const ends = [...columnsOf(time), ...laps.flatMap(it => [it.first, it.last])], breaks = breaksOf(time, time, resumed), series = [];
-  let at = 0;
-  for (const { fields, ...kind } of SERIES) {
-    const made = seriesOf(values.slice(at, at += fields.length), kind, { time, ends, breaks, resumed });
-    if (made) series.push(made);
-  }
+// The ride of its tables. Times are seconds since 1989-12-31 00:00 UTC, positions are degrees, distances centimetres.
+function rideOf([records, events, found]) {
+  const [time, lat, long, distance, ...values] = inTime(records), pauses = pausesOf(...events);
+  const resumed = pauses.map(([, to]) => sampleAt(time, to)), usual = plausible(distance, extremesOf(distance), FAR);
+  const laps = lapsOf(found, { time, distance, pauses, usual }), breaks = breaksOf(time, time, resumed);
+  const ends = [...columnsOf(time), ...laps.flatMap(it => [it.first, it.last])];
+  const series = SERIES.map((kind, k) => seriesOf(values[k], kind, { time, ends, breaks, resumed })).filter(it => it);
   for (const lap of laps) {
     lap.series = {};
     for (const { name, parts } of series) lap.series[name] = rangeOf(parts.filter(it => it.first >= lap.first && it.first < lap.last));
   }
-  for (let i = 0; i < time.length; i++) {
-    lat[i] *= SEMICIRCLE;
-    long[i] *= SEMICIRCLE;
-  }
-  const ride = { time, lat, long, distance, series, pauses, laps, breaks: breaksOf(time, lat, resumed) };
-  return { ...ride, ...totalsOf(ride) };
+  const ride = { time, lat, long, distance, series, pauses, laps, breaks: lat.includes(NaN) ? breaksOf(time, lat, resumed) : breaks };
+  return { ...ride, ...totalsOf(ride, usual) };
 }
 
 // The columns in the order of their times, without samples whose time is missing or far from all others.
@@ -62,12 +54,9 @@ function inTime(columns) {
   return columns.map(it => Float64Array.from(order, i => it[i]));
 }
 
-// A series in its unit, with its parts and what they amount to; null if it has no value. The parts end where a column of the picture or a
-// lap does, and where the line is interrupted.
-function seriesOf([values, others], { name, scale, offset, least, reach }, { time, ends, breaks, resumed }) {
-  if (others || scale !== 1) {
-    for (let i = 0; i < values.length; i++) values[i] = (others && values[i] !== values[i] ? others[i] : values[i]) * scale + offset;
-  }
+// A series with its parts and what they amount to; null if it has no value. The parts end where a column of the picture or a lap does, and
+// where the line is interrupted.
+function seriesOf(values, { name, least, reach }, { time, ends, breaks, resumed }) {
   let parts = partsOf(values, [...ends, ...breaks]);
   if (!parts.length) return null;
   const { count, ...all } = rangeOf(parts), usual = plausible(values, all, reach);
@@ -81,7 +70,7 @@ function seriesOf([values, others], { name, scale, offset, least, reach }, { tim
 function partsOf(values, ends, { from, to } = { from: -Infinity, to: Infinity }) {
   const parts = [];
   let first = 0;
-  for (const end of new Float64Array([...ends, values.length]).sort()) {
+  for (const end of new Uint32Array([...ends, values.length]).sort()) {
     let low = Infinity, high = -Infinity, sum = 0, count = 0;
     for (let i = first; i < end; i++) {
       const n = values[i];
@@ -182,10 +171,10 @@ function breaksOf(time, values, resumed) {
 }
 
 // What the samples add up to: for files without a summary, and what no summary has.
-function totalsOf({ time, distance, series, pauses }) {
+function totalsOf({ time, series, pauses }, { to: farthest }) {
   const start = time.length ? time[0] : null, end = time.length ? time[time.length - 1] : null;
   const paused = pauses.reduce((sum, [from, to]) => sum + Math.max(0, Math.min(to, end) - Math.max(from, start)), 0);
-  const farthest = plausible(distance, extremesOf(distance), FAR).to, height = series.find(it => it.name === 'height');
+  const height = series.find(it => it.name === 'height');
   const added = { records: time.length, start, elapsed: start === null ? null : (end - start) * 1000,
     timer: start === null ? null : (end - start - paused) * 1000, distance: farthest >= 0 ? farthest : null };
   return { added, ascent: height ? ascentOf(height) : null };

@@ -20,8 +20,7 @@ async function ofRecording(fitrec, ride) {
   const { data, journal, journalName } = ride, unread = unreadOf(ride);
   if (!journal.length) return nothing(['emptyFile', { name: journalName }], 'nothingRecordedNext', ['data']);
   try {
-    const saved = await fitrec.save(data, journal), count = await fitrec.uncommitted(data, journal);
-    const more = count ? [['uncommitted', { count }]] : [];
+    const { uncommitted: count, ...saved } = await fitrec.save(data, journal, true), more = count ? [['uncommitted', { count }]] : [];
     return { heading: 'saved', reasons: [['savedWhy'], ...more, ...unread], next: [], offers: count ? ['end'] : [], ...saved };
   } catch (error) {
     if (error.kind === 'Changed') return ofEarlier(fitrec, ride);
@@ -37,8 +36,8 @@ async function ofEarlier(fitrec, ride) {
   const left = await fitrec.leaveChanged(ride.data, ride.journal);
   try {
     if (!left) throw new FitError('Changed');
-    const saved = await fitrec.save(ride.data, left.journal), why = ['earlierWhy', { count: left.count }];
-    return { heading: 'earlier', reasons: [['changed'], why, ...unreadOf(ride)], next: [['copyNext']], offers: ['data'], ...saved };
+    const { file, summary } = await fitrec.save(ride.data, left.journal), why = ['earlierWhy', { count: left.count }];
+    return { heading: 'earlier', reasons: [['changed'], why, ...unreadOf(ride)], next: [['copyNext']], offers: ['data'], file, summary };
   } catch (error) {
     if (!error.kind) throw error;
     return { ...nothing(['changed'], 'copyNext', ['data']), reasons: [['changed'], ...unreadOf(ride)] };

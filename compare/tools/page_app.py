@@ -79,17 +79,19 @@ def of_a_long_ride(fitrec, folder, shots=None):
           last = now;
         }, 5);
       })()"""
+    short = "(([data, journal]) => question(saver, { ride: { data, journal }, how: [] }).then(it => [it.heading, it.summary]))(shortRide())"
     browser = Browser(folder, shots)
 
     def judge(shown, made):
-        seen = made[3]
+        seen, (heading, summary) = made[3:5]
         yield "it is saved and drawn", differs((shown[-1]["heading"], len(shown[-1]["curves"])), (SAVED, 6))
         # On a quiet machine docs/PERFORMANCE.md has the figure. Here others may run.
         yield "in time", unless(seen["ended"] < MOST_MS, seen, "at most %d ms" % MOST_MS)
         yield "it never stands still", unless(seen["gap"] < MOST_STILL_MS, seen, "at most %d ms" % MOST_STILL_MS)
+        yield "the short ride that ran before it", differs((heading, summary["records"], summary["elapsed"]), ("saved", 2000, 1_999_000))
         yield "progress from 0.3 s on", unless(250 < (seen["progress"] or 0) < 300 + MOST_STILL_MS, seen, "about 300 ms")
 
     for window in ("wide", "narrow and dark"):
-        steps = [{"evaluate": watch}, {"files": both(where)}, {"wait": 100}, {"evaluate": "window.seen"}]
+        steps = [{"evaluate": watch}, {"files": both(where)}, {"wait": 100}, {"evaluate": "window.seen"}, {"evaluate": short}]
         browser.visit("a long ride, %s" % window, steps, judge, **WINDOWS[window])
     yield from browser.outcomes()
