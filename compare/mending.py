@@ -185,6 +185,27 @@ def whole(given):
             yield "a file that is cut off", unless(file is not None and kept >= before - STRANGE, kept, before)
 
 
+def in_rhythm(steps):
+    """The lines of a ride whose samples follow one another by these seconds, in turn, with laps and pauses in the seconds of samples."""
+    lines, second = ["start 1000000000 7 running"], 1000000000
+    for number in range(1000):
+        lines.append("sample %d hr=%d dist=%d" % (second, 120 + number % 50, 300 * number))
+        lines += ["lap %d" % second] if number % 300 == 100 else []
+        second += steps[number % len(steps)]
+        lines += ["lap %d" % second] if number % 300 == 200 else []
+        lines += ["pause %d" % second, "resume %d" % second] if number % 300 == 299 else []
+    return lines
+
+
+def rhythms(given):
+    """Nothing is left out of a ride that is cut off after an entry, however many seconds its samples are apart."""
+    for steps in (1,), (0, 1), (0, 0, 1), (5,), (9,), (10,), (31,), (60,), (1, 1, 1, 20), (1, 31):
+        data = recording(given.fitrec, *in_rhythm(steps), "commit")["activity.fit"]
+        row = numbers(data)[1]
+        want = 0, "kept %d of %d, parts 1\n" % (len(row), len(row)), ""
+        yield "samples %s s apart" % " and ".join(map(str, steps)), differs(mended(given.fitrec, data)[0], want)
+
+
 def damaged_headers(given):
     """One byte of the header is wrong, or the header is lost."""
     data = own_rides(given.fitrec)[1]
@@ -254,6 +275,7 @@ def finishes(given):
 
 def check(given):
     yield from given.checks(whole, given)
+    yield from given.checks(rhythms, given)
     yield from given.checks(damaged_headers, given)
     yield from given.checks(split, given)
     yield from given.checks(finishes, given)
