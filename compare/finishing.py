@@ -8,7 +8,6 @@ import random
 from tools.checks import Skipped, differs, unless
 from tools.finished import finished
 from tools.fit_files import damaged, framed
-from tools.needs import missing
 from tools.other_makers import rides
 from tools.program import bytes_of, room, run
 from tools.reader import BASE_TYPES, Refused, item_size, salvaged, show, wanted_salvage
@@ -251,29 +250,7 @@ def of_other_makers_files(given):
                 yield "as its maker stated: " + name, as_stated(given.fitrec, pathlib.Path(new()), row, stated)
 
 
-def by_gpsbabel(fitrec):
-    """gpsbabel reads every sample of a ride that lost its end and was finished. It passes over laps without a position."""
-    if missing("gpsbabel"):
-        yield "read by gpsbabel", missing("gpsbabel")
-        return
-    lines = ["start %d 7 cycling" % START]
-    for second in range(1, 601):
-        place = "lat=%d long=%d" % (560000000 + 2000 * second, 10**8)
-        lines.append("sample %d %s dist=%d hr=%d" % (START + second, place, 700 * second, 90 + second % 60))
-        lines += ["lap %d" % (START + second)] if second in (200, 400) else []
-    with room(*lines, "commit") as (script, new):
-        folder, place = new(), pathlib.Path(new())
-        run(fitrec, "replay", script, folder)
-        whole = pathlib.Path(folder, "activity.fit").read_bytes()
-        (place / "in.fit").write_bytes(whole[:-5])
-        said = run(fitrec, "salvage", "--plain", "--finish", place / "in.fit", place / "out.fit")
-        read = run("gpsbabel", "-t", "-i", "garmin_fit", "-f", place / "out.fit", "-o", "unicsv", "-F", "-")[1]
-        rates = [int(line.split(",")[3]) for line in read.splitlines()[1:]]
-        yield "read by gpsbabel", differs((said[0], said[2], rates), (0, "", [90 + second % 60 for second in range(1, 600)]))
-
-
 def check(given):
     yield from given.checks(of_other_makers, given)
     yield from given.checks(of_our_own, given)
     yield from given.checks(of_other_makers_files, given)
-    yield from given.checks(by_gpsbabel, given.fitrec)

@@ -4,7 +4,7 @@ and those of other makers in Debian's source of goldencheetah. Chained files are
 
     compare/mending.py SEED..
 
-prints the figures of these seeds for a table, with those of gpsbabel's recovery mode."""
+prints the rows of the table in docs/PROGRAMS.md for these seeds, with those of gpsbabel's recovery mode."""
 
 import collections
 import functools
@@ -185,6 +185,27 @@ def whole(given):
             yield "a file that is cut off", unless(file is not None and kept >= before - STRANGE, kept, before)
 
 
+def in_rhythm(steps):
+    """The lines of a ride whose samples follow one another by these seconds, in turn, with laps and pauses in the seconds of samples."""
+    lines, second = ["start 1000000000 7 running"], 1000000000
+    for number in range(1000):
+        lines.append("sample %d hr=%d dist=%d" % (second, 120 + number % 50, 300 * number))
+        lines += ["lap %d" % second] if number % 300 == 100 else []
+        second += steps[number % len(steps)]
+        lines += ["lap %d" % second] if number % 300 == 200 else []
+        lines += ["pause %d" % second, "resume %d" % second] if number % 300 == 299 else []
+    return lines
+
+
+def rhythms(given):
+    """Nothing is left out of a ride that is cut off after an entry, however many seconds its samples are apart."""
+    for steps in (1,), (0, 1), (0, 0, 1), (5,), (9,), (10,), (31,), (60,), (1, 1, 1, 20), (1, 31):
+        data = recording(given.fitrec, *in_rhythm(steps), "commit")["activity.fit"]
+        row = numbers(data)[1]
+        want = 0, "kept %d of %d, parts 1\n" % (len(row), len(row)), ""
+        yield "samples %s s apart" % " and ".join(map(str, steps)), differs(mended(given.fitrec, data)[0], want)
+
+
 def damaged_headers(given):
     """One byte of the header is wrong, or the header is lost."""
     data = own_rides(given.fitrec)[1]
@@ -254,6 +275,7 @@ def finishes(given):
 
 def check(given):
     yield from given.checks(whole, given)
+    yield from given.checks(rhythms, given)
     yield from given.checks(damaged_headers, given)
     yield from given.checks(split, given)
     yield from given.checks(finishes, given)
@@ -283,21 +305,35 @@ def by_gpsbabel(data, ride):
     return stood, min(stood, sum((found & whole).values())), max(0, sum((found - whole).values()) - 2 * ride.holes)
 
 
-def print_table(fitrec, seeds):
-    """What is kept and made up of all seeds, and at worst of one."""
-    for name, found in ("our rides", own_rides(fitrec)), ("other makers", of_other_makers()):
-        for size, kind in [(size, kind) for size in SIZES for kind in KINDS]:
-            holes = [[it for it in damaged_rides(seed, found, kind, size, max(1, 8 // len(found))) if not it[1].is_undefined] for seed in seeds]
-            print_line(name, size, kind, "salvage", [[by_salvage(fitrec, ride) for data, ride in each] for each in holes])
-            print_line(name, size, kind, "gpsbabel", [[by_gpsbabel(data, ride) for data, ride in each] for each in holes])
-
-
-def print_line(name, size, kind, program, found):
+def shares(found):
+    """Of all rides of each seed: how much is kept of what stood, and how much is made up by what is kept."""
     sums = [[sum(each) for each in zip((0, 0, 0), *some)] for some in found]
-    stood, kept, made_up = [sum(each) for each in zip(*sums)]
-    print("%-12s %5d %-13s %-8s kept %.5f, at worst %.5f; made up %.5f, at worst %.5f" % (
-        name, size, kind, program, kept / stood, min(it[1] / it[0] for it in sums), made_up / max(1, kept),
-        max(it[2] / max(1, it[1]) for it in sums)), flush=True)
+    return [kept / stood for stood, kept, made_up in sums], [made_up / max(1, kept) for stood, kept, made_up in sums]
+
+
+def worst(found):
+    """The least that is kept by a seed, and the most that is made up, if anything is."""
+    kept, made_up = shares(found)
+    return ("%.2f" % (100 * min(kept))).replace("100.00", "100") + " %" + ", %.2f %% made up" % (100 * max(made_up)) * any(made_up)
+
+
+def from_to(form, row):
+    """The least and the greatest share of a row, or none where they are rounded to nothing."""
+    ends = [form % (100 * it) for it in (min(row), max(row))]
+    ends = [it if float(it) else "0" for it in ends]
+    return "none" if ends[1] == "0" else " to ".join(dict.fromkeys(ends)) + " %"
+
+
+def print_table(fitrec, seeds):
+    """The rows of the table in docs/PROGRAMS.md."""
+    own, others = own_rides(fitrec), of_other_makers()
+    for size, kind in [(size, kind) for size in SIZES for kind in KINDS]:
+        ours, theirs = [[[it for it in damaged_rides(seed, rides, kind, size, max(1, 8 // len(rides))) if not it[1].is_undefined]
+                         for seed in seeds] for rides in (own, others)]
+        kept = [worst([[by_salvage(fitrec, ride) for data, ride in each] for each in it]) for it in (ours, theirs)]
+        points, made_up = shares([[by_gpsbabel(data, ride) for data, ride in each] for each in theirs])
+        cells = "%d, %s" % (size, kind), *kept, from_to("%.0f", points), from_to("%.1f", made_up)
+        print("| %s |" % " | ".join(cells), flush=True)
 
 
 if __name__ == "__main__":
