@@ -19,7 +19,8 @@ const LATER: i32 = 1;
 // What a message is worth that states a later time than the one before it.
 pub(crate) const STATED: i32 = 3;
 
-// What a record is worth whose compressed timestamp is later by at most so many seconds, which noise has more easily.
+// What a record is worth whose compressed timestamp is later by at most so many seconds, or by as many as the one before it, which noise
+// has more easily.
 const NEAR: u32 = 8;
 
 pub(crate) const COMPRESSED: i32 = 1;
@@ -36,6 +37,8 @@ pub(crate) struct Clock {
     record: Option<u32>,
     // The latest time.
     latest: Option<u32>,
+    // By how many seconds the last compressed timestamp was later that was.
+    step: u32,
 }
 
 impl Clock {
@@ -45,6 +48,7 @@ impl Clock {
             last: 0,
             record: None,
             latest: None,
+            step: 0,
         }
     }
 
@@ -73,8 +77,23 @@ impl Clock {
         if !is_record {
             return Some(DOUBTFUL);
         }
-        let worth = compressed_worth(time.wrapping_sub(self.last));
+        let seconds = time.wrapping_sub(self.last);
+        let worth = self.compressed_worth(seconds);
+        if seconds > 0 {
+            self.step = seconds;
+        }
         self.set(time, true, worth)
+    }
+
+    // The worth of a record that comes so many seconds after the last time. One in the same second says nothing.
+    fn compressed_worth(&self, seconds: u32) -> i32 {
+        if seconds == 0 {
+            0
+        } else if seconds <= NEAR || seconds == self.step {
+            COMPRESSED
+        } else {
+            DOUBTFUL
+        }
     }
 
     // The worth of a message that states this time.
@@ -116,15 +135,6 @@ impl Clock {
             Some(record) if is_record => time >= record,
             _ => time >= latest.saturating_sub(DAY),
         }
-    }
-}
-
-// The worth of a record that comes so many seconds after the last time.
-fn compressed_worth(seconds: u32) -> i32 {
-    if seconds >= 1 && seconds <= NEAR {
-        COMPRESSED
-    } else {
-        DOUBTFUL
     }
 }
 
