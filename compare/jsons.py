@@ -12,7 +12,7 @@ from tools import reader
 from tools.checks import differs
 from tools.fit_files import changes, damaged, framed, kind_of, made
 from tools.program import room, run
-from tools.reader import BASE_TYPES, Refused, show_json, value_json
+from tools.reader import BASE_TYPES, WHOLE, Refused, show_json, value_json
 from tools.rides import EXAMPLE
 
 NEEDS = ("fitrec",)
@@ -32,7 +32,7 @@ def outcome(program, path, utc, profile=False):
 
 
 # The types that have units: whole numbers of at most four bytes.
-IN_UNITS = columns.WHOLE - {"byte"}
+IN_UNITS = WHOLE - {"byte"}
 
 
 def numbers_of(base, big, data):

@@ -43,7 +43,7 @@ def value_of(base, big, data):
 
 def wanted_of(found, message):
     """For each message of this number, the value of the first field of each number, and of each developer field: by the type that the last
-    description before the message gives it, in little-endian order, or else its bytes."""
+    description before the message gives it, or else its bytes."""
     rows, types = [], {}
     for number, fields, developer in found:
         if number == 206:
@@ -54,8 +54,8 @@ def wanted_of(found, message):
             for field, (value, is_whole) in fields:
                 # a time is always a whole number of at most 32 bits
                 row.setdefault(field, value if is_whole or field != 253 else None)
-            for index, field, data in developer:
-                row.setdefault((index, field), value_of(types.get((index, field)), False, data)[0])
+            for index, field, big, data in developer:
+                row.setdefault((index, field), value_of(types.get((index, field)), big, data)[0])
             rows.append(row)
     return rows
 
