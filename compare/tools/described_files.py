@@ -69,8 +69,8 @@ def described_file(pick, faults=0.08):
     for _ in range(pick.randrange(2, 16)):
         big, kind = pick.randrange(2), pick.random()
         key = index, number = pick.choice(keys)
-        developer = [(number, index, content(pick, pick.choice([*[types[index, number]] * 9, pick.choice(TYPES)]), big))
-                     for index, number in pick.choices(keys, k=pick.choice([1, 1, 2, 4]))]
+        developer = [(its[1], its[0], content(pick, pick.choice([*[types[its]] * 9, pick.choice(TYPES)]), big))
+                     for its in pick.choices(keys, k=pick.choice([1, 1, 2, 4]))]
         if kind < 0.5:
             types[key] = pick.choice(TYPES)
             fields = description(pick, big, index, number, types[key], faults)
