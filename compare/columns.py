@@ -20,7 +20,6 @@ from tools.program import ROOT, run
 
 NEEDS = ("fitrec", "rt", "cc")
 NO_VALUE = -2**63
-WHOLE = {"enum", "uint8", "uint16", "uint32", "uint8z", "uint16z", "uint32z", "byte", "sint8", "sint16", "sint32"}
 
 # The units of fields by message: what the name of a column ends with, how many parts are one, how many decimals, and what is added.
 METRES, SECONDS, SPEED, BEATS, WATTS = ("m", 100, 2, 0), ("s", 1000, 3, 0), ("m_s", 1000, 3, 0), ("bpm", 1, 0, 0), ("w", 1, 0, 0)
@@ -35,10 +34,7 @@ UNITS = {
 
 def value_of(base, big, data):
     """The one whole number of a field, or None. The second reader leaves fields out whose value is empty, and so not this one."""
-    name, size, invalid = reader.BASE_TYPES.get(base, ("raw", 1, None))
-    if name not in WHOLE or len(data) != size or reader.number(data, big) == invalid:
-        return (None,)
-    return (int.from_bytes(data, "big" if big else "little", signed=name.startswith("sint")),)
+    return (reader.whole_number(base, big, data),)
 
 
 def held_by(base, big, data):
@@ -133,11 +129,7 @@ def cell_text(message, field, value, form, alone):
     if unit is None or "--raw" in form:
         return str(value)
     _, parts, places, more = unit
-    exact = (value / fractions.Fraction(parts) + more) * 10**places
-    # The nearest; of two that are equally near the one farther from 0.
-    whole = (2 * abs(exact.numerator) + exact.denominator) // (2 * exact.denominator)
-    text = "%0*d" % (places + 1, whole)
-    return ("-" if value / fractions.Fraction(parts) + more < 0 else "") + (text[:-places] + "." + text[-places:] if places else text)
+    return cells.decimal_text(value / fractions.Fraction(parts) + more, places)
 
 
 def cell_in(message, field, row, form, alone):

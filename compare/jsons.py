@@ -1,6 +1,7 @@
 """Compares `fitrec show --json` with the second reader: Python's `json` reads each line, over a ride that was recorded, over each change
 of one byte of a small file, and over random files, whole and damaged. With `--profile` each field is compared, digit by digit, with what
-the table of the Profile gives of the second reader's numbers: of every field of the Profile, and over the same files."""
+the table of the Profile gives of the second reader's numbers: of every field of the Profile, and over the same files; and each developer
+field by the description that its file has of it (`tools/described.py`), over random descriptions."""
 
 import json
 import pathlib
@@ -9,10 +10,13 @@ import tempfile
 
 import columns
 from tools import reader
+from tools.cells import decimal_text
 from tools.checks import differs
+from tools.described import descriptions
+from tools.described_files import described_file
 from tools.fit_files import changes, damaged, framed, kind_of, made
 from tools.program import room, run
-from tools.reader import BASE_TYPES, Refused, show_json, value_json
+from tools.reader import BASE_TYPES, WHOLE, Refused, hexadecimal, show_json, value_json, whole_number
 from tools.rides import EXAMPLE
 
 NEEDS = ("fitrec",)
@@ -32,20 +36,25 @@ def outcome(program, path, utc, profile=False):
 
 
 # The types that have units: whole numbers of at most four bytes.
-IN_UNITS = columns.WHOLE - {"byte"}
+IN_UNITS = WHOLE - {"byte"}
 
 
 def numbers_of(base, big, data):
-    """The whole numbers of a field that has units, None where one is invalid; of any other field its value without the Profile."""
+    """Whether a field has units, and its whole numbers, None where one is invalid; if it has none, its value without the Profile."""
     name, size, _ = BASE_TYPES.get(base, ("raw", 1, None))
     if name not in IN_UNITS or not data or len(data) % size:
-        return base, False, value_json(base, big, data)
-    return base, True, [columns.value_of(base, big, data[at:at + size])[0] for at in range(0, len(data), size)]
+        return False, value_json(base, big, data)
+    return True, [whole_number(base, big, data[at:at + size]) for at in range(0, len(data), size)]
 
 
-def member(message, field, stated, form):
+def one_or_all(values):
+    """The one value, or all of several."""
+    return values if len(values) > 1 else values[0]
+
+
+def member(message, field, held, form):
     """The name and the value of a field, as the table of the Profile has them."""
-    base, in_units, value = stated
+    in_units, value = numbers_of(*held)
     if not in_units:
         # a unit that would change the number is not named
         unit = columns.unit_of(message, field, form)
@@ -54,15 +63,29 @@ def member(message, field, stated, form):
     texts = [columns.cell_text(message, field, it, form, False) for it in value]
     is_date = "--utc" in form and columns.unit_of(message, field, form) is columns.TIME
     values = [None if not it else it if is_date else read(it) for it in texts]
-    return columns.name_of(message, field, form)[1], values if len(values) > 1 else values[0]
+    return columns.name_of(message, field, form)[1], one_or_all(values)
+
+
+def developer_object(field, said):
+    """A developer field, by its description if it has one."""
+    index, number, big, data = field
+    key = [("index", index), ("number", number)]
+    if said is None:
+        return [*key, ("bytes", hexadecimal(data) if data else "")]
+    in_units, value = numbers_of(said.base, big, data)
+    if in_units:
+        value = one_or_all([None if it is None else read(decimal_text(*said.in_units(it))) for it in value])
+    return [*key, ("name", said.name), ("units", said.units), ("value", value)]
 
 
 def by_profile(data, utc):
-    """The values of the lines with the names and units of the Profile."""
+    """The values of the lines with the names and units of the Profile, and developer fields as their file describes them."""
     form, lines = ["--profile", *["--utc"] * utc], show_json(data)
-    for line, (message, fields, _) in zip(lines[1:], reader.messages(data, False, numbers_of)[3]):
+    found = reader.messages(data, False, columns.held_by)[3]
+    for line, (message, fields, developer), said in zip(lines[1:], found, descriptions(found)):
         line[2] = "name", columns.TITLES.get(message)
-        line[3] = "fields", [member(message, field, stated, form) for field, stated in fields]
+        line[3] = "fields", [member(message, field, held, form) for field, (held,) in fields]
+        line[4] = "developer", list(map(developer_object, developer, said))
     return lines
 
 
@@ -110,7 +133,7 @@ def recorded(fitrec):
 
 
 def made_files(given):
-    """A ride, strings of each kind, each change of one byte of a small file, and random files, whole and damaged."""
+    """A ride, strings of each kind, each change of one byte of a small file, random files, whole and damaged, and described fields."""
     pick = random.Random(given.seed)
     forms = [(utc, profile) for utc in (False, True) for profile in (False, True)]
     inputs = [(data, *form) for data in [strings(), *recorded(given.fitrec), *[each_field(pick) for _ in range(20)]] for form in forms]
@@ -119,6 +142,8 @@ def made_files(given):
         data = made(pick)
         data = data if pick.random() < 0.7 else damaged(pick, data)
         inputs += [(data, *form) for form in forms]
+    for _ in range(given.files // 2):
+        inputs.append((described_file(pick), pick.random() < 0.2, pick.random() < 0.95))
     with room() as (place, _):
         def judge(number, row):
             data, utc, profile = row

@@ -11,6 +11,14 @@ from tools.checks import differs
 FORMATS = {4: ">f", 8: ">d"}
 
 
+def decimal_text(value, places):
+    """The decimal with so many places that is nearest to a fraction; of two that are equally near the one farther from 0."""
+    exact = value * 10**places
+    whole = (2 * abs(exact.numerator) + exact.denominator) // (2 * exact.denominator)
+    text = "%0*d" % (places + 1, whole)
+    return ("-" if value < 0 else "") + (text[:-places] + "." + text[-places:] if places else text)
+
+
 class Float(NamedTuple):
     """The bytes of a finite float, with the high one first."""
 

@@ -1,5 +1,6 @@
-"""Compares the raw columns of the Python package with the second reader, value by value, over random files. compare/columns.py runs it with
-the number of files and the seed, where NumPy and the package are. It prints what differs first, or how many values it compared."""
+"""Compares the raw columns of the Python package with the second reader, value by value, over random files, some with developer fields that
+are described rightly. compare/columns.py runs it with the number of files and the seed, where NumPy and the package are. It prints what
+differs first, or how many values it compared."""
 
 import math
 import random
@@ -8,6 +9,7 @@ import sys
 
 import fitrec
 from tools import reader
+from tools.described_files import described_file
 from tools.fit_files import damaged, made
 
 NONES = {"i": -2**63, "u": 2**64 - 1}
@@ -43,20 +45,20 @@ def value_of(base, big, data):
 
 def wanted_of(found, message):
     """For each message of this number, the value of the first field of each number, and of each developer field: by the type that the last
-    description before the message gives it, in little-endian order, or else its bytes."""
+    description before the message gives it, or else its bytes."""
     rows, types = [], {}
     for number, fields, developer in found:
-        if number == 206:
-            said = {field: value[0] for field, value in reversed(fields)}
-            types[said.get(0), said.get(1)] = said.get(2)
         if number == message:
             row = {}
             for field, (value, is_whole) in fields:
                 # a time is always a whole number of at most 32 bits
                 row.setdefault(field, value if is_whole or field != 253 else None)
-            for index, field, data in developer:
-                row.setdefault((index, field), value_of(types.get((index, field)), False, data)[0])
+            for index, field, big, data in developer:
+                row.setdefault((index, field), value_of(types.get((index, field)), big, data)[0])
             rows.append(row)
+        if number == 206:
+            said = {field: value[0] for field, value in reversed(fields)}
+            types[said.get(0), said.get(1)] = said.get(2)
     return rows
 
 
@@ -92,7 +94,7 @@ def difference_of(data, found, message):
 def main(files, seed):
     pick, same = random.Random(seed), 0
     for at in range(files):
-        data = damaged(pick, made(pick)) if at % 5 == 0 else made(pick)
+        data = damaged(pick, made(pick)) if at % 5 == 0 else described_file(pick, 0) if at % 5 == 1 else made(pick)
         try:
             found = reader.messages(data, False, value_of)[3]
         except reader.Refused as refused:

@@ -25,6 +25,9 @@ BASE_TYPES = {
     0x90: ("uint64z", 8, 0),
 }
 
+# The types of whole numbers of at most four bytes.
+WHOLE = {"enum", "uint8", "uint16", "uint32", "uint8z", "uint16z", "uint32z", "byte", "sint8", "sint16", "sint32"}
+
 COMMON = {253: "timestamp", 254: "message_index"}
 
 SUMMARY = {
@@ -75,6 +78,14 @@ def checksum(data):
 
 def number(data, big):
     return int.from_bytes(data, "big" if big else "little")
+
+
+def whole_number(base, big, data):
+    """The one whole number of a field, of at most four bytes, or None."""
+    name, size, invalid = BASE_TYPES.get(base, ("raw", 1, None))
+    if name not in WHOLE or len(data) != size or number(data, big) == invalid:
+        return None
+    return int.from_bytes(data, "big" if big else "little", signed=name.startswith("sint"))
 
 
 def hexadecimal(data):
@@ -152,8 +163,8 @@ def triples(data):
 
 def messages(data, utc, value):
     """What a file states: its size of the header, its versions and its size of records; and for each message its number, its fields and
-    its developer fields. Each field has its number and the `value` of its base type, whether its high byte is first, and its bytes.
-    Times are dates or numbers."""
+    its developer fields. Each field has its number and the `value` of its base type, whether its high byte is first, and its bytes. A
+    developer field has its index, its number, whether its high byte is first, and its bytes. Times are dates or numbers."""
     header, size = read_header(data)
     at, end = header, header + size
     definitions, before, found, needless = {}, 0, [], 0
@@ -199,7 +210,7 @@ def messages(data, utc, value):
             before = stated
         after = []
         for field, length, index in developer:
-            after.append((index, field, data[at:at + length]))
+            after.append((index, field, big, data[at:at + length]))
             at += length
         found.append((message, shown, after))
     wait(data, end + 2)
@@ -223,7 +234,7 @@ def show(data, utc=False):
     for message, shown, developer in found:
         name, names = names_of(message)
         pairs = "".join(" %s=%s" % (names.get(field, "field_%d" % field), text) for field, text in shown)
-        pairs += "".join(" developer_%d_%d=%s" % (index, field, hexadecimal(it) if it else "") for index, field, it in developer)
+        pairs += "".join(" developer_%d_%d=%s" % (index, field, hexadecimal(it) if it else "") for index, field, _, it in developer)
         lines.append("%d %s%s\n" % (len(lines), name or "message_%d" % message, pairs))
     return "header %d protocol %d.%d profile %d data %d\n" % (header, *versions, size) + "".join(lines) + "messages %d\n" % len(lines)
 
@@ -262,7 +273,7 @@ def show_json(data, utc=False):
     for message, shown, developer in found:
         name, names = names_of(message)
         fields = [(names.get(field, "field_%d" % field), value) for field, value in shown]
-        after = [[("index", index), ("number", field), ("bytes", hexadecimal(it) if it else "")] for index, field, it in developer]
+        after = [[("index", index), ("number", field), ("bytes", hexadecimal(it) if it else "")] for index, field, _, it in developer]
         place = len(lines) - 1
         lines.append([("number", place), ("message", message), ("name", name), ("fields", fields), ("developer", after)])
     return lines + [[("messages", len(lines) - 1)]]
