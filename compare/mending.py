@@ -11,6 +11,7 @@ import functools
 import os
 import pathlib
 import random
+import re
 import sys
 import tempfile
 import time
@@ -197,13 +198,23 @@ def in_rhythm(steps):
     return lines
 
 
+# By how many seconds the samples of rides are apart, in turn; and of such rides for which a short time may say anything.
+STEADY = [(1,), (0, 1), (0, 0, 1), (5,), (9,), (10,), (10, 11), (9, 10, 11, 10), (12, 15, 13, 19), (20, 25, 22, 28), (31,), (60,)]
+UNSTEADY = [(1, 1, 1, 20), (1, 31)]
+
+
 def rhythms(given):
-    """Nothing is left out of a ride that is cut off after an entry, however many seconds its samples are apart."""
-    for steps in (1,), (0, 1), (0, 0, 1), (5,), (9,), (10,), (31,), (60,), (1, 1, 1, 20), (1, 31):
+    """Nothing is left out of a ride that is cut off after an entry, whose samples are as far apart as those before. If they are not, and
+    more than 8 seconds apart, at most half of it is."""
+    for steps in STEADY + UNSTEADY:
         data = recording(given.fitrec, *in_rhythm(steps), "commit")["activity.fit"]
-        row = numbers(data)[1]
-        want = 0, "kept %d of %d, parts 1\n" % (len(row), len(row)), ""
-        yield "samples %s s apart" % " and ".join(map(str, steps)), differs(mended(given.fitrec, data)[0], want)
+        name, size = "samples %s s apart" % " and ".join(map(str, steps)), len(numbers(data)[1])
+        came = mended(given.fitrec, data)[0]
+        if steps in STEADY:
+            yield name, differs(came, (0, "kept %d of %d, parts 1\n" % (size, size), ""))
+        else:
+            kept = re.match(r"kept (\d+) of %d, " % size, came[1])
+            yield name, unless(kept and int(kept[1]) >= size / 2, came, "half of %d" % size)
 
 
 def damaged_headers(given):

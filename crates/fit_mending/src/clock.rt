@@ -19,8 +19,8 @@ const LATER: i32 = 1;
 // What a message is worth that states a later time than the one before it.
 pub(crate) const STATED: i32 = 3;
 
-// What a record is worth whose compressed timestamp is later by at most so many seconds, or by as many as the one before it, which noise
-// has more easily.
+// What a record is worth whose compressed timestamp is later by at most so many seconds, or by about as many as the one before it, which
+// noise has more easily.
 const NEAR: u32 = 8;
 
 pub(crate) const COMPRESSED: i32 = 1;
@@ -89,11 +89,16 @@ impl Clock {
     fn compressed_worth(&self, seconds: u32) -> i32 {
         if seconds == 0 {
             0
-        } else if seconds <= NEAR || seconds == self.step {
+        } else if seconds <= NEAR || self.is_like_last(seconds) {
             COMPRESSED
         } else {
             DOUBTFUL
         }
+    }
+
+    // Whether so many seconds are at most twice those of the last step, and at least half of them.
+    fn is_like_last(&self, seconds: u32) -> bool {
+        seconds <= self.step.saturating_mul(2) && self.step <= seconds.saturating_mul(2)
     }
 
     // The worth of a message that states this time.
