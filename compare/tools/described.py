@@ -9,7 +9,8 @@ from tools.reader import BASE_TYPES, value_json, whole_number
 MESSAGE, MOST = 206, 256
 # Its fields.
 INDEX, NUMBER, TYPE, NAME, SCALE, OFFSET, UNITS = 0, 1, 2, 3, 6, 7, 8
-# How many decimals a scale needs; any other has eight.
+# The scales and the offsets that count, of whatever type they are. How many decimals a scale needs; any other has eight.
+SCALES, OFFSETS = range(1, 256), range(-128, 128)
 PLACES = {1: 0, 10: 1, 100: 2}
 
 
@@ -40,7 +41,9 @@ def read(fields):
         base, big, data = first.get(field, (None, False, b""))
         return value_json(base, big, data) or "" if BASE_TYPES.get(base, ("",))[0] == "string" else ""
 
-    said = Description(whole(TYPE), text(NAME), text(UNITS), whole(SCALE) or 1, whole(OFFSET) or 0)
+    scale, offset = whole(SCALE), whole(OFFSET)
+    scale, offset = scale if scale in SCALES else 1, offset if offset in OFFSETS else 0
+    said = Description(whole(TYPE), text(NAME), text(UNITS), scale, offset)
     return (whole(INDEX), whole(NUMBER)), said
 
 
