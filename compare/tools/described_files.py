@@ -59,9 +59,11 @@ def description(pick, big, index, number, base, faults):
 
 
 def about_as_many_as_count(pick, index, number):
-    """Descriptions of one field, with one definition and many types."""
-    head = bytes([0x40, 0, 0]) + MESSAGE.to_bytes(2, "little") + bytes([3, INDEX, 1, UINT8, NUMBER, 1, UINT8, TYPE, 1, UINT8])
-    return head + b"".join(bytes([0, index, number, pick.choice(TYPES)]) for _ in range(MOST + pick.choice([-3, -2, -1, 0, 1, 20])))
+    """Descriptions of one field, with one definition, many types and names of one byte."""
+    fields = bytes([INDEX, 1, UINT8, NUMBER, 1, UINT8, TYPE, 1, UINT8, NAME, 1, STRING])
+    head, letters = bytes([0x40, 0, 0]) + MESSAGE.to_bytes(2, "little") + bytes([4]) + fields, pick.choice([1, 100, 256])
+    return head + b"".join(bytes([0, index, number, pick.choice(TYPES), pick.randrange(letters)])
+                           for _ in range(MOST + pick.choice([-3, -2, -1, 0, 1, 20])))
 
 
 def described_file(pick, faults=0.08):
