@@ -16,7 +16,7 @@ from tools.described import descriptions
 from tools.described_files import described_file
 from tools.fit_files import changes, damaged, framed, kind_of, made
 from tools.program import room, run
-from tools.reader import BASE_TYPES, WHOLE, Refused, hexadecimal, show_json, value_json, whole_number
+from tools.reader import BASE_TYPES, WHOLE, Refused, hexadecimal, show_json, text_of, value_json, whole_number
 from tools.rides import EXAMPLE
 
 NEEDS = ("fitrec",)
@@ -75,7 +75,7 @@ def developer_object(field, said):
     in_units, value = numbers_of(said.base, big, data)
     if in_units:
         value = one_or_all([None if it is None else read(decimal_text(*said.in_units(it))) for it in value])
-    return [*key, ("name", said.name), ("units", said.units), ("value", value)]
+    return [*key, ("name", text_of(said.name)), ("units", text_of(said.units)), ("value", value)]
 
 
 def by_profile(data, utc):

@@ -1,7 +1,7 @@
 """Checks the table of the public FIT Profile (python/fitrec/profile.txt): it has the names and units of the texts, the program's table is
 made of it, and it states what the Perl module in Debian's package pytrainer states, as perl reads that. The module is the one that is
 installed, or else the one that `apt-get download` fetches. Debian 12 has an older one with fewer fields. And compares the cells of
-`table --profile` with the second reader, struct and csv: fields of every type, and the rides of other makers."""
+`table --profile` with the second reader, struct and csv: fields of every type, developer fields, and the rides of other makers."""
 
 import collections
 import pathlib
@@ -10,9 +10,10 @@ import re
 import tempfile
 
 import columns
-from tools import other_makers, reader
+from tools import cells, described, other_makers, reader
 from tools.checks import Skipped, differs, unless
 from tools.contents import content_made
+from tools.described_files import RECORD, described_file
 from tools.fit_files import framed
 from tools.needs import is_there
 from tools.profile_table import TABLE, rows_of
@@ -145,6 +146,48 @@ def kinds(given):
         yield from given.judged(judge, inputs)
 
 
+def described_cell(developer, said, name, form):
+    """The cell of the first developer field of a message that has this name."""
+    found = [(it, big, data) for (_, _, big, data), it in zip(developer, said) if it and it.name == name]
+    if not found:
+        return ""
+    it, big, data = found[0]
+    return cells.cell_of(it.base, big, data, lambda n, _: str(n) if "--raw" in form else cells.decimal_text(*it.in_units(n)))
+
+
+def described_table(fitrec, source, message, form):
+    """What differs between the table by the program, with a column for each name of a developer field, and the one by the second reader."""
+    data = source.read_bytes()
+    found = reader.messages(data, False, columns.held_by)[3]
+    fields = [253, *(field for number, field in columns.ROWS if number == message and field != 253)][:128]
+    names, table = described.names(found), []
+    for (number, held, developer), said in zip(found, described.descriptions(found)):
+        if number == message:
+            first = {field: it for field, (it,) in reversed(held)}
+            table.append([columns.cell_in(message, field, first, form, False) for field in fields]
+                         + [described_cell(developer, said, name, form) for name in names])
+    heads = [columns.name_of(message, field, form)[1] for field in fields] + list(map(reader.text_of, names))
+    said = run(fitrec, "table", *form, "--message", columns.TITLES[message], source)
+    return differs(said[::2], (0, ""), data) or cells.table_differs(said[1], heads, table, data)
+
+
+def described_fields(given):
+    """Developer fields as columns, by the names that the file gives them."""
+    pick = random.Random(given.seed)
+    inputs = []
+    for _ in range(given.files // 4):
+        form = ["--profile"] + pick.choice([[], [], ["--raw"], ["--utc"]])
+        inputs.append((described_file(pick), pick.choice([RECORD, RECORD, described.MESSAGE]), form))
+    with tempfile.TemporaryDirectory() as folder:
+        def judge(number, row):
+            data, message, form = row
+            source = pathlib.Path(folder, "%d.fit" % number)
+            source.write_bytes(data)
+            return "a table of developer fields", described_table(given.fitrec, source, message, form)
+
+        yield from given.judged(judge, inputs)
+
+
 # The most bytes of such a ride: the second reader takes seconds for each number of messages of a longer one.
 MOST = 100_000
 
@@ -181,5 +224,5 @@ def other_makers_rides(given):
 def check(given):
     for group in of_the_texts, of_the_rows, of_what_is_made, of_the_module:
         yield from given.checks(group)
-    for group in kinds, other_makers_rides:
+    for group in kinds, described_fields, other_makers_rides:
         yield from given.checks(group, given)

@@ -55,11 +55,7 @@ def cell_of(base, big, data, write):
     if name == "raw" or len(data) % size:
         return ""
     if name == "string":
-        text = data.split(b"\0")[0]
-        try:
-            return text.decode()
-        except UnicodeDecodeError:
-            return text.decode("latin-1")
+        return reader.text_of(data)
     order = "big" if big else "little"
     pieces = [data[at:at + size] for at in range(0, len(data), size)]
     if name.startswith("float"):

@@ -3,13 +3,14 @@
 from fractions import Fraction
 from typing import NamedTuple
 
-from tools.reader import BASE_TYPES, value_json, whole_number
+from tools.reader import BASE_TYPES, whole_number
 
-# The number of these messages, and how many of a file count.
-MESSAGE, MOST = 206, 256
+# The number of these messages, how many of a file count, and how many columns they make.
+MESSAGE, MOST, COLUMNS = 206, 256, 128
 # Its fields.
 INDEX, NUMBER, TYPE, NAME, SCALE, OFFSET, UNITS = 0, 1, 2, 3, 6, 7, 8
-# How many decimals a scale needs; any other has eight.
+# The scales and the offsets that count, of whatever type they are. How many decimals a scale needs; any other has eight.
+SCALES, OFFSETS = range(1, 256), range(-128, 128)
 PLACES = {1: 0, 10: 1, 100: 2}
 
 
@@ -17,8 +18,8 @@ class Description(NamedTuple):
     """The base type byte of a developer field, its name and units, how many parts are one, and what is taken away."""
 
     base: int | None
-    name: str
-    units: str
+    name: bytes
+    units: bytes
     scale: int
     offset: int
 
@@ -37,10 +38,12 @@ def read(fields):
         return whole_number(*first[field]) if field in first else None
 
     def text(field):
-        base, big, data = first.get(field, (None, False, b""))
-        return value_json(base, big, data) or "" if BASE_TYPES.get(base, ("",))[0] == "string" else ""
+        base, _, data = first.get(field, (None, False, b""))
+        return data.split(b"\0")[0] if BASE_TYPES.get(base, ("",))[0] == "string" else b""
 
-    said = Description(whole(TYPE), text(NAME), text(UNITS), whole(SCALE) or 1, whole(OFFSET) or 0)
+    scale, offset = whole(SCALE), whole(OFFSET)
+    scale, offset = scale if scale in SCALES else 1, offset if offset in OFFSETS else 0
+    said = Description(whole(TYPE), text(NAME), text(UNITS), scale, offset)
     return (whole(INDEX), whole(NUMBER)), said
 
 
@@ -54,3 +57,9 @@ def descriptions(found):
             key, said = read(fields)
             known[key] = said
             left -= 1
+
+
+def names(found):
+    """The names of the columns that descriptions make, each once."""
+    told = [read(fields)[1].name for message, fields, _ in found if message == MESSAGE]
+    return [it for it in dict.fromkeys(told[:MOST]) if it][:COLUMNS]

@@ -6,10 +6,12 @@ from tools.described import INDEX, MESSAGE, MOST, NAME, NUMBER, OFFSET, SCALE, T
 from tools.fit_files import framed
 from tools.reader import BASE_TYPES
 
-SINT8, UINT8, STRING, RECORD = 0x01, 0x02, 0x07, 20
-# Base type bytes, some of which are none. A scale and an offset are no whole numbers of other types.
+SINT8, UINT8, SINT16, UINT16, STRING, RECORD = 0x01, 0x02, 0x83, 0x84, 0x07, 20
+# Base type bytes, some of which are none.
 TYPES = [*BASE_TYPES, 0x91, 0x06, 0xFF]
-NO_WHOLE = [code for code, (name, _, _) in BASE_TYPES.items() if name in ("string", "float32", "sint64")] + TYPES[-3:]
+# What a scale and an offset may be; those that their types cannot hold are cut off.
+SCALES = [0, 1, 2, 3, 7, 10, 10, 10, 100, 100, 100, 254, 255, 256, 1000, -10]
+OFFSETS = [-129, -128, -5, -1, 0, 1, 5, 126, 127, 128, 500]
 
 
 def spelled(pick, message, big, fields, developer=()):
@@ -27,9 +29,9 @@ def content(pick, base, big):
     return content_made(pick, base, big) if base in BASE_TYPES else bytes(pick.randrange(256) for _ in range(pick.choice([0, 1, 2, 5])))
 
 
-def number_field(pick, big, wrong, field, base, value, others=TYPES):
+def number_field(pick, big, wrong, field, base, value):
     """A field of this base type with this value; a wrong one may be of another type, or have another size."""
-    base = pick.choice([base, base, *others]) if wrong else base
+    base = pick.choice([base, base, *TYPES]) if wrong else base
     size = BASE_TYPES.get(base, ("", 1))[1]
     data = (value % (1 << 8 * size)).to_bytes(size, "big" if big else "little")
     return field, base, pick.choice([data, data, data + data, data + b"\0", data[1:]]) if wrong else data
@@ -46,9 +48,9 @@ def description(pick, big, index, number, base, faults):
     fields = [number_field(pick, big, wrong(), *it) for it in ((INDEX, UINT8, index), (NUMBER, UINT8, number), (TYPE, UINT8, base))]
     fields += [text_field(pick, wrong(), it) for it in (NAME, UNITS) for _ in range(pick.choice([0, 1, 1, 1, 2]))]
     if pick.random() < 0.5:
-        fields.append(number_field(pick, big, wrong(), SCALE, UINT8, pick.choice([0, 1, 2, 3, 7, 10, 10, 100, 100, 254, 255]), NO_WHOLE))
+        fields.append(number_field(pick, big, wrong(), SCALE, pick.choice([UINT8, UINT8, UINT16]), pick.choice(SCALES)))
     if pick.random() < 0.5:
-        fields.append(number_field(pick, big, wrong(), OFFSET, SINT8, pick.choice([-128, -5, -1, 0, 1, 5, 126, 127]), NO_WHOLE))
+        fields.append(number_field(pick, big, wrong(), OFFSET, pick.choice([SINT8, SINT8, SINT16]), pick.choice(OFFSETS)))
     if wrong():
         fields.remove(pick.choice(fields))
     if wrong():
@@ -57,9 +59,11 @@ def description(pick, big, index, number, base, faults):
 
 
 def about_as_many_as_count(pick, index, number):
-    """Descriptions of one field, with one definition and many types."""
-    head = bytes([0x40, 0, 0]) + MESSAGE.to_bytes(2, "little") + bytes([3, INDEX, 1, UINT8, NUMBER, 1, UINT8, TYPE, 1, UINT8])
-    return head + b"".join(bytes([0, index, number, pick.choice(TYPES)]) for _ in range(MOST + pick.choice([-3, -2, -1, 0, 1, 20])))
+    """Descriptions of one field, with one definition, many types and names of one byte."""
+    fields = bytes([INDEX, 1, UINT8, NUMBER, 1, UINT8, TYPE, 1, UINT8, NAME, 1, STRING])
+    head, letters = bytes([0x40, 0, 0]) + MESSAGE.to_bytes(2, "little") + bytes([4]) + fields, pick.choice([1, 100, 256])
+    return head + b"".join(bytes([0, index, number, pick.choice(TYPES), pick.randrange(letters)])
+                           for _ in range(MOST + pick.choice([-3, -2, -1, 0, 1, 20])))
 
 
 def described_file(pick, faults=0.08):

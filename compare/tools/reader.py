@@ -239,6 +239,15 @@ def show(data, utc=False):
     return "header %d protocol %d.%d profile %d data %d\n" % (header, *versions, size) + "".join(lines) + "messages %d\n" % len(lines)
 
 
+def text_of(data):
+    """The text of a string, up to its first zero byte: as UTF-8, or else as Latin-1."""
+    text = data.split(b"\0")[0]
+    try:
+        return text.decode()
+    except UnicodeDecodeError:
+        return text.decode("latin-1")
+
+
 def value_json(base, big, data):
     """The value of a field's bytes in JSON."""
     name, size, invalid = BASE_TYPES.get(base, ("raw", 1, None))
@@ -249,11 +258,7 @@ def value_json(base, big, data):
     if name == "byte":
         return None if set(data) == {0xFF} else hexadecimal(data)
     if name == "string":
-        text = data.split(b"\0")[0]
-        try:
-            return text.decode()
-        except UnicodeDecodeError:
-            return text.decode("latin-1")
+        return text_of(data)
     values = []
     for at in range(0, len(data), size):
         value = number(data[at:at + size], big)
