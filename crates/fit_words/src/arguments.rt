@@ -98,7 +98,7 @@ pub(crate) fn raw_option<'a>(alloc: Global) -> Arg<'a> {
 pub(crate) fn profile_option<'a>(alloc: Global) -> Arg<'a> {
     Arg::new(alloc, "profile")
         .long("profile")
-        .help("Uses the names and units of the whole public FIT Profile")
+        .help("Uses the names and units of the whole public FIT Profile and of developer fields")
         .action(ArgAction::SetTrue)
 }
 
@@ -106,7 +106,7 @@ pub(crate) fn json_profile_option<'a>(alloc: Global) -> Result<Arg<'a>, Error> {
     Ok(
         Arg::new(alloc, "profile")
             .long("profile")
-            .help("Uses the names and units of the whole public FIT Profile, with --json")
+            .help("Uses the names and units of the whole public FIT Profile and of developer fields, with --json")
             .action(ArgAction::SetTrue)
             .requires_arg("json")?,
     )

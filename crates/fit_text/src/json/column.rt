@@ -39,12 +39,13 @@ pub fn put_columns<'c, M: Members, S: Sink>(
         (λ after. after.now ≡ drop (sum_by (λ column. column.size) columns.now) content.now) }
     ensures same { M.developer members.new ≡ M.developer members.old }
 {
+    let arch = plan.arch;
     let mut left = columns;
     let mut rest = content;
     let mut first = is_first;
     while let [column, others @ ..] = left {
         let (bytes, after) = rest.split_at(usize::from(column.size));
-        members.put_member(pen, plan, column, plan.arch, bytes, first)?;
+        members.put_member(pen, plan, column, arch, bytes, first)?;
         left = others;
         rest = after;
         first = false;

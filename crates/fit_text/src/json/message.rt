@@ -63,6 +63,7 @@ fn put_head<M: Members, S: Sink>(
 }
 
 // The name of a message, and the beginning of its fields.
+#[inline(always)]
 fn put_message_name<S: Sink>(
     pen: &mut Pen<'_, S>,
     name: Option<&'static str>,
