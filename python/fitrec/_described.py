@@ -37,10 +37,21 @@ def _values(data, group: Group) -> List[Dict[int, object]]:
     return found
 
 
+def _whole(values: Dict[int, object], field: int, least: int = 0, most: int = 255) -> Optional[int]:
+    """The value of a field, if it is a whole number in this range."""
+    found = values.get(field)
+    return found if isinstance(found, int) and least <= found <= most else None
+
+
+def _text(values: Dict[int, object], field: int) -> str:
+    found = values.get(field)
+    return found if isinstance(found, str) else ""
+
+
 def _described(start: int, values: Dict[int, object], key: Key) -> Described:
-    name = values.get(_NAME) or "developer_%d_%d" % key
-    scale, offset = values.get(_SCALE) or 1, values.get(_OFFSET) or 0
-    return Described(start, values.get(_TYPE), Field(key[1], name, values.get(_UNITS) or "", scale, offset))
+    name = _text(values, _NAME) or "developer_%d_%d" % key
+    scale, offset = _whole(values, _SCALE) or 1, _whole(values, _OFFSET, -128, 127) or 0
+    return Described(start, _whole(values, _TYPE), Field(key[1], name, _text(values, _UNITS), scale, offset))
 
 
 def descriptions(data, groups: List[Group]) -> Dict[Key, List[Described]]:
@@ -49,7 +60,7 @@ def descriptions(data, groups: List[Group]) -> Dict[Key, List[Described]]:
     for group in groups:
         if group.definition.message == DESCRIPTION:
             for start, values in zip(group.starts.tolist(), _values(data, group)):
-                key = values.get(_INDEX), values.get(_NUMBER)
+                key = _whole(values, _INDEX), _whole(values, _NUMBER)
                 if None not in key:
                     found.setdefault(key, []).append(_described(start, values, key))
     for said in found.values():

@@ -25,12 +25,13 @@ class Column(NamedTuple):
 
 
 class Value(NamedTuple):
-    """A field in a group of messages: what it holds, and under which base type."""
+    """A field in a group of messages: what it holds, under which base type, and in which unit."""
 
     group: Group
     part: Part
     base: Optional[int]
     kind: str
+    field: Field
 
 
 class File:
@@ -93,14 +94,14 @@ class File:
         for group in self.groups:
             for part in group.definition.parts:
                 if (part.developer, part.number) == (column.key or (None, column.field.number)):
-                    base = part.base if column.key is None else self._base(column.key, group)
-                    found.append(Value(group, part, base, kind_of(base, part.size)))
+                    base, field = (part.base, column.field) if column.key is None else self._read_by(column.key, group)
+                    found.append(Value(group, part, base, kind_of(base, part.size), field or column.field))
                     break
         return found
 
-    def _base(self, key: Key, group: Group) -> Optional[int]:
+    def _read_by(self, key: Key, group: Group) -> Tuple[Optional[int], Optional[Field]]:
         said: Optional[Described] = described_at(self.said.get(key, []), group.runs[0].start)
-        return said and said.base
+        return (said.base, said.field) if said else (None, None)
 
     def filled(self, columns: List[Column], raw: bool) -> List[np.ndarray]:
         """The columns: whole numbers of at most 4 bytes by the library, all others by NumPy. It raises FitError."""
@@ -111,7 +112,7 @@ class File:
                 others[column] = values
         wanted = sorted({it.field.number for it in columns if it not in others})
         whole = self._whole(wanted)
-        return [self._other(it.field, others[it], raw) if it in others else in_units(it.field, whole[it.field.number], raw)
+        return [self._other(others[it], raw) if it in others else in_units(it.field, whole[it.field.number], raw)
                 for it in columns]
 
     def _whole(self, wanted: List[int]) -> Dict[int, np.ndarray]:
@@ -123,21 +124,21 @@ class File:
             self.rows = table.shape[1]
         return found
 
-    def _other(self, field: Field, values: List[Value], raw: bool) -> np.ndarray:
+    def _other(self, values: List[Value], raw: bool) -> np.ndarray:
         kinds = {it.kind for it in values}
         if kinds <= {"whole", "number", "none"}:
-            return self._numbers(field, values, raw)
+            return self._numbers(values, raw)
         column = np.empty(self.rows, object)
         for it in values:
-            column[it.group.rows] = _objects(self.data, it, field, raw)
+            column[it.group.rows] = _objects(self.data, it, raw)
         return column
 
-    def _numbers(self, field: Field, values: List[Value], raw: bool) -> np.ndarray:
+    def _numbers(self, values: List[Value], raw: bool) -> np.ndarray:
         read = [(it, *numbers(self.data, it.group, it.part, it.base)) for it in values if it.kind != "none"]
         column = _empty({found.dtype.kind + str(found.dtype.itemsize) for _, found, _ in read}, self.rows, raw)
         for it, found, invalid in read:
             valid = ~invalid[:, 0]
-            column[it.group.rows[valid]] = found[valid, 0] if raw else _scaled(field, found[valid, 0])
+            column[it.group.rows[valid]] = found[valid, 0] if raw else _scaled(it.field, found[valid, 0])
         return column
 
 
@@ -150,7 +151,7 @@ def _empty(types: set, rows: int, raw: bool) -> np.ndarray:
     return np.full(rows, np.nan)
 
 
-def _objects(data, value: Value, field: Field, raw: bool) -> np.ndarray:
+def _objects(data, value: Value, raw: bool) -> np.ndarray:
     """The values of a field as objects, None for none."""
     column = np.empty(len(value.group.rows), object)
     if value.kind == "text":
@@ -159,7 +160,7 @@ def _objects(data, value: Value, field: Field, raw: bool) -> np.ndarray:
         column[:] = raw_bytes(data, value.group, value.part, value.base)
     elif value.kind != "none":
         found, invalid = numbers(data, value.group, value.part, value.base)
-        shown = found.astype(found.dtype.newbyteorder("=")) if raw else np.where(invalid, np.nan, _scaled(field, found))
+        shown = found.astype(found.dtype.newbyteorder("=")) if raw else np.where(invalid, np.nan, _scaled(value.field, found))
         for row in range(len(column)):
             if not invalid[row].all():
                 column[row] = shown[row] if value.kind == "numbers" else shown[row, 0].item()
