@@ -23,7 +23,7 @@ CHUNK = 65536
 # The fields of a record: number, size, base type.
 FIELDS = [(0, 4, 0x85), (1, 4, 0x85), (2, 2, 0x84), (3, 1, 2), (4, 1, 2), (5, 4, 0x86), (6, 2, 0x84), (7, 2, 0x84), (13, 1, 1)]
 # Instructions for each byte of a file of records, and for each sample of a script. Who changes one by more than a fiftieth states it here.
-INSTRUCTIONS = {"show": 45.9, "show --json": 62.2, "check": 12.1, "plain": 21.8, "replay": 8420}
+INSTRUCTIONS = {"show": 45.9, "show --json": 57.3, "check": 12.1, "plain": 21.8, "replay": 8420}
 
 
 def peak(traced, *words, **how):
@@ -163,7 +163,7 @@ def instructions_of_records(traced):
             each, stated = (second[1] - first[1]) / (second[0] - first[0]), INSTRUCTIONS[command]
             yield "instructions of " + command, unless(abs(each - stated) <= stated / 50, each, "%s, and a fiftieth more or less" % stated)
         json, text = (taken[command][1][1] - taken[command][0][1] for command in ("show --json", "show"))
-        yield "instructions of JSON by those of the text", unless(json <= 1.37 * text, json / text, "1.37 at most")
+        yield "instructions of JSON by those of the text", unless(json <= 1.3 * text, json / text, "1.3 at most")
 
 
 def check(given):
