@@ -1,12 +1,12 @@
 -- Descriptions of developer fields: for `described`.
-use Rattle.std.proofs.Common.{◌≡◌, ℕ, ◌+◌, ◌-◌, ◌<◌, ◌≤◌, ◌==◌, ◌%◌, Bool, true, false, List, [], ◌∷◌, length, get_or, take, drop, refl, sym, ap, ◌∙◌, Option, Some, None, if◌then◌else◌, eq-eqb, arith}
+use Rattle.std.proofs.Common.{◌≡◌, ℕ, ◌-◌, ◌≤◌, ◌==◌, ◌%◌, Bool, true, false, List, [], ◌∷◌, length, get_or, take, drop, refl, sym, ap, ◌∙◌, Option, Some, None, if◌then◌else◌, eq-eqb, arith}
 use Rattle.std.specs.List.{before_first}
 use Rattle.std.specs.Option.{option_or}
 use Rattle.std.proofs.lemmas.List.{take_all}
 use Rattle.fit_base.specs.declared.base.BaseType.{BaseType}
 use Rattle.fit_base.specs.declared.base.BaseType.TheVariants.{String}
 use Rattle.fit_base.specs.Base.{base_type}
-use Rattle.fit_base.specs.Value.{Field, Values, Numbers, Raw, raw_by, is_raw, count_of, value_size, values_of, numbers}
+use Rattle.fit_base.specs.Value.{Field, Numbers, Raw, raw_by, is_raw, values_of}
 use Rattle.fit_table.specs.Described.{Description, text_by, describes, one_if, described_in}
 use Rattle.fit_table.proofs.CellLemmas.{string_bytes}
 

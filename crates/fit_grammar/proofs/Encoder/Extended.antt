@@ -1,11 +1,11 @@
 -- A file with more items after its own, as it is written item by item: for `encode_extended` and what it calls.
-use Rattle.std.proofs.Common.{◌≡◌, ℕ, ◌+◌, List, [], ◌∷◌, ◌++◌, length, map, Option, Some, None, Result, Ok, Err, refl, sym, ap, ◌∙◌, append_assoc, append-nil}
+use Rattle.std.proofs.Common.{◌≡◌, ℕ, ◌+◌, List, [], ◌∷◌, ◌++◌, length, map, Option, Result, Ok, Err, sym, ap, ◌∙◌, append_assoc, append-nil}
 use Rattle.std.specs.List.{AllByRecursion}
 use Rattle.std.specs.Result.{IsErr}
 use Rattle.std.proofs.lemmas.Grind.{flat_map-append}
 use Rattle.std.proofs.lemmas.List.Sums.{sum_by-append}
 use Rattle.fit_grammar.specs.declared.file.frame.Frame.{Frame}
-use Rattle.fit_grammar.specs.Format.Item.{Item, Defines, Data, item_size}
+use Rattle.fit_grammar.specs.Format.Item.{Item, item_size}
 use Rattle.fit_grammar.specs.Format.Records.{data_size}
 use Rattle.fit_grammar.specs.Format.Encoding.{encoded_item, encoded_items, encoded_header, with_checksum, encoded, HasEncoding}
 use Rattle.fit_grammar.specs.Format.File.{FileValue}

@@ -1,10 +1,8 @@
-use Rattle.std.proofs.Common.{◌∷◌, ℕ, List, Option, map, refl, ap, ◌∙◌, subst}
-use Rattle.std.specs.Prelude.{option_map}
-use Rattle.fit_grammar.specs.Format.Message.{MessageDeveloperField, message_under}
+use Rattle.std.proofs.Common.{map, refl, ap}
+use Rattle.fit_grammar.specs.Format.Message.{message_under}
 use Rattle.fit_table.specs.Named.{cells_by}
-use Rattle.fit_table.specs.Tokens.{Token}
 use Rattle.fit_table.proofs.NamedLemmas.{any_name, name_of, seen, first_from, none_viewed}
-use Rattle.fit_table.proofs.TokenLemmas.{LeavesTokens, begin_tokens, less_tokens, no_tokens, off_tokens, tokens_text}
+use Rattle.fit_table.proofs.TokenLemmas.{begin_tokens, less_tokens, no_tokens, off_tokens, tokens_text}
 use Rattle.fit_table.proofs.named.put_cells_by.Goals as goal
 
 pub loop-left-init : goal.loop-left-init

@@ -1,4 +1,4 @@
-use Rattle.std.proofs.Common.{◌≡◌, ◌∷◌, ◌-◌, map, length, take, drop, ap, sym, ◌∙◌, Some, None}
+use Rattle.std.proofs.Common.{◌∷◌, ◌-◌, map, length, take, drop, ap, sym, ◌∙◌, Some}
 use Rattle.fit_grammar.specs.Calls.LentField.{developer_view}
 use Rattle.fit_table.specs.Named.{read_in}
 use Rattle.fit_table.proofs.NamedLemmas.{seen, first_viewed, none_viewed, read_here, read_later, read_past, read_no_field, read_no_told}

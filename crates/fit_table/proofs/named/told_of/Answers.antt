@@ -1,5 +1,4 @@
-use Rattle.std.proofs.Common.{◌≡◌, ◌∷◌, ◌++◌, [], length, map, append-nil, length-append, ap, sym, ◌∙◌, arith}
-use Rattle.fit_grammar.specs.Calls.LentField.{developer_view}
+use Rattle.std.proofs.Common.{◌++◌, length, map, append-nil, length-append, ap, sym, ◌∙◌, arith}
 use Rattle.fit_table.specs.Named.{told_in}
 use Rattle.fit_table.proofs.NamedLemmas.{seen, pushed}
 use Rattle.fit_table.proofs.named.told_of.Goals as goal

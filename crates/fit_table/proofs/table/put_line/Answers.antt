@@ -1,7 +1,5 @@
-use Rattle.std.proofs.Common.{◌≡◌, ◌≤◌, [], length, sum_by, arith}
+use Rattle.std.proofs.Common.{[], length, arith}
 use Rattle.fit_columns.proofs.PlanLemmas.{places_in}
-use Rattle.fit_grammar.specs.Format.Message.{message_under}
-use Rattle.fit_table.specs.Table.{cells_at, cells_from}
 use Rattle.fit_table.proofs.LineLemmas.{line_shows}
 use Rattle.fit_table.proofs.TokenLemmas.{tokens_same, tokens_then, tokens_stop, tokens_text}
 use Rattle.fit_table.proofs.table.put_line.Goals as goal

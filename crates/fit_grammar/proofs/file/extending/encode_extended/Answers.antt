@@ -1,8 +1,7 @@
-use Rattle.std.proofs.Common.{◌≡◌, ℕ, ◌+◌, List, [], ◌++◌, length, sym, ap, ◌∙◌, append_assoc}
+use Rattle.std.proofs.Common.{ℕ, ◌+◌, List, ◌++◌, length, sym, ap, ◌∙◌, append_assoc}
 use Rattle.fit_base.specs.declared.order.Arch.TheVariants.{Little}
 use Rattle.fit_base.specs.Checksum.{crc}
 use Rattle.fit_grammar.specs.Format.Encoding.{two_bytes, encoded_header, encoded_items}
-use Rattle.fit_grammar.specs.Format.Records.{data_size}
 use Rattle.fit_grammar.proofs.Encoder.Output.{then_writes, stops_before, writes_same}
 use Rattle.fit_grammar.proofs.Encoder.Checked.{then_checked}
 use Rattle.fit_grammar.proofs.Encoder.Encoded.{checksum_bytes}

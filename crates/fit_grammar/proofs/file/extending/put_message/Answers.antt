@@ -1,4 +1,4 @@
-use Rattle.std.proofs.Common.{List, ℕ, ◌++◌, [], ◌∷◌, ap}
+use Rattle.std.proofs.Common.{ℕ, ◌∷◌, ap}
 use Rattle.fit_grammar.proofs.Encoder.Checked.{then_checked, stops_checked, checked_same}
 use Rattle.fit_grammar.proofs.file.extending.put_message.Goals as goal
 

@@ -1,4 +1,4 @@
-use Rattle.std.proofs.Common.{◌≡◌, ◌-◌, ◌++◌, ◌∙◌, ap, take, drop, length, length-drop, length-take-le, arith}
+use Rattle.std.proofs.Common.{◌≡◌, ◌++◌, ◌∙◌, ap, take, drop, length, length-drop, length-take-le, arith}
 use Rattle.std.proofs.lemmas.List.{take_all}
 use Rattle.fit_text.proofs.PenLemmas.{part_placed, inner_taken}
 use Rattle.fit_text.proofs.writing.member.place_inner.Goals as goal
