@@ -4,7 +4,7 @@ use Rattle.std.proofs.Math.ListN.{set}
 use Rattle.std.proofs.Math.Seq.{take-suc-set}
 use Rattle.std.proofs.lemmas.List.{length-append, length-take, length-drop, map-append}
 use Rattle.std.specs.Io.Iter.{u64_saturate}
-use Rattle.std.specs.Prelude.{map, flat_map, slice_range}
+use Rattle.std.specs.Prelude.{map}
 use Rattle.fit_base.specs.Checksum.{crc}
 use Rattle.fit_base.specs.declared.order.Arch.TheVariants.{Little}
 use Rattle.fit_grammar.specs.Calls.Framed.{framed}

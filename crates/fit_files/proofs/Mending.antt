@@ -1,11 +1,10 @@
 -- What is kept of damaged bytes: for `skip_bytes`, and for the lines of it.
-use Rattle.std.proofs.Common.{◌≡◌, inr, ℕ, ◌+◌, ◌-◌, ◌<◌, ◌≤◌, Bool, true, false, ◌||◌, ◌==◌, if◌then◌else◌, List, [], ◌∷◌, ◌++◌, length, take, drop, get_or, refl, sym, ap, ◌∙◌, subst, append-nil, codes, Result, Ok, Err, arith}
-use Rattle.std.proofs.Math.Seq.{take-length}
+use Rattle.std.proofs.Common.{◌≡◌, inr, ℕ, ◌-◌, ◌<◌, ◌≤◌, Bool, true, false, ◌||◌, ◌==◌, if◌then◌else◌, List, [], ◌∷◌, ◌++◌, length, take, drop, get_or, refl, sym, ap, ◌∙◌, subst, append-nil, codes, Result, Ok, Err, arith}
 use Rattle.std.specs.Prelude.{◌↔◌, IfOk, OnErr}
 use Rattle.std.specs.Result.{is_ok}
 use Rattle.std.proofs.lemmas.List.{take_all, nil_from_length, length-drop, length-take}
 use Rattle.fit_grammar.specs.declared.file.frame.Frame.{Frame}
-use Rattle.fit_grammar.specs.Format.File.{FileValue, FileOf, IsFrame}
+use Rattle.fit_grammar.specs.Format.File.{FileValue, FileOf}
 use Rattle.fit_grammar.specs.Calls.BeginningHeader.{BeginsWithHeader}
 use Rattle.fit_mending.specs.declared.pieces.Piece.{Piece}
 use Rattle.fit_mending.proofs.Files.{file_begins}

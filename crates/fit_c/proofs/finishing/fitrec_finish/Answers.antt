@@ -1,4 +1,4 @@
-use Rattle.std.proofs.Common.{◌≡◌, ◌+◌, ◌<◌, ◌≤◌, length, arith}
+use Rattle.std.proofs.Common.{◌+◌, ◌≤◌, length, arith}
 use Rattle.fit_grammar.specs.Format.Encoding.{encoded}
 use Rattle.fit_finishing.specs.Finished.{finished_by, most_closing}
 use Rattle.fit_c.proofs.Finished.{finished_length}

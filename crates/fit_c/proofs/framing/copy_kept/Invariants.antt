@@ -1,4 +1,4 @@
-use Rattle.std.proofs.Common.{◌≡◌, ◌+◌, ◌≤◌, ◌++◌, length, take}
+use Rattle.std.proofs.Common.{◌≡◌, ◌+◌, ◌++◌, length, take}
 use Rattle.std.specs.Prelude.{map}
 use Rattle.fit_mending.specs.Pieces.{AreWithin, kept_row}
 use Rattle.fit_c.specs.Skipped.{piece_of}

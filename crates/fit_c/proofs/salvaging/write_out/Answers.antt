@@ -1,4 +1,4 @@
-use Rattle.std.proofs.Common.{ℕ, List, length, ap, ◌∙◌, arith}
+use Rattle.std.proofs.Common.{ℕ, List, length, ap, ◌∙◌}
 use Rattle.std.specs.Io.Iter.{u64_saturate}
 use Rattle.fit_c.proofs.Written.{file_counted}
 use Rattle.fit_c.proofs.salvaging.write_out.Goals as goal

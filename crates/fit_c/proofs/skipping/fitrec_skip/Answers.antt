@@ -1,5 +1,4 @@
 use Rattle.std.proofs.Common.{ℕ, ◌+◌, ◌∙◌, List, ap, sym, arith}
-use Rattle.std.specs.Prelude.{map}
 use Rattle.fit_mending.specs.Pieces.{kept_row}
 use Rattle.fit_mending.specs.declared.pieces.Piece.{Piece}
 use Rattle.fit_files.specs.declared.looking.Looked.{Looked}
