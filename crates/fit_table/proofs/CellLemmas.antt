@@ -12,7 +12,7 @@ use Rattle.fit_base.specs.declared.order.Arch.{Arch}
 use Rattle.fit_base.specs.declared.order.Arch.TheVariants.{Little, Big}
 use Rattle.fit_base.specs.Number.{number}
 use Rattle.fit_base.specs.declared.base.BaseType.{BaseType}
-use Rattle.fit_base.specs.declared.base.BaseType.TheVariants.{String, Float32, Float64}
+use Rattle.fit_base.specs.declared.base.BaseType.TheVariants.{Enum, Sint8, Uint8, Sint16, Uint16, Sint32, Uint32, String, Float32, Float64, Uint8z, Uint16z, Uint32z, Byte, Sint64, Uint64, Uint64z}
 use Rattle.fit_base.specs.Base.{base_type}
 use Rattle.fit_base.specs.Value.{Field, Values, Numbers, Raw, size_by, raw_by, value_size, is_raw, count_of, values_of, numbers}
 use Rattle.fit_table.specs.declared.unit.Unit.{Unit as AnyUnit}
@@ -185,3 +185,32 @@ pub string_field : (empty : List ℕ) (unit : AnyUnit) (field : Field) → base_
     Text (string_cell empty field.bytes) ∷ [] ≡ field_tokens empty unit (base_type field.base) (values_of field)
 string_field empty unit field e f =
     ap (λ bytes. Text (string_cell empty bytes) ∷ []) (sym (string_bytes field e)) ∙ known_field empty unit field String e f
+
+-- ---- a field without bytes
+
+no_bytes_by : (empty : List ℕ) (unit : AnyUnit) (arch : Arch) (o : Option BaseType) →
+    Text empty ∷ []
+    ≡ field_tokens empty unit o (if raw_by o 0 then Raw [] else Numbers (numbers arch (size_by o) (if raw_by o 0 then 0 else 0 / size_by o) []))
+unfolding values_tokens string_cell
+no_bytes_by empty unit arch None = refl
+no_bytes_by empty unit arch (Some Enum) = refl
+no_bytes_by empty unit arch (Some Sint8) = refl
+no_bytes_by empty unit arch (Some Uint8) = refl
+no_bytes_by empty unit arch (Some Sint16) = refl
+no_bytes_by empty unit arch (Some Uint16) = refl
+no_bytes_by empty unit arch (Some Sint32) = refl
+no_bytes_by empty unit arch (Some Uint32) = refl
+no_bytes_by empty unit arch (Some String) = refl
+no_bytes_by empty unit arch (Some Float32) = refl
+no_bytes_by empty unit arch (Some Float64) = refl
+no_bytes_by empty unit arch (Some Uint8z) = refl
+no_bytes_by empty unit arch (Some Uint16z) = refl
+no_bytes_by empty unit arch (Some Uint32z) = refl
+no_bytes_by empty unit arch (Some Byte) = refl
+no_bytes_by empty unit arch (Some Sint64) = refl
+no_bytes_by empty unit arch (Some Uint64) = refl
+no_bytes_by empty unit arch (Some Uint64z) = refl
+
+pub no_bytes : (empty : List ℕ) (unit : AnyUnit) (base : ℕ) (arch : Arch) →
+    Text empty ∷ [] ≡ field_tokens empty unit (base_type base) (values_of (record { base = base; arch = arch; bytes = [] }))
+no_bytes empty unit base arch = no_bytes_by empty unit arch (base_type base)

@@ -85,6 +85,9 @@ fn put_other<W: Write>(
     if is_time(time, place.number) {
         return pen.put(empty);
     }
+    if place.size == 0 {
+        return pen.put(empty); // Most columns of the Profile have no field.
+    }
     let unit = unit_at(layout, units, place.number);
     put_held(pen, empty, unit, place, arch, content)
 }
