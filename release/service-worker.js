@@ -1,5 +1,5 @@
 // Keeps the page where it is served, so that it opens without a connection. A new version of the page is a new name.
-const NAME = 'fitrec-fb7678fcf4439c66', FILES = ['fitrec.html', 'manifest.webmanifest', 'icon.svg'];
+const NAME = 'fitrec-db766422092218fb', FILES = ['fitrec.html', 'manifest.webmanifest', 'icon.svg'];
 
 addEventListener('install', event => {
   event.waitUntil(caches.open(NAME).then(cache => cache.addAll(FILES)).then(() => skipWaiting()));
