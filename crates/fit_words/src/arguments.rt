@@ -106,7 +106,9 @@ pub(crate) fn json_profile_option<'a>(alloc: Global) -> Result<Arg<'a>, Error> {
     Ok(
         Arg::new(alloc, "profile")
             .long("profile")
-            .help("Uses the names and units of the whole public FIT Profile and of developer fields, with --json")
+            .help(
+                "Uses the names and units of the whole public FIT Profile and of developer fields, with --json",
+            )
             .action(ArgAction::SetTrue)
             .requires_arg("json")?,
     )

@@ -10,8 +10,8 @@ ghost use Rattle.fit_text.specs.Members.{separator, column_json, columns_json, A
 use crate::form::whole::{add_signed, add_unsigned};
 use crate::json::field::put_shown;
 use crate::json::members::Members;
-use crate::showing::date::dates_of;
 use crate::json::notation::AsJson;
+use crate::showing::date::dates_of;
 use crate::showing::plan::{Column, Kind, Plan};
 use crate::writing::Pen;
 use fit_base::{Arch, FieldValue, number_of};
