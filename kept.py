@@ -53,6 +53,12 @@ def has_passed(folder, line):
     return rlib.is_dir() and not (rlib / "stamp").exists() and passed.exists() and passed.read_text() == line
 
 
+def are_proved(crates):
+    """Whether these libraries, as `rt` knows them, are there: all as `rt` proved them, or all as the gate did."""
+    line = subprocess.run([ROOT / "sources", "crates"], stdout=subprocess.PIPE, text=True, check=True).stdout
+    return all(it.is_built() for it in crates) or all(has_passed(ROOT / "crates" / it.name, line) for it in crates)
+
+
 def static_library(crate, rt):
     """Proves and builds the static library in this folder of a tree, over what is kept of the libraries below. If that is not all of them, `rt`
     proves the others first. Answers its status."""
@@ -62,8 +68,7 @@ def static_library(crate, rt):
     its = next(it for it in module.rtlib.crates_below(str(crate.parent.parent)) if it.name == crate.name)
     # What is printed elsewhere stays apart.
     its.out = sys.stderr
-    line = subprocess.run([ROOT / "sources", "crates"], stdout=subprocess.PIPE, text=True, check=True).stdout
-    if all(it.is_built() for it in its.below()) or all(has_passed(ROOT / "crates" / it.name, line) for it in its.below()):
+    if are_proved(its.below()):
         os.makedirs(crate / "out", exist_ok=True)
         return its.build_static(["--jobs", "1"])
     return subprocess.run([rt, "lib", "--jobs", "1"], cwd=crate).returncode

@@ -107,15 +107,15 @@ def judge(fitrec, folder, number, data, everything):
     words = ["salvage", "--finish", *["--all"] * everything]
     said, text = wanted_finish(data, everything)
     came, made = run(fitrec, *words, source, out), bytes_of(out)
-    is_, want = [came, made and show(made)], [said, text]
+    found, wanted = [came, made and show(made)], [said, text]
     if made is not None and not said[0]:
         # The file is an activity, a salvage of it has nothing to add, and a plain one states the same.
-        is_ += [run(fitrec, "check", out)[0], run(fitrec, *words, "--plain", source, plain)[0]]
-        is_ += [run(fitrec, "salvage", "--finish", out, source)[0], show(plain.read_bytes()).splitlines()[1:], source.read_bytes()]
-        want += [0, 0, 0, text.splitlines()[1:], made]
+        found += [run(fitrec, "check", out)[0], run(fitrec, *words, "--plain", source, plain)[0]]
+        found += [run(fitrec, "salvage", "--finish", out, source)[0], show(plain.read_bytes()).splitlines()[1:], source.read_bytes()]
+        wanted += [0, 0, 0, text.splitlines()[1:], made]
     for path in (source, out, plain):
         path.unlink(missing_ok=True)
-    return said[2].strip().rpartition("fitrec: ")[2].partition(" ")[0] or "finished", differs(is_, want, data)
+    return said[2].strip().rpartition("fitrec: ")[2].partition(" ")[0] or "finished", differs(found, wanted, data)
 
 
 def of_other_makers(given):
@@ -180,11 +180,11 @@ def judge_ride(fitrec, number, lines, cut):
         kept = lines[:-1] if cut else lines
         if not any(line.startswith("sample") for line in kept):
             return "without a sample", differs(said, (1, "", "fitrec: NoSample\n"))
-        want = repaired(fitrec, script, new, kept)
+        wanted = repaired(fitrec, script, new, kept)
         if kept[-1].startswith("lap"):
             # A recorder adds a lap after the last one. The ride ends with the entry before it.
-            want = want[:-3] + repaired(fitrec, script, new, kept[:-1])[-2:]
-        return "as repaired", differs((said[0], said[2], summaries((place / "out").read_bytes())), (0, "", want), lines)
+            wanted = wanted[:-3] + repaired(fitrec, script, new, kept[:-1])[-2:]
+        return "as repaired", differs((said[0], said[2], summaries((place / "out").read_bytes())), (0, "", wanted), lines)
 
 
 def of_our_own(given):

@@ -125,7 +125,7 @@ def judged(fitrec, seed, rides, kind, size, rounds, holes=1):
     return None if None in found else [sum(each) for each in zip((0, 0, 0), *found)]
 
 
-def told(sums):
+def described(sums):
     stood, kept, made_up = sums
     return "%.4f of %d kept, %d made up" % (kept / stood if stood else 1, stood, made_up)
 
@@ -136,7 +136,7 @@ def over(given, rides, name):
         sums = judged(given.fitrec, given.seed, rides, kind, size, rounds, holes)
         well = sums is not None and sums[1] >= KEPT[size] * sums[0] and sums[2] <= MADE_UP * sums[1]
         wanted = "%.2f kept, %.3f made up" % (KEPT[size], MADE_UP)
-        yield "%s, %d bytes %s, holes %d" % (name, size, kind, holes), unless(well, sums and told(sums), wanted)
+        yield "%s, %d bytes %s, holes %d" % (name, size, kind, holes), unless(well, sums and described(sums), wanted)
 
 
 def own(given):
@@ -159,7 +159,7 @@ def without_distances(given):
     for kind in "older content", "doubled":
         stood, kept, made_up = sums = judged(given.fitrec, given.seed, [ride], kind, 512, 16)
         well = kept >= KEPT[512] * stood and made_up <= MADE_UP_WITHOUT * kept
-        yield "%s without distances" % kind, unless(well, told(sums), "%.2f kept, %.3f made up" % (KEPT[512], MADE_UP_WITHOUT))
+        yield "%s without distances" % kind, unless(well, described(sums), "%.2f kept, %.3f made up" % (KEPT[512], MADE_UP_WITHOUT))
 
 
 def whole(given):
@@ -169,8 +169,8 @@ def whole(given):
     for number, data in enumerate(rides):
         row = numbers(data)[1]
         (status, out, err), file = mended(given.fitrec, data)
-        want = 0, "kept %d of %d, parts 1\n" % (len(row), len(row)), row
-        yield "an undamaged file", differs((status, out, file and numbers(file)[1]), want, number)
+        wanted = 0, "kept %d of %d, parts 1\n" % (len(row), len(row)), row
+        yield "an undamaged file", differs((status, out, file and numbers(file)[1]), wanted, number)
         full = len(records(data))
         for name, bad in ("a wrong checksum", data[:-1] + bytes([data[-1] ^ 0x5A])), ("no size", data[:4] + bytes(4) + data[8:]):
             file = mended(given.fitrec, bad)[1]
@@ -280,8 +280,8 @@ def finishes(given):
         (status, out, err), file = mended(given.fitrec, damaged, "--all")
         text, taken, left_out = finished(file)
         (status, more, err), made = mended(given.fitrec, damaged, "--all", "--finish")
-        want = 0, out + "heard %d entries, %d left out\n" % (taken, left_out), text
-        yield "finished", differs((status, more, made and show(made)), want)
+        wanted = 0, out + "heard %d entries, %d left out\n" % (taken, left_out), text
+        yield "finished", differs((status, more, made and show(made)), wanted)
 
 
 def check(given):

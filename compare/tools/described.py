@@ -61,5 +61,5 @@ def descriptions(found):
 
 def names(found):
     """The names of the columns that descriptions make, each once."""
-    told = [read(fields)[1].name for message, fields, _ in found if message == MESSAGE]
-    return [it for it in dict.fromkeys(told[:MOST]) if it][:COLUMNS]
+    stated = [read(fields)[1].name for message, fields, _ in found if message == MESSAGE]
+    return [it for it in dict.fromkeys(stated[:MOST]) if it][:COLUMNS]

@@ -1,8 +1,16 @@
-"""Wrong bodies as edits of the sources: the function that an edit changes, and several edits in one text."""
+"""Wrong bodies as edits of the sources: the function that an edit changes, several edits in one text, and which of them a check refuses."""
 
 import os
 import pathlib
 import re
+
+# The most edits in one check. Each failed search takes memory.
+MOST = 16
+# A goal at a place of a source, and a line on the proof of one function.
+PLACE = re.compile(r"(?:note: )?(?:\./)?(src/\S+?):(\d+):\d+: .*(\bnot proved\b|\bfound no proof\b)")
+PROOF = re.compile(r"(?:\./)?proofs/(\S+?)(?:/[A-Z]\w*)?/\+?(\w+)/\w+\.antt:\d+:\d+: (.*)")
+# What is printed for a proof that was not checked, because something that it names does not exist.
+LOST = re.compile(r"not admitted|not checked|was rejected|not in scope|has no ")
 
 
 def functions_of(text):
@@ -11,7 +19,9 @@ def functions_of(text):
     lines, found, after = text.split("\n"), [], 0
     for first, line in enumerate(lines):
         head = re.match(r'( {0,4})(?:[\w()"]+ )*fn (\w+)', line)
-        if head and first >= after and f"{head[1]}}}" in lines[first:]:
+        # A trait's function without a body ends with a semicolon.
+        begins = next((it for it in lines[first:] if it.endswith(("{", ";"))), "")
+        if head and first >= after and begins.endswith("{") and f"{head[1]}}}" in lines[first:]:
             after = lines.index(f"{head[1]}}}", first)
             opens = [i for i in range(first, after) if lines[i] == f"{head[1]}{{"]
             opens += [i for i in range(first, after) if lines[i].endswith(" {")]
@@ -20,6 +30,21 @@ def functions_of(text):
                 first -= 1
             found.append((head[2], first, opens[0], after))
     return found
+
+
+def owner_of(line):
+    """What a check prints for the type of an `impl`, with its trait after it if it has one."""
+    line = line.removeprefix("impl").partition(" where ")[0].removesuffix(" {")
+    while "<" in line:
+        line = re.sub(r"<[^<>]*>", "", line)
+    return "".join(it.strip().rpartition("::")[2] for it in reversed(line.split(" for ")))
+
+
+def path_of(file, text, name, first):
+    """The path of a function below its crate, as a check prints it."""
+    lines, modules = text.split("\n"), file.removeprefix("src/").removesuffix(".rt").split("/")
+    owners = [it for it in lines[:first] if it.startswith("impl")] if lines[first].startswith(" ") else []
+    return "::".join([it for it in modules if it not in ("lib", "main", "mod")] + [owner_of(it) for it in owners[-1:]] + [name])
 
 
 class Edit:
@@ -36,9 +61,9 @@ class Edit:
         after = len(os.path.commonprefix([old[start:][::-1], new[start:][::-1]]))
         self.span, self.new = (start, len(old) - after), new[start:len(new) - after]
         first, last = (old.count("\n", 0, at) for at in self.span)
-        for number, (name, _, opens, ends) in enumerate(functions_of(old)):
+        for number, (name, head, opens, ends) in enumerate(functions_of(old)):
             if opens < first and last < ends:
-                self.name, self.function = name, (self.file, number)
+                self.name, self.function, self.function_path = name, (self.file, number), path_of(self.file, old, name, head)
 
 
 def batches_of(edits, most):
@@ -60,3 +85,24 @@ def merged(batch, folder):
         text = texts.get(it.file) or pathlib.Path(folder, it.file).read_text(encoding="utf-8")
         texts[it.file] = text[:it.span[0]] + it.new + text[it.span[1]:]
     return texts
+
+
+def refused_in(rt, batch, texts, ran):
+    """The edits of a batch that were refused by a goal of their own, with its place. None if nothing was judged."""
+    lines = ran.stdout.rstrip("\n").split("\n")
+    if ran.returncode != 1 or not lines[-1].startswith(("logic=not-proved", "only=")) or any(rt.unread(it, texts) for it in lines):
+        return None
+    places = [(at[1], int(at[2])) for at in map(PLACE.match, lines) if at]
+    proofs = [((f"src/{at[1]}.rt", at[2]), at[3]) for at in map(PROOF.match, lines) if at]
+    lost = [at for at, words in proofs if LOST.search(words)]
+    failed = [at for at, words in proofs if words.startswith("error") and at not in lost]
+    found = {}
+    for it in batch:
+        functions = functions_of(texts[it.file])
+        name, first, _, last = functions[it.function[1]]
+        own = [f"{file}:{line}" for file, line in places if file == it.file and first < line <= last + 1]
+        is_only = [other[0] for other in functions].count(name) == 1
+        own += [f"an answer of {name}"] * (is_only and (it.file, name) in failed)
+        if name == it.name and own and (it.file, name) not in lost:
+            found[it] = own[0]
+    return found

@@ -1,6 +1,7 @@
 """The static libraries: built from what is proved, compiled into a C program, and their names."""
 
 import contextlib
+import os
 import re
 import subprocess
 import tempfile
@@ -14,11 +15,15 @@ WARNINGS = ["-Wall", "-Wextra", "-Werror", "-I", ROOT / "include"]
 
 
 def build(to, name="fit_c"):
-    """Proves a static library over the libraries of the tree, and makes it. The last lines of the build, if that fails."""
+    """Proves a static library over the libraries of the tree, and makes it. Its proofs are kept in the crate's out/, as `rt lib` keeps them,
+    so only the first of those who ask for it proves it. The last lines of the build, if that fails."""
     rt = load_rt()
     crate = next(it for it in rt.rtlib.crates_below(str(ROOT)) if it.name == name)
-    words = [rt.rtlib.RATTLE, "build", *crate.words(["--jobs", "1"], keeps=True), "--toolchain", rt.KIT + "/toolchain", "-o", to]
-    built = subprocess.run(words, cwd=crate.folder, stdout=subprocess.PIPE, stderr=subprocess.STDOUT, text=True)
+    words = [*crate.words(["--jobs", "1"]), *rt.rtlib.KEPT, "--toolchain", rt.KIT + "/toolchain", "-o", to]
+    held = rt.rtlib.lock([crate])
+    built = subprocess.run([rt.rtlib.RATTLE, "build", *words], cwd=crate.folder, stdout=subprocess.PIPE, stderr=subprocess.STDOUT, text=True)
+    for it in held:
+        os.close(it)
     return None if built.returncode == 0 else built.stdout[-2000:]
 
 

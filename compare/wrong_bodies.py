@@ -1,0 +1,50 @@
+"""Tries the wrong bodies of crates/NAME/wrong/in_gate: the prover has to refuse each by a goal of the function that it changes. For an edit
+of must-fail/ the gate proves a whole crate once more. Here several are tried in one check, of the changed functions and what they call."""
+
+import concurrent.futures
+import os
+import pathlib
+import sys
+import tempfile
+
+from tools.checks import Check, differs, unless
+from tools.edits import MOST, Edit, batches_of, merged, refused_in
+from tools.kit import load_rt
+from tools.program import ROOT
+
+sys.path.insert(0, str(ROOT))
+import kept
+
+NEEDS = ("fitrec", "rt")
+JOBS = ["--jobs", "1"]
+
+
+def bodies_of(crate):
+    return sorted(pathlib.Path(crate.folder, "wrong/in_gate").glob("*.edit"))
+
+
+def tried(rt, crate):
+    """The checks of a crate's wrong bodies."""
+    edits = [Edit(it, crate.folder, rt.read_edit(it, crate.folder)[0]) for it in bodies_of(crate)]
+    found = [Check(crate.name, it.path.stem, unless(it.function, "another edit", "a change of one function")) for it in edits if not it.function]
+    with tempfile.TemporaryDirectory(prefix="wrong-") as work:
+        for batch in batches_of([it for it in edits if it.function], MOST):
+            texts, functions = merged(batch, crate.folder), ["--only=" + it.function_path for it in batch]
+            ran = rt.checked(crate, texts, [*JOBS, *functions], work)
+            refused = refused_in(rt, batch, texts, ran) or {}
+            for it in batch:
+                came = unless(it in refused, ran.stdout[-1000:], "no proof of %s" % it.function_path)
+                found.append(Check(crate.name, it.path.stem, came))
+    return found
+
+
+def check(given):
+    rt = load_rt()
+    rt.rtlib.guarded()
+    crates = [it for it in rt.rtlib.crates_below(str(ROOT)) if bodies_of(it) and (not given.groups or it.name in given.groups)]
+    for crate in crates:
+        if not kept.are_proved(crate.below()):
+            yield "the crates below " + crate.name, differs([it.name for it in crate.below() if it.build_rlib(JOBS, anew=False)], [])
+    with concurrent.futures.ThreadPoolExecutor(os.cpu_count()) as pool:
+        for found in pool.map(lambda it: tried(rt, it), crates):
+            yield from found
