@@ -1,31 +1,68 @@
 // Power cuts after calls that failed. The expected contents are worked out by hand.
 
-use super::{cut, cycle, expect, sync, write};
-use fit_disk::{DeviceError, Memory, Which};
+use super::Call::{Cut, Sync, Write};
+use super::Step::{Cycle, Fails, Holds, Passes};
+use super::{Step, follow};
+use fit_disk::Which::{Data, Journal};
+use fit_disk::{DeviceError, Memory};
+
+const CASES: [&[Step]; 5] = [
+    // A failed write at place 0 was begun.
+    &[
+        Passes(Write(Data, 0, b"abcd")),
+        Passes(Sync(Data)),
+        Fails(Write(Data, 0, b"XY")),
+        Holds(Data, b"abcd"),
+        Cycle(&[0, 0, 0, 0, 0xA5, 0xFF], 6),
+        Holds(Data, b"\xA5\xFFcd"),
+    ],
+    // So was one over the end.
+    &[
+        Passes(Write(Data, 0, b"abcd")),
+        Passes(Sync(Data)),
+        Passes(Write(Data, 1, b"XY")),
+        Passes(Sync(Data)),
+        Fails(Write(Data, 3, b"ZZ")),
+        Holds(Data, b"aXYd"),
+        Cycle(&[1, 0, 0, 0, 0xA5, 0xFF], 6),
+        Holds(Data, b"aXY\xA5\xFF"),
+    ],
+    // A failed cut of the journal was begun. The data file takes four choice bytes. The journal comes back with 2 to 6 bytes.
+    &[
+        Passes(Write(Journal, 0, b"abcdef")),
+        Passes(Sync(Journal)),
+        Fails(Cut(Journal, 2)),
+        Holds(Journal, b"abcdef"),
+        Cycle(&[0, 0, 0, 0, 1, 0, 0, 0, 0xA5], 9),
+        Holds(Journal, b"ab\xA5"),
+    ],
+    // So was one of the data file.
+    &[
+        Passes(Write(Data, 0, b"abcd")),
+        Passes(Sync(Data)),
+        Passes(Write(Data, 1, b"XY")),
+        Passes(Sync(Data)),
+        Fails(Cut(Data, 1)),
+        Holds(Data, b"aXYd"),
+        Cycle(&[1, 0, 0, 0, 0xA5], 5),
+        Holds(Data, b"a\xA5"),
+    ],
+    // A failed sync keeps nothing new and loses nothing.
+    &[
+        Passes(Write(Data, 0, b"abcd")),
+        Passes(Sync(Data)),
+        Passes(Write(Data, 1, b"XY")),
+        Fails(Sync(Data)),
+        Holds(Data, b"aXYd"),
+        Cycle(&[], 0),
+        Holds(Data, b"a\0\0d"),
+    ],
+];
 
 #[test]
-fn a_write_that_failed_at_place_0_was_begun(rt: HostRuntime) -> Result<(), DeviceError> {
-    let mut disk = Memory::new(rt.alloc());
-    write(&mut disk, Which::Data, 0, b"abcd")?;
-    sync(&mut disk, Which::Data)?;
-    disk.fail_at(1);
-    assert!(rt; write(&mut disk, Which::Data, 0, b"XY").is_err());
-    expect(&rt, &disk, Which::Data, b"abcd");
-    cycle(&rt, &mut disk, &[0, 0, 0, 0, 0xA5, 0xFF], 6);
-    expect(&rt, &disk, Which::Data, b"\xA5\xFFcd");
-    Ok(())
-}
-
-#[test]
-fn a_cut_of_the_journal_that_failed_was_begun(rt: HostRuntime) -> Result<(), DeviceError> {
-    let mut disk = Memory::new(rt.alloc());
-    write(&mut disk, Which::Journal, 0, b"abcdef")?;
-    sync(&mut disk, Which::Journal)?;
-    disk.fail_at(1);
-    assert!(rt; cut(&mut disk, Which::Journal, 2).is_err());
-    expect(&rt, &disk, Which::Journal, b"abcdef");
-    // The data file takes four choice bytes. The journal comes back with 2 to 6 bytes.
-    cycle(&rt, &mut disk, &[0, 0, 0, 0, 1, 0, 0, 0, 0xA5], 9);
-    expect(&rt, &disk, Which::Journal, b"ab\xA5");
+fn a_call_that_failed_was_begun(rt: HostRuntime) -> Result<(), DeviceError> {
+    for steps in CASES {
+        follow(&rt, &mut Memory::new(rt.alloc()), steps)?;
+    }
     Ok(())
 }

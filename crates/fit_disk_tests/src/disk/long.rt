@@ -17,6 +17,12 @@ fn fill(disk: &mut Memory, byte: u8) -> Result<(), DeviceError> {
     Ok(())
 }
 
+// The length of the data file, its first three bytes, and its last.
+fn ends(disk: &Memory) -> (usize, Option<&[u8]>, Option<&u8>) {
+    let content = disk.content(Which::Data);
+    (content.len(), content.get(..3), content.last())
+}
+
 #[test]
 fn a_file_of_16_mib_is_filled_and_comes_back(rt: HostRuntime) -> Result<(), DeviceError> {
     let mut disk = Memory::new(rt.alloc());
@@ -24,13 +30,18 @@ fn a_file_of_16_mib_is_filled_and_comes_back(rt: HostRuntime) -> Result<(), Devi
     equal(&rt, size(&mut disk, Which::Data)?, 16_777_216);
     sync(&mut disk, Which::Data)?;
     fill(&mut disk, 0x6B)?;
-    assert!(rt; !disk.spent());
-    equal(&rt, disk.content(Which::Data).last().copied(), Some(0x6B));
+    equal(&rt, disk.spent(), false);
+    equal(
+        &rt,
+        ends(&disk),
+        (16_777_216, Some(&[0x6B; 3]), Some(&0x6B)),
+    );
     // Each of its bytes varies.
     cycle(&rt, &mut disk, &[0, 0, 0, 0, 0xA5], 5);
-    let content = disk.content(Which::Data);
-    assert_eq!(rt; content.len(), 16_777_216);
-    equal(&rt, &content[..3], [0xA5, 0, 0].as_slice());
-    equal(&rt, content.last().copied(), Some(0));
+    equal(
+        &rt,
+        ends(&disk),
+        (16_777_216, Some(&[0xA5, 0, 0]), Some(&0)),
+    );
     Ok(())
 }

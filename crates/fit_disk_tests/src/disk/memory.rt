@@ -1,70 +1,91 @@
 // Reads, writes, cuts and syncs of the memory disk, and calls that fail by schedule or for want of memory.
 
-use super::{cut, cycle, expect, read, size, sync, write};
+use super::Call::{Cut, Read, Size, Sync, Write};
+use super::Step::{Buffer, Cycle, Gives, Holds, Passes};
+use super::{Call, Step, cycle, follow, make, sync};
 use crate::equality::equal;
-use fit_disk::{DeviceError, Memory, Which};
+use fit_disk::Which::{Data, Journal};
+use fit_disk::{DeviceError, Memory};
+use std::process::Abort;
+
+const READS: [Step; 18] = [
+    Gives(Size(Data), 0),
+    Gives(Read(Data, 0, 6), 0),
+    Passes(Write(Data, 0, b"abcd")),
+    Gives(Size(Data), 4),
+    Gives(Read(Data, 0, 6), 4),
+    Buffer(*b"abcd.."),
+    Gives(Read(Data, 2, 1), 1),
+    Buffer(*b"cbcd.."),
+    Gives(Read(Data, 4, 6), 0),
+    Gives(Read(Data, 5, 6), 0),
+    Gives(Read(Data, u64::MAX, 6), 0),
+    // A write over the end, one at the end, and one of no bytes.
+    Passes(Write(Data, 2, b"XYZ")),
+    Passes(Write(Data, 5, b"!")),
+    Passes(Write(Data, 6, b"")),
+    Passes(Write(Data, 0, b"A")),
+    Holds(Data, b"AbXYZ!"),
+    Gives(Read(Data, 3, 6), 3),
+    Holds(Journal, b""),
+];
 
 #[test]
 fn reads_what_was_written(rt: HostRuntime) -> Result<(), DeviceError> {
-    let mut disk = Memory::new(rt.alloc());
-    let mut buffer = [0x2E; 6];
-    equal(&rt, size(&mut disk, Which::Data)?, 0);
-    equal(&rt, read(&mut disk, Which::Data, 0, &mut buffer)?, 0);
-    write(&mut disk, Which::Data, 0, b"abcd")?;
-    equal(&rt, size(&mut disk, Which::Data)?, 4);
-    equal(&rt, read(&mut disk, Which::Data, 0, &mut buffer)?, 4);
-    equal(&rt, buffer, *b"abcd..");
-    equal(&rt, read(&mut disk, Which::Data, 2, &mut buffer[..1])?, 1);
-    equal(&rt, buffer, *b"cbcd..");
-    for at in [4, 5, u64::MAX] {
-        equal(&rt, read(&mut disk, Which::Data, at, &mut buffer)?, 0);
-    }
-    // A write over the end, one at the end, and one of no bytes.
-    write(&mut disk, Which::Data, 2, b"XYZ")?;
-    write(&mut disk, Which::Data, 5, b"!")?;
-    write(&mut disk, Which::Data, 6, b"")?;
-    write(&mut disk, Which::Data, 0, b"A")?;
-    expect(&rt, &disk, Which::Data, b"AbXYZ!");
-    equal(&rt, read(&mut disk, Which::Data, 3, &mut buffer)?, 3);
-    expect(&rt, &disk, Which::Journal, b"");
-    Ok(())
+    follow(&rt, &mut Memory::new(rt.alloc()), &READS)
 }
+
+const CUTS: [Step; 13] = [
+    Passes(Write(Journal, 0, b"abcdef")),
+    Passes(Write(Data, 0, b"1")),
+    Passes(Cut(Journal, 6)),
+    Passes(Sync(Journal)),
+    Passes(Cut(Journal, 2)),
+    Holds(Journal, b"ab"),
+    Passes(Write(Journal, 2, b"Z")),
+    Passes(Sync(Journal)),
+    Passes(Sync(Data)),
+    Holds(Journal, b"abZ"),
+    Passes(Cut(Journal, 0)),
+    Holds(Journal, b""),
+    Holds(Data, b"1"),
+];
 
 #[test]
 fn cuts_and_syncs_change_no_other_byte(rt: HostRuntime) -> Result<(), DeviceError> {
     let mut disk = Memory::new(rt.alloc());
-    write(&mut disk, Which::Journal, 0, b"abcdef")?;
-    write(&mut disk, Which::Data, 0, b"1")?;
-    cut(&mut disk, Which::Journal, 6)?;
-    sync(&mut disk, Which::Journal)?;
-    cut(&mut disk, Which::Journal, 2)?;
-    expect(&rt, &disk, Which::Journal, b"ab");
-    write(&mut disk, Which::Journal, 2, b"Z")?;
-    sync(&mut disk, Which::Journal)?;
-    sync(&mut disk, Which::Data)?;
-    expect(&rt, &disk, Which::Journal, b"abZ");
-    cut(&mut disk, Which::Journal, 0)?;
-    expect(&rt, &disk, Which::Journal, b"");
-    expect(&rt, &disk, Which::Data, b"1");
-    assert!(rt; !disk.spent());
+    follow(&rt, &mut disk, &CUTS)?;
+    equal(&rt, disk.spent(), false);
     Ok(())
 }
 
-// A call by its number in a run of twelve.
-fn call(disk: &mut Memory, number: u32) -> Result<(), DeviceError> {
-    let mut buffer = [0; 4];
-    match number {
-        1 => write(disk, Which::Data, 0, b"ab"),
-        2 => write(disk, Which::Journal, 0, b"cd"),
-        3 | 9 => sync(disk, Which::Data),
-        4 => sync(disk, Which::Journal),
-        5 => size(disk, Which::Data).map(|_| ()),
-        6 => read(disk, Which::Data, 0, &mut buffer).map(|_| ()),
-        7 => write(disk, Which::Data, 2, b"ef"),
-        8 => cut(disk, Which::Data, 3),
-        10 => size(disk, Which::Journal).map(|_| ()),
-        11 => read(disk, Which::Journal, 0, &mut buffer).map(|_| ()),
-        _ => cut(disk, Which::Journal, 1),
+// A run of twelve calls.
+const CALLS: [Call; 12] = [
+    Write(Data, 0, b"ab"),
+    Write(Journal, 0, b"cd"),
+    Sync(Data),
+    Sync(Journal),
+    Size(Data),
+    Read(Data, 0, 4),
+    Write(Data, 2, b"ef"),
+    Cut(Data, 3),
+    Sync(Data),
+    Size(Journal),
+    Read(Journal, 0, 4),
+    Cut(Journal, 1),
+];
+
+// Makes the twelve calls, and asserts that just those from the first to the last of these numbers fail, counted from 1.
+fn expect_failures(rt: &impl Abort, disk: &mut Memory, first: u32, last: u32) {
+    let mut number = 0_u32;
+    for call in &CALLS {
+        number = number.saturating_add(1);
+        let failed = make(disk, &mut [0; 6], call).is_err();
+        assert_eq!(rt;
+            failed,
+            first <= number && number <= last,
+            "call {number} of {first}"
+        );
     }
 }
 
@@ -73,11 +94,8 @@ fn just_the_call_that_was_scheduled_fails(rt: HostRuntime) {
     for scheduled in 1..=13 {
         let mut disk = Memory::new(rt.alloc());
         disk.fail_at(scheduled);
-        for number in 1..=12 {
-            let failed = call(&mut disk, number).is_err();
-            assert_eq!(rt; failed, number == scheduled, "call {number} of {scheduled}");
-        }
-        assert!(rt; !disk.spent());
+        expect_failures(&rt, &mut disk, scheduled, scheduled);
+        equal(&rt, disk.spent(), false);
     }
 }
 
@@ -86,17 +104,17 @@ fn each_call_fails_once_the_power_is_gone(rt: HostRuntime) {
     for scheduled in 1..=13 {
         let mut disk = Memory::new(rt.alloc());
         disk.cut_at(scheduled);
-        for number in 1..=12 {
-            let failed = call(&mut disk, number).is_err();
-            assert_eq!(rt; failed, number >= scheduled, "call {number} of {scheduled}");
-        }
+        expect_failures(&rt, &mut disk, scheduled, 12);
         cycle(&rt, &mut disk, &[], 0);
-        for number in 1..=12 {
-            assert!(rt;
-                call(&mut disk, number).is_ok(),
-                "call {number} after {scheduled}"
-            );
-        }
+        // No call fails any more.
+        expect_failures(&rt, &mut disk, 13, 12);
+    }
+}
+
+// Makes a sync for each of these, and asserts that just those fail that have to.
+fn expect_syncs(rt: &impl Abort, disk: &mut Memory, fails: &[bool]) {
+    for expected in fails {
+        equal(rt, sync(disk, Data).is_err(), *expected);
     }
 }
 
@@ -105,26 +123,33 @@ fn a_schedule_replaces_the_pending_one(rt: HostRuntime) {
     let mut disk = Memory::new(rt.alloc());
     disk.fail_at(1);
     disk.fail_at(3);
-    for expected in [false, false, true, false] {
-        equal(&rt, sync(&mut disk, Which::Data).is_err(), expected);
-    }
+    expect_syncs(&rt, &mut disk, &[false, false, true, false]);
     // Both kinds at one call: it fails, and from then on the power is gone.
     disk.fail_at(2);
     disk.cut_at(2);
-    for expected in [false, true, true] {
-        equal(&rt, sync(&mut disk, Which::Data).is_err(), expected);
-    }
+    expect_syncs(&rt, &mut disk, &[false, true, true]);
     disk.cut_at(9);
-    assert!(rt; sync(&mut disk, Which::Data).is_err());
+    expect_syncs(&rt, &mut disk, &[true]);
     // A power cut drops both schedules.
     cycle(&rt, &mut disk, &[], 0);
     disk.fail_at(1);
     disk.cut_at(2);
     cycle(&rt, &mut disk, &[], 0);
-    for _ in 0..4 {
-        assert!(rt; sync(&mut disk, Which::Data).is_ok());
-    }
+    expect_syncs(&rt, &mut disk, &[false; 4]);
 }
+
+fn lengths(disk: &Memory) -> [usize; 2] {
+    [disk.content(Data).len(), disk.content(Journal).len()]
+}
+
+// What the twelve calls leave, and a power cut after them.
+const AFTER_CALLS: [Step; 5] = [
+    Holds(Data, b"abe"),
+    Holds(Journal, b"c"),
+    Cycle(&[0, 0, 0, 0, 1, 0, 0, 0, 0xA5], 9),
+    Holds(Data, b"abe"),
+    Holds(Journal, b"c\xA5"),
+];
 
 // Run with each allocation refused in turn: the call that needed it fails and changes nothing, the disk reports
 // that it is spent, and the same call succeeds when it is made again.
@@ -132,28 +157,19 @@ fn a_schedule_replaces_the_pending_one(rt: HostRuntime) {
 fn a_refused_growth_changes_nothing(rt: HostRuntime) -> Result<(), DeviceError> {
     let mut disk = Memory::new(rt.alloc());
     let mut was_refused = false;
-    for number in 1..=12 {
-        let before = [
-            disk.content(Which::Data).len(),
-            disk.content(Which::Journal).len(),
-        ];
-        if call(&mut disk, number).is_err() {
-            assert!(rt; !was_refused);
+    for call in &CALLS {
+        let before = lengths(&disk);
+        if make(&mut disk, &mut [0; 6], call).is_err() {
+            // No call was refused before. Now one was.
+            equal(
+                &rt,
+                (was_refused, disk.spent(), lengths(&disk)),
+                (false, true, before),
+            );
             was_refused = true;
-            let after = [
-                disk.content(Which::Data).len(),
-                disk.content(Which::Journal).len(),
-            ];
-            equal(&rt, after, before);
-            assert!(rt; disk.spent());
-            call(&mut disk, number)?;
+            make(&mut disk, &mut [0; 6], call)?;
         }
     }
     equal(&rt, disk.spent(), was_refused);
-    expect(&rt, &disk, Which::Data, b"abe");
-    expect(&rt, &disk, Which::Journal, b"c");
-    cycle(&rt, &mut disk, &[0, 0, 0, 0, 1, 0, 0, 0, 0xA5], 9);
-    expect(&rt, &disk, Which::Data, b"abe");
-    expect(&rt, &disk, Which::Journal, b"c\xA5");
-    Ok(())
+    follow(&rt, &mut disk, &AFTER_CALLS)
 }
