@@ -4,6 +4,7 @@ of must-fail/ the gate proves a whole crate once more. Here several are tried in
 import concurrent.futures
 import os
 import pathlib
+import re
 import sys
 import tempfile
 
@@ -32,9 +33,10 @@ def tried(rt, crate):
             texts, functions = merged(batch, crate.folder), ["--only=" + it.function_path for it in batch]
             ran = rt.checked(crate, texts, [*JOBS, *functions], work)
             refused = refused_in(rt, batch, texts, ran) or {}
+            said = "\n".join(it for it in ran.stdout.splitlines() if re.search(r"\berror\b|\bnot proved\b", it))
             for it in batch:
-                came = unless(it in refused, ran.stdout[-1000:], "no proof of %s" % it.function_path)
-                found.append(Check(crate.name, it.path.stem, came))
+                wanted = "a goal of %s that is not proved" % it.function_path
+                found.append(Check(crate.name, it.path.stem, unless(it in refused, said or ran.stdout[-1000:], wanted)))
     return found
 
 

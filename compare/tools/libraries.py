@@ -20,6 +20,7 @@ def build(to, name="fit_c"):
     rt = load_rt()
     crate = next(it for it in rt.rtlib.crates_below(str(ROOT)) if it.name == name)
     words = [*crate.words(["--jobs", "1"]), *rt.rtlib.KEPT, "--toolchain", rt.KIT + "/toolchain", "-o", to]
+    os.makedirs(crate.folder + "/out", exist_ok=True)
     held = rt.rtlib.lock([crate])
     built = subprocess.run([rt.rtlib.RATTLE, "build", *words], cwd=crate.folder, stdout=subprocess.PIPE, stderr=subprocess.STDOUT, text=True)
     for it in held:
