@@ -18,8 +18,7 @@ struct Case<'a> {
 fn the_example_of_the_crate(rt: HostRuntime) {
     let field = FieldValue::new(0x84, Arch::Little, &[0xC8, 0x00, 0xFF, 0xFF]);
     assert_eq!(rt; field.count(), 2);
-    equal(&rt, field.unsigned(0), 200);
-    assert!(rt; field.is_invalid(1));
+    equal(&rt, (field.unsigned(0), field.is_invalid(1)), (200, true));
     equal(&rt, Crc::of(b"123456789"), 0xBB3D);
 }
 
@@ -60,16 +59,20 @@ fn types_by_their_bytes(rt: HostRuntime) {
         (0x8F, 8, false),
         (0x90, 8, false),
     ];
-    for (code, size, signed) in rows {
-        let base = BaseType::of(code).expect(&rt, "a row of the table");
-        equal(&rt, base.code(), code);
-        assert_eq!(rt; base.size(), size, "of {code}");
-        assert_eq!(rt; base.is_signed(), signed, "of {code}");
+    // No other byte is a type.
+    for code in 0..=255u8 {
+        let mut wanted = None;
+        for (known, size, signed) in rows {
+            if known == code {
+                wanted = Some((code, size, signed));
+            }
+        }
+        let found = match BaseType::of(code) {
+            Some(base) => Some((base.code(), base.size(), base.is_signed())),
+            None => None,
+        };
+        equal(&rt, found, wanted);
     }
-    let known = (0..=255)
-        .filter(|code| BaseType::of(*code).is_some())
-        .count();
-    equal(&rt, known, 17);
 }
 
 // Each type at 0, at its greatest value and at its invalid value; if 0 is the invalid value, the third is another one.
@@ -249,67 +252,84 @@ fn values_of_each_type(rt: HostRuntime) {
     }
 }
 
+// The value at this place and whether it is invalid, if there is a value.
+fn value_at(field: &FieldValue, at: usize) -> Option<(u64, bool)> {
+    if at < field.count() {
+        Some((field.unsigned(at), field.is_invalid(at)))
+    } else {
+        None
+    }
+}
+
 fn check(rt: &impl Abort, case: &Case, arch: Arch, bytes: &[u8]) {
     let code = case.code;
-    let numbers = case.numbers;
-    let invalid = case.invalid;
     let size = bytes.len() / 3;
     let three = FieldValue::new(code, arch, bytes);
-    assert_eq!(rt; three.count(), 3, "of {code}");
+    equal(rt, (code, three.count()), (code, 3));
     for i in 0..3 {
-        assert_eq!(rt; three.unsigned(i), numbers[i], "of {code} at {i}");
-        assert_eq!(rt; three.is_invalid(i), invalid[i], "of {code} at {i}");
+        let wanted = Some((case.numbers[i], case.invalid[i]));
+        equal(rt, (code, value_at(&three, i)), (code, wanted));
     }
+    // One value, no value, and bytes that are no whole number of values.
     let one = FieldValue::new(code, arch, &bytes[..size]);
-    assert_eq!(rt; one.count(), 1, "of {code}");
-    assert_eq!(rt; one.unsigned(0), numbers[0], "of {code}");
-    assert_eq!(rt; FieldValue::new(code, arch, &[]).count(), 0, "of {code}");
+    let none = FieldValue::new(code, arch, &[]);
+    equal(rt, (code, one.count(), none.count()), (code, 1, 0));
+    let wanted = Some((case.numbers[0], case.invalid[0]));
+    equal(rt, (code, value_at(&one, 0)), (code, wanted));
     if size > 1 {
         let ragged = FieldValue::new(code, arch, &bytes[1..]);
-        assert!(rt; ragged.is_raw(), "of {code}");
-        assert_eq!(rt; ragged.count(), 0, "of {code}");
-        assert_eq!(rt; ragged.raw(), &bytes[1..], "of {code}");
+        let is_ragged = ragged.is_raw() && ragged.count() == 0;
+        assert!(rt; is_ragged && ragged.raw() == &bytes[1..], "of {code}");
     }
 }
 
 #[test]
 fn a_byte_field_that_is_all_ff(rt: HostRuntime) {
     let one = FieldValue::new(0x0D, Arch::Little, &[0xFF]);
-    assert_eq!(rt; one.count(), 1);
-    assert!(rt; one.is_invalid(0), "all bytes are FF");
+    // All its bytes are FF.
+    equal(
+        &rt,
+        (one.count(), value_at(&one, 0)),
+        (1, Some((0xFF, true))),
+    );
     let unknown = FieldValue::new(0x91, Arch::Big, &[0xFF, 0xFF]);
-    assert!(rt; unknown.is_raw());
-    assert_eq!(rt; unknown.count(), 0);
-    equal(&rt, unknown.base(), 0x91);
-    equal(&rt, unknown.arch(), Arch::Big);
+    equal(&rt, (unknown.is_raw(), unknown.count()), (true, 0));
+    equal(&rt, (unknown.base(), unknown.arch()), (0x91, Arch::Big));
 }
 
 #[test]
 fn values_with_a_sign(rt: HostRuntime) {
     let bytes = [0x80, 0x00, 0x00, 0x00, 0x7F, 0xFF, 0xFF, 0xFE];
-    check_signed(&rt, 0x01, Arch::Big, &bytes[..4], &[-128, 0, 0, 0]);
-    check_signed(&rt, 0x01, Arch::Big, &bytes[4..], &[127, -1, -1, -2]);
-    check_signed(&rt, 0x83, Arch::Big, &bytes, &[-32768, 0, 32767, -2]);
-    check_signed(&rt, 0x83, Arch::Little, &bytes, &[128, 0, -129, -257]);
-    check_signed(
-        &rt,
-        0x85,
-        Arch::Big,
-        &bytes,
-        &[-2_147_483_648, 2_147_483_646],
-    );
-    check_signed(&rt, 0x85, Arch::Little, &bytes, &[128, -16_777_345]);
-    check_signed(&rt, 0x8E, Arch::Big, &bytes, &[-9_223_372_034_707_292_162]);
-    check_signed(&rt, 0x8E, Arch::Little, &bytes, &[-72_058_148_088_708_992]);
+    let front = [0x80, 0x00, 0x00, 0x00];
+    let back = [0x7F, 0xFF, 0xFF, 0xFE];
+    let cases: [(u8, Arch, &[u8], &[i64]); 8] = [
+        (0x01, Arch::Big, &front, &[-128, 0, 0, 0]),
+        (0x01, Arch::Big, &back, &[127, -1, -1, -2]),
+        (0x83, Arch::Big, &bytes, &[-32768, 0, 32767, -2]),
+        (0x83, Arch::Little, &bytes, &[128, 0, -129, -257]),
+        (0x85, Arch::Big, &bytes, &[-2_147_483_648, 2_147_483_646]),
+        (0x85, Arch::Little, &bytes, &[128, -16_777_345]),
+        (0x8E, Arch::Big, &bytes, &[-9_223_372_034_707_292_162]),
+        (0x8E, Arch::Little, &bytes, &[-72_058_148_088_708_992]),
+    ];
+    for (code, arch, bytes, wanted) in cases {
+        let field = FieldValue::new(code, arch, bytes);
+        equal(&rt, (code, field.count()), (code, wanted.len()));
+        for (i, value) in wanted.iter().enumerate() {
+            equal(
+                &rt,
+                (code, i, signed_at(&field, i)),
+                (code, i, Some(*value)),
+            );
+        }
+    }
 }
 
-fn check_signed(rt: &impl Abort, code: u8, arch: Arch, bytes: &[u8], want: &[i64]) {
-    let base = BaseType::of(code).expect(rt, "a row of the table");
-    assert!(rt; base.is_signed());
-    let field = FieldValue::new(code, arch, bytes);
-    assert_eq!(rt; field.count(), want.len(), "of {code}");
-    for (i, value) in want.iter().enumerate() {
-        assert_eq!(rt; field.signed(i), *value, "of {code} at {i}");
+// The value at this place, if there is one and its type has a sign.
+fn signed_at(field: &FieldValue, at: usize) -> Option<i64> {
+    match field.base_type() {
+        Some(base) if base.is_signed() && at < field.count() => Some(field.signed(at)),
+        _ => None,
     }
 }
 

@@ -37,6 +37,24 @@ pub(super) fn written(alloc: Global, file: &File) -> Result<Vec<u8>, EncodeFault
     Ok(bytes)
 }
 
+// Asserts that the bytes, cut at this place, are a file that is written as they are.
+fn check_cut(rt: &impl Abort, alloc: Global, bytes: &[u8], cut: usize) -> Result<(), Fail> {
+    let front = bytes.get(..cut).unwrap_or(&[]);
+    let back = bytes.get(cut..).unwrap_or(&[]);
+    let again = written(alloc, &read_in_two(alloc, front, back)?)?;
+    assert!(rt; again.as_slice() == bytes, "{cut}");
+    Ok(())
+}
+
+// Asserts that the bytes, read in pieces of this size, are a file that is written as they are.
+fn check_pieces(rt: &impl Abort, alloc: Global, bytes: &[u8], size: usize) -> Result<(), Fail>
+    requires { 0 < size }
+{
+    let again = written(alloc, &read_in_pieces(alloc, bytes, size)?)?;
+    assert!(rt; again.as_slice() == bytes, "{size}");
+    Ok(())
+}
+
 fn fault_of<T: Drop>(answer: Result<T, FileFault>) -> Option<(FaultKind, usize)> {
     match answer {
         Ok(_) => None,
@@ -54,23 +72,11 @@ fn check_for_good(rt: &impl Abort, mut decoder: Decoder, fault: Option<(FaultKin
 
 #[test]
 fn every_cut_gives_one_file(rt: HostRuntime) -> Result<(), Fail> {
-    let alloc = rt.alloc();
     for cut in 0..=FILE_ID.len() {
-        let (front, back) = FILE_ID.split_at(cut);
-        let file = read_in_two(alloc, front, back)?;
-        assert_eq!(rt;
-            written(alloc, &file)?.as_slice(),
-            FILE_ID.as_slice(),
-            "{cut}"
-        );
+        check_cut(&rt, rt.alloc(), &FILE_ID, cut)?;
     }
     for size in 1..=FILE_ID.len() {
-        let file = read_in_pieces(alloc, &FILE_ID, size)?;
-        assert_eq!(rt;
-            written(alloc, &file)?.as_slice(),
-            FILE_ID.as_slice(),
-            "{size}"
-        );
+        check_pieces(&rt, rt.alloc(), &FILE_ID, size)?;
     }
     Ok(())
 }
@@ -140,13 +146,10 @@ fn long_items_are_cut(rt: HostRuntime) -> Result<(), Fail> {
     for cut in [
         14, 15, 19, 20, 784, 785, 786, 1_550, 1_551, 1_552, 40_000, 131_601, 131_602, 131_603,
     ] {
-        let (front, back) = bytes.split_at(cut);
-        let read = read_in_two(alloc, front, back)?;
-        assert_eq!(rt; written(alloc, &read)?.as_slice(), bytes, "{cut}");
+        check_cut(&rt, alloc, bytes, cut)?;
     }
     for size in [1, 19, 650, 4_096, 65_536] {
-        let read = read_in_pieces(alloc, bytes, size)?;
-        assert_eq!(rt; written(alloc, &read)?.as_slice(), bytes, "{size}");
+        check_pieces(&rt, alloc, bytes, size)?;
     }
     Ok(())
 }

@@ -1,66 +1,49 @@
 // Files as JSON. What a line has to be follows from RFC 8259 and from the table of `docs/PROGRAM.md`.
 
-ghost use Rattle.std.specs.Prelude.{◌≡◌, IfOk};
-
-use crate::definitions::definition_with;
+use super::joined;
+use crate::definitions::{Put, file_of};
 use crate::equality::equal;
-use crate::known_files::empty_file;
 use crate::slow::Slow;
 use fit_base::Arch;
-use fit_grammar::{Definition, File, PutFault};
+use fit_grammar::File;
 use fit_text::show_json;
 use std::alloc::Global;
+use std::process::Abort;
 use std::test::Fail;
 
-// A definition of local number 0 with these fields, each a number, a size and a base type, and with these developer fields, each a number,
-// a size and an index.
-fn definition(
-    global: u16,
-    fields: &[(u8, u8, u8)],
-    developer: &[(u8, u8, u8)],
-) -> Result<Definition, Fail>
-    ensures { IfOk result (λ d. d.local ≡ 0) }
-{
-    definition_with(0, Arch::Little, global, fields, developer)
-}
-
-// A file of one message with one field.
-fn file_of(alloc: Global, global: u16, number: u8, base: u8, bytes: &[u8]) -> Result<File, Fail> {
-    let size = u8::try_from(bytes.len())?;
-    let mut file = empty_file(alloc);
-    file.define(&definition(global, &[(number, size, base)], &[])?)?;
-    file.data(0, None, bytes)?;
-    Ok(file)
-}
-
-// The lines of such a file. The definition has nine bytes; the message has one byte and its field.
-fn lines_around(
-    alloc: Global,
-    global: u16,
-    name: &str,
-    size: usize,
-    field: &str,
-) -> Result<String, PutFault> {
-    let size = size.saturating_add(10);
-    let mut text = format!(in alloc;
-        "{{\"header\":14,\"protocol\":\"1.0\",\"profile\":100,\"data\":{size}}}\n"
-    )?;
-    let line = format!(in alloc;
-        "{{\"number\":0,\"message\":{global},\"name\":{name},\"fields\":{{{field}}},\"developer\":[]}}\n"
-    )?;
-    text.push_str(&line)?;
-    text.push_str("{\"messages\":1}\n")?;
-    Ok(text)
-}
-
-// Whether a field with this base type and these bytes has this value.
-fn is_written(alloc: Global, base: u8, bytes: &[u8], value: &str) -> Result<bool, Fail> {
-    let file = file_of(alloc, 20, 99, base, bytes)?;
+// The JSON of the file. Times are dates or numbers.
+fn json(alloc: Global, file: &File, utc: bool) -> Result<Vec<u8>, Fail> {
     let mut out = Vec::new(alloc);
-    show_json(&file.lend(), false, &mut out)?;
-    let field = format!(in alloc; "\"field_99\":{value}")?;
-    let whole = lines_around(alloc, 20, "\"record\"", bytes.len(), &field)?;
-    Ok(out.as_slice() == whole.as_bytes())
+    show_json(&file.lend(), utc, &mut out)?;
+    Ok(out)
+}
+
+// Asserts that a field with these bytes has this value, in a file of one message. The message is its global number and its name;
+// the field is its number, its name and its base type.
+fn check_written(
+    rt: &impl Abort,
+    alloc: Global,
+    utc: bool,
+    message: (u16, &str),
+    field: (u8, &str, u8),
+    bytes: &[u8],
+    value: &str,
+) -> Result<(), Fail> {
+    let (global, name) = message;
+    let (number, key, base) = field;
+    let fields = [(number, u8::try_from(bytes.len())?, base)];
+    let items = [
+        Put::Definition(0, Arch::Little, global, &fields, &[]),
+        Put::Data(0, None, bytes),
+    ];
+    let out = json(alloc, &file_of(alloc, &items)?, utc)?;
+    // The definition has nine bytes; the message has one byte and its field.
+    let size = bytes.len().saturating_add(10);
+    let whole = format!(in alloc;
+        "{{\"header\":14,\"protocol\":\"1.0\",\"profile\":100,\"data\":{size}}}\n{{\"number\":0,\"message\":{global},\"name\":{name},\"fields\":{{\"{key}\":{value}}},\"developer\":[]}}\n{{\"messages\":1}}\n"
+    )?;
+    equal(rt, out.as_slice(), whole.as_bytes());
+    Ok(())
 }
 
 #[test]
@@ -128,10 +111,16 @@ fn writes_values(rt: HostRuntime) -> Result<(), Fail> {
         (0x07, &[0xED, 0xA0, 0x80], "\"\\u00ED\\u00A0\\u0080\""),
     ];
     for (base, bytes, value) in cases {
-        assert!(rt;
-            is_written(rt.alloc(), base, bytes, value)?,
-            "{base} {bytes:?}"
-        );
+        let field = (99, "field_99", base);
+        check_written(
+            &rt,
+            rt.alloc(),
+            false,
+            (20, "\"record\""),
+            field,
+            bytes,
+            value,
+        )?;
     }
     Ok(())
 }
@@ -139,31 +128,18 @@ fn writes_values(rt: HostRuntime) -> Result<(), Fail> {
 #[test]
 fn writes_dates_and_names(rt: HostRuntime) -> Result<(), Fail> {
     const TIME: [u8; 4] = [0, 0xCA, 0x9A, 0x3B];
-    let cases: [(bool, u16, u8, &str, &str); 5] = [
-        (
-            true,
-            20,
-            253,
-            "\"record\"",
-            "\"timestamp\":\"2021-09-08T01:46:40Z\"",
-        ),
-        (false, 20, 253, "\"record\"", "\"timestamp\":1000000000"),
-        (
-            true,
-            0,
-            4,
-            "\"file_id\"",
-            "\"time_created\":\"2021-09-08T01:46:40Z\"",
-        ),
-        (true, 20, 5, "\"record\"", "\"distance\":1000000000"),
-        (true, 65534, 17, "null", "\"field_17\":1000000000"),
+    const DATE: &str = "\"2021-09-08T01:46:40Z\"";
+    const NUMBER: &str = "1000000000";
+    // Whether times are dates, the message, the field, and its value.
+    let cases: [(bool, (u16, &str), (u8, &str, u8), &str); 5] = [
+        (true, (20, "\"record\""), (253, "timestamp", 0x86), DATE),
+        (false, (20, "\"record\""), (253, "timestamp", 0x86), NUMBER),
+        (true, (0, "\"file_id\""), (4, "time_created", 0x86), DATE),
+        (true, (20, "\"record\""), (5, "distance", 0x86), NUMBER),
+        (true, (65534, "null"), (17, "field_17", 0x86), NUMBER),
     ];
-    for (utc, global, number, name, field) in cases {
-        let file = file_of(rt.alloc(), global, number, 0x86, &TIME)?;
-        let mut out = Vec::new(rt.alloc());
-        show_json(&file.lend(), utc, &mut out)?;
-        let whole = lines_around(rt.alloc(), global, name, 4, field)?;
-        assert_eq!(rt; out.as_slice(), whole.as_bytes(), "{field}");
+    for (utc, message, field, value) in cases {
+        check_written(&rt, rt.alloc(), utc, message, field, &TIME, value)?;
     }
     Ok(())
 }
@@ -171,16 +147,18 @@ fn writes_dates_and_names(rt: HostRuntime) -> Result<(), Fail> {
 // A record with a heart rate and two developer fields. With a compressed timestamp its time comes first. After it one without fields,
 // and one whose field is there twice.
 fn ride(alloc: Global) -> Result<File, Fail> {
-    let mut file = empty_file(alloc);
-    file.define(&definition(20, &[(3, 1, 0x02)], &[(0, 2, 0), (7, 0, 250)])?)?;
-    file.data(0, None, &[0x64, 0xAB, 0x0C])?;
-    file.data(0, Some(3), &[0xFF, 0xFF, 0xFF])?;
-    file.define(&definition(21, &[], &[])?)?;
-    file.data(0, None, &[])?;
-    file.data(0, Some(4), &[])?;
-    file.define(&definition(20, &[(4, 1, 0x02), (4, 1, 0x01)], &[])?)?;
-    file.data(0, None, &[0x50, 0x80])?;
-    Ok(file)
+    let developer = [(0, 2, 0), (7, 0, 250)];
+    let items = [
+        Put::Definition(0, Arch::Little, 20, &[(3, 1, 0x02)], &developer),
+        Put::Data(0, None, &[0x64, 0xAB, 0x0C]),
+        Put::Data(0, Some(3), &[0xFF, 0xFF, 0xFF]),
+        Put::Definition(0, Arch::Little, 21, &[], &[]),
+        Put::Data(0, None, &[]),
+        Put::Data(0, Some(4), &[]),
+        Put::Definition(0, Arch::Little, 20, &[(4, 1, 0x02), (4, 1, 0x01)], &[]),
+        Put::Data(0, None, &[0x50, 0x80]),
+    ];
+    file_of(alloc, &items)
 }
 
 // Definitions of 16, 6 and 12 bytes, and messages of 4, 4, 1, 1 and 3.
@@ -196,13 +174,8 @@ const RIDE: [&'static str; 7] = [
 
 #[test]
 fn writes_a_line_for_each_message(rt: HostRuntime) -> Result<(), Fail> {
-    let file = ride(rt.alloc())?;
-    let mut text = String::new(rt.alloc());
-    for line in RIDE {
-        text.push_str(line)?;
-    }
-    let mut out = Vec::new(rt.alloc());
-    show_json(&file.lend(), true, &mut out)?;
+    let text = joined(rt.alloc(), &RIDE)?;
+    let out = json(rt.alloc(), &ride(rt.alloc())?, true)?;
     equal(&rt, out.as_slice(), text.as_bytes());
     Ok(())
 }
@@ -211,10 +184,7 @@ fn writes_a_line_for_each_message(rt: HostRuntime) -> Result<(), Fail> {
 #[test]
 fn a_writer_that_fails_has_a_prefix(rt: HostRuntime) -> Result<(), Fail> {
     let file = ride(rt.alloc())?;
-    let mut text = String::new(rt.alloc());
-    for line in RIDE {
-        text.push_str(line)?;
-    }
+    let text = joined(rt.alloc(), &RIDE)?;
     for calls in 0..120 {
         let mut out = Slow::new(rt.alloc(), 7, calls);
         let is_whole = show_json(&file.lend(), true, &mut out).is_ok();

@@ -1,11 +1,12 @@
 // The names of all messages and of all their fields, as they are shown.
 
+use super::{joined, shown};
+use crate::definitions::{define, definition_with, put_data};
 use crate::known_files::empty_file;
 use arrayvec::ArrayVec;
 use fit_base::Arch;
-use fit_grammar::{Definition, FieldDefinition, File, PutFault};
-use fit_text::show;
-use std::alloc::Global;
+use fit_grammar::{Definition, FieldDefinition, File};
+use std::alloc::{AllocError, Global};
 use std::test::Fail;
 
 // The rows of the profile: for each message its number, its name and its fields. They are stated here again, from the FIT profile,
@@ -131,32 +132,36 @@ fn put_fields(file: &mut File, global: u16, first: u8, last: u8) -> Result<(), F
             base: 2,
         })?;
     }
-    file.define(&Definition {
+    let definition = Definition {
         local: 0,
         arch: Arch::Little,
         global,
         fields,
         developer: ArrayVec::new(),
-    })?;
-    file.data(0, None, &[])?;
+    };
+    define(file, &definition)?;
+    put_data(file, 0, None, &[])?;
     Ok(())
 }
 
-// Adds a space, the name of each of these fields and `=`.
-fn push_fields(
+// The line of a message with fields of no bytes, numbered from `first` to `last`.
+fn line_of(
     alloc: Global,
-    text: &mut String,
+    message: &str,
     fields: &[(u8, &'static str)],
     first: u8,
     last: u8,
-) -> Result<(), PutFault> {
+) -> Result<String, AllocError> {
+    let mut line = format!(in alloc; "{} {message}", first / 128)?;
     for number in first..=last {
-        match field_name(fields, number) {
-            Some(name) => text.push_str(&format!(in alloc; " {name}=")?)?,
-            None => text.push_str(&format!(in alloc; " field_{number}=")?)?,
-        }
+        let field = match field_name(fields, number) {
+            Some(name) => format!(in alloc; " {name}=")?,
+            None => format!(in alloc; " field_{number}=")?,
+        };
+        line.push_str(&field)?;
     }
-    Ok(())
+    line.push_str("\n")?;
+    Ok(line)
 }
 
 // Whether all 256 fields of a message are shown with these names and those that every message has, and no others. The fields are
@@ -168,15 +173,13 @@ fn are_named(
     fields: &[(u8, &'static str)],
 ) -> Result<bool, Fail> {
     let mut file = empty_file(alloc);
-    put_fields(&mut file, global, 0, 127)?;
-    put_fields(&mut file, global, 128, 255)?;
-    let mut text = format!(in alloc; "header 14 protocol 1.0 profile 100 data 782\n0 {message}")?;
-    push_fields(alloc, &mut text, fields, 0, 127)?;
-    text.push_str(&format!(in alloc; "\n1 {message}")?)?;
-    push_fields(alloc, &mut text, fields, 128, 255)?;
-    text.push_str("\nmessages 2\n")?;
-    let mut out = Vec::new(alloc);
-    show(&file.lend(), false, &mut out)?;
+    let mut text = joined(alloc, &["header 14 protocol 1.0 profile 100 data 782\n"])?;
+    for (first, last) in [(0, 127), (128, 255)] {
+        put_fields(&mut file, global, first, last)?;
+        text.push_str(&line_of(alloc, message, fields, first, last)?)?;
+    }
+    text.push_str("messages 2\n")?;
+    let out = shown(alloc, &file, false)?;
     Ok(out.as_slice() == text.as_bytes())
 }
 
@@ -185,28 +188,34 @@ fn names_messages_and_fields(rt: HostRuntime) -> Result<(), Fail> {
     for (number, name, fields) in ROWS {
         assert!(rt; are_named(rt.alloc(), number, name, fields)?, "{number}");
     }
-    assert!(rt; are_named(rt.alloc(), 1, "message_1", &[])?);
-    assert!(rt; are_named(rt.alloc(), 1000, "message_1000", &[])?);
-    // A message of each number, without fields.
+    for (number, name) in [(1, "message_1"), (1000, "message_1000")] {
+        assert!(rt; are_named(rt.alloc(), number, name, &[])?, "{number}");
+    }
+    Ok(())
+}
+
+// The line of a message without fields. Its number is that of its kind.
+fn named(alloc: Global, number: u16) -> Result<String, AllocError> {
+    match message_name(number) {
+        Some(name) => format!(in alloc; "{number} {name}\n"),
+        None => format!(in alloc; "{number} message_{number}\n"),
+    }
+}
+
+// A message of each number, without fields.
+#[test]
+fn names_a_message_of_each_number(rt: HostRuntime) -> Result<(), Fail> {
     let mut file = empty_file(rt.alloc());
-    let mut text = format!(in rt.alloc(); "header 14 protocol 1.0 profile 100 data 458752\n")?;
+    let front = "header 14 protocol 1.0 profile 100 data 458752\n";
+    let mut text = joined(rt.alloc(), &[front])?;
     for number in 0..=65535 {
-        file.define(&Definition {
-            local: 0,
-            arch: Arch::Little,
-            global: number,
-            fields: ArrayVec::new(),
-            developer: ArrayVec::new(),
-        })?;
-        file.data(0, None, &[])?;
-        match message_name(number) {
-            Some(name) => text.push_str(&format!(in rt.alloc(); "{number} {name}\n")?)?,
-            None => text.push_str(&format!(in rt.alloc(); "{number} message_{number}\n")?)?,
-        }
+        let definition = definition_with(0, Arch::Little, number, &[], &[])?;
+        define(&mut file, &definition)?;
+        put_data(&mut file, 0, None, &[])?;
+        text.push_str(&named(rt.alloc(), number)?)?;
     }
     text.push_str("messages 65536\n")?;
-    let mut out = Vec::new(rt.alloc());
-    show(&file.lend(), false, &mut out)?;
+    let out = shown(rt.alloc(), &file, false)?;
     assert!(rt; out.as_slice() == text.as_bytes());
     Ok(())
 }

@@ -1,58 +1,49 @@
 // How values, dates and the names of messages and fields are shown, each in the text of a whole file.
 
-ghost use Rattle.std.specs.Prelude.{◌≡◌, IfOk};
-
+use super::shown;
+use crate::definitions::{Put, define, file_of, put_data};
 use crate::equality::equal;
 use crate::known_files::empty_file;
 use arrayvec::ArrayVec;
 use fit_base::Arch;
-use fit_grammar::{Definition, FieldDefinition, File, Frame, PutFault};
+use fit_grammar::{Definition, FieldDefinition, File, Frame};
 use fit_text::show;
+use std::alloc::{AllocError, Global};
+use std::process::Abort;
 use std::test::Fail;
 
-// The text of a file of one message with one field. Times are shown as dates or as numbers.
-fn text_of(
-    rt: &HostRuntime,
+// Asserts that a field with these bytes is shown as this text, in a file of one message. The field is the global number of its
+// message, its own number, its name and its base type. Times are shown as dates or as numbers.
+fn check_shown(
+    rt: &impl Abort,
+    alloc: Global,
     utc: bool,
-    global: u16,
-    number: u8,
-    base: u8,
     arch: Arch,
+    field: (u16, u8, &str, u8),
     bytes: &[u8],
-) -> Result<Vec<u8>, Fail> {
-    let mut fields = ArrayVec::new();
-    fields.try_push(FieldDefinition {
-        number,
-        size: u8::try_from(bytes.len())?,
-        base,
-    })?;
-    let mut file = empty_file(rt.alloc());
-    file.define(&Definition {
-        local: 0,
-        arch,
-        global,
-        fields,
-        developer: ArrayVec::new(),
-    })?;
-    file.data(0, None, bytes)?;
-    let mut out = Vec::new(rt.alloc());
-    show(&file.lend(), utc, &mut out)?;
-    Ok(out)
-}
-
-// The text of such a file. Its field has so many bytes, and this text follows the name of its message.
-fn text_around(
-    rt: &HostRuntime,
-    message: &str,
-    size: usize,
-    field: &str,
-) -> Result<String, PutFault> {
+    text: &str,
+) -> Result<(), Fail> {
+    let (global, number, name, base) = field;
+    let fields = [(number, u8::try_from(bytes.len())?, base)];
+    let items = [
+        Put::Definition(0, arch, global, &fields, &[]),
+        Put::Data(0, None, bytes),
+    ];
+    let out = shown(alloc, &file_of(alloc, &items)?, utc)?;
+    let message = match global {
+        0 => "file_id",
+        18 => "session",
+        19 => "lap",
+        20 => "record",
+        _ => "message_1000",
+    };
     // The definition has nine bytes; the message has one byte and its field.
-    let size = size.saturating_add(10);
-    let text = format!(in rt.alloc();
-        "header 14 protocol 1.0 profile 100 data {size}\n0 {message}{field}\nmessages 1\n"
+    let size = bytes.len().saturating_add(10);
+    let whole = format!(in alloc;
+        "header 14 protocol 1.0 profile 100 data {size}\n0 {message} {name}={text}\nmessages 1\n"
     )?;
-    Ok(text)
+    equal(rt, out.as_slice(), whole.as_bytes());
+    Ok(())
 }
 
 #[test]
@@ -115,15 +106,19 @@ fn shows_values(rt: HostRuntime) -> Result<(), Fail> {
         (0x06, &[1, 0], "0x0100"),
     ];
     for (base, bytes, text) in cases {
-        let out = text_of(&rt, false, 20, 99, base, Arch::Little, bytes)?;
-        let field = format!(in rt.alloc(); " field_99={text}")?;
-        let whole = text_around(&rt, "record", bytes.len(), &field)?;
-        assert_eq!(rt; out.as_slice(), whole.as_bytes(), "{base} {bytes:?}");
+        let field = (20, 99, "field_99", base);
+        check_shown(&rt, rt.alloc(), false, Arch::Little, field, bytes, text)?;
     }
-    let out = text_of(&rt, false, 20, 99, 0x86, Arch::Big, &[0, 0, 1, 2])?;
-    let whole = text_around(&rt, "record", 4, " field_99=258")?;
-    equal(&rt, out.as_slice(), whole.as_bytes());
-    Ok(())
+    let field = (20, 99, "field_99", 0x86);
+    check_shown(
+        &rt,
+        rt.alloc(),
+        false,
+        Arch::Big,
+        field,
+        &[0, 0, 1, 2],
+        "258",
+    )
 }
 
 #[test]
@@ -144,15 +139,25 @@ fn shows_dates(rt: HostRuntime) -> Result<(), Fail> {
         (0xFFFF_FFFF, "-"),
     ];
     for (time, text) in times {
-        let little = time.to_le_bytes();
-        let big = time.to_be_bytes();
-        let field = format!(in rt.alloc(); " timestamp={text}")?;
-        let out = text_of(&rt, true, 1000, 253, 0x86, Arch::Little, &little)?;
-        let whole = text_around(&rt, "message_1000", 4, &field)?;
-        assert_eq!(rt; out.as_slice(), whole.as_bytes(), "{time}");
-        let out = text_of(&rt, true, 20, 253, 0x86, Arch::Big, &big)?;
-        let whole = text_around(&rt, "record", 4, &field)?;
-        assert_eq!(rt; out.as_slice(), whole.as_bytes(), "{time}");
+        let (unnamed, record) = ((1000, 253, "timestamp", 0x86), (20, 253, "timestamp", 0x86));
+        check_shown(
+            &rt,
+            rt.alloc(),
+            true,
+            Arch::Little,
+            unnamed,
+            &time.to_le_bytes(),
+            text,
+        )?;
+        check_shown(
+            &rt,
+            rt.alloc(),
+            true,
+            Arch::Big,
+            record,
+            &time.to_be_bytes(),
+            text,
+        )?;
     }
     Ok(())
 }
@@ -161,53 +166,37 @@ fn shows_dates(rt: HostRuntime) -> Result<(), Fail> {
 #[test]
 fn shows_other_numbers_as_they_are(rt: HostRuntime) -> Result<(), Fail> {
     const TIME: [u8; 4] = [0, 0xCA, 0x9A, 0x3B];
-    let cases: [(bool, u16, u8, u8, &[u8], &str); 13] = [
+    const DATE: &str = "2021-09-08T01:46:40Z";
+    const NUMBER: &str = "1000000000";
+    // Whether times are shown as dates, the field, its bytes and their text.
+    let cases: [(bool, (u16, u8, &str, u8), &[u8], &str); 13] = [
+        (true, (0, 4, "time_created", 0x86), &TIME, DATE),
+        (true, (18, 2, "start_time", 0x86), &TIME, DATE),
+        (true, (19, 2, "start_time", 0x86), &TIME, DATE),
+        (false, (0, 4, "time_created", 0x86), &TIME, NUMBER),
+        (false, (20, 253, "timestamp", 0x86), &TIME, NUMBER),
+        (true, (0, 2, "product", 0x86), &TIME, NUMBER),
+        (true, (19, 4, "field_4", 0x86), &TIME, NUMBER),
+        (true, (20, 5, "distance", 0x86), &TIME, NUMBER),
+        (true, (0, 3, "serial_number", 0x86), &TIME, NUMBER),
+        (true, (20, 253, "timestamp", 0x8C), &TIME, NUMBER),
+        (true, (20, 253, "timestamp", 0x85), &TIME, NUMBER),
         (
             true,
-            0,
-            4,
-            0x86,
-            &TIME,
-            " time_created=2021-09-08T01:46:40Z",
-        ),
-        (true, 18, 2, 0x86, &TIME, " start_time=2021-09-08T01:46:40Z"),
-        (true, 19, 2, 0x86, &TIME, " start_time=2021-09-08T01:46:40Z"),
-        (false, 0, 4, 0x86, &TIME, " time_created=1000000000"),
-        (false, 20, 253, 0x86, &TIME, " timestamp=1000000000"),
-        (true, 0, 2, 0x86, &TIME, " product=1000000000"),
-        (true, 19, 4, 0x86, &TIME, " field_4=1000000000"),
-        (true, 20, 5, 0x86, &TIME, " distance=1000000000"),
-        (true, 0, 3, 0x86, &TIME, " serial_number=1000000000"),
-        (true, 20, 253, 0x8C, &TIME, " timestamp=1000000000"),
-        (true, 20, 253, 0x85, &TIME, " timestamp=1000000000"),
-        (
-            true,
-            20,
-            253,
-            0x86,
+            (20, 253, "timestamp", 0x86),
             &[0, 0xCA, 0x9A, 0x3B, 0, 0xCA, 0x9A, 0x3B],
-            " timestamp=1000000000,1000000000",
+            "1000000000,1000000000",
         ),
-        (true, 20, 253, 0x86, &[], " timestamp="),
+        (true, (20, 253, "timestamp", 0x86), &[], ""),
     ];
-    for (utc, global, number, base, bytes, text) in cases {
-        let out = text_of(&rt, utc, global, number, base, Arch::Little, bytes)?;
-        let message = match global {
-            0 => "file_id",
-            18 => "session",
-            19 => "lap",
-            _ => "record",
-        };
-        let whole = text_around(&rt, message, bytes.len(), text)?;
-        assert_eq!(rt; out.as_slice(), whole.as_bytes(), "{text}");
+    for (utc, field, bytes, text) in cases {
+        check_shown(&rt, rt.alloc(), utc, Arch::Little, field, bytes, text)?;
     }
     Ok(())
 }
 
 // A definition of one field of one byte, then fields of no bytes, numbered from 100 to below `last`.
-fn definition(local: u8, global: u16, number: u8, last: u8) -> Result<Definition, Fail>
-    ensures { IfOk result (λ d. d.local ≡ local) }
-{
+fn definition(local: u8, global: u16, number: u8, last: u8) -> Result<Definition, Fail> {
     let mut fields = ArrayVec::new();
     fields.try_push(FieldDefinition {
         number,
@@ -238,9 +227,16 @@ fn the_example_of_the_crate(rt: HostRuntime) -> Result<(), Fail> {
         profile: 100,
     };
     let mut fields = ArrayVec::new();
-    for (number, size, base) in [(0, 1, 0), (4, 4, 0x86)] {
-        fields.try_push(FieldDefinition { number, size, base })?;
-    }
+    fields.push(FieldDefinition {
+        number: 0,
+        size: 1,
+        base: 0x00,
+    });
+    fields.push(FieldDefinition {
+        number: 4,
+        size: 4,
+        base: 0x86,
+    });
     let mut file = File::new(rt.alloc(), frame);
     file.define(&Definition {
         local: 0,
@@ -252,17 +248,79 @@ fn the_example_of_the_crate(rt: HostRuntime) -> Result<(), Fail> {
     file.data(0, None, &[4, 0x00, 0xCA, 0x9A, 0x3B])?;
     let mut out = Vec::new(rt.alloc());
     show(&file.lend(), true, &mut out)?;
-    let lines = [
-        "header 14 protocol 1.0 profile 100 data 18",
-        "0 file_id type=4 time_created=2021-09-08T01:46:40Z",
-        "messages 1",
-    ];
-    let mut text = String::new(rt.alloc());
-    for line in lines {
-        text.push_str(line)?;
-        text.push_str("\n")?;
-    }
+    let text =
+        "header 14 protocol 1.0 profile 100 data 18\n0 file_id type=4 time_created=2021-09-08T01:46:40Z\nmessages 1\n";
     equal(&rt, out.as_slice(), text.as_bytes());
+    Ok(())
+}
+
+// The definitions of sixteen local numbers, and of two of them again. Each begins with the number of the message that it comes
+// before; then come its local number, its global number, the number of its first field, and the names of both.
+const MANY: [(u8, u8, u16, u8, &'static str); 18] = [
+    (0, 0, 0, 0, "file_id type"),
+    (0, 1, 12, 0, "sport sport"),
+    (0, 2, 18, 5, "session sport"),
+    (0, 3, 19, 24, "lap lap_trigger"),
+    (0, 4, 20, 3, "record heart_rate"),
+    (0, 5, 21, 1, "event event_type"),
+    (0, 6, 34, 2, "activity type"),
+    (0, 7, 100, 3, "message_100 field_3"),
+    (0, 8, 20, 4, "record cadence"),
+    (0, 9, 20, 13, "record temperature"),
+    (0, 10, 18, 16, "session avg_heart_rate"),
+    (0, 11, 19, 15, "lap avg_heart_rate"),
+    (0, 12, 0, 2, "file_id product"),
+    (0, 13, 0, 253, "file_id timestamp"),
+    (0, 14, 65534, 254, "message_65534 message_index"),
+    (0, 15, 12, 1, "sport sub_sport"),
+    (32, 3, 34, 4, "activity event_type"),
+    (40, 12, 20, 7, "record power"),
+];
+
+// The names that a message has: those of the last definition of its local number before it.
+fn names_of(message: u8) -> &'static str {
+    let mut names = "";
+    for (before, local, _, _, last) in MANY {
+        if before <= message && local == message % 16 {
+            names = last;
+        }
+    }
+    names
+}
+
+// Adds a message that holds its own number, after the definitions that come before it.
+fn put_message(file: &mut File, message: u8, last: u8) -> Result<(), Fail> {
+    for (before, local, global, number, _) in MANY {
+        if before == message {
+            define(file, &definition(local, global, number, last)?)?;
+        }
+    }
+    put_data(file, message % 16, None, &[message])?;
+    Ok(())
+}
+
+// The text of the fields of no bytes.
+fn empty_fields(alloc: Global, last: u8) -> Result<String, AllocError> {
+    let mut text = String::new(alloc);
+    for number in 100..last {
+        text.push_str(&format!(in alloc; " field_{number}=")?)?;
+    }
+    Ok(text)
+}
+
+// Asserts how 64 messages with fields numbered to below `last` are shown. The data has this size.
+fn check_many(rt: &impl Abort, alloc: Global, last: u8, size: u32) -> Result<(), Fail> {
+    let empty = empty_fields(alloc, last)?;
+    let mut file = empty_file(alloc);
+    let mut text = format!(in alloc; "header 14 protocol 1.0 profile 100 data {size}\n")?;
+    for message in 0..64_u8 {
+        put_message(&mut file, message, last)?;
+        let names = names_of(message);
+        text.push_str(&format!(in alloc; "{message} {names}={message}{empty}\n")?)?;
+    }
+    text.push_str("messages 64\n")?;
+    let out = shown(alloc, &file, false)?;
+    equal(rt, out.as_slice(), text.as_bytes());
     Ok(())
 }
 
@@ -270,56 +328,8 @@ fn the_example_of_the_crate(rt: HostRuntime) -> Result<(), Fail> {
 // plan has one, and no room if each has 41 or 151.
 #[test]
 fn shows_many_definitions(rt: HostRuntime) -> Result<(), Fail> {
-    // Each begins with the number of the message that it comes before.
-    let definitions: [(u8, u8, u16, u8, &str); 18] = [
-        (0, 0, 0, 0, "file_id type"),
-        (0, 1, 12, 0, "sport sport"),
-        (0, 2, 18, 5, "session sport"),
-        (0, 3, 19, 24, "lap lap_trigger"),
-        (0, 4, 20, 3, "record heart_rate"),
-        (0, 5, 21, 1, "event event_type"),
-        (0, 6, 34, 2, "activity type"),
-        (0, 7, 100, 3, "message_100 field_3"),
-        (0, 8, 20, 4, "record cadence"),
-        (0, 9, 20, 13, "record temperature"),
-        (0, 10, 18, 16, "session avg_heart_rate"),
-        (0, 11, 19, 15, "lap avg_heart_rate"),
-        (0, 12, 0, 2, "file_id product"),
-        (0, 13, 0, 253, "file_id timestamp"),
-        (0, 14, 65534, 254, "message_65534 message_index"),
-        (0, 15, 12, 1, "sport sub_sport"),
-        (32, 3, 34, 4, "activity event_type"),
-        (40, 12, 20, 7, "record power"),
-    ];
-    let frame = Frame {
-        header_size: 14,
-        protocol: 0x10,
-        profile: 100,
-    };
     for (last, size) in [(100, 290), (140, 2450), (250, 8390)] {
-        let mut empty = String::new(rt.alloc());
-        for number in 100..last {
-            empty.push_str(&format!(in rt.alloc(); " field_{number}=")?)?;
-        }
-        let mut file = File::new(rt.alloc(), frame);
-        let mut names = [""; 16];
-        let mut text = format!(in rt.alloc(); "header 14 protocol 1.0 profile 100 data {size}\n")?;
-        for value in 0..64_u8 {
-            for (before, local, global, number, name) in definitions {
-                if before == value && local < 16 {
-                    file.define(&definition(local, global, number, last)?)?;
-                    names[usize::from(local)] = name;
-                }
-            }
-            let local = value % 16;
-            file.data(local, None, &[value])?;
-            let name = names[usize::from(local)];
-            text.push_str(&format!(in rt.alloc(); "{value} {name}={value}{empty}\n")?)?;
-        }
-        text.push_str("messages 64\n")?;
-        let mut out = Vec::new(rt.alloc());
-        show(&file.lend(), false, &mut out)?;
-        assert_eq!(rt; out.as_slice(), text.as_bytes(), "{last}");
+        check_many(&rt, rt.alloc(), last, size)?;
     }
     Ok(())
 }
