@@ -1,16 +1,18 @@
-"""Tries the wrong bodies of crates/NAME/wrong/in_gate: the prover has to refuse each by a goal of the function that it changes. For an edit
-of must-fail/ the gate proves a whole crate once more. Here several are tried in one check, of the changed functions and what they call."""
+"""Tries the wrong bodies of crates/NAME/wrong/in_gate: the prover has to refuse each by a goal of the function that it changes. Several are
+tried in one check, of the changed functions and what they call."""
 
 import concurrent.futures
 import os
 import pathlib
 import re
+import shutil
 import sys
 import tempfile
 
 from tools.checks import Check, differs, unless
 from tools.edits import MOST, Edit, batches_of, merged, refused_in
 from tools.kit import load_rt
+from tools.libraries import build
 from tools.program import ROOT
 
 sys.path.insert(0, str(ROOT))
@@ -29,6 +31,10 @@ def tried(rt, crate):
     edits = [Edit(it, crate.folder, rt.read_edit(it, crate.folder)[0]) for it in bodies_of(crate)]
     found = [Check(crate.name, it.path.stem, unless(it.function, "another edit", "a change of one function")) for it in edits if not it.function]
     with tempfile.TemporaryDirectory(prefix="wrong-") as work:
+        if crate.is_static:
+            # Other parts build the library too, and its proofs are kept.
+            build(work + "/made.a", crate.name)
+            shutil.copytree(crate.folder + "/out/incremental", work, dirs_exist_ok=True)
         for batch in batches_of([it for it in edits if it.function], MOST):
             texts, functions = merged(batch, crate.folder), ["--only=" + it.function_path for it in batch]
             ran = rt.checked(crate, texts, [*JOBS, *functions], work)
