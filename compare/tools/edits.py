@@ -33,18 +33,19 @@ def functions_of(text):
 
 
 def owner_of(line):
-    """What a check prints for the type of an `impl`, with its trait after it if it has one."""
-    line = line.removeprefix("impl").partition(" where ")[0].removesuffix(" {")
+    """What a check prints for the type of an `impl`: with the types that it is given, and with its trait if it has one."""
+    line, is_generic = line.removeprefix("impl").partition(" where ")[0].removesuffix(" {"), line.startswith("impl<")
+    line = re.sub(r"'\w+(?:, )?", "", line)
     while "<" in line:
-        line = re.sub(r"<[^<>]*>", "", line)
+        line = re.sub(r"<([^<>]*)>", lambda it: "" if is_generic or not it[1] else "+" + it[1], line)
     return "".join(it.strip().rpartition("::")[2] for it in reversed(line.split(" for ")))
 
 
 def path_of(file, text, name, first):
-    """The path of a function below its crate, as a check prints it."""
+    """What `rt check --only` takes for a function: its path below the crate, or a method's type and name."""
     lines, modules = text.split("\n"), file.removeprefix("src/").removesuffix(".rt").split("/")
     owners = [it for it in lines[:first] if it.startswith("impl")] if lines[first].startswith(" ") else []
-    return "::".join([it for it in modules if it not in ("lib", "main", "mod")] + [owner_of(it) for it in owners[-1:]] + [name])
+    return "::".join([*([owner_of(it) for it in owners[-1:]] or [it for it in modules if it not in ("lib", "main", "mod")]), name])
 
 
 class Edit:
