@@ -35,12 +35,16 @@ def tried(rt, crate):
             # Other parts build the library too, and its proofs are kept.
             build(work + "/made.a", crate.name)
             shutil.copytree(crate.folder + "/out/incremental", work, dirs_exist_ok=True)
-        for batch in batches_of([it for it in edits if it.function], MOST):
+        left = batches_of([it for it in edits if it.function], MOST)
+        while left:
+            batch = left.pop(0)
             texts, functions = merged(batch, crate.folder), ["--only=" + it.function_path for it in batch]
             ran = rt.checked(crate, texts, [*JOBS, *functions], work)
             refused = refused_in(rt, batch, texts, ran) or {}
+            # Another wrong body may hide what is wrong with one that calls it.
+            left += [[it] for it in batch if it not in refused and len(batch) > 1]
             said = "\n".join(it for it in ran.stdout.splitlines() if re.search(r"\berror\b|\bnot proved\b", it))
-            for it in batch:
+            for it in batch if len(batch) == 1 else refused:
                 wanted = "a goal of %s that is not proved" % it.function_path
                 found.append(Check(crate.name, it.path.stem, unless(it in refused, said or ran.stdout[-1000:], wanted)))
     return found
