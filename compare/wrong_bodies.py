@@ -5,7 +5,6 @@ import concurrent.futures
 import os
 import pathlib
 import re
-import shutil
 import sys
 import tempfile
 
@@ -33,8 +32,7 @@ def tried(rt, crate):
     with tempfile.TemporaryDirectory(prefix="wrong-") as work:
         if crate.is_static:
             # Other parts build the library too, and its proofs are kept.
-            build(work + "/made.a", crate.name)
-            shutil.copytree(crate.folder + "/out/incremental", work, dirs_exist_ok=True)
+            build(work + "/made.a", crate.name, work)
         left = batches_of([it for it in edits if it.function], MOST)
         while left:
             batch = left.pop(0)
