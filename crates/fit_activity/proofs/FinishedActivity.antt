@@ -1,4 +1,3 @@
 -- A finished recording is an activity.
 pub mod Passed
-pub mod Counted
 pub mod Finished

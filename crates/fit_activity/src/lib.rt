@@ -15,7 +15,6 @@ pub use hearing::{entry_of, file_id_of, sport_of};
 pub use recording::entry::{Entry, Sample};
 pub use recording::refusal::Refusal;
 pub use recording::start::{Sport, Start};
-pub use recording::table::{FIELDS, FieldRow, SAMPLE_FIELDS};
 pub use replay::frozen::FrozenReplay;
 pub use replay::{NotNext, Replay};
 pub use speaking::speech::{Speech, SpokenMessage};

@@ -4,6 +4,18 @@ ghost use Rattle.std.specs.Prelude.{◌≡◌, ◌+◌, ◌≤◌, ◌<◌, ◌^
 ghost use Rattle.fit_activity.specs.Rides.Recording.{Recorded};
 ghost use Rattle.fit_activity.specs.Rides.RunningTotals.{AreTotals};
 
+// A sample so many seconds after T, with these values alone.
+macro_rules! sample {
+    ($seconds:expr $(, $field:ident: $value:expr)*) => {
+        $crate::activity::Entry::Sample($crate::activity::Sample {
+            time: $crate::activity::T + $seconds,
+            $($field: Some($value),)*
+            ..$crate::activity::EMPTY
+        })
+    };
+}
+
+use crate::equality::equal;
 use fit_activity::{Entry, Refusal, Sample, Speech, Sport, Start, Totals, speak, speak_compressed};
 use std::process::Abort;
 
@@ -21,6 +33,22 @@ const START: Start = Start {
     time: T,
     serial: 7,
     sport: Sport::Running,
+};
+
+// A sample at T without values.
+const EMPTY: Sample = Sample {
+    time: T,
+    lat: None,
+    long: None,
+    altitude: None,
+    heart_rate: None,
+    cadence: None,
+    distance: None,
+    speed: None,
+    power: None,
+    temperature: None,
+    enhanced_speed: None,
+    enhanced_altitude: None,
 };
 
 fn with_heart_rate(time: u32, rate: u8) -> Entry {
@@ -61,6 +89,21 @@ fn refusal(rt: &impl Abort, entries: &[Entry], entry: Entry) -> Option<Refusal>
     requires { length entries.now < 2 ^ 31 }
 {
     ride(rt, entries).check(&entry).err()
+}
+
+// A ride, an entry after it, and why it is refused.
+type Row<'a> = (&'a [Entry], Entry, Option<Refusal>);
+
+fn check_refusals(rt: &impl Abort, rows: &[Row<'_>]) {
+    for (entries, entry, wanted) in rows {
+        assert!(rt; entries.len() < 1000);
+        let reported = refusal(rt, *entries, *entry);
+        equal(
+            rt,
+            (*entries, *entry, reported),
+            (*entries, *entry, *wanted),
+        );
+    }
 }
 
 // Makes the messages of this entry after a ride.

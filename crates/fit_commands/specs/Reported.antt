@@ -22,7 +22,7 @@ use Rattle.fit_files.specs.Printed.Repaired.{Repairs}
 use Rattle.fit_files.specs.Printed.Salvaged.{IsSalvage, saved_file, kept_text}
 use Rattle.fit_files.specs.Printed.Saved.{SavesRide}
 use Rattle.fit_files.specs.Printed.Summary.{summary_text}
-use Rattle.fit_files.specs.Printed.Tabled.{SumsUp}
+use Rattle.fit_files.specs.Printed.Checked.{SumsUp}
 use Rattle.fit_finishing.specs.declared.finishing.Finished.{Finished}
 use Rattle.fit_finishing.specs.Finished.{IsFinished}
 use Rattle.fit_files.specs.declared.fault.ReportFault.{ReportFault}

@@ -1,12 +1,12 @@
 // The subcommand `show` with `--json`: prints a file as JSON.
 
-ghost use Rattle.fit_files.specs.Printed.Shown.{ShowsJson};
+ghost use Rattle.fit_exports.specs.Json.{ShowsJson};
 ghost use Rattle.fit_commands.specs.Faults.{IsReportFault};
 ghost use Rattle.fit_commands.specs.Reported.{ReportsRun};
 
 use crate::fault::Fault;
 use crate::input::{MOST_BYTES, fault_of_report, open_file};
-use fit_files::show_json_input;
+use fit_exports::show_json_input;
 use std::io::Write;
 use std::rt::Files;
 

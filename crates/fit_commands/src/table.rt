@@ -1,13 +1,13 @@
 // The subcommand `table`: prints the values of a file as a table.
 
 ghost use Rattle.std.specs.Prelude.{◌≤◌, length, None, option_map};
-ghost use Rattle.fit_files.specs.Printed.Tabled.{ShowsTable};
+ghost use Rattle.fit_exports.specs.Tabled.{ShowsTable};
 ghost use Rattle.fit_commands.specs.Faults.{IsReportFault};
 ghost use Rattle.fit_commands.specs.Reported.{ReportsRun};
 
 use crate::fault::Fault;
 use crate::input::{MOST_BYTES, fault_of_report, open_file};
-use fit_files::table_input;
+use fit_exports::table_input;
 use fit_table::Layout;
 use std::alloc::Global;
 use std::io::{Read, Write};

@@ -1,5 +1,5 @@
 -- For crates above, and what no crate above uses.
 pub mod Pieces
+pub mod Reported
 mod Headers
 mod Mending
-mod Reported

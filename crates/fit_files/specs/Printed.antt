@@ -7,7 +7,6 @@ pub mod Salvaged
 pub mod PlainFile
 pub mod Saved
 pub mod Lacking
-pub mod Tabled
 pub mod Finished
 pub mod Mended
 pub mod Parts

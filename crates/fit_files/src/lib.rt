@@ -1,7 +1,7 @@
-//! What is done with a file: it is shown, written as a table, checked, made plain, salvaged or saved.
+//! What is done with a file: it is shown, checked, made plain, salvaged or saved.
 //!
-//! `show_input`, `show_json_input` and `check_input` print the text, the JSON or the summary of a file read from an input; `show_bytes`
-//! and `check_bytes` take its bytes. `table_input` prints its table, and `sum_up_input` gives the summary without printing it.
+//! `decode_input` reads a file from an input. `show_input` and `check_input` print its text or its summary; `show_bytes` and
+//! `check_bytes` take its bytes, and `sum_up_input` gives the summary without printing it.
 //! `plain_input` makes the plain form of a file. `read_all` reads a whole input, and `read_front` what can be read of it. `salvage_bytes`
 //! finds the readable part of a file that has no journal; `skip_bytes` goes on after its faults, in the bytes that `look_at` finds, and
 //! `print_part` prints the line of a file that was chained with others. `print_finished` says what was heard in a file. `save_ride` makes a
@@ -15,7 +15,6 @@ mod checking;
 mod decoding;
 mod fault;
 mod finished;
-mod json;
 mod lack;
 mod looking;
 mod mended;
@@ -31,12 +30,11 @@ mod saving;
 mod showing;
 mod skipping;
 mod summary;
-mod tabling;
 
-pub use checking::{check_bytes, check_input};
+pub use checking::{check_bytes, check_input, sum_up_input};
+pub use decoding::decode_input;
 pub use fault::ReportFault;
 pub use finished::{print_finished, print_finished_mended};
-pub use json::show_json_input;
 pub use lack::Lack;
 pub use looking::{Looked, look_at};
 pub use mended::Mended;
@@ -51,4 +49,3 @@ pub use saving::{SaveFault, SavedRide, save_ride};
 pub use showing::{show_bytes, show_input};
 pub use skipping::skip_bytes;
 pub use summary::SummaryLine;
-pub use tabling::{sum_up_input, table_head, table_input};

@@ -12,7 +12,7 @@ use Rattle.fit_activity.specs.declared.recording.entry.Entry.TheVariants.{Lap, P
 use Rattle.fit_activity.specs.Rides.Recording.{Recorded, Started, Added, entry_time, is_lap}
 use Rattle.fit_activity.specs.Rides.Timer.{runs_now}
 use Rattle.fit_activity.specs.Rides.Refusal.{start_refusal, refusal_of}
-use Rattle.fit_activity.specs.Files.Activity.{value_of}
+use Rattle.fit_grammar.specs.Format.OneValue.{value_of}
 use Rattle.fit_finishing.specs.Entries.{entry_in}
 
 -- the list so far, which is empty before the start; the end of a lap that no entry followed yet; and how many entries were left out

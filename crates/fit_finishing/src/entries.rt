@@ -2,13 +2,15 @@
 
 ghost use Rattle.std.specs.Prelude.{◌≡◌, ◌≤◌, ◌<◌, ◌^◌, IfSome, map};
 ghost use Rattle.fit_base.specs.Base.{row_of};
-ghost use Rattle.fit_activity.specs.Files.Activity.{value_of as value_stated};
-ghost use Rattle.fit_activity.specs.Rides.Table.{sample_rows, ValuesFit};
+ghost use Rattle.fit_grammar.specs.Format.OneValue.{value_of as value_stated};
+ghost use Rattle.fit_fields.specs.Table.{sample_rows};
+ghost use Rattle.fit_activity.specs.Rides.Table.{ValuesFit};
 ghost use Rattle.fit_finishing.specs.Entries.{time_in as time_stated, sample_in as sample_stated, timer_entry, event_entry, entry_in as entry_stated};
 
 use crate::value::value_of;
-use fit_activity::{Entry, FIELDS, FieldRow, SAMPLE_FIELDS, Sample};
+use fit_activity::{Entry, Sample};
 use fit_base::BaseType;
+use fit_fields::{FIELDS, FieldRow, SAMPLE_FIELDS};
 use fit_grammar::Message;
 
 // The entry of a record, a lap or an event of the timer. A stop pauses, because a ride may go on after it.

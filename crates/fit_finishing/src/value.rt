@@ -4,8 +4,7 @@ ghost use Rattle.std.specs.Prelude.{◌≡◌, ◌<◌, ◌≤◌, ◌^◌, IfSo
 ghost use Rattle.fit_base.specs.Base.{row_of};
 ghost use Rattle.fit_base.specs.Value.{values_of, value_size};
 ghost use Rattle.fit_grammar.specs.Calls.LentField.{field_view};
-ghost use Rattle.fit_activity.specs.Messages.ProfileField.{one_of};
-ghost use Rattle.fit_activity.specs.Files.Activity.{value_of as value_stated, value_in as value_of_field};
+ghost use Rattle.fit_grammar.specs.Format.OneValue.{one_of, value_of as value_stated, value_in as value_of_field};
 
 use fit_base::{BaseType, FieldValue};
 use fit_grammar::{Field, Message};

@@ -76,177 +76,178 @@ fn types_by_their_bytes(rt: HostRuntime) {
 }
 
 // Each type at 0, at its greatest value and at its invalid value; if 0 is the invalid value, the third is another one.
+const CASES: [Case<'static>; 18] = [
+    Case {
+        code: 0x00,
+        little: &[0x00, 0xFE, 0xFF],
+        big: &[0x00, 0xFE, 0xFF],
+        numbers: [0, 0xFE, 0xFF],
+        invalid: [false, false, true],
+    },
+    Case {
+        code: 0x01,
+        little: &[0x00, 0x7E, 0x7F],
+        big: &[0x00, 0x7E, 0x7F],
+        numbers: [0, 0x7E, 0x7F],
+        invalid: [false, false, true],
+    },
+    Case {
+        code: 0x02,
+        little: &[0x00, 0xFE, 0xFF],
+        big: &[0x00, 0xFE, 0xFF],
+        numbers: [0, 0xFE, 0xFF],
+        invalid: [false, false, true],
+    },
+    Case {
+        code: 0x83,
+        little: &[0x00, 0x00, 0xFE, 0x7F, 0xFF, 0x7F],
+        big: &[0x00, 0x00, 0x7F, 0xFE, 0x7F, 0xFF],
+        numbers: [0, 0x7FFE, 0x7FFF],
+        invalid: [false, false, true],
+    },
+    Case {
+        code: 0x84,
+        little: &[0x00, 0x00, 0xFE, 0xFF, 0xFF, 0xFF],
+        big: &[0x00, 0x00, 0xFF, 0xFE, 0xFF, 0xFF],
+        numbers: [0, 0xFFFE, 0xFFFF],
+        invalid: [false, false, true],
+    },
+    Case {
+        code: 0x85,
+        little: &[
+            0x00, 0x00, 0x00, 0x00, 0xFE, 0xFF, 0xFF, 0x7F, 0xFF, 0xFF, 0xFF, 0x7F,
+        ],
+        big: &[
+            0x00, 0x00, 0x00, 0x00, 0x7F, 0xFF, 0xFF, 0xFE, 0x7F, 0xFF, 0xFF, 0xFF,
+        ],
+        numbers: [0, 0x7FFF_FFFE, 0x7FFF_FFFF],
+        invalid: [false, false, true],
+    },
+    Case {
+        code: 0x86,
+        little: &[
+            0x00, 0x00, 0x00, 0x00, 0xFE, 0xFF, 0xFF, 0xFF, 0xFF, 0xFF, 0xFF, 0xFF,
+        ],
+        big: &[
+            0x00, 0x00, 0x00, 0x00, 0xFF, 0xFF, 0xFF, 0xFE, 0xFF, 0xFF, 0xFF, 0xFF,
+        ],
+        numbers: [0, 0xFFFF_FFFE, 0xFFFF_FFFF],
+        invalid: [false, false, true],
+    },
+    Case {
+        code: 0x07,
+        little: &[0x00, 0xFF, 0x61],
+        big: &[0x00, 0xFF, 0x61],
+        numbers: [0, 0xFF, 0x61],
+        invalid: [true, false, false],
+    },
+    Case {
+        code: 0x88,
+        little: &[
+            0x00, 0x00, 0x00, 0x00, 0xFF, 0xFF, 0x7F, 0x7F, 0xFF, 0xFF, 0xFF, 0xFF,
+        ],
+        big: &[
+            0x00, 0x00, 0x00, 0x00, 0x7F, 0x7F, 0xFF, 0xFF, 0xFF, 0xFF, 0xFF, 0xFF,
+        ],
+        numbers: [0, 0x7F7F_FFFF, 0xFFFF_FFFF],
+        invalid: [false, false, true],
+    },
+    Case {
+        code: 0x89,
+        little: &[
+            0x00, 0x00, 0x00, 0x00, 0x00, 0x00, 0x00, 0x00, 0xFF, 0xFF, 0xFF, 0xFF, 0xFF, 0xFF,
+            0xEF, 0x7F, 0xFF, 0xFF, 0xFF, 0xFF, 0xFF, 0xFF, 0xFF, 0xFF,
+        ],
+        big: &[
+            0x00, 0x00, 0x00, 0x00, 0x00, 0x00, 0x00, 0x00, 0x7F, 0xEF, 0xFF, 0xFF, 0xFF, 0xFF,
+            0xFF, 0xFF, 0xFF, 0xFF, 0xFF, 0xFF, 0xFF, 0xFF, 0xFF, 0xFF,
+        ],
+        numbers: [0, 0x7FEF_FFFF_FFFF_FFFF, 0xFFFF_FFFF_FFFF_FFFF],
+        invalid: [false, false, true],
+    },
+    Case {
+        code: 0x0A,
+        little: &[0x00, 0xFF, 0x01],
+        big: &[0x00, 0xFF, 0x01],
+        numbers: [0, 0xFF, 1],
+        invalid: [true, false, false],
+    },
+    Case {
+        code: 0x8B,
+        little: &[0x00, 0x00, 0xFF, 0xFF, 0x00, 0x01],
+        big: &[0x00, 0x00, 0xFF, 0xFF, 0x01, 0x00],
+        numbers: [0, 0xFFFF, 0x0100],
+        invalid: [true, false, false],
+    },
+    Case {
+        code: 0x8C,
+        little: &[
+            0x00, 0x00, 0x00, 0x00, 0xFF, 0xFF, 0xFF, 0xFF, 0x04, 0x03, 0x02, 0x01,
+        ],
+        big: &[
+            0x00, 0x00, 0x00, 0x00, 0xFF, 0xFF, 0xFF, 0xFF, 0x01, 0x02, 0x03, 0x04,
+        ],
+        numbers: [0, 0xFFFF_FFFF, 0x0102_0304],
+        invalid: [true, false, false],
+    },
+    Case {
+        code: 0x8E,
+        little: &[
+            0x00, 0x00, 0x00, 0x00, 0x00, 0x00, 0x00, 0x00, 0xFE, 0xFF, 0xFF, 0xFF, 0xFF, 0xFF,
+            0xFF, 0x7F, 0xFF, 0xFF, 0xFF, 0xFF, 0xFF, 0xFF, 0xFF, 0x7F,
+        ],
+        big: &[
+            0x00, 0x00, 0x00, 0x00, 0x00, 0x00, 0x00, 0x00, 0x7F, 0xFF, 0xFF, 0xFF, 0xFF, 0xFF,
+            0xFF, 0xFE, 0x7F, 0xFF, 0xFF, 0xFF, 0xFF, 0xFF, 0xFF, 0xFF,
+        ],
+        numbers: [0, 0x7FFF_FFFF_FFFF_FFFE, 0x7FFF_FFFF_FFFF_FFFF],
+        invalid: [false, false, true],
+    },
+    Case {
+        code: 0x8F,
+        little: &[
+            0x00, 0x00, 0x00, 0x00, 0x00, 0x00, 0x00, 0x00, 0xFE, 0xFF, 0xFF, 0xFF, 0xFF, 0xFF,
+            0xFF, 0xFF, 0xFF, 0xFF, 0xFF, 0xFF, 0xFF, 0xFF, 0xFF, 0xFF,
+        ],
+        big: &[
+            0x00, 0x00, 0x00, 0x00, 0x00, 0x00, 0x00, 0x00, 0xFF, 0xFF, 0xFF, 0xFF, 0xFF, 0xFF,
+            0xFF, 0xFE, 0xFF, 0xFF, 0xFF, 0xFF, 0xFF, 0xFF, 0xFF, 0xFF,
+        ],
+        numbers: [0, 0xFFFF_FFFF_FFFF_FFFE, 0xFFFF_FFFF_FFFF_FFFF],
+        invalid: [false, false, true],
+    },
+    Case {
+        code: 0x90,
+        little: &[
+            0x00, 0x00, 0x00, 0x00, 0x00, 0x00, 0x00, 0x00, 0xFF, 0xFF, 0xFF, 0xFF, 0xFF, 0xFF,
+            0xFF, 0xFF, 0x08, 0x07, 0x06, 0x05, 0x04, 0x03, 0x02, 0x01,
+        ],
+        big: &[
+            0x00, 0x00, 0x00, 0x00, 0x00, 0x00, 0x00, 0x00, 0xFF, 0xFF, 0xFF, 0xFF, 0xFF, 0xFF,
+            0xFF, 0xFF, 0x01, 0x02, 0x03, 0x04, 0x05, 0x06, 0x07, 0x08,
+        ],
+        numbers: [0, 0xFFFF_FFFF_FFFF_FFFF, 0x0102_0304_0506_0708],
+        invalid: [true, false, false],
+    },
+    Case {
+        code: 0x0D,
+        little: &[0x00, 0xFE, 0xFF],
+        big: &[0x00, 0xFE, 0xFF],
+        numbers: [0, 0xFE, 0xFF],
+        invalid: [false, false, false],
+    },
+    Case {
+        code: 0x0D,
+        little: &[0xFF, 0xFF, 0xFF],
+        big: &[0xFF, 0xFF, 0xFF],
+        numbers: [0xFF, 0xFF, 0xFF],
+        invalid: [true, true, true],
+    },
+];
+
 #[test]
 fn values_of_each_type(rt: HostRuntime) {
-    let cases = [
-        Case {
-            code: 0x00,
-            little: &[0x00, 0xFE, 0xFF],
-            big: &[0x00, 0xFE, 0xFF],
-            numbers: [0, 0xFE, 0xFF],
-            invalid: [false, false, true],
-        },
-        Case {
-            code: 0x01,
-            little: &[0x00, 0x7E, 0x7F],
-            big: &[0x00, 0x7E, 0x7F],
-            numbers: [0, 0x7E, 0x7F],
-            invalid: [false, false, true],
-        },
-        Case {
-            code: 0x02,
-            little: &[0x00, 0xFE, 0xFF],
-            big: &[0x00, 0xFE, 0xFF],
-            numbers: [0, 0xFE, 0xFF],
-            invalid: [false, false, true],
-        },
-        Case {
-            code: 0x83,
-            little: &[0x00, 0x00, 0xFE, 0x7F, 0xFF, 0x7F],
-            big: &[0x00, 0x00, 0x7F, 0xFE, 0x7F, 0xFF],
-            numbers: [0, 0x7FFE, 0x7FFF],
-            invalid: [false, false, true],
-        },
-        Case {
-            code: 0x84,
-            little: &[0x00, 0x00, 0xFE, 0xFF, 0xFF, 0xFF],
-            big: &[0x00, 0x00, 0xFF, 0xFE, 0xFF, 0xFF],
-            numbers: [0, 0xFFFE, 0xFFFF],
-            invalid: [false, false, true],
-        },
-        Case {
-            code: 0x85,
-            little: &[
-                0x00, 0x00, 0x00, 0x00, 0xFE, 0xFF, 0xFF, 0x7F, 0xFF, 0xFF, 0xFF, 0x7F,
-            ],
-            big: &[
-                0x00, 0x00, 0x00, 0x00, 0x7F, 0xFF, 0xFF, 0xFE, 0x7F, 0xFF, 0xFF, 0xFF,
-            ],
-            numbers: [0, 0x7FFF_FFFE, 0x7FFF_FFFF],
-            invalid: [false, false, true],
-        },
-        Case {
-            code: 0x86,
-            little: &[
-                0x00, 0x00, 0x00, 0x00, 0xFE, 0xFF, 0xFF, 0xFF, 0xFF, 0xFF, 0xFF, 0xFF,
-            ],
-            big: &[
-                0x00, 0x00, 0x00, 0x00, 0xFF, 0xFF, 0xFF, 0xFE, 0xFF, 0xFF, 0xFF, 0xFF,
-            ],
-            numbers: [0, 0xFFFF_FFFE, 0xFFFF_FFFF],
-            invalid: [false, false, true],
-        },
-        Case {
-            code: 0x07,
-            little: &[0x00, 0xFF, 0x61],
-            big: &[0x00, 0xFF, 0x61],
-            numbers: [0, 0xFF, 0x61],
-            invalid: [true, false, false],
-        },
-        Case {
-            code: 0x88,
-            little: &[
-                0x00, 0x00, 0x00, 0x00, 0xFF, 0xFF, 0x7F, 0x7F, 0xFF, 0xFF, 0xFF, 0xFF,
-            ],
-            big: &[
-                0x00, 0x00, 0x00, 0x00, 0x7F, 0x7F, 0xFF, 0xFF, 0xFF, 0xFF, 0xFF, 0xFF,
-            ],
-            numbers: [0, 0x7F7F_FFFF, 0xFFFF_FFFF],
-            invalid: [false, false, true],
-        },
-        Case {
-            code: 0x89,
-            little: &[
-                0x00, 0x00, 0x00, 0x00, 0x00, 0x00, 0x00, 0x00, 0xFF, 0xFF, 0xFF, 0xFF, 0xFF, 0xFF,
-                0xEF, 0x7F, 0xFF, 0xFF, 0xFF, 0xFF, 0xFF, 0xFF, 0xFF, 0xFF,
-            ],
-            big: &[
-                0x00, 0x00, 0x00, 0x00, 0x00, 0x00, 0x00, 0x00, 0x7F, 0xEF, 0xFF, 0xFF, 0xFF, 0xFF,
-                0xFF, 0xFF, 0xFF, 0xFF, 0xFF, 0xFF, 0xFF, 0xFF, 0xFF, 0xFF,
-            ],
-            numbers: [0, 0x7FEF_FFFF_FFFF_FFFF, 0xFFFF_FFFF_FFFF_FFFF],
-            invalid: [false, false, true],
-        },
-        Case {
-            code: 0x0A,
-            little: &[0x00, 0xFF, 0x01],
-            big: &[0x00, 0xFF, 0x01],
-            numbers: [0, 0xFF, 1],
-            invalid: [true, false, false],
-        },
-        Case {
-            code: 0x8B,
-            little: &[0x00, 0x00, 0xFF, 0xFF, 0x00, 0x01],
-            big: &[0x00, 0x00, 0xFF, 0xFF, 0x01, 0x00],
-            numbers: [0, 0xFFFF, 0x0100],
-            invalid: [true, false, false],
-        },
-        Case {
-            code: 0x8C,
-            little: &[
-                0x00, 0x00, 0x00, 0x00, 0xFF, 0xFF, 0xFF, 0xFF, 0x04, 0x03, 0x02, 0x01,
-            ],
-            big: &[
-                0x00, 0x00, 0x00, 0x00, 0xFF, 0xFF, 0xFF, 0xFF, 0x01, 0x02, 0x03, 0x04,
-            ],
-            numbers: [0, 0xFFFF_FFFF, 0x0102_0304],
-            invalid: [true, false, false],
-        },
-        Case {
-            code: 0x8E,
-            little: &[
-                0x00, 0x00, 0x00, 0x00, 0x00, 0x00, 0x00, 0x00, 0xFE, 0xFF, 0xFF, 0xFF, 0xFF, 0xFF,
-                0xFF, 0x7F, 0xFF, 0xFF, 0xFF, 0xFF, 0xFF, 0xFF, 0xFF, 0x7F,
-            ],
-            big: &[
-                0x00, 0x00, 0x00, 0x00, 0x00, 0x00, 0x00, 0x00, 0x7F, 0xFF, 0xFF, 0xFF, 0xFF, 0xFF,
-                0xFF, 0xFE, 0x7F, 0xFF, 0xFF, 0xFF, 0xFF, 0xFF, 0xFF, 0xFF,
-            ],
-            numbers: [0, 0x7FFF_FFFF_FFFF_FFFE, 0x7FFF_FFFF_FFFF_FFFF],
-            invalid: [false, false, true],
-        },
-        Case {
-            code: 0x8F,
-            little: &[
-                0x00, 0x00, 0x00, 0x00, 0x00, 0x00, 0x00, 0x00, 0xFE, 0xFF, 0xFF, 0xFF, 0xFF, 0xFF,
-                0xFF, 0xFF, 0xFF, 0xFF, 0xFF, 0xFF, 0xFF, 0xFF, 0xFF, 0xFF,
-            ],
-            big: &[
-                0x00, 0x00, 0x00, 0x00, 0x00, 0x00, 0x00, 0x00, 0xFF, 0xFF, 0xFF, 0xFF, 0xFF, 0xFF,
-                0xFF, 0xFE, 0xFF, 0xFF, 0xFF, 0xFF, 0xFF, 0xFF, 0xFF, 0xFF,
-            ],
-            numbers: [0, 0xFFFF_FFFF_FFFF_FFFE, 0xFFFF_FFFF_FFFF_FFFF],
-            invalid: [false, false, true],
-        },
-        Case {
-            code: 0x90,
-            little: &[
-                0x00, 0x00, 0x00, 0x00, 0x00, 0x00, 0x00, 0x00, 0xFF, 0xFF, 0xFF, 0xFF, 0xFF, 0xFF,
-                0xFF, 0xFF, 0x08, 0x07, 0x06, 0x05, 0x04, 0x03, 0x02, 0x01,
-            ],
-            big: &[
-                0x00, 0x00, 0x00, 0x00, 0x00, 0x00, 0x00, 0x00, 0xFF, 0xFF, 0xFF, 0xFF, 0xFF, 0xFF,
-                0xFF, 0xFF, 0x01, 0x02, 0x03, 0x04, 0x05, 0x06, 0x07, 0x08,
-            ],
-            numbers: [0, 0xFFFF_FFFF_FFFF_FFFF, 0x0102_0304_0506_0708],
-            invalid: [true, false, false],
-        },
-        Case {
-            code: 0x0D,
-            little: &[0x00, 0xFE, 0xFF],
-            big: &[0x00, 0xFE, 0xFF],
-            numbers: [0, 0xFE, 0xFF],
-            invalid: [false, false, false],
-        },
-        Case {
-            code: 0x0D,
-            little: &[0xFF, 0xFF, 0xFF],
-            big: &[0xFF, 0xFF, 0xFF],
-            numbers: [0xFF, 0xFF, 0xFF],
-            invalid: [true, true, true],
-        },
-    ];
-    for case in &cases {
+    for case in &CASES {
         check(&rt, case, Arch::Little, case.little);
         check(&rt, case, Arch::Big, case.big);
     }
@@ -261,25 +262,36 @@ fn value_at(field: &FieldValue, at: usize) -> Option<(u64, bool)> {
     }
 }
 
-fn check(rt: &impl Abort, case: &Case, arch: Arch, bytes: &[u8]) {
+// Asserts that the field has so many of the values of the case, and no others.
+fn check_values(rt: &impl Abort, case: &Case, field: &FieldValue, count: usize) {
     let code = case.code;
-    let size = bytes.len() / 3;
-    let three = FieldValue::new(code, arch, bytes);
-    equal(rt, (code, three.count()), (code, 3));
+    equal(rt, (code, field.count()), (code, count));
     for i in 0..3 {
-        let wanted = Some((case.numbers[i], case.invalid[i]));
-        equal(rt, (code, value_at(&three, i)), (code, wanted));
+        let wanted = if i < count {
+            Some((case.numbers[i], case.invalid[i]))
+        } else {
+            None
+        };
+        equal(rt, (code, i, value_at(field, i)), (code, i, wanted));
     }
-    // One value, no value, and bytes that are no whole number of values.
-    let one = FieldValue::new(code, arch, &bytes[..size]);
-    let none = FieldValue::new(code, arch, &[]);
-    equal(rt, (code, one.count(), none.count()), (code, 1, 0));
-    let wanted = Some((case.numbers[0], case.invalid[0]));
-    equal(rt, (code, value_at(&one, 0)), (code, wanted));
+}
+
+// Asserts that the bytes are no whole number of values.
+fn check_ragged(rt: &impl Abort, code: u8, arch: Arch, bytes: &[u8]) {
+    let ragged = FieldValue::new(code, arch, bytes);
+    let is_ragged = ragged.is_raw() && ragged.count() == 0;
+    assert!(rt; is_ragged && ragged.raw() == bytes, "of {code}");
+}
+
+// Three values, one value, no value, and bytes that are no whole number of values.
+fn check(rt: &impl Abort, case: &Case, arch: Arch, bytes: &[u8]) {
+    let size = bytes.len() / 3;
+    check_values(rt, case, &FieldValue::new(case.code, arch, bytes), 3);
+    let one = FieldValue::new(case.code, arch, &bytes[..size]);
+    check_values(rt, case, &one, 1);
+    check_values(rt, case, &FieldValue::new(case.code, arch, &[]), 0);
     if size > 1 {
-        let ragged = FieldValue::new(code, arch, &bytes[1..]);
-        let is_ragged = ragged.is_raw() && ragged.count() == 0;
-        assert!(rt; is_ragged && ragged.raw() == &bytes[1..], "of {code}");
+        check_ragged(rt, case.code, arch, &bytes[1..]);
     }
 }
 
@@ -297,31 +309,37 @@ fn a_byte_field_that_is_all_ff(rt: HostRuntime) {
     equal(&rt, (unknown.base(), unknown.arch()), (0x91, Arch::Big));
 }
 
+const BYTES: [u8; 8] = [0x80, 0x00, 0x00, 0x00, 0x7F, 0xFF, 0xFF, 0xFE];
+
+// A type, a byte order, bytes, and their values.
+const SIGNED: [(u8, Arch, &[u8], &[i64]); 8] = [
+    (0x01, Arch::Big, &[0x80, 0x00, 0x00, 0x00], &[-128, 0, 0, 0]),
+    (
+        0x01,
+        Arch::Big,
+        &[0x7F, 0xFF, 0xFF, 0xFE],
+        &[127, -1, -1, -2],
+    ),
+    (0x83, Arch::Big, &BYTES, &[-32768, 0, 32767, -2]),
+    (0x83, Arch::Little, &BYTES, &[128, 0, -129, -257]),
+    (0x85, Arch::Big, &BYTES, &[-2_147_483_648, 2_147_483_646]),
+    (0x85, Arch::Little, &BYTES, &[128, -16_777_345]),
+    (0x8E, Arch::Big, &BYTES, &[-9_223_372_034_707_292_162]),
+    (0x8E, Arch::Little, &BYTES, &[-72_058_148_088_708_992]),
+];
+
 #[test]
 fn values_with_a_sign(rt: HostRuntime) {
-    let bytes = [0x80, 0x00, 0x00, 0x00, 0x7F, 0xFF, 0xFF, 0xFE];
-    let front = [0x80, 0x00, 0x00, 0x00];
-    let back = [0x7F, 0xFF, 0xFF, 0xFE];
-    let cases: [(u8, Arch, &[u8], &[i64]); 8] = [
-        (0x01, Arch::Big, &front, &[-128, 0, 0, 0]),
-        (0x01, Arch::Big, &back, &[127, -1, -1, -2]),
-        (0x83, Arch::Big, &bytes, &[-32768, 0, 32767, -2]),
-        (0x83, Arch::Little, &bytes, &[128, 0, -129, -257]),
-        (0x85, Arch::Big, &bytes, &[-2_147_483_648, 2_147_483_646]),
-        (0x85, Arch::Little, &bytes, &[128, -16_777_345]),
-        (0x8E, Arch::Big, &bytes, &[-9_223_372_034_707_292_162]),
-        (0x8E, Arch::Little, &bytes, &[-72_058_148_088_708_992]),
-    ];
-    for (code, arch, bytes, wanted) in cases {
-        let field = FieldValue::new(code, arch, bytes);
-        equal(&rt, (code, field.count()), (code, wanted.len()));
-        for (i, value) in wanted.iter().enumerate() {
-            equal(
-                &rt,
-                (code, i, signed_at(&field, i)),
-                (code, i, Some(*value)),
-            );
-        }
+    for (code, arch, bytes, wanted) in SIGNED {
+        check_signed(&rt, &FieldValue::new(code, arch, bytes), wanted);
+    }
+}
+
+fn check_signed(rt: &impl Abort, field: &FieldValue, wanted: &[i64]) {
+    let code = field.base();
+    equal(rt, (code, field.count()), (code, wanted.len()));
+    for (i, value) in wanted.iter().enumerate() {
+        equal(rt, (code, i, signed_at(field, i)), (code, i, Some(*value)));
     }
 }
 
@@ -348,22 +366,38 @@ fn text_of(bytes: &[u8]) -> Option<&str> {
 
 #[test]
 fn puts_and_reads_back(rt: HostRuntime) {
+    put_one_byte(&rt);
+    put_two_bytes(&rt);
+    put_four_bytes(&rt);
+    put_eight_bytes(&rt);
+}
+
+fn put_one_byte(rt: &impl Abort) {
     let mut one = [0];
     put(BaseType::Sint8, Arch::Little, -128, &mut one);
-    equal(&rt, one, [0x80]);
+    equal(rt, one, [0x80]);
     put(BaseType::Byte, Arch::Big, 255, &mut one);
-    equal(&rt, one, [0xFF]);
+    equal(rt, one, [0xFF]);
+}
+
+fn put_two_bytes(rt: &impl Abort) {
     let mut two = [0, 0];
     put(BaseType::Sint16, Arch::Big, -2, &mut two);
-    equal(&rt, two, [0xFF, 0xFE]);
-    equal(&rt, FieldValue::new(0x83, Arch::Big, &two).signed(0), -2);
+    equal(rt, two, [0xFF, 0xFE]);
+    equal(rt, FieldValue::new(0x83, Arch::Big, &two).signed(0), -2);
     put(BaseType::Uint16z, Arch::Little, 1, &mut two);
-    equal(&rt, two, [0x01, 0x00]);
+    equal(rt, two, [0x01, 0x00]);
+}
+
+fn put_four_bytes(rt: &impl Abort) {
     let mut four = [0, 0, 0, 0];
     put(BaseType::Uint32, Arch::Little, 0x1234_5678, &mut four);
-    equal(&rt, four, [0x78, 0x56, 0x34, 0x12]);
+    equal(rt, four, [0x78, 0x56, 0x34, 0x12]);
     put(BaseType::Sint32, Arch::Big, 2_147_483_647, &mut four);
-    equal(&rt, four, [0x7F, 0xFF, 0xFF, 0xFF]);
+    equal(rt, four, [0x7F, 0xFF, 0xFF, 0xFF]);
+}
+
+fn put_eight_bytes(rt: &impl Abort) {
     let mut eight = [0, 0, 0, 0, 0, 0, 0, 0];
     put(
         BaseType::Float64,
@@ -371,13 +405,13 @@ fn puts_and_reads_back(rt: HostRuntime) {
         0x3FF0_0000_0000_0000,
         &mut eight,
     );
-    equal(&rt, eight, [0x3F, 0xF0, 0, 0, 0, 0, 0, 0]);
+    equal(rt, eight, [0x3F, 0xF0, 0, 0, 0, 0, 0, 0]);
     let back = FieldValue::new(0x89, Arch::Big, &eight);
-    equal(&rt, back.unsigned(0), 0x3FF0_0000_0000_0000);
+    equal(rt, back.unsigned(0), 0x3FF0_0000_0000_0000);
     put(BaseType::Sint64, Arch::Little, -2, &mut eight);
-    equal(&rt, eight, [0xFE, 0xFF, 0xFF, 0xFF, 0xFF, 0xFF, 0xFF, 0xFF]);
+    equal(rt, eight, [0xFE, 0xFF, 0xFF, 0xFF, 0xFF, 0xFF, 0xFF, 0xFF]);
     equal(
-        &rt,
+        rt,
         FieldValue::new(0x8E, Arch::Little, &eight).signed(0),
         -2,
     );

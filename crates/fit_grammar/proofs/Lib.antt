@@ -9,3 +9,5 @@ pub mod Filled
 mod LentRow
 pub mod PlainForm
 mod StatedTime
+pub mod OneValue
+pub mod Counted

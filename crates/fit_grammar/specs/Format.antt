@@ -2,6 +2,7 @@
 pub mod Item
 pub mod Records
 pub mod Message
+pub mod OneValue
 pub mod File
 pub mod Refusal
 pub mod Encoding

@@ -23,7 +23,7 @@ fn disk_of(played: Played) -> Memory {
     }
 }
 
-fn answer_of(done: Result<(), RecFault>) -> Answer {
+pub fn answer_of(done: Result<(), RecFault>) -> Answer {
     match done {
         Ok(()) => Answer::Done,
         Err(fault) => Answer::Refused(fault),

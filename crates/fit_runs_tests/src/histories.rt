@@ -7,16 +7,17 @@ use fit_histories::Answer;
 use fit_histories::world::run;
 use fit_runs::ReplyText;
 use fit_scripts::parse_script;
-use std::alloc::AllocError;
+use std::alloc::{AllocError, Global};
+use std::process::Abort;
 use std::test::Fail;
 
 // A start, ten samples and no commit.
 const TEN_SAMPLES: &str =
     "start 1000000000 7 running\nsample 1000000000\nsample 1000000001\nsample 1000000002\nsample 1000000003\nsample 1000000004\nsample 1000000005\nsample 1000000006\nsample 1000000007\nsample 1000000008\nsample 1000000009\npower\nrecover\n";
 
-// Two laps, the second with one sample, and a commit.
+// Two laps, the second with one sample, and a commit. Then the power goes, and the ride is recovered.
 const TWO_LAPS: &str =
-    "start 1000000000 7 running\nsample 1000000000 hr=100\nsample 1000000001 hr=101\nlap 1000000002\nsample 1000000002 hr=110\ncommit\n";
+    "start 1000000000 7 running\nsample 1000000000 hr=100\nsample 1000000001 hr=101\nlap 1000000002\nsample 1000000002 hr=110\ncommit\npower\nrecover\n";
 
 // The messages from the first lap on, as they are recovered.
 const TWO_LAPS_TEXT: &str =
@@ -29,11 +30,14 @@ const TWO_LAPS_TEXT: &str =
 messages 11
 ";
 
-// The summary of a recovered start alone.
-const START_ALONE: &str =
-    "ok records=0 laps=1 sessions=1 start=1000000000 elapsed_ms=0 timer_ms=0 distance_cm=-\n";
+// The answers to a start that lost its power at the write of its gate, and to a recovery after it that finds nothing.
+const NOT_STARTED: &str = "ok\nDevice\nok\nNothingRecorded\n";
 
-// The header of its file, and the messages of the start.
+// The same if the start is recovered.
+const STARTED: &str =
+    "ok\nDevice\nok\nok records=0 laps=1 sessions=1 start=1000000000 elapsed_ms=0 timer_ms=0 distance_cm=-\n";
+
+// The header of the file of a start alone, and the messages of the start.
 const START_FRONT: [u8; 86] = [
     0x0E, 0x10, 0x64, 0x00, 0x44, 0x01, 0x00, 0x00, 0x2E, 0x46, 0x49, 0x54, 0x34, 0xED, 0x44, 0x00,
     0x00, 0x00, 0x00, 0x05, 0x00, 0x01, 0x00, 0x01, 0x02, 0x84, 0x02, 0x02, 0x84, 0x03, 0x04, 0x8C,
@@ -46,12 +50,13 @@ const START_FRONT: [u8; 86] = [
 // The choice bytes that leave the gate of a start, if the power goes at its write.
 const GATE: [u8; 9] = [0, 0, 0, 0, 0, 0, 0, 0, 0xA5];
 
-// The answers to a script. None if it is not a script, or if there is no memory.
-pub fn answers_to(rt: &HostRuntime, script: &str, choices: &[u8]) -> Option<Vec<Answer>> {
-    let Ok(events) = parse_script(rt.alloc(), script) else {
-        return None;
-    };
-    run(rt.alloc(), events.as_slice(), choices).ok()
+// The power goes at the write of a start's gate.
+const CUT_START: &str = "cut 10\nstart 1000000000 7 running\npower\nrecover\n";
+
+// The answers to a script.
+pub fn answers_to(alloc: Global, script: &str, choices: &[u8]) -> Result<Vec<Answer>, Fail> {
+    let events = parse_script(alloc, script)?;
+    Ok(run(alloc, events.as_slice(), choices)?)
 }
 
 // The file of an answer.
@@ -62,159 +67,167 @@ pub fn file_in(answer: Option<&Answer>) -> &[u8] {
     }
 }
 
+// The file of the last answer to a script.
+pub fn last_file(alloc: Global, script: &str, choices: &[u8]) -> Result<Vec<u8>, Fail> {
+    let answers = answers_to(alloc, script, choices)?;
+    Ok(Vec::from_slice(alloc, file_in(answers.last()))?)
+}
+
 // The lines of the answers to a script.
-pub fn text_of(rt: &HostRuntime, script: &str, choices: &[u8]) -> Result<String, AllocError> {
-    let mut text = String::new(rt.alloc());
-    if let Some(answers) = answers_to(rt, script, choices) {
-        for answer in &answers {
-            let line = format!(in rt.alloc(); "{}\n", ReplyText(answer.reply()))?;
-            text.push_str(line.as_str())?;
-        }
+fn text_of(alloc: Global, script: &str, choices: &[u8]) -> Result<String, Fail> {
+    let answers = answers_to(alloc, script, choices)?;
+    let mut text = String::new(alloc);
+    for answer in &answers {
+        let line = format!(in alloc; "{}\n", ReplyText(answer.reply()))?;
+        text.push_str(line.as_str())?;
     }
     Ok(text)
 }
 
-#[test]
-fn a_start_that_lost_its_power_leaves_nothing(rt: HostRuntime) -> Result<(), AllocError> {
-    let script =
-        "cut 5\nstart 1000000000 7 running\npower\nrecover\nerase\nstart 1000000000 7 running\n";
-    let text = text_of(&rt, script, &[])?;
-    equal(
-        &rt,
-        text.as_str(),
-        "ok\nDevice\nok\nNothingRecorded\nok\nok\n",
-    );
+// Asserts that the answers to a script have these lines.
+pub fn expect_answers(
+    rt: &impl Abort,
+    alloc: Global,
+    script: &str,
+    choices: &[u8],
+    lines: &str,
+) -> Result<(), Fail> {
+    let found = text_of(alloc, script, choices)?;
+    assert_eq!(rt; found.as_str(), lines, "{script}{choices:?}");
     Ok(())
 }
 
-// The power goes at the write of a start's gate. The choice bytes decide whether the start is recovered.
-#[test]
-fn the_choices_decide_what_a_power_cut_leaves(rt: HostRuntime) -> Result<(), AllocError> {
-    let script = "cut 10\nstart 1000000000 7 running\npower\nrecover\n";
-    let text = text_of(&rt, script, &[])?;
-    equal(&rt, text.as_str(), "ok\nDevice\nok\nNothingRecorded\n");
-    let text = text_of(&rt, script, &GATE)?;
-    let left = format!(in rt.alloc(); "ok\nDevice\nok\n{START_ALONE}")?;
-    equal(&rt, text.as_str(), left.as_str());
-    let Some(answers) = answers_to(&rt, script, &GATE) else {
-        return Ok(assert!(rt; false));
-    };
-    let Some(others) = answers_to(&rt, TEN_SAMPLES, &[]) else {
-        return Ok(assert!(rt; false));
-    };
-    equal(&rt, file_in(answers.last()), file_in(others.last()));
+// Asserts that a file is shown as a text with this end.
+pub fn expect_shown(rt: &impl Abort, alloc: Global, file: &[u8], end: &str) -> Result<(), Fail> {
+    let mut out = Vec::new(alloc);
+    show_bytes(alloc, file, false, &mut out)?;
+    assert!(rt; out.as_slice().ends_with(end.as_bytes()), "{end}");
     Ok(())
 }
+
+// Asserts that the check of a file prints this line.
+pub fn expect_checked(rt: &impl Abort, alloc: Global, file: &[u8], line: &str) -> Result<(), Fail> {
+    let mut out = Vec::new(alloc);
+    check_bytes(alloc, file, &mut out)?;
+    equal(rt, out.as_slice(), line.as_bytes());
+    Ok(())
+}
+
+#[test]
+fn a_start_that_lost_its_power_leaves_nothing(rt: HostRuntime) -> Result<(), Fail> {
+    let script =
+        "cut 5\nstart 1000000000 7 running\npower\nrecover\nerase\nstart 1000000000 7 running\n";
+    let lines = "ok\nDevice\nok\nNothingRecorded\nok\nok\n";
+    expect_answers(&rt, rt.alloc(), script, &[], lines)
+}
+
+// The choice bytes decide whether the start is recovered.
+#[test]
+fn the_choices_decide_what_a_power_cut_leaves(rt: HostRuntime) -> Result<(), Fail> {
+    expect_answers(&rt, rt.alloc(), CUT_START, &[], NOT_STARTED)?;
+    expect_answers(&rt, rt.alloc(), CUT_START, &GATE, STARTED)?;
+    let file = last_file(rt.alloc(), CUT_START, &GATE)?;
+    let other = last_file(rt.alloc(), TEN_SAMPLES, &[])?;
+    equal(&rt, file.as_slice(), other.as_slice());
+    Ok(())
+}
+
+// The choice bytes of two power cuts, each at the write of a gate, and the answers.
+const TWO_CUTS: [([u8; 18], &str); 2] = [
+    (
+        [0, 0, 0, 0, 0, 0, 0, 0, 0xA5, 0, 0, 0, 0, 0, 0, 0, 0, 0],
+        "ok\nDevice\nok\nok records=0 laps=1 sessions=1 start=1000000000 elapsed_ms=0 timer_ms=0 distance_cm=-\nok\nok\nDevice\nok\nNothingRecorded\n",
+    ),
+    (
+        [0, 0, 0, 0, 0, 0, 0, 0, 0, 0, 0, 0, 0, 0, 0, 0, 0, 0xA5],
+        "ok\nDevice\nok\nNothingRecorded\nok\nok\nDevice\nok\nok records=0 laps=1 sessions=1 start=1000000000 elapsed_ms=0 timer_ms=0 distance_cm=-\n",
+    ),
+];
 
 // Each power cut takes the choice bytes after those of the one before.
 #[test]
-fn the_choices_go_on(rt: HostRuntime) -> Result<(), AllocError> {
+fn the_choices_go_on(rt: HostRuntime) -> Result<(), Fail> {
     let script =
         "cut 10\nstart 1000000000 7 running\npower\nrecover\nerase\ncut 10\nstart 1000000000 7 running\npower\nrecover\n";
-    let mut choices = [0; 18];
-    choices[8] = 0xA5;
-    let text = text_of(&rt, script, &choices)?;
-    let first = format!(in rt.alloc();
-        "ok\nDevice\nok\n{START_ALONE}ok\nok\nDevice\nok\nNothingRecorded\n"
-    )?;
-    equal(&rt, text.as_str(), first.as_str());
-    choices[8] = 0;
-    choices[17] = 0xA5;
-    let text = text_of(&rt, script, &choices)?;
-    let second = format!(in rt.alloc();
-        "ok\nDevice\nok\nNothingRecorded\nok\nok\nDevice\nok\n{START_ALONE}"
-    )?;
-    equal(&rt, text.as_str(), second.as_str());
+    for (choices, lines) in TWO_CUTS {
+        expect_answers(&rt, rt.alloc(), script, &choices, lines)?;
+    }
     Ok(())
 }
 
 #[test]
-fn what_was_not_committed_is_gone(rt: HostRuntime) -> Result<(), AllocError> {
-    let text = text_of(&rt, TEN_SAMPLES, &[])?;
-    let wanted = format!(in rt.alloc();
-        "ok\nok\nok\nok\nok\nok\nok\nok\nok\nok\nok\nok\n{START_ALONE}"
-    )?;
-    equal(&rt, text.as_str(), wanted.as_str());
-    let Some(answers) = answers_to(&rt, TEN_SAMPLES, &[]) else {
-        return Ok(assert!(rt; false));
-    };
-    let file = file_in(answers.last());
+fn what_was_not_committed_is_gone(rt: HostRuntime) -> Result<(), Fail> {
+    let lines =
+        "ok\nok\nok\nok\nok\nok\nok\nok\nok\nok\nok\nok\nok records=0 laps=1 sessions=1 start=1000000000 elapsed_ms=0 timer_ms=0 distance_cm=-\n";
+    expect_answers(&rt, rt.alloc(), TEN_SAMPLES, &[], lines)?;
+    let file = last_file(rt.alloc(), TEN_SAMPLES, &[])?;
     equal(&rt, file.len(), 340);
     assert!(rt; file.starts_with(&START_FRONT));
     Ok(())
 }
 
 #[test]
-fn what_was_committed_is_recovered(rt: HostRuntime) -> Result<(), AllocError> {
-    let script = format!(in rt.alloc(); "{TWO_LAPS}power\nrecover\n")?;
-    let text = text_of(&rt, script.as_str(), &[])?;
-    equal(
-        &rt,
-        text.as_str(),
-        "ok\nok\nok\nok\nok\nok\nok\nok records=3 laps=2 sessions=1 start=1000000000 elapsed_ms=2000 timer_ms=2000 distance_cm=-\n",
-    );
-    let mut out = Vec::new(rt.alloc());
-    if let Some(answers) = answers_to(&rt, script.as_str(), &[]) {
-        let shown = show_bytes(rt.alloc(), file_in(answers.last()), false, &mut out);
-        assert!(rt; shown.is_ok());
-    }
-    assert!(rt; out.as_slice().ends_with(TWO_LAPS_TEXT.as_bytes()));
-    Ok(())
+fn what_was_committed_is_recovered(rt: HostRuntime) -> Result<(), Fail> {
+    let lines =
+        "ok\nok\nok\nok\nok\nok\nok\nok records=3 laps=2 sessions=1 start=1000000000 elapsed_ms=2000 timer_ms=2000 distance_cm=-\n";
+    expect_answers(&rt, rt.alloc(), TWO_LAPS, &[], lines)?;
+    let file = last_file(rt.alloc(), TWO_LAPS, &[])?;
+    expect_shown(&rt, rt.alloc(), file.as_slice(), TWO_LAPS_TEXT)
 }
 
 #[test]
-fn a_call_that_fails_ends_the_recording(rt: HostRuntime) -> Result<(), AllocError> {
+fn a_call_that_fails_ends_the_recording(rt: HostRuntime) -> Result<(), Fail> {
     let script =
         "start 1000000000 7 running\nsample 1000000000 hr=100\nfail 1\ncommit\nsample 1000000001\nrecover\n";
-    let text = text_of(&rt, script, &[])?;
-    let wanted = format!(in rt.alloc(); "ok\nok\nok\nDevice\nFailed\n{START_ALONE}")?;
-    equal(&rt, text.as_str(), wanted.as_str());
-    Ok(())
+    let lines =
+        "ok\nok\nok\nDevice\nFailed\nok records=0 laps=1 sessions=1 start=1000000000 elapsed_ms=0 timer_ms=0 distance_cm=-\n";
+    expect_answers(&rt, rt.alloc(), script, &[], lines)
 }
 
 #[test]
-fn an_entry_needs_a_recorder(rt: HostRuntime) -> Result<(), AllocError> {
-    let text = text_of(&rt, "sample 1000000000\n", &[])?;
-    equal(&rt, text.as_str(), "NoRecorder\n");
-    Ok(())
+fn an_entry_needs_a_recorder(rt: HostRuntime) -> Result<(), Fail> {
+    expect_answers(&rt, rt.alloc(), "sample 1000000000\n", &[], "NoRecorder\n")
 }
 
-// A ride of three hundred samples and a stop, with a commit each minute. With ample memory each event is done, and none is left
-// out. Its file is checked, decoded, written again, and shown.
-#[test]
-fn ample_memory_succeeds(rt: HostRuntime) -> Result<(), Fail> {
-    let mut script = format!(in rt.alloc(); "start 1000000000 7 running\n")?;
+// A ride of three hundred samples and a stop, with a commit each minute.
+fn long_ride(alloc: Global) -> Result<String, AllocError> {
+    let mut script = format!(in alloc; "start 1000000000 7 running\n")?;
     for second in 1..=300u32 {
-        let sample = format!(in rt.alloc(); "sample {}\n", 1_000_000_000 + second)?;
-        script.push_str(sample.as_str())?;
-        if second % 60 == 0 {
-            script.push_str("commit\n")?;
-        }
+        let commit = if second % 60 == 0 { "commit\n" } else { "" };
+        let line = format!(in alloc; "sample {}\n{commit}", 1_000_000_000 + second)?;
+        script.push_str(line.as_str())?;
     }
     script.push_str("stop 1000000301\n")?;
-    let Some(answers) = answers_to(&rt, script.as_str(), &[]) else {
-        return Ok(assert!(rt; false));
-    };
-    equal(&rt, answers.len(), 307);
-    let done = answers
+    Ok(script)
+}
+
+fn count_done(answers: &[Answer]) -> usize {
+    answers
         .iter()
         .filter(|answer| **answer == Answer::Done)
-        .count();
-    equal(&rt, done, 306);
-    let file = file_in(answers.last());
-    let mut out = Vec::new(rt.alloc());
-    check_bytes(rt.alloc(), file, &mut out)?;
-    equal(
-        &rt,
-        out.as_slice(),
-        b"ok records=300 laps=1 sessions=1 start=1000000000 elapsed_ms=301000 timer_ms=301000 distance_cm=-\n".as_slice(),
-    );
-    let read = decode_file(rt.alloc(), file)?;
-    let mut written = Vec::new(rt.alloc());
+        .count()
+}
+
+// Asserts that a file is decoded, and written again with the same bytes.
+fn expect_same_again(rt: &impl Abort, alloc: Global, file: &[u8]) -> Result<(), Fail> {
+    let read = decode_file(alloc, file)?;
+    let mut written = Vec::new(alloc);
     encode_file(&read, &mut written)?;
     assert!(rt; written.as_slice() == file);
-    let mut shown = Vec::new(rt.alloc());
-    show_bytes(rt.alloc(), file, false, &mut shown)?;
-    assert!(rt; shown.as_slice().ends_with(b"\nmessages 307\n"));
     Ok(())
+}
+
+// With ample memory each event is done, and none is left out. The file is checked, decoded, written again, and shown.
+#[test]
+fn ample_memory_succeeds(rt: HostRuntime) -> Result<(), Fail> {
+    let script = long_ride(rt.alloc())?;
+    let answers = answers_to(rt.alloc(), script.as_str(), &[])?;
+    equal(&rt, answers.len(), 307);
+    equal(&rt, count_done(&answers), 306);
+    let file = file_in(answers.last());
+    let line =
+        "ok records=300 laps=1 sessions=1 start=1000000000 elapsed_ms=301000 timer_ms=301000 distance_cm=-\n";
+    expect_checked(&rt, rt.alloc(), file, line)?;
+    expect_same_again(&rt, rt.alloc(), file)?;
+    expect_shown(&rt, rt.alloc(), file, "\nmessages 307\n")
 }

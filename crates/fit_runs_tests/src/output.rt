@@ -6,7 +6,8 @@ use crate::replays::stopped_ride;
 use fit_base::Crc;
 use fit_files::{ReportFault, check_bytes, show_bytes};
 use fit_grammar::{FaultKind, FileFault};
-use std::alloc::AllocError;
+use std::alloc::{AllocError, Global};
+use std::process::Abort;
 use std::test::Fail;
 
 // A file of one message: file_id with a type and a time.
@@ -19,32 +20,42 @@ pub const ONE_MESSAGE: [u8; 34] = [
 pub const ONE_MESSAGE_TEXT: &str =
     "header 14 protocol 1.0 profile 100 data 18\n0 file_id type=4 time_created=1000000000\nmessages 1\n";
 
+// Adds the checksum of the bytes.
+fn seal(bytes: &mut Vec<u8>) -> Result<(), AllocError> {
+    let checksum = Crc::of(bytes.as_slice());
+    bytes.extend_from_slice(&checksum.to_le_bytes())
+}
+
 // A file with these records and right checksums.
-fn framed(rt: &HostRuntime, records: &[u8]) -> Result<Vec<u8>, AllocError> {
-    let mut bytes = Vec::from_slice(rt.alloc(), &[0x0E, 0x10, 0x64, 0x00])?;
-    bytes.extend_from_slice(&(records.len() as u64).to_le_bytes()[..4])?;
-    bytes.extend_from_slice(b".FIT")?;
-    let checksum = Crc::of(bytes.as_slice());
-    bytes.extend_from_slice(&checksum.to_le_bytes())?;
+fn framed(alloc: Global, records: &[u8]) -> Result<Vec<u8>, AllocError> {
+    let [first, second, third, fourth, ..] = (records.len() as u64).to_le_bytes();
+    let front = [
+        0x0E, 0x10, 0x64, 0x00, first, second, third, fourth, b'.', b'F', b'I', b'T',
+    ];
+    let mut bytes = Vec::from_slice(alloc, &front)?;
+    seal(&mut bytes)?;
     bytes.extend_from_slice(records)?;
-    let checksum = Crc::of(bytes.as_slice());
-    bytes.extend_from_slice(&checksum.to_le_bytes())?;
+    seal(&mut bytes)?;
     Ok(bytes)
 }
 
-// A file of many messages without fields, and its text, which is several buffers long.
-fn long_file(rt: &HostRuntime) -> Result<(Vec<u8>, Vec<u8>), AllocError> {
-    let mut records = Vec::from_slice(rt.alloc(), &[0x40, 0, 0, 0xE8, 3, 0])?;
-    let mut text = Vec::new(rt.alloc());
-    text.extend_from_slice(b"header 14 protocol 1.0 profile 100 data 2006\n")?;
+// A file of many messages without fields.
+fn long_file(alloc: Global) -> Result<Vec<u8>, AllocError> {
+    let mut records = [0; 2006];
+    records[..6].copy_from_slice(&[0x40, 0, 0, 0xE8, 3, 0]);
+    framed(alloc, &records)
+}
+
+// Its text, which is several buffers long.
+fn long_text(alloc: Global) -> Result<Vec<u8>, AllocError> {
+    let front = b"header 14 protocol 1.0 profile 100 data 2006\n";
+    let mut text = Vec::from_slice(alloc, front)?;
     for number in 0..2000 {
-        records.push(0)?;
-        let line = format!(in rt.alloc(); "{number} message_1000\n")?;
+        let line = format!(in alloc; "{number} message_1000\n")?;
         text.extend_from_slice(line.as_bytes())?;
     }
     text.extend_from_slice(b"messages 2000\n")?;
-    let bytes = framed(rt, records.as_slice())?;
-    Ok((bytes, text))
+    Ok(text)
 }
 
 // Whether the answer reports the output truly: Ok if all of the text was written, else a fault and a prefix of the text.
@@ -55,69 +66,112 @@ fn is_reported(done: Result<(), ReportFault>, text: &[u8], out: &Failing) -> boo
     }
 }
 
-// Each call of the output fails in turn, for a text of one buffer and of several.
+// Shows the bytes to an output that refuses one call, or all calls from it on. Asserts that this is reported truly. Nothing is
+// written if the first call is refused, and all if there are no more than 19 calls.
+fn fail_output(rt: &impl Abort, alloc: Global, bytes: &[u8], text: &[u8], mut out: Failing) {
+    let calls = out.calls;
+    let done = show_bytes(alloc, bytes, false, &mut out);
+    assert!(rt; is_reported(done, text, &out), "{calls}");
+    assert!(rt; calls > 0 || out.recovers || out.held.is_empty(), "{calls}");
+    assert!(rt;
+        calls < 19 || out.recovers || out.held.as_slice() == text,
+        "{calls}"
+    );
+}
+
+// Each call of the output fails in turn.
+fn fail_each_call(rt: &impl Abort, alloc: Global, bytes: &[u8], text: &[u8], step: usize) {
+    for calls in 0..20 {
+        for recovers in [false, true] {
+            let mut out = Failing::new(alloc, step, calls);
+            out.recovers = recovers;
+            fail_output(rt, alloc, bytes, text, out);
+        }
+    }
+}
+
+// For a text of one buffer and of several.
 #[test]
 fn states_where_output_fails(rt: HostRuntime) -> Result<(), AllocError> {
-    let (bytes, text) = long_file(&rt)?;
-    let one = (ONE_MESSAGE.as_slice(), ONE_MESSAGE_TEXT.as_bytes(), 10);
-    for (bytes, text, step) in [one, (bytes.as_slice(), text.as_slice(), 5000)] {
-        for calls in 0..20 {
-            let mut out = Failing::new(rt.alloc(), step, calls);
-            let done = show_bytes(rt.alloc(), bytes, false, &mut out);
-            assert!(rt; is_reported(done, text, &out), "{calls}");
-            let whole = out.held.as_slice() == text;
-            assert!(rt; calls > 0 || out.held.is_empty(), "{calls}");
-            assert!(rt; calls < 19 || whole, "{calls}");
-            let mut out = Failing::new(rt.alloc(), step, calls);
-            out.recovers = true;
-            let done = show_bytes(rt.alloc(), bytes, false, &mut out);
-            assert!(rt; is_reported(done, text, &out), "{calls}");
-        }
+    let one = ONE_MESSAGE_TEXT.as_bytes();
+    fail_each_call(&rt, rt.alloc(), &ONE_MESSAGE, one, 10);
+    let bytes = long_file(rt.alloc())?;
+    let text = long_text(rt.alloc())?;
+    fail_each_call(&rt, rt.alloc(), bytes.as_slice(), text.as_slice(), 5000);
+    Ok(())
+}
+
+// How many bytes an output takes a call, how many of its flushes come before the one that fails, what is reported, and whether all
+// of the text is written. The output takes nothing; or it takes all and its flush fails; or it takes little at a time.
+const OUTPUTS: [(usize, usize, Result<(), ReportFault>, bool); 6] = [
+    (0, usize::MAX, Err(ReportFault::Output), false),
+    (usize::MAX, 0, Err(ReportFault::Output), true),
+    (1, usize::MAX, Ok(()), true),
+    (3, usize::MAX, Ok(()), true),
+    (8191, usize::MAX, Ok(()), true),
+    (8193, usize::MAX, Ok(()), true),
+];
+
+// Asserts that this is reported of an output, and that it holds these bytes.
+fn expect_output(
+    rt: &impl Abort,
+    alloc: Global,
+    bytes: &[u8],
+    mut out: Failing,
+    reported: Result<(), ReportFault>,
+    held: &[u8],
+) {
+    let step = out.step;
+    let done = show_bytes(alloc, bytes, false, &mut out);
+    assert_eq!(rt; done, reported, "{step}");
+    assert_eq!(rt; out.held.as_slice(), held, "{step}");
+}
+
+#[test]
+fn states_what_output_does(rt: HostRuntime) -> Result<(), AllocError> {
+    let bytes = long_file(rt.alloc())?;
+    let text = long_text(rt.alloc())?;
+    for (step, flushes, reported, is_whole) in OUTPUTS {
+        let mut out = Failing::new(rt.alloc(), step, usize::MAX);
+        out.flushes = flushes;
+        let held = if is_whole { text.as_slice() } else { &[] };
+        expect_output(&rt, rt.alloc(), bytes.as_slice(), out, reported, held);
     }
     Ok(())
 }
 
-// The output takes nothing; or it takes all and its flush fails; or it takes little at a time.
-#[test]
-fn states_what_output_does(rt: HostRuntime) -> Result<(), AllocError> {
-    let (bytes, text) = long_file(&rt)?;
-    let (bytes, text) = (bytes.as_slice(), text.as_slice());
-    let mut none = Failing::new(rt.alloc(), 0, usize::MAX);
-    let done = show_bytes(rt.alloc(), bytes, false, &mut none);
-    assert!(rt; is_reported(done, text, &none) && none.held.is_empty());
-    let mut kept = Failing::new(rt.alloc(), usize::MAX, usize::MAX);
-    kept.flushes = 0;
-    let done = show_bytes(rt.alloc(), bytes, false, &mut kept);
-    equal(&rt, done, Err(ReportFault::Output));
-    equal(&rt, kept.held.as_slice(), text);
-    for step in [1, 3, 8191, 8193] {
-        let mut slow = Failing::new(rt.alloc(), step, usize::MAX);
-        let done = show_bytes(rt.alloc(), bytes, false, &mut slow);
-        assert!(rt; is_reported(done, text, &slow), "{step}");
-        assert_eq!(rt; slow.held.as_slice(), text, "{step}");
-    }
-    Ok(())
+const CHECKED: &[u8] =
+    b"ok records=0 laps=1 sessions=1 start=1000000000 elapsed_ms=1000 timer_ms=1000 distance_cm=-\n";
+
+// Checks the bytes, and asserts that what becomes of this output is reported truly.
+fn check_to(rt: &impl Abort, alloc: Global, bytes: &[u8], out: &mut Failing) {
+    let calls = out.calls;
+    let done = check_bytes(alloc, bytes, out);
+    assert!(rt; is_reported(done, CHECKED, out), "{calls}");
 }
 
 // Each call of the output fails in turn. What was written is a prefix of the summary line.
 #[test]
 fn a_check_states_where_its_output_fails(rt: HostRuntime) -> Result<(), Fail> {
-    let text =
-        "ok records=0 laps=1 sessions=1 start=1000000000 elapsed_ms=1000 timer_ms=1000 distance_cm=-\n";
-    let text = text.as_bytes();
-    let bytes = stopped_ride(&rt)?;
+    let bytes = stopped_ride(&rt, rt.alloc(), &mut Vec::new(rt.alloc()))?;
     for calls in 0..12 {
         let mut out = Failing::new(rt.alloc(), 10, calls);
-        let done = check_bytes(rt.alloc(), bytes.as_slice(), &mut out);
-        assert!(rt; is_reported(done, text, &out), "{calls}");
+        check_to(&rt, rt.alloc(), bytes.as_slice(), &mut out);
         assert!(rt; calls > 0 || out.held.is_empty(), "{calls}");
-        assert!(rt; calls < 11 || out.held.as_slice() == text, "{calls}");
+        assert!(rt; calls < 11 || out.held.as_slice() == CHECKED, "{calls}");
     }
     let mut kept = Failing::new(rt.alloc(), usize::MAX, usize::MAX);
     kept.flushes = 0;
-    let done = check_bytes(rt.alloc(), bytes.as_slice(), &mut kept);
-    assert!(rt; is_reported(done, text, &kept));
+    check_to(&rt, rt.alloc(), bytes.as_slice(), &mut kept);
     Ok(())
+}
+
+// The want of memory at this place.
+fn no_memory(place: usize) -> ReportFault {
+    ReportFault::File(FileFault {
+        kind: FaultKind::Memory,
+        place,
+    })
 }
 
 // Run with each allocation refused in turn: nothing is shown, and want of memory is reported at an item.
@@ -127,13 +181,7 @@ fn states_that_memory_is_refused(rt: HostRuntime) -> Result<(), AllocError> {
     match show_bytes(rt.alloc(), &ONE_MESSAGE, false, &mut out) {
         Ok(()) => equal(&rt, out.as_slice(), ONE_MESSAGE_TEXT.as_bytes()),
         Err(fault) => {
-            let at = |place| {
-                ReportFault::File(FileFault {
-                    kind: FaultKind::Memory,
-                    place,
-                })
-            };
-            assert!(rt; fault == at(14) || fault == at(26));
+            assert!(rt; fault == no_memory(14) || fault == no_memory(26));
             equal(&rt, out.len(), 0);
         }
     }

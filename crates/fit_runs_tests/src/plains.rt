@@ -5,6 +5,8 @@ use crate::failing::Failing;
 use crate::output::ONE_MESSAGE;
 use fit_files::{ReportFault, count_messages, plain_input, print_messages};
 use fit_grammar::{EncodeFault, FaultKind, FileFault, PlainFault, PlainFaultKind, encode_file};
+use std::alloc::Global;
+use std::process::Abort;
 use std::test::Fail;
 
 // A message with a full time, and two messages of another local number with offsets 30 and 1.
@@ -23,21 +25,28 @@ const PLAIN: [u8; 67] = [
     0x66, 0xC8, 0x43,
 ];
 
+// Files, their plain forms, and how many messages these have.
+const FILES: [(&[u8], &[u8], usize); 3] = [
+    (&COMPRESSED, &PLAIN, 3),
+    (&PLAIN, &PLAIN, 3),
+    (&ONE_MESSAGE, &ONE_MESSAGE, 1),
+];
+
+// Asserts that a file has this plain form, with so many messages.
+fn expect_plain(rt: &impl Abort, alloc: Global, bytes: &[u8], made: &[u8], messages: usize) {
+    let mut from = bytes;
+    let plain = plain_input(alloc, &mut from, 128).expect(rt, "a file");
+    equal(rt, count_messages(&plain), messages);
+    let mut out = Vec::new(alloc);
+    assert!(rt; encode_file(&plain, &mut out).is_ok());
+    equal(rt, out.as_slice(), made);
+}
+
 #[test]
-fn a_file_is_made_plain(rt: HostRuntime) -> Result<(), Fail> {
-    for (bytes, made, messages) in [
-        (COMPRESSED.as_slice(), PLAIN.as_slice(), 3),
-        (PLAIN.as_slice(), PLAIN.as_slice(), 3),
-        (ONE_MESSAGE.as_slice(), ONE_MESSAGE.as_slice(), 1),
-    ] {
-        let mut out = Vec::new(rt.alloc());
-        let mut from = bytes;
-        let plain = plain_input(rt.alloc(), &mut from, 128).expect(&rt, "a file");
-        equal(&rt, count_messages(&plain), messages);
-        assert!(rt; encode_file(&plain, &mut out).is_ok());
-        equal(&rt, out.as_slice(), made);
+fn a_file_is_made_plain(rt: HostRuntime) {
+    for (bytes, made, messages) in FILES {
+        expect_plain(&rt, rt.alloc(), bytes, made, messages);
     }
-    Ok(())
 }
 
 #[test]

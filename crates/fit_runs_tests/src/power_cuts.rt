@@ -3,7 +3,8 @@
 use crate::equality::equal;
 use crate::histories::{answers_to, file_in};
 use fit_histories::Answer;
-use std::alloc::AllocError;
+use std::alloc::Global;
+use std::process::Abort;
 use std::test::Fail;
 
 // How many calls of the device a commit makes. The first writes the page.
@@ -31,27 +32,42 @@ fn records_in(answers: &[Answer]) -> Option<u32> {
     }
 }
 
+// So many zeros, and then this byte.
+fn zeros_and(byte: u8, zeros: usize) -> [u8; 64] {
+    let mut choices = [byte; 64];
+    for choice in choices.iter_mut().take(zeros) {
+        *choice = 0;
+    }
+    choices
+}
+
+// Whether the commit of a script is recovered. Asserts that all of it is, or nothing.
+fn is_kept(
+    rt: &impl Abort,
+    alloc: Global,
+    script: &str,
+    byte: u8,
+    zeros: usize,
+) -> Result<bool, Fail> {
+    let answers = answers_to(alloc, script, &zeros_and(byte, zeros))?;
+    let records = records_in(answers.as_slice());
+    assert!(rt;
+        records == Some(0) || records == Some(2),
+        "{script}{byte} after {zeros} zeros"
+    );
+    Ok(records == Some(2))
+}
+
 // A recovery keeps what was committed, or what the commit had begun to commit, whatever the cut left.
 #[test]
-fn a_power_cut_in_a_commit_leaves_a_length_that_was_begun(
-    rt: HostRuntime,
-) -> Result<(), AllocError> {
+fn a_power_cut_in_a_commit_leaves_a_length_that_was_begun(rt: HostRuntime) -> Result<(), Fail> {
     let mut kept = [false; 2];
     for k in 1..=COMMIT_CALLS {
         let script = format!(in rt.alloc(); "{ONE_COMMIT}cut {k}\ncommit\npower\nrecover\n")?;
         for byte in NOISE {
-            for lengths in 0..=8 {
-                let mut choices = [byte; 64];
-                choices[..lengths].fill(0);
-                let records = match answers_to(&rt, script.as_str(), &choices) {
-                    Some(answers) => records_in(answers.as_slice()),
-                    None => None,
-                };
-                assert!(rt;
-                    records == Some(0) || records == Some(2),
-                    "cut {k} leaving {byte}"
-                );
-                kept[usize::from(records == Some(2))] = true;
+            for zeros in 0..=8 {
+                let is_kept = is_kept(&rt, rt.alloc(), script.as_str(), byte, zeros)?;
+                kept[usize::from(is_kept)] = true;
             }
         }
     }
@@ -59,20 +75,28 @@ fn a_power_cut_in_a_commit_leaves_a_length_that_was_begun(
     Ok(())
 }
 
+// A recovery that was cut off at the k-th call and is made again. Asserts that its answer is the wanted one.
+fn cut_recovery(
+    rt: &impl Abort,
+    alloc: Global,
+    k: u32,
+    byte: u8,
+    wanted: Option<&Answer>,
+) -> Result<(), Fail> {
+    let script = format!(in alloc; "{TWO_LAPS}cut {k}\nrecover\npower\nrecover\n")?;
+    let answers = answers_to(alloc, script.as_str(), &[byte; 64])?;
+    assert!(rt; answers.last() == wanted, "cut {k} leaving {byte}");
+    Ok(())
+}
+
 // A recovery that was cut off anywhere and is made again leaves the same bytes as one that was not cut off.
 #[test]
-fn a_power_cut_in_a_recovery_changes_nothing(rt: HostRuntime) -> Result<(), AllocError> {
+fn a_power_cut_in_a_recovery_changes_nothing(rt: HostRuntime) -> Result<(), Fail> {
     let whole = format!(in rt.alloc(); "{TWO_LAPS}recover\n")?;
-    let Some(wanted) = answers_to(&rt, whole.as_str(), &[]) else {
-        return Ok(assert!(rt; false));
-    };
+    let wanted = answers_to(rt.alloc(), whole.as_str(), &[])?;
     for k in 1..=RECOVERY_CALLS {
-        let script = format!(in rt.alloc(); "{TWO_LAPS}cut {k}\nrecover\npower\nrecover\n")?;
         for byte in NOISE {
-            let Some(answers) = answers_to(&rt, script.as_str(), &[byte; 64]) else {
-                return Ok(assert!(rt; false));
-            };
-            assert!(rt; answers.last() == wanted.last(), "cut {k} leaving {byte}");
+            cut_recovery(&rt, rt.alloc(), k, byte, wanted.last())?;
         }
     }
     Ok(())
@@ -81,9 +105,7 @@ fn a_power_cut_in_a_recovery_changes_nothing(rt: HostRuntime) -> Result<(), Allo
 #[test]
 fn a_recovery_of_a_stopped_recording_changes_nothing(rt: HostRuntime) -> Result<(), Fail> {
     let script = "start 1000000000 7 running\nsample 1000000000 hr=100\nstop 1000000004\nrecover\n";
-    let Some(answers) = answers_to(&rt, script, &[]) else {
-        return Ok(assert!(rt; false));
-    };
+    let answers = answers_to(rt.alloc(), script, &[])?;
     let stopped = file_in(answers.get(2));
     assert!(rt; !stopped.is_empty());
     equal(&rt, file_in(answers.last()), stopped);

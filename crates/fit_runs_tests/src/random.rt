@@ -4,8 +4,8 @@ ghost use Rattle.std.specs.Prelude.{◌≤◌};
 
 use crate::direct;
 use crate::table::is_history;
-use fit_activity::{FIELDS, SAMPLE_FIELDS};
 use fit_disk::{Memory, Which};
+use fit_fields::{FIELDS, SAMPLE_FIELDS};
 use fit_histories::Answer;
 use fit_histories::world::run;
 use fit_recorder::RecFault;
@@ -24,6 +24,26 @@ const REPLAYS: u32 = 2_000;
 // The most choice bytes.
 const MOST: usize = 256;
 
+// A setting: its key with what stands before the digits, and its number.
+type Setting = (&'static str, u32);
+
+fn one(alloc: Global, (key, number): Setting) -> Result<String, AllocError> {
+    format!(in alloc; " {key}{number}")
+}
+
+fn pair(
+    alloc: Global,
+    (key, number): Setting,
+    (other, second): Setting,
+) -> Result<String, AllocError> {
+    format!(in alloc; " {key}{number} {other}{second}")
+}
+
+// The line of a word and a number.
+fn numbered(alloc: Global, word: &str, number: u32) -> Result<String, AllocError> {
+    format!(in alloc; "{word} {number}\n")
+}
+
 // A pseudorandom sequence, the same in each run.
 #[derive(Drop)]
 struct Noise {
@@ -36,6 +56,15 @@ struct Noise {
 }
 
 impl Noise {
+    fn new(last: u32) -> Noise {
+        Noise {
+            last,
+            start: 0,
+            now: 0,
+            rides: false,
+        }
+    }
+
     fn next(&mut self) -> u32 {
         let first = self.last ^ (self.last << 13);
         let second = first ^ (first >> 17);
@@ -71,19 +100,22 @@ impl Noise {
 
     // One or two settings of a sample, or none.
     fn setting(&mut self, alloc: Global) -> Result<String, AllocError> {
-        let text = match self.below(16) {
-            0 => format!(in alloc; " lat={} long=-{}", self.below(9), self.below(9))?,
-            1 => format!(in alloc; " alt={}", self.below(65_537).min(65_535))?,
-            2..5 => format!(in alloc; " hr={}", self.below(240))?,
-            5 => format!(in alloc; " hr=255 cad=255")?,
-            6 => format!(in alloc; " cad={} temp=-{}", self.below(200), self.below(20))?,
-            7..11 => format!(in alloc; " dist={}", self.next() >> 12)?,
-            11 => format!(in alloc; " speed={} power={}", self.below(9000), self.below(900))?,
-            12 if self.one_in(3) => format!(in alloc; " temp=127")?,
-            13 | 14 => self.any_setting(alloc)?,
-            _ => String::new(alloc),
-        };
-        Ok(text)
+        match self.below(16) {
+            0 => pair(alloc, ("lat=", self.below(9)), ("long=-", self.below(9))),
+            1 => one(alloc, ("alt=", self.below(65_537).min(65_535))),
+            2..5 => one(alloc, ("hr=", self.below(240))),
+            5 => pair(alloc, ("hr=", 255), ("cad=", 255)),
+            6 => pair(alloc, ("cad=", self.below(200)), ("temp=-", self.below(20))),
+            7..11 => one(alloc, ("dist=", self.next() >> 12)),
+            11 => pair(
+                alloc,
+                ("speed=", self.below(9000)),
+                ("power=", self.below(900)),
+            ),
+            12 if self.one_in(3) => one(alloc, ("temp=", 127)),
+            13 | 14 => self.any_setting(alloc),
+            _ => Ok(String::new(alloc)),
+        }
     }
 
     // A setting of any field of a sample, sometimes with its invalid value.
@@ -109,7 +141,7 @@ impl Noise {
             1 => "running",
             _ => "cycling",
         };
-        Ok(format!(in alloc; "start {time} {} {sport}\n", self.below(1000))?)
+        format!(in alloc; "start {time} {} {sport}\n", self.below(1000))
     }
 
     // The number of a call that will fail.
@@ -118,47 +150,49 @@ impl Noise {
         self.below(most).saturating_add(1)
     }
 
+    // The line of a sample.
+    fn sample(&mut self, alloc: Global) -> Result<String, AllocError> {
+        let setting = self.setting(alloc)?;
+        format!(in alloc; "sample {}{setting}\n", self.time())
+    }
+
     // The line of an event that is likely while a recorder runs.
     fn line_of_a_ride(&mut self, alloc: Global) -> Result<String, AllocError> {
-        let line = match self.below(40) {
-            0..19 => {
-                let setting = self.setting(alloc)?;
-                format!(in alloc; "sample {}{setting}\n", self.time())?
-            }
-            19..22 => format!(in alloc; "lap {}\n", self.time())?,
-            22..25 => format!(in alloc; "pause {}\n", self.time())?,
-            25..29 => format!(in alloc; "resume {}\n", self.time())?,
-            29..38 => format!(in alloc; "commit\n")?,
+        match self.below(40) {
+            0..19 => self.sample(alloc),
+            19..22 => numbered(alloc, "lap", self.time()),
+            22..25 => numbered(alloc, "pause", self.time()),
+            25..29 => numbered(alloc, "resume", self.time()),
+            29..38 => format!(in alloc; "commit\n"),
             _ => {
                 self.rides = false;
-                format!(in alloc; "stop {}\n", self.time())?
+                numbered(alloc, "stop", self.time())
             }
-        };
-        Ok(line)
+        }
     }
 
     // The line of an event that is likely while none runs. Each ends a recorder that runs.
     fn line_between(&mut self, alloc: Global) -> Result<String, AllocError> {
-        self.rides = false;
-        let line = match self.below(24) {
-            0..6 => self.start(alloc)?,
-            6..8 => format!(in alloc; "restart\n")?,
-            8..12 => format!(in alloc; "recover\n")?,
-            12..16 => format!(in alloc; "erase\n")?,
-            16..20 => {
-                self.rides = true;
-                format!(in alloc; "reopen\n")?
-            }
-            _ => format!(in alloc; "power\n")?,
+        let drawn = self.below(24);
+        if drawn < 6 {
+            return self.start(alloc);
+        }
+        self.rides = matches!(drawn, 16..20);
+        let word = match drawn {
+            6..8 => "restart",
+            8..12 => "recover",
+            12..16 => "erase",
+            16..20 => "reopen",
+            _ => "power",
         };
-        Ok(line)
+        format!(in alloc; "{word}\n")
     }
 
     // The line of any event.
     fn line(&mut self, alloc: Global) -> Result<String, AllocError> {
         match self.below(20) {
-            0 => Ok(format!(in alloc; "fail {}\n", self.call())?),
-            1 => Ok(format!(in alloc; "cut {}\n", self.call())?),
+            0 => numbered(alloc, "fail", self.call()),
+            1 => numbered(alloc, "cut", self.call()),
             2 if self.rides => self.line_between(alloc),
             2 => self.line_of_a_ride(alloc),
             _ if self.rides => self.line_of_a_ride(alloc),
@@ -346,24 +380,14 @@ fn try_script(
 
 #[test]
 fn random_histories_go_by_the_table(rt: HostRuntime) -> Result<(), Fail> {
-    let mut noise = Noise {
-        last: 0x2545_F491,
-        start: 0,
-        now: 0,
-        rides: false,
-    };
+    let mut noise = Noise::new(0x2545_F491);
     let mut choices = [0; MOST];
     let mut seen = NOTHING;
     for _ in 0..HISTORIES {
         let script = noise.script(rt.alloc())?;
         let given = noise.choose(&mut choices);
-        try_script(
-            &rt,
-            rt.alloc(),
-            script.as_str(),
-            &choices[..given],
-            &mut seen,
-        )?;
+        let choices = &choices[..given];
+        try_script(&rt, rt.alloc(), script.as_str(), choices, &mut seen)?;
     }
     assert!(rt; seen.has_all(), "{seen:?}");
     assert!(rt; seen.calls > 100_000, "{seen:?}");
@@ -385,32 +409,51 @@ fn replayed_lines(alloc: Global, script: &str) -> Result<String, AllocError> {
     Ok(text)
 }
 
-// Replays a script, and runs it by `world::run` and by direct calls: the lines, the refusals and the files are the same.
-fn try_replay(rt: &impl Abort, alloc: Global, script: &str) -> Result<(), Fail> {
+// Asserts that a replay of a script prints these lines, so many of them refusals, and leaves this file.
+fn expect_replay(
+    rt: &impl Abort,
+    alloc: Global,
+    script: &str,
+    lines: &[u8],
+    refused: usize,
+    file: &[u8],
+) -> Result<(), Fail> {
     let events = read_script(alloc, script.as_bytes())?;
-    let mut replayed = Vec::new(alloc);
-    let (disk, played) = play(Memory::new(alloc), events.as_slice(), false, &mut replayed);
-    let mut simulated = Vec::new(alloc);
-    simulate(alloc, script.as_bytes(), &[], false, &mut simulated)?;
-    let (file, answers) = direct::play(alloc, events.as_slice(), &[])?;
-    let refused = answers
+    let mut out = Vec::new(alloc);
+    let (disk, played) = play(Memory::new(alloc), events.as_slice(), false, &mut out);
+    assert_eq!(rt; played, Ok(refused), "{script}");
+    assert!(rt; out.as_slice() == lines, "{script}");
+    assert!(rt; disk.content(Which::Data) == file, "{script}");
+    Ok(())
+}
+
+fn count_refused(answers: &[Answer]) -> usize {
+    answers
         .iter()
         .filter(|answer| !answer.reply().is_ok())
-        .count();
-    assert_eq!(rt; played, Ok(refused), "{script}");
-    assert!(rt; replayed.as_slice() == simulated.as_slice(), "{script}");
-    assert!(rt; disk.content(Which::Data) == file.as_slice(), "{script}");
-    Ok(())
+        .count()
+}
+
+// Replays a script, and runs it by `world::run` and by direct calls: the lines, the refusals and the files are the same.
+fn try_replay(rt: &impl Abort, alloc: Global, script: &str) -> Result<(), Fail> {
+    let mut lines = Vec::new(alloc);
+    simulate(alloc, script.as_bytes(), &[], false, &mut lines)?;
+    let events = parse_script(alloc, script)?;
+    let (file, answers) = direct::play(alloc, events.as_slice(), &[])?;
+    let refused = count_refused(&answers);
+    expect_replay(
+        rt,
+        alloc,
+        script,
+        lines.as_slice(),
+        refused,
+        file.as_slice(),
+    )
 }
 
 #[test]
 fn random_replays_answer_and_leave_what_a_run_does(rt: HostRuntime) -> Result<(), Fail> {
-    let mut noise = Noise {
-        last: 0x9E37_79B9,
-        start: 0,
-        now: 0,
-        rides: false,
-    };
+    let mut noise = Noise::new(0x9E37_79B9);
     for _ in 0..REPLAYS {
         let script = noise.script(rt.alloc())?;
         let lines = replayed_lines(rt.alloc(), script.as_str())?;

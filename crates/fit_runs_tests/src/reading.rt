@@ -6,6 +6,7 @@ use fit_files::{ReadFault, ReportFault, read_all, read_front, show_input};
 use fit_grammar::{FaultKind, FileFault};
 use std::alloc::Global;
 use std::io::{self, Read};
+use std::process::Abort;
 
 // A reader that gives at most so many bytes a call, and refuses each call after so many calls.
 #[derive(Drop)]
@@ -44,18 +45,33 @@ fn is_all(read: &Result<Vec<u8>, ReadFault>, len: usize) -> bool {
     }
 }
 
+// Whether so many bytes in pieces of this size are read, or are too many.
+fn reads_pieces(alloc: Global, len: usize, step: usize) -> bool {
+    let read = outcome(alloc, len, step, usize::MAX);
+    if len <= 10 {
+        is_all(&read, len)
+    } else {
+        read.err() == Some(ReadFault::TooLarge)
+    }
+}
+
 // Ten bytes are read, and eleven are too many, in whatever pieces they come.
 #[test]
 fn reads_to_the_most(rt: HostRuntime) {
     for step in [1, 3, 10, 11, 65_536] {
         for len in 0..=12 {
-            let read = outcome(rt.alloc(), len, step, usize::MAX);
-            if len <= 10 {
-                assert!(rt; is_all(&read, len), "{len} {step}");
-            } else {
-                assert_eq!(rt; read.err(), Some(ReadFault::TooLarge), "{len} {step}");
-            }
+            assert!(rt; reads_pieces(rt.alloc(), len, step), "{len} {step}");
         }
+    }
+}
+
+// Whether nine bytes are read with so many calls, three bytes each, or the read failed.
+fn reads_nine(alloc: Global, calls: usize) -> bool {
+    let read = outcome(alloc, 9, 3, calls);
+    if calls < 4 {
+        read.err() == Some(ReadFault::Failed)
+    } else {
+        is_all(&read, 9)
     }
 }
 
@@ -63,42 +79,46 @@ fn reads_to_the_most(rt: HostRuntime) {
 #[test]
 fn reports_a_failed_read_from_too_much(rt: HostRuntime) {
     for calls in 0..6 {
-        let nine = outcome(rt.alloc(), 9, 3, calls);
-        let twelve = outcome(rt.alloc(), 12, 3, calls);
-        if calls < 4 {
-            assert_eq!(rt; nine.err(), Some(ReadFault::Failed), "{calls}");
-            assert_eq!(rt; twelve.err(), Some(ReadFault::Failed), "{calls}");
+        assert!(rt; reads_nine(rt.alloc(), calls), "{calls}");
+        let fault = if calls < 4 {
+            ReadFault::Failed
         } else {
-            assert!(rt; is_all(&nine, 9), "{calls}");
-            assert_eq!(rt; twelve.err(), Some(ReadFault::TooLarge), "{calls}");
-        }
+            ReadFault::TooLarge
+        };
+        let twelve = outcome(rt.alloc(), 12, 3, calls);
+        assert_eq!(rt; twelve.err(), Some(fault), "{calls}");
+    }
+}
+
+// The bytes that are read before a failure, and where it was.
+const FRONTS: [(&[u8], Option<usize>); 6] = [
+    (b"", Some(0)),
+    (b"abc", Some(3)),
+    (b"abcdef", Some(6)),
+    (b"abcdefghi", Some(9)),
+    (b"abcdefghi", None),
+    (b"abcdefghi", None),
+];
+
+// Whether this front of nine bytes is read with so many calls.
+fn has_front(alloc: Global, calls: usize, front: &[u8], unread: Option<usize>) -> bool {
+    let rest = TEXT.get(..9).unwrap_or(TEXT);
+    let mut from = Pieces {
+        rest,
+        step: 3,
+        calls,
+    };
+    match read_front(alloc, &mut from, 10) {
+        Ok(read) => read.bytes.as_slice() == front && read.unread_from() == unread,
+        Err(_) => false,
     }
 }
 
 // What comes before a read that fails is kept. Nine bytes are known to be all once the read after them gives none.
 #[test]
 fn keeps_what_was_read_before_a_failure(rt: HostRuntime) {
-    for calls in 0..6 {
-        let rest = TEXT.get(..9).unwrap_or(TEXT);
-        let read = read_front(
-            rt.alloc(),
-            &mut Pieces {
-                rest,
-                step: 3,
-                calls,
-            },
-            10,
-        );
-        assert!(rt; read.is_ok(), "{calls}");
-        if let Ok(read) = read {
-            let kept = TEXT.get(..3 * calls.min(3));
-            assert!(rt; kept == Some(read.bytes.as_slice()), "{calls}");
-            assert_eq!(rt;
-                read.unread_from(),
-                if calls < 4 { Some(3 * calls) } else { None },
-                "{calls}"
-            );
-        }
+    for (calls, (front, unread)) in FRONTS.iter().enumerate() {
+        assert!(rt; has_front(rt.alloc(), calls, front, *unread), "{calls}");
     }
 }
 
@@ -134,28 +154,44 @@ fn shown(
 fn shows_a_file_in_pieces(rt: HostRuntime) {
     for step in 1..=35 {
         let (done, text) = shown(rt.alloc(), &ONE_MESSAGE, step, usize::MAX);
-        assert_eq!(rt; done, Ok(()), "{step}");
-        assert_eq!(rt; text.as_slice(), ONE_MESSAGE_TEXT.as_bytes(), "{step}");
+        assert!(rt;
+            done == Ok(()) && text.as_slice() == ONE_MESSAGE_TEXT.as_bytes(),
+            "{step}"
+        );
     }
+}
+
+// The file with a wrong size of its header, and a byte after its end.
+const NO_FILE: [u8; 35] = [
+    0x0D, 0x10, 0x64, 0x00, 0x12, 0x00, 0x00, 0x00, 0x2E, 0x46, 0x49, 0x54, 0xA1, 0x3B, 0x40, 0x00,
+    0x00, 0x00, 0x00, 0x02, 0x00, 0x01, 0x00, 0x04, 0x04, 0x86, 0x00, 0x04, 0x00, 0xCA, 0x9A, 0x3B,
+    0x38, 0x1C, 0x00,
+];
+
+const HEADER_SIZE: FileFault = FileFault {
+    kind: FaultKind::HeaderSize,
+    place: 0,
+};
+
+// How many of these bytes there are, how many calls read them, and the fault.
+const NO_FILES: [(usize, usize, ReportFault); 3] = [
+    (34, 35, ReportFault::File(HEADER_SIZE)),
+    (34, 34, ReportFault::Input(ReadFault::Failed)),
+    (35, 35, ReportFault::Input(ReadFault::TooLarge)),
+];
+
+// Asserts that these bytes have this fault, and that none of them is shown.
+fn expect_fault(rt: &impl Abort, alloc: Global, bytes: &[u8], calls: usize, fault: ReportFault) {
+    let (done, text) = shown(alloc, bytes, 1, calls);
+    assert_eq!(rt; done, Err(fault), "{bytes:?} {calls}");
+    assert!(rt; text.is_empty(), "{bytes:?} {calls}");
 }
 
 // Bytes that are not a file are read to their end. A failed read or a byte too many is reported first, then the fault of the file.
 #[test]
 fn reads_what_is_no_file_to_its_end(rt: HostRuntime) {
-    let mut bytes = [0; 35];
-    bytes[..34].copy_from_slice(&ONE_MESSAGE);
-    bytes[0] = 0x0D;
-    let none = FileFault {
-        kind: FaultKind::HeaderSize,
-        place: 0,
-    };
-    for (len, calls, fault) in [
-        (34, 35, ReportFault::File(none)),
-        (34, 34, ReportFault::Input(ReadFault::Failed)),
-        (35, 35, ReportFault::Input(ReadFault::TooLarge)),
-    ] {
-        let (done, text) = shown(rt.alloc(), &bytes[..len], 1, calls);
-        assert_eq!(rt; done, Err(fault), "{len} {calls}");
-        assert!(rt; text.is_empty(), "{len} {calls}");
+    for (len, calls, fault) in NO_FILES {
+        let bytes = NO_FILE.get(..len).unwrap_or(&[]);
+        expect_fault(&rt, rt.alloc(), bytes, calls, fault);
     }
 }

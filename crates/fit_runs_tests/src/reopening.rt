@@ -1,15 +1,14 @@
 // Rides that are reopened. The answers and the contents of the files are from outside. The rows of the table are tried, each
 // with a possible answer and with an impossible one.
 
-use crate::equality::equal;
-use crate::histories::{answers_to, file_in, text_of};
+use crate::direct::answer_of;
+use crate::histories::{answers_to, expect_answers, expect_checked, expect_shown, last_file};
 use crate::table::is_history;
 use fit_activity::Refusal;
-use fit_files::{check_bytes, show_bytes};
-use fit_histories::Answer;
 use fit_recorder::RecFault;
 use fit_scripts::parse_script;
-use std::alloc::{AllocError, Global};
+use std::alloc::Global;
+use std::process::Abort;
 use std::test::Fail;
 
 // A ride that lost its power after its only commit, and is continued up to its stop.
@@ -33,54 +32,27 @@ const GONE_ON_TEXT: &str = "3 record timestamp=1000000000 heart_rate=100
 messages 9
 ";
 
-// The messages of a file as text.
-fn shown(alloc: Global, file: &[u8]) -> Result<Vec<u8>, Fail> {
-    let mut out = Vec::new(alloc);
-    show_bytes(alloc, file, false, &mut out)?;
-    Ok(out)
-}
-
 #[test]
 fn a_ride_goes_on_after_its_last_commit(rt: HostRuntime) -> Result<(), Fail> {
-    let text = text_of(&rt, GONE_ON, &[])?;
-    equal(&rt, text.as_str(), "ok\nok\nok\nok\nok\nok\nok\nok\n");
-    let Some(answers) = answers_to(&rt, GONE_ON, &[]) else {
-        return Ok(assert!(rt; false));
-    };
-    let file = file_in(answers.last());
+    let lines = "ok\nok\nok\nok\nok\nok\nok\nok\n";
+    expect_answers(&rt, rt.alloc(), GONE_ON, &[], lines)?;
+    let file = last_file(rt.alloc(), GONE_ON, &[])?;
     assert!(rt;
         file.get(14 + 83..)
             .is_some_and(|rest| rest.starts_with(&AFTER))
     );
-    assert!(rt;
-        shown(rt.alloc(), file)?
-            .as_slice()
-            .ends_with(GONE_ON_TEXT.as_bytes())
-    );
-    let mut out = Vec::new(rt.alloc());
-    check_bytes(rt.alloc(), file, &mut out)?;
-    equal(
-        &rt,
-        out.as_slice(),
-        b"ok records=2 laps=1 sessions=1 start=1000000000 elapsed_ms=2000 timer_ms=2000 distance_cm=-\n".as_slice(),
-    );
-    Ok(())
+    expect_shown(&rt, rt.alloc(), file.as_slice(), GONE_ON_TEXT)?;
+    let line =
+        "ok records=2 laps=1 sessions=1 start=1000000000 elapsed_ms=2000 timer_ms=2000 distance_cm=-\n";
+    expect_checked(&rt, rt.alloc(), file.as_slice(), line)
 }
 
 #[test]
-fn a_stopped_ride_and_one_that_is_not_there_do_not_go_on(
-    rt: HostRuntime,
-) -> Result<(), AllocError> {
+fn a_stopped_ride_and_one_that_is_not_there_do_not_go_on(rt: HostRuntime) -> Result<(), Fail> {
     let script = format!(in rt.alloc(); "{GONE_ON}reopen\nsample 1000000003\n")?;
-    let text = text_of(&rt, script.as_str(), &[])?;
-    equal(
-        &rt,
-        text.as_str(),
-        "ok\nok\nok\nok\nok\nok\nok\nok\nRefused(Stopped)\nNoRecorder\n",
-    );
-    let text = text_of(&rt, "reopen\n", &[])?;
-    equal(&rt, text.as_str(), "NothingRecorded\n");
-    Ok(())
+    let lines = "ok\nok\nok\nok\nok\nok\nok\nok\nRefused(Stopped)\nNoRecorder\n";
+    expect_answers(&rt, rt.alloc(), script.as_str(), &[], lines)?;
+    expect_answers(&rt, rt.alloc(), NOTHING, &[], "NothingRecorded\n")
 }
 
 // A recorder that runs ends when its ride is reopened, and what was not committed is gone.
@@ -88,12 +60,8 @@ fn a_stopped_ride_and_one_that_is_not_there_do_not_go_on(
 fn a_recorder_that_runs_is_reopened(rt: HostRuntime) -> Result<(), Fail> {
     let script =
         "start 1000000000 7 running\nsample 1000000000 hr=100\ncommit\nsample 1000000009 hr=101\nreopen\nsample 1000000002 hr=110\nstop 1000000002\n";
-    let Some(answers) = answers_to(&rt, script, &[]) else {
-        return Ok(assert!(rt; false));
-    };
-    let text = shown(rt.alloc(), file_in(answers.last()))?;
-    assert!(rt; text.as_slice().ends_with(GONE_ON_TEXT.as_bytes()));
-    Ok(())
+    let file = last_file(rt.alloc(), script, &[])?;
+    expect_shown(&rt, rt.alloc(), file.as_slice(), GONE_ON_TEXT)
 }
 
 // The closing messages of the recovery are gone, and those of the stop are present once.
@@ -101,34 +69,58 @@ fn a_recorder_that_runs_is_reopened(rt: HostRuntime) -> Result<(), Fail> {
 fn a_recovered_ride_goes_on(rt: HostRuntime) -> Result<(), Fail> {
     let script =
         "start 1000000000 7 running\nsample 1000000000 hr=100\ncommit\nrecover\nreopen\nsample 1000000002 hr=110\nstop 1000000002\n";
-    let text = text_of(&rt, script, &[])?;
-    equal(
-        &rt,
-        text.as_str(),
-        "ok\nok\nok\nok records=1 laps=1 sessions=1 start=1000000000 elapsed_ms=0 timer_ms=0 distance_cm=-\nok\nok\nok\n",
-    );
-    let Some(answers) = answers_to(&rt, script, &[]) else {
-        return Ok(assert!(rt; false));
-    };
-    let text = shown(rt.alloc(), file_in(answers.last()))?;
-    assert!(rt; text.as_slice().ends_with(GONE_ON_TEXT.as_bytes()));
+    let lines =
+        "ok\nok\nok\nok records=1 laps=1 sessions=1 start=1000000000 elapsed_ms=0 timer_ms=0 distance_cm=-\nok\nok\nok\n";
+    expect_answers(&rt, rt.alloc(), script, &[], lines)?;
+    let file = last_file(rt.alloc(), script, &[])?;
+    expect_shown(&rt, rt.alloc(), file.as_slice(), GONE_ON_TEXT)
+}
+
+// Whether the table allows the answers to a script, with this one in the place of the last.
+fn may_end(alloc: Global, script: &str, last: Result<(), RecFault>) -> Result<bool, Fail> {
+    let events = parse_script(alloc, script)?;
+    let mut answers = answers_to(alloc, script, &[])?;
+    answers.pop();
+    answers.push(answer_of(last))?;
+    Ok(is_history(alloc, &events, &answers)?)
+}
+
+// Asserts that the table allows the answers to a script.
+fn expect_allowed(rt: &impl Abort, alloc: Global, script: &str) -> Result<(), Fail> {
+    let events = parse_script(alloc, script)?;
+    let answers = answers_to(alloc, script, &[])?;
+    assert!(rt; is_history(alloc, &events, &answers)?, "{script}");
     Ok(())
 }
 
-// Whether the table allows the answers to a script. If `last` is given, it takes the place of the last answer.
-fn may_come(rt: &HostRuntime, script: &str, last: Option<Answer>) -> Result<bool, Fail> {
-    let events = parse_script(rt.alloc(), script)?;
-    let Some(mut answers) = answers_to(rt, script, &[]) else {
-        return Ok(false);
-    };
-    if let Some(answer) = last {
-        answers.pop();
-        answers.push(answer)?;
-    }
-    Ok(is_history(rt.alloc(), &events, &answers)?)
+// Asserts whether the table allows this last answer to a script.
+fn expect_end(
+    rt: &impl Abort,
+    alloc: Global,
+    script: &str,
+    last: Result<(), RecFault>,
+    wanted: bool,
+) -> Result<(), Fail> {
+    let allowed = may_end(alloc, script, last)?;
+    assert_eq!(rt; allowed, wanted, "{script}{last:?}");
+    Ok(())
 }
 
-// A ride without a stop, a ride with one, a ride whose reopening fails, and no ride.
+// Asserts that of these faults a script may end with this one only, or with none.
+fn expect_refusals(
+    rt: &impl Abort,
+    alloc: Global,
+    script: &str,
+    faults: &[RecFault],
+    refusal: Option<RecFault>,
+) -> Result<(), Fail> {
+    for fault in faults {
+        expect_end(rt, alloc, script, Err(*fault), refusal == Some(*fault))?;
+    }
+    Ok(())
+}
+
+// A ride without a stop, a ride with one, a ride whose reopening fails, no ride, and one that was erased.
 const RIDING: &str = "start 1000000000 7 running\nreopen\n";
 
 const STOPPED: &str = "start 1000000000 7 running\nstop 1000000001\nreopen\n";
@@ -137,63 +129,60 @@ const BROKEN: &str = "start 1000000000 7 running\nfail 1\nreopen\n";
 
 const NOTHING: &str = "reopen\n";
 
+const ERASED: &str = "start 1000000000 7 running\nerase\nreopen\n";
+
+// A sample before one that was promised, and before one that was not.
+const PROMISED: &str =
+    "start 1000000000 7 running\nsample 1000000005\ncommit\nreopen\nsample 1000000004\n";
+
+const HANDED: &str = "start 1000000000 7 running\nsample 1000000005\nreopen\nsample 1000000004\n";
+
+const FAULTS: [RecFault; 9] = [
+    RecFault::Refused(Refusal::Stopped),
+    RecFault::Refused(Refusal::Time),
+    RecFault::NotEmpty,
+    RecFault::Full,
+    RecFault::JournalFull,
+    RecFault::Device,
+    RecFault::Failed,
+    RecFault::NothingRecorded,
+    RecFault::Damaged,
+];
+
+// The only refusal of each reopening.
+const REFUSALS: [(&str, Option<RecFault>); 4] = [
+    (RIDING, None),
+    (STOPPED, Some(RecFault::Refused(Refusal::Stopped))),
+    (BROKEN, Some(RecFault::Device)),
+    (NOTHING, Some(RecFault::NothingRecorded)),
+];
+
 #[test]
 fn the_table_allows_a_reopening_one_refusal(rt: HostRuntime) -> Result<(), Fail> {
-    let stopped = RecFault::Refused(Refusal::Stopped);
-    let faults = [
-        stopped,
-        RecFault::Refused(Refusal::Time),
-        RecFault::NotEmpty,
-        RecFault::Full,
-        RecFault::JournalFull,
-        RecFault::Device,
-        RecFault::Failed,
-        RecFault::NothingRecorded,
-        RecFault::Damaged,
-    ];
-    let cases = [
-        (RIDING, None),
-        (STOPPED, Some(stopped)),
-        (BROKEN, Some(RecFault::Device)),
-        (NOTHING, Some(RecFault::NothingRecorded)),
-    ];
-    for (script, outcome) in cases {
-        assert!(rt; may_come(&rt, script, None)?, "{script}");
-        for fault in faults {
-            let allowed = may_come(&rt, script, Some(Answer::Refused(fault)))?;
-            assert_eq!(rt; allowed, outcome == Some(fault), "{script}{fault:?}");
-        }
+    for (script, refusal) in &REFUSALS {
+        expect_allowed(&rt, rt.alloc(), script)?;
+        expect_refusals(&rt, rt.alloc(), script, &FAULTS, *refusal)?;
     }
     Ok(())
 }
 
+// Whether each script may end with this answer. The ride goes on after what was promised; what was not may be recorded or not.
+const ENDS: [(&str, Result<(), RecFault>, bool); 9] = [
+    (RIDING, Ok(()), true),
+    (BROKEN, Ok(()), true),
+    (STOPPED, Ok(()), false),
+    (NOTHING, Ok(()), false),
+    (ERASED, Ok(()), false),
+    (PROMISED, Err(RecFault::Refused(Refusal::Time)), true),
+    (PROMISED, Ok(()), false),
+    (HANDED, Err(RecFault::Refused(Refusal::Time)), true),
+    (HANDED, Ok(()), true),
+];
+
 #[test]
 fn the_table_allows_a_ride_to_go_on_where_it_may(rt: HostRuntime) -> Result<(), Fail> {
-    let erased = "start 1000000000 7 running\nerase\nreopen\n";
-    let cases = [
-        (RIDING, true),
-        (BROKEN, true),
-        (STOPPED, false),
-        (NOTHING, false),
-        (erased, false),
-    ];
-    for (script, wanted) in cases {
-        assert_eq!(rt;
-            may_come(&rt, script, Some(Answer::Done))?,
-            wanted,
-            "{script}"
-        );
+    for (script, last, wanted) in &ENDS {
+        expect_end(&rt, rt.alloc(), script, *last, *wanted)?;
     }
-    // The ride continues after what was promised.
-    let promised =
-        "start 1000000000 7 running\nsample 1000000005\ncommit\nreopen\nsample 1000000004\n";
-    let time = Answer::Refused(RecFault::Refused(Refusal::Time));
-    assert!(rt; may_come(&rt, promised, Some(time))?);
-    assert!(rt; !may_come(&rt, promised, Some(Answer::Done))?);
-    // What was not promised may be recorded or not.
-    let handed = "start 1000000000 7 running\nsample 1000000005\nreopen\nsample 1000000004\n";
-    let time = Answer::Refused(RecFault::Refused(Refusal::Time));
-    assert!(rt; may_come(&rt, handed, Some(time))?);
-    assert!(rt; may_come(&rt, handed, Some(Answer::Done))?);
     Ok(())
 }

@@ -3,7 +3,8 @@
 use super::failing::Failing;
 use crate::equality::equal;
 use fit_runs::{SimulateFault, simulate};
-use std::alloc::AllocError;
+use std::alloc::{AllocError, Global};
+use std::process::Abort;
 use std::test::Fail;
 
 // The power goes at the write that makes the start count.
@@ -23,41 +24,52 @@ fn a_simulation_is_reported(rt: HostRuntime) -> Result<(), Fail> {
     Ok(())
 }
 
-// Each call of the output fails in turn. What was written is a prefix of the answers.
+// Asserts that a simulation reports what becomes of its output. What was written is a prefix of the answers.
+fn fail_output(rt: &impl Abort, alloc: Global, mut out: Failing) {
+    let calls = out.calls;
+    let text = CUT_OFF_ANSWERS.as_bytes();
+    match simulate(alloc, CUT_OFF.as_bytes(), &CHOICES, false, &mut out) {
+        Ok(()) => assert_eq!(rt; out.held.as_slice(), text, "{calls}"),
+        Err(fault) => {
+            assert_eq!(rt; fault, SimulateFault::Output, "{calls}");
+            assert!(rt; calls < 19 && text.starts_with(&out.held), "{calls}");
+        }
+    }
+}
+
+// Each call of the output fails in turn, and then its flush.
 #[test]
 fn a_simulation_states_where_its_output_fails(rt: HostRuntime) {
-    let text = CUT_OFF_ANSWERS.as_bytes();
     for calls in 0..20 {
-        let mut out = Failing::new(rt.alloc(), 10, calls);
-        match simulate(rt.alloc(), CUT_OFF.as_bytes(), &CHOICES, false, &mut out) {
-            Ok(()) => assert_eq!(rt; out.held.as_slice(), text, "{calls}"),
-            Err(fault) => {
-                assert_eq!(rt; fault, SimulateFault::Output, "{calls}");
-                assert!(rt; calls < 19 && text.starts_with(&out.held), "{calls}");
-            }
-        }
+        fail_output(&rt, rt.alloc(), Failing::new(rt.alloc(), 10, calls));
     }
     let mut kept = Failing::new(rt.alloc(), usize::MAX, usize::MAX);
     kept.flushes = 0;
     let done = simulate(rt.alloc(), CUT_OFF.as_bytes(), &CHOICES, false, &mut kept);
     equal(&rt, done, Err(SimulateFault::Output));
-    equal(&rt, kept.held.as_slice(), text);
+    equal(&rt, kept.held.as_slice(), CUT_OFF_ANSWERS.as_bytes());
+}
+
+// The number of each fault.
+const NO_SCRIPTS: [(&[u8], u8); 3] = [
+    (b"lap 5000000000\n\xFF", 1),
+    (b"lap 5000000000\n", 2),
+    (b"cut 1\nlap\n", 2),
+];
+
+// The number of the fault of a simulation, and how many bytes were written before it.
+fn fault_of(alloc: Global, bytes: &[u8]) -> (Option<u8>, usize) {
+    let mut out = Vec::new(alloc);
+    let done = simulate(alloc, bytes, &CHOICES, false, &mut out);
+    (done.err().map(|fault| fault.code()), out.len())
 }
 
 // The bytes are not text, or a line is not one of a script. The first of these faults is reported.
 #[test]
 fn a_script_that_is_not_simulated(rt: HostRuntime) {
-    let cases: [(&[u8], u8); 3] = [
-        (b"lap 5000000000\n\xFF", 1),
-        (b"lap 5000000000\n", 2),
-        (b"cut 1\nlap\n", 2),
-    ];
-    for (bytes, code) in cases {
-        let mut out = Vec::new(rt.alloc());
-        match simulate(rt.alloc(), bytes, &CHOICES, false, &mut out) {
-            Ok(()) => assert!(rt; false, "{bytes:?}"),
-            Err(fault) => assert_eq!(rt; (fault.code(), out.len()), (code, 0), "{bytes:?}"),
-        }
+    for (bytes, code) in NO_SCRIPTS {
+        let fault = fault_of(rt.alloc(), bytes);
+        assert_eq!(rt; fault, (Some(code), 0), "{bytes:?}");
     }
 }
 

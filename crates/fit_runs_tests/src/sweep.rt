@@ -74,83 +74,99 @@ fn is_ok(answer: &Answer) -> bool {
     !matches!(answer, Answer::Refused(_) | Answer::NoRecorder)
 }
 
+// The summary of a recovery.
+fn summary_in(answer: Option<&Answer>) -> Option<Summary> {
+    match answer {
+        Some(Answer::Recovered { summary, .. }) => Some(*summary),
+        _ => None,
+    }
+}
+
 // Whether each answer of the ride and its stop, after a first event, is ok.
 fn went_well(answers: &[Answer]) -> bool {
     answers.iter().take(8).all(|answer| is_ok(answer))
 }
 
-// Each call of the ride fails once, and then the ride is recovered.
-fn fail_each_call(rt: &impl Abort, alloc: Global) -> Result<(), Fail> {
-    for k in 1..=RIDE_CALLS + 1 {
-        let script = format!(in alloc; "fail {k}\n{RIDE}{STOP}recover\n")?;
-        let answers = answers_to(rt, alloc, script.as_str(), &[])?;
-        assert_eq!(rt; went_well(&answers), k > RIDE_CALLS, "{k}");
-    }
+// A call of the ride fails once, and then the ride is recovered.
+fn fail_call(rt: &impl Abort, alloc: Global, k: u32) -> Result<(), Fail> {
+    let script = format!(in alloc; "fail {k}\n{RIDE}{STOP}recover\n")?;
+    let answers = answers_to(rt, alloc, script.as_str(), &[])?;
+    assert_eq!(rt; went_well(&answers), k > RIDE_CALLS, "{k}");
     Ok(())
 }
 
-// The power goes at each call of the ride, and then the ride is recovered.
-fn cut_each_call(rt: &impl Abort, alloc: Global) -> Result<(), Fail> {
-    for choices in CHOICES {
-        for k in 1..=RIDE_CALLS + 1 {
-            let script = format!(in alloc; "cut {k}\n{RIDE}{STOP}power\nrecover\n")?;
-            let answers = answers_to(rt, alloc, script.as_str(), choices)?;
-            assert_eq!(rt; went_well(&answers), k > RIDE_CALLS, "{k}");
-        }
-    }
+// The power goes at a call of the ride, and then the ride is recovered.
+fn cut_call(rt: &impl Abort, alloc: Global, k: u32, choices: &[u8]) -> Result<(), Fail> {
+    let script = format!(in alloc; "cut {k}\n{RIDE}{STOP}power\nrecover\n")?;
+    let answers = answers_to(rt, alloc, script.as_str(), choices)?;
+    assert_eq!(rt; went_well(&answers), k > RIDE_CALLS, "{k}");
     Ok(())
 }
 
-// The power goes at each call of the recovery. The next recovery leaves the same file as one that was not cut off.
-fn cut_each_call_of_a_recovery(rt: &impl Abort, alloc: Global) -> Result<(), Fail> {
+// The answer to a recovery that is not cut off, with the summary and the file of the ride without its stop.
+fn whole_recovery(rt: &impl Abort, alloc: Global) -> Result<Option<Answer>, Fail> {
     let script = format!(in alloc; "{RIDE}recover\n")?;
-    let whole = answers_to(rt, alloc, script.as_str(), &[])?;
-    let wanted = file_in(whole.last());
-    equal(rt, wanted.len(), 14 + 72 + 11 + 2 + 87 + 252 + 2);
-    for choices in CHOICES {
-        for k in 1..=RECOVERY_CALLS + 1 {
-            let script = format!(in alloc; "{RIDE}cut {k}\nrecover\npower\nrecover\n")?;
-            let answers = answers_to(rt, alloc, script.as_str(), choices)?;
-            let first = answers.get(7);
-            assert_eq!(rt; first.is_some_and(is_ok), k > RECOVERY_CALLS, "{k}");
-            match answers.last() {
-                Some(Answer::Recovered { summary, file }) => {
-                    assert_eq!(rt; *summary, UNSTOPPED, "{k}");
-                    assert!(rt; file.as_slice() == wanted, "{k}");
-                }
-                _ => assert!(rt; false, "{k}"),
-            }
-        }
-    }
+    let mut answers = answers_to(rt, alloc, script.as_str(), &[])?;
+    equal(
+        rt,
+        file_in(answers.last()).len(),
+        14 + 72 + 11 + 2 + 87 + 252 + 2,
+    );
+    equal(rt, summary_in(answers.last()), Some(UNSTOPPED));
+    Ok(answers.pop())
+}
+
+// The power goes at a call of the recovery. The next recovery has the same answer as one that was not cut off.
+fn cut_call_of_a_recovery(
+    rt: &impl Abort,
+    alloc: Global,
+    k: u32,
+    choices: &[u8],
+    wanted: Option<&Answer>,
+) -> Result<(), Fail> {
+    let script = format!(in alloc; "{RIDE}cut {k}\nrecover\npower\nrecover\n")?;
+    let answers = answers_to(rt, alloc, script.as_str(), choices)?;
+    let is_whole = answers.get(7).is_some_and(is_ok);
+    assert_eq!(rt; is_whole, k > RECOVERY_CALLS, "{k}");
+    assert!(rt; answers.last() == wanted, "{k}");
     Ok(())
 }
 
-// The ride is reopened, and the power goes at each call from there on. The next recovery keeps what was promised.
-fn cut_each_call_of_a_ride_that_goes_on(rt: &impl Abort, alloc: Global) -> Result<(), Fail> {
-    for choices in CHOICES {
-        for k in 1..=GOING_ON_CALLS + 1 {
-            let script = format!(in alloc;
-                "{RIDE}cut {k}\nreopen\nsample 1000000002 hr=110\ncommit\npower\nrecover\n"
-            )?;
-            let answers = answers_to(rt, alloc, script.as_str(), choices)?;
-            let went_on = answers.iter().skip(7).take(3).all(|answer| is_ok(answer));
-            assert_eq!(rt; went_on, k > GOING_ON_CALLS, "{k}");
-            match answers.last() {
-                Some(Answer::Recovered { summary, .. }) => {
-                    let both = *summary == UNSTOPPED || *summary == GONE_ON;
-                    assert!(rt; both && (!went_on || *summary == GONE_ON), "{k}");
-                }
-                _ => assert!(rt; false, "{k}"),
-            }
-        }
-    }
+// The ride is reopened, and the power goes at a call from there on. The next recovery keeps what was promised.
+fn cut_call_of_a_ride_that_goes_on(
+    rt: &impl Abort,
+    alloc: Global,
+    k: u32,
+    choices: &[u8],
+) -> Result<(), Fail> {
+    let script = format!(in alloc;
+        "{RIDE}cut {k}\nreopen\nsample 1000000002 hr=110\ncommit\npower\nrecover\n"
+    )?;
+    let answers = answers_to(rt, alloc, script.as_str(), choices)?;
+    let went_on = answers.iter().skip(7).take(3).all(|answer| is_ok(answer));
+    assert_eq!(rt; went_on, k > GOING_ON_CALLS, "{k}");
+    let summary = summary_in(answers.last());
+    let is_promised = summary == Some(GONE_ON) || !went_on && summary == Some(UNSTOPPED);
+    assert!(rt; is_promised, "{k}");
     Ok(())
 }
 
 #[test]
 fn world_equals_direct_calls(rt: HostRuntime) -> Result<(), Fail> {
-    fail_each_call(&rt, rt.alloc())?;
-    cut_each_call(&rt, rt.alloc())?;
-    cut_each_call_of_a_recovery(&rt, rt.alloc())?;
-    cut_each_call_of_a_ride_that_goes_on(&rt, rt.alloc())
+    for k in 1..=RIDE_CALLS + 1 {
+        fail_call(&rt, rt.alloc(), k)?;
+    }
+    let whole = whole_recovery(&rt, rt.alloc())?;
+    for choices in CHOICES {
+        for k in 1..=RIDE_CALLS + 1 {
+            cut_call(&rt, rt.alloc(), k, choices)?;
+        }
+        for k in 1..=RECOVERY_CALLS + 1 {
+            cut_call_of_a_recovery(&rt, rt.alloc(), k, choices, whole.as_ref())?;
+        }
+        for k in 1..=GOING_ON_CALLS + 1 {
+            cut_call_of_a_ride_that_goes_on(&rt, rt.alloc(), k, choices)?;
+        }
+    }
+    Ok(())
 }

@@ -5,7 +5,7 @@ use Rattle.std.specs.Option.{option_and_then}
 use Rattle.jiff.specs.Words.{days_in_month}
 use Rattle.fit_base.specs.declared.base.BaseType.TheVariants.{Uint32}
 use Rattle.fit_grammar.specs.Format.Message.{MessageField}
-use Rattle.fit_activity.specs.Files.Activity.{value_in}
+use Rattle.fit_grammar.specs.Format.OneValue.{value_in}
 
 -- ---- fields
 

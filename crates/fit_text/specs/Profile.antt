@@ -2,8 +2,8 @@
 use Rattle.std.specs.Prelude.{ℕ, Bool, true, ◌&&◌, nat_le, List, [], ◌∷◌, length, map, Option, Some, None, ◌==◌, if◌then◌else◌}
 use Rattle.std.specs.Option.{option_or}
 use Rattle.std.specs.Borrow.{Bor}
-use Rattle.fit_activity.specs.Rides.Table.{SourceRow}
-use Rattle.fit_activity.specs.declared.recording.table.TheConstants.{SAMPLE_FIELDS}
+use Rattle.fit_fields.specs.Table.{SourceRow}
+use Rattle.fit_fields.specs.declared.table.TheConstants.{SAMPLE_FIELDS}
 use Rattle.fit_text.specs.declared.profile.TheConstants.{MESSAGES, COMMON_FIELDS}
 
 -- the names of fields: each row has a number and a name

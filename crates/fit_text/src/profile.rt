@@ -3,7 +3,7 @@
 ghost use Rattle.std.specs.Prelude.{◌≡◌, ◌≤◌, length, option_map, IfSome};
 ghost use Rattle.fit_text.specs.Profile.{message_named, names_of_fields, field_named, name_in, message_in, field_names_in, field_rows, message_rows, sample_name_rows};
 
-use fit_activity::{FieldRow, SAMPLE_FIELDS};
+use fit_fields::{FieldRow, SAMPLE_FIELDS};
 
 /// A field's number and its name.
 pub type FieldName = (u8, &'static str);

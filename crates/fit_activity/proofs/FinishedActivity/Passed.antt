@@ -7,7 +7,8 @@ use Rattle.fit_base.specs.declared.base.BaseType.TheVariants.{Enum, Uint32}
 use Rattle.fit_grammar.specs.Format.Message.{Message}
 use Rattle.fit_activity.specs.declared.activity.seen.Seen.{Seen}
 use Rattle.fit_activity.specs.declared.activity.seen.SessionValues.{SessionValues}
-use Rattle.fit_activity.specs.Files.Activity.{has_global, value_of, begins_with_file_id, is_activity_file, is_activity_type, messages_counted}
+use Rattle.fit_grammar.specs.Format.OneValue.{value_of}
+use Rattle.fit_activity.specs.Files.Activity.{has_global, begins_with_file_id, is_activity_file, is_activity_type, messages_counted}
 use Rattle.fit_activity.specs.Private.Seen.{session_values, is_some_message, seen_in_messages, seen_with}
 
 -- the first message that passes a test

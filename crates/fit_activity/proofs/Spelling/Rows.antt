@@ -4,7 +4,8 @@ use Rattle.std.specs.List.{AllByRecursion}
 use Rattle.std.proofs.lemmas.List.Sums.{sum_by-cons}
 use Rattle.fit_base.specs.Base.{row_of}
 use Rattle.fit_activity.specs.declared.speaking.profile_field.ProfileField.{ProfileField}
-use Rattle.fit_activity.specs.Rides.Table.{FieldRow, ValuesFit, AreShort, Ascend, sample_rows}
+use Rattle.fit_fields.specs.Table.{FieldRow, sample_rows}
+use Rattle.fit_activity.specs.Rides.Table.{ValuesFit, AreShort, Ascend}
 use Rattle.fit_activity.specs.Messages.ProfileField.{profile_field, OptionFits, IsShortField, present, content_length}
 use Rattle.fit_activity.specs.Messages.ProfileMessage.{fields_by}
 use Rattle.fit_activity.specs.Private.Reader.{Lack}

@@ -1,30 +1,15 @@
 -- When a file is an activity, and what its first session states (FIT profile: activity files).
 use Rattle.std.specs.Prelude.{ℕ, Bool, false, List, [], ◌∷◌, Option, Some, None, Result, Ok, Err, ◌==◌, not, count_by, find, option_and_then, if◌then◌else◌}
-use Rattle.fit_base.specs.declared.base.BaseType.{BaseType}
 use Rattle.fit_base.specs.declared.base.BaseType.TheVariants.{Enum, Uint32}
-use Rattle.fit_base.specs.Base.{row_of}
-use Rattle.fit_grammar.specs.Format.Message.{Message, MessageField}
+use Rattle.fit_grammar.specs.Format.Message.{Message}
+use Rattle.fit_grammar.specs.Format.OneValue.{value_of}
 use Rattle.fit_activity.specs.Messages.Numbers.{activity_file_type, activity_global, file_id_global, lap_global, record_global, session_global}
-use Rattle.fit_activity.specs.Messages.ProfileField.{one_of}
 use Rattle.fit_activity.specs.declared.activity.Summary.{Summary}
 use Rattle.fit_activity.specs.declared.activity.ActivityFault.{ActivityFault}
 use Rattle.fit_activity.specs.declared.activity.ActivityFault.TheVariants.{NoFileId, NotActivity, NoLap, NoSession, NoActivity}
 
 abbrev pub has_global : ℕ → Message → Bool
 has_global global m = m.global == global
-
--- the value of a field, if it has this base type and one value that is not invalid
-abbrev pub value_in : BaseType → MessageField → Option ℕ
-value_in base field =
-    if field.base == (row_of base).code
-    then option_and_then (λ value. if value == (row_of base).invalid
-    then None else Some value) (one_of field.values)
-    else None
-
--- the same for the first field of this number
-abbrev pub value_of : BaseType → ℕ → Message → Option ℕ
-value_of base number m =
-    option_and_then (value_in base) (find (λ field. field.number == number) m.fields)
 
 -- the first message is a file_id
 abbrev pub begins_with_file_id : List Message → Bool

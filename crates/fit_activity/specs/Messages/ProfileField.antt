@@ -5,7 +5,7 @@ use Rattle.std.specs.List.{AllByRecursion, filter_map}
 use Rattle.fit_base.specs.declared.base.BaseType.{BaseType}
 use Rattle.fit_base.specs.declared.order.Arch.TheVariants.{Little}
 use Rattle.fit_base.specs.Base.{row_of}
-use Rattle.fit_base.specs.Value.{Values, Numbers}
+use Rattle.fit_base.specs.Value.{Numbers}
 use Rattle.fit_grammar.specs.declared.definition.FieldDefinition.{FieldDefinition}
 use Rattle.fit_grammar.specs.declared.definition.Definition.{Definition}
 use Rattle.fit_grammar.specs.Format.Item.{native_definition}
@@ -52,11 +52,6 @@ message_field field =
       base = (row_of field.base).code;
       values = Numbers (field.value ∷ []);
     }
-
--- the value, if there is exactly one
-abbrev pub one_of : Values → Option ℕ
-one_of (Numbers (value ∷ [])) = Some value
-one_of _ = None
 
 -- a message by its global number and its fields, under a local number
 pub record ProfileMessage : Type 0 where

@@ -8,7 +8,8 @@ use Rattle.fit_activity.specs.declared.activity.ActivityFault.{ActivityFault}
 use Rattle.fit_activity.specs.declared.activity.ActivityFault.TheVariants.{NoFileId, NotActivity, NoLap, NoSession, NoActivity}
 use Rattle.fit_activity.specs.declared.activity.seen.Seen.{Seen}
 use Rattle.fit_activity.specs.declared.activity.seen.SessionValues.{SessionValues}
-use Rattle.fit_activity.specs.Files.Activity.{has_global, is_activity_type, value_of, begins_with_file_id, is_activity_file, messages_counted, session_value}
+use Rattle.fit_grammar.specs.Format.OneValue.{value_of}
+use Rattle.fit_activity.specs.Files.Activity.{has_global, is_activity_type, begins_with_file_id, is_activity_file, messages_counted, session_value}
 
 -- the values of a session that go into a summary
 abbrev pub session_values : Message → SessionValues

@@ -4,7 +4,7 @@ ghost use Rattle.std.specs.Prelude.{◌≡◌, ◌<◌, ◌^◌, IfSome};
 ghost use Rattle.fit_base.specs.declared.base.BaseType.TheVariants as types;
 ghost use Rattle.fit_base.specs.Base.{row_of};
 ghost use Rattle.fit_grammar.specs.Calls.LentField.{field_view};
-ghost use Rattle.fit_activity.specs.Files.Activity.{value_of as value_stated, value_in as value_of_field};
+ghost use Rattle.fit_grammar.specs.Format.OneValue.{value_of as value_stated, value_in as value_of_field};
 
 use crate::hearing::one_value::one_value;
 use fit_base::BaseType;

@@ -2,7 +2,7 @@
 
 ghost use Rattle.std.specs.Prelude.{◌≡◌, ◌<◌, ◌^◌, IfSome};
 ghost use Rattle.fit_base.specs.Value.{values_of, value_size};
-ghost use Rattle.fit_activity.specs.Messages.ProfileField.{one_of};
+ghost use Rattle.fit_grammar.specs.Format.OneValue.{one_of};
 
 use fit_base::FieldValue;
 

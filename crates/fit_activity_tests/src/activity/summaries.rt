@@ -2,9 +2,9 @@
 
 ghost use Rattle.std.specs.Prelude.{◌<◌, ◌^◌, length};
 
-use super::{START, T, ride, with_distance, with_heart_rate};
+use super::{START, T, ride};
 use crate::equality::equal;
-use fit_activity::{Entry, Refusal, Sample, Sport, Start};
+use fit_activity::{Entry, LapSummary, Refusal, SessionSummary, Sport, Start, Stretch};
 use std::process::Abort;
 
 // The elapsed time and the timer time of the open lap of a ride, in ms.
@@ -15,25 +15,36 @@ fn lap_times(rt: &impl Abort, entries: &[Entry]) -> (u32, u32)
     (lap.elapsed, lap.timer)
 }
 
+// Rides, and the times of their open laps.
+const LAP_TIMES: [(&[Entry], (u32, u32)); 4] = [
+    (&[Entry::Pause(T + 5), Entry::Resume(T + 5)], (5000, 5000)),
+    (
+        &[
+            Entry::Pause(T + 5),
+            Entry::Resume(T + 5),
+            Entry::Lap(T + 5),
+            Entry::Stop(T + 8),
+        ],
+        (3000, 3000),
+    ),
+    (&[Entry::Pause(T + 5)], (5000, 5000)),
+    (
+        &[
+            Entry::Pause(T + 5),
+            Entry::Lap(T + 5),
+            Entry::Resume(T + 7),
+            Entry::Stop(T + 8),
+        ],
+        (3000, 1000),
+    ),
+];
+
 #[test]
 fn times_laps(rt: HostRuntime) {
-    let turned = [
-        Entry::Pause(T + 5),
-        Entry::Resume(T + 5),
-        Entry::Lap(T + 5),
-        Entry::Stop(T + 8),
-    ];
-    equal(&rt, lap_times(&rt, &turned[..2]), (5000, 5000));
-    equal(&rt, lap_times(&rt, &turned), (3000, 3000));
-
-    let paused = [
-        Entry::Pause(T + 5),
-        Entry::Lap(T + 5),
-        Entry::Resume(T + 7),
-        Entry::Stop(T + 8),
-    ];
-    equal(&rt, lap_times(&rt, &paused[..1]), (5000, 5000));
-    equal(&rt, lap_times(&rt, &paused), (3000, 1000));
+    for (entries, times) in LAP_TIMES {
+        assert!(rt; entries.len() < 1000);
+        equal(&rt, (entries, lap_times(&rt, entries)), (entries, times));
+    }
 }
 
 // The distance (cm) and the average speed (mm/s) of a ride.
@@ -44,154 +55,176 @@ fn distance_and_speed(rt: &impl Abort, entries: &[Entry]) -> (Option<u32>, Optio
     (ride.distance, ride.average_speed)
 }
 
+// A ride, its distance and its average speed.
+type Way<'a> = (&'a [Entry], (Option<u32>, Option<u16>));
+
+fn check_ways(rt: &impl Abort, ways: &[Way<'_>]) {
+    for (entries, wanted) in ways {
+        assert!(rt; entries.len() < 1000);
+        let reported = distance_and_speed(rt, *entries);
+        equal(rt, (*entries, reported), (*entries, *wanted));
+    }
+}
+
+const WAYS: [Way<'static>; 7] = [
+    (
+        &[
+            sample!(0, distance: 0),
+            sample!(10, distance: 12345),
+            Entry::Stop(T + 10),
+        ],
+        (Some(12345), Some(12345)),
+    ),
+    (
+        &[sample!(7, distance: 100), Entry::Stop(T + 7)],
+        (Some(100), Some(142)),
+    ),
+    (
+        &[sample!(1, distance: 100_000), Entry::Stop(T + 1)],
+        (Some(100_000), None),
+    ),
+    // The greatest speed that a field holds, and one mm/s more.
+    (
+        &[sample!(10, distance: 65534), Entry::Stop(T + 10)],
+        (Some(65534), Some(65534)),
+    ),
+    (
+        &[sample!(10, distance: 65535), Entry::Stop(T + 10)],
+        (Some(65535), None),
+    ),
+    (&[sample!(0, distance: 5)], (Some(5), None)),
+    (&[Entry::Stop(T + 3)], (None, None)),
+];
+
 #[test]
 fn measures_distances(rt: HostRuntime) {
-    let far = [
-        with_distance(T, 0),
-        with_distance(T + 10, 12345),
-        Entry::Stop(T + 10),
-    ];
-    equal(
-        &rt,
-        distance_and_speed(&rt, &far),
-        (Some(12345), Some(12345)),
-    );
-    let near = [with_distance(T + 7, 100), Entry::Stop(T + 7)];
-    equal(&rt, distance_and_speed(&rt, &near), (Some(100), Some(142)));
-    let fast = [with_distance(T + 1, 100_000), Entry::Stop(T + 1)];
-    equal(&rt, distance_and_speed(&rt, &fast), (Some(100_000), None));
-
-    // The greatest speed that a field holds, and one mm/s more.
-    let greatest = [with_distance(T + 10, 65534), Entry::Stop(T + 10)];
-    equal(
-        &rt,
-        distance_and_speed(&rt, &greatest),
-        (Some(65534), Some(65534)),
-    );
-    let invalid = [with_distance(T + 10, 65535), Entry::Stop(T + 10)];
-    equal(&rt, distance_and_speed(&rt, &invalid), (Some(65535), None));
-    equal(
-        &rt,
-        distance_and_speed(&rt, &[with_distance(T, 5)]),
-        (Some(5), None),
-    );
-    equal(
-        &rt,
-        distance_and_speed(&rt, &[Entry::Stop(T + 3)]),
-        (None, None),
-    );
+    check_ways(&rt, &WAYS);
 }
+
+// The index of the open lap of a ride, its distance, and that of the whole ride.
+fn distances(rt: &impl Abort, entries: &[Entry]) -> (u16, Option<u32>, Option<u32>)
+    requires { length entries.now < 2 ^ 31 }
+{
+    let totals = ride(rt, entries);
+    let lap = totals.lap();
+    (
+        lap.index,
+        lap.stretch.distance,
+        totals.session().stretch.distance,
+    )
+}
+
+const LATER: [Entry; 3] = [
+    sample!(10, distance: 500),
+    Entry::Lap(T + 10),
+    sample!(20, distance: 800),
+];
+
+// No distance in this lap: 800 is already known at its start.
+const KNOWN: [Entry; 2] = [sample!(10, distance: 800), Entry::Lap(T + 10)];
 
 #[test]
 fn measures_a_lap_from_its_beginning(rt: HostRuntime) {
-    let entries = [
-        with_distance(T + 10, 500),
-        Entry::Lap(T + 10),
-        with_distance(T + 20, 800),
-    ];
-    let totals = ride(&rt, &entries);
-    equal(&rt, totals.lap().index, 1);
-    equal(&rt, totals.lap().stretch.distance, Some(300));
-    equal(&rt, totals.session().stretch.distance, Some(800));
-
-    // No distance in this lap: 800 is already known at its start.
-    let none = ride(&rt, &[with_distance(T + 10, 800), Entry::Lap(T + 10)]);
-    equal(&rt, none.lap().stretch.distance, Some(0));
+    equal(&rt, distances(&rt, &LATER), (1, Some(300), Some(800)));
+    equal(&rt, distances(&rt, &KNOWN), (1, Some(0), Some(800)));
 }
 
 // A ride of two laps, with heart rates 100 and 101 in the first and 110 in the second.
+const TWO_LAPS: [Entry; 4] = [
+    sample!(0, heart_rate: 100),
+    sample!(1, heart_rate: 101),
+    Entry::Lap(T + 2),
+    sample!(2, heart_rate: 110),
+];
+
+const NOTHING: Stretch = Stretch {
+    start: T,
+    end: T,
+    elapsed: 0,
+    timer: 0,
+    distance: None,
+    average_speed: None,
+    greatest_speed: None,
+    average_heart_rate: None,
+    greatest_heart_rate: None,
+    average_power: None,
+    greatest_power: None,
+};
+
+const FIRST_LAP: LapSummary = LapSummary {
+    index: 0,
+    stretch: Stretch {
+        end: T + 1,
+        elapsed: 1000,
+        timer: 1000,
+        average_heart_rate: Some(100),
+        greatest_heart_rate: Some(101),
+        ..NOTHING
+    },
+};
+
+const SECOND_LAP: LapSummary = LapSummary {
+    index: 1,
+    stretch: Stretch {
+        start: T + 2,
+        end: T + 2,
+        average_heart_rate: Some(110),
+        greatest_heart_rate: Some(110),
+        ..NOTHING
+    },
+};
+
+const BOTH_LAPS: SessionSummary = SessionSummary {
+    sport: Sport::Running,
+    laps: 2,
+    stretch: Stretch {
+        end: T + 2,
+        elapsed: 2000,
+        timer: 2000,
+        average_heart_rate: Some(103),
+        greatest_heart_rate: Some(110),
+        ..NOTHING
+    },
+};
+
 #[test]
 fn adds_up_a_ride_of_two_laps(rt: HostRuntime) {
-    let entries = [
-        with_heart_rate(T, 100),
-        with_heart_rate(T + 1, 101),
-        Entry::Lap(T + 2),
-        with_heart_rate(T + 2, 110),
-    ];
-    let first = ride(&rt, &entries[..2]).lap();
-    equal(&rt, first.index, 0);
-    equal(&rt, (first.stretch.start, first.stretch.end), (T, T + 1));
-    equal(&rt, first.stretch.average_heart_rate, Some(100));
-    equal(&rt, first.stretch.greatest_heart_rate, Some(101));
-
-    let totals = ride(&rt, &entries);
-    let second = totals.lap();
-    equal(&rt, second.index, 1);
-    equal(
-        &rt,
-        (second.stretch.start, second.stretch.end),
-        (T + 2, T + 2),
-    );
-    equal(&rt, (second.stretch.elapsed, second.stretch.timer), (0, 0));
-    equal(&rt, second.stretch.average_heart_rate, Some(110));
-    equal(&rt, second.stretch.greatest_heart_rate, Some(110));
-
-    let session = totals.session();
-    equal(&rt, (session.laps, session.sport), (2, Sport::Running));
-    equal(
-        &rt,
-        (session.stretch.elapsed, session.stretch.timer),
-        (2000, 2000),
-    );
-    equal(&rt, session.stretch.average_heart_rate, Some(103));
-    equal(&rt, session.stretch.greatest_heart_rate, Some(110));
-    equal(&rt, session.stretch.average_power, None);
-    equal(&rt, session.stretch.distance, None);
-
+    equal(&rt, ride(&rt, &TWO_LAPS[..2]).lap(), FIRST_LAP);
+    let totals = ride(&rt, &TWO_LAPS);
+    equal(&rt, totals.lap(), SECOND_LAP);
+    equal(&rt, totals.session(), BOTH_LAPS);
     let activity = totals.activity();
     equal(&rt, (activity.time, activity.timer), (T + 2, 2000));
-    assert!(rt; totals.running());
-    assert!(rt; !totals.stopped());
+    equal(&rt, (totals.running(), totals.stopped()), (true, false));
     equal(&rt, totals.end_time(), T + 2);
+}
+
+const POWERFUL: [Entry; 5] = [
+    sample!(0, speed: 9000, power: 400),
+    sample!(1, speed: 8000, power: 101),
+    Entry::Lap(T + 1),
+    sample!(2, speed: 7000, power: 100),
+    Entry::Pause(T + 4),
+];
+
+// The greatest speed, the average power and the greatest power.
+fn speed_and_power(stretch: &Stretch) -> (Option<u16>, Option<u16>, Option<u16>) {
+    (
+        stretch.greatest_speed,
+        stretch.average_power,
+        stretch.greatest_power,
+    )
 }
 
 // The greatest speed and power are in the first lap. Averages are rounded down.
 #[test]
 fn adds_up_speed_and_power(rt: HostRuntime) {
-    let entries = [
-        Entry::Sample(Sample {
-            speed: Some(9000),
-            power: Some(400),
-            ..Sample::new(T)
-        }),
-        Entry::Sample(Sample {
-            speed: Some(8000),
-            power: Some(101),
-            ..Sample::new(T + 1)
-        }),
-        Entry::Lap(T + 1),
-        Entry::Sample(Sample {
-            speed: Some(7000),
-            power: Some(100),
-            ..Sample::new(T + 2)
-        }),
-        Entry::Pause(T + 4),
-    ];
-    let totals = ride(&rt, &entries);
-    let session = totals.session().stretch;
-    equal(&rt, session.greatest_speed, Some(9000));
-    equal(
-        &rt,
-        (session.average_power, session.greatest_power),
-        (Some(200), Some(400)),
-    );
-    let lap = totals.lap().stretch;
-    equal(&rt, lap.greatest_speed, Some(7000));
-    equal(
-        &rt,
-        (lap.average_power, lap.greatest_power),
-        (Some(100), Some(100)),
-    );
+    let totals = ride(&rt, &POWERFUL);
+    let whole = speed_and_power(&totals.session().stretch);
+    equal(&rt, whole, (Some(9000), Some(200), Some(400)));
+    let lap = speed_and_power(&totals.lap().stretch);
+    equal(&rt, lap, (Some(7000), Some(100), Some(100)));
     assert!(rt; !totals.running());
-}
-
-// A sample with these two speeds.
-fn with_speeds(time: u32, speed: Option<u16>, enhanced_speed: Option<u32>) -> Entry {
-    Entry::Sample(Sample {
-        speed,
-        enhanced_speed,
-        ..Sample::new(time)
-    })
 }
 
 // The greatest speed of the open lap of a ride, and of the whole ride.
@@ -203,77 +236,101 @@ fn greatest_speeds(rt: &impl Abort, entries: &[Entry]) -> (Option<u16>, Option<u
     (lap, totals.session().stretch.greatest_speed)
 }
 
+// A ride, the greatest speed of its open lap, and that of the whole ride.
+type Speeds<'a> = (&'a [Entry], (Option<u16>, Option<u16>));
+
+fn check_greatest(rt: &impl Abort, rows: &[Speeds<'_>]) {
+    for (entries, wanted) in rows {
+        assert!(rt; entries.len() < 1000);
+        let reported = greatest_speeds(rt, *entries);
+        equal(rt, (*entries, reported), (*entries, *wanted));
+    }
+}
+
+const GREATER: [Speeds<'static>; 7] = [
+    (
+        &[
+            sample!(0, speed: 5000, enhanced_speed: 6000),
+            sample!(1, speed: 5500),
+            Entry::Stop(T + 1),
+        ],
+        (Some(6000), Some(6000)),
+    ),
+    (
+        &[
+            sample!(0, speed: 5000, enhanced_speed: 6000),
+            sample!(1, speed: 5500, enhanced_speed: 70_000),
+            Entry::Stop(T + 1),
+        ],
+        (None, None),
+    ),
+    (
+        &[sample!(0, enhanced_speed: 65_534)],
+        (Some(65_534), Some(65_534)),
+    ),
+    (
+        &[sample!(0, speed: 6000, enhanced_speed: 5000)],
+        (Some(6000), Some(6000)),
+    ),
+    (
+        &[sample!(0, speed: 6000, enhanced_speed: 6000)],
+        (Some(6000), Some(6000)),
+    ),
+    (&[sample!(0, enhanced_speed: 0)], (Some(0), Some(0))),
+    (&[sample!(0, distance: 5)], (None, None)),
+];
+
 // The speed of a sample is the greater of its two speeds, or the only one that it has.
 #[test]
 fn takes_the_greater_speed(rt: HostRuntime) {
-    let first = with_speeds(T, Some(5000), Some(6000));
-    let second = with_speeds(T + 1, Some(5500), None);
-    equal(
-        &rt,
-        greatest_speeds(&rt, &[first, second, Entry::Stop(T + 1)]),
-        (Some(6000), Some(6000)),
-    );
-    let second = with_speeds(T + 1, Some(5500), Some(70_000));
-    equal(
-        &rt,
-        greatest_speeds(&rt, &[first, second, Entry::Stop(T + 1)]),
-        (None, None),
-    );
-    let alone = [with_speeds(T, None, Some(65_534))];
-    equal(
-        &rt,
-        greatest_speeds(&rt, &alone),
-        (Some(65_534), Some(65_534)),
-    );
-    let turned = [with_speeds(T, Some(6000), Some(5000))];
-    equal(&rt, greatest_speeds(&rt, &turned), (Some(6000), Some(6000)));
-    let same = [with_speeds(T, Some(6000), Some(6000))];
-    equal(&rt, greatest_speeds(&rt, &same), (Some(6000), Some(6000)));
-    let zero = [with_speeds(T, None, Some(0))];
-    equal(&rt, greatest_speeds(&rt, &zero), (Some(0), Some(0)));
-    equal(
-        &rt,
-        greatest_speeds(&rt, &[with_distance(T, 5)]),
-        (None, None),
-    );
+    check_greatest(&rt, &GREATER);
 }
 
-// A lap whose greatest speed is more than its field holds, and a lap whose greatest speed is not.
+// A lap whose greatest speed is more than its field holds, alone and before a lap whose greatest speed is not. Then speeds above that,
+// which give none, however great: only 0xFFFF_FFFF, the invalid value, is refused.
+const TOO_GREAT: [Speeds<'static>; 4] = [
+    (
+        &[sample!(0, speed: 65_534, enhanced_speed: 65_535)],
+        (None, None),
+    ),
+    (
+        &[
+            sample!(0, speed: 65_534, enhanced_speed: 65_535),
+            Entry::Lap(T + 1),
+            sample!(1, speed: 300, enhanced_speed: 65_533),
+        ],
+        (Some(65_533), None),
+    ),
+    (
+        &[sample!(0, speed: 1, enhanced_speed: 0xFFFF_FFFE)],
+        (None, None),
+    ),
+    (&[sample!(0, enhanced_speed: 65_536 + 7)], (None, None)),
+];
+
 #[test]
 fn reports_no_greatest_speed_above_65534(rt: HostRuntime) {
-    let entries = [
-        with_speeds(T, Some(65_534), Some(65_535)),
-        Entry::Lap(T + 1),
-        with_speeds(T + 1, Some(300), Some(65_533)),
-    ];
-    equal(&rt, greatest_speeds(&rt, &entries[..1]), (None, None));
-    equal(&rt, greatest_speeds(&rt, &entries), (Some(65_533), None));
-
-    // A speed above that gives none, however great. Only 0xFFFF_FFFF, the invalid value, is refused.
-    let far = [with_speeds(T, Some(1), Some(0xFFFF_FFFE))];
-    equal(&rt, greatest_speeds(&rt, &far), (None, None));
-    let wrapped = [with_speeds(T, None, Some(65_536 + 7))];
-    equal(&rt, greatest_speeds(&rt, &wrapped), (None, None));
+    check_greatest(&rt, &TOO_GREAT);
 }
+
+const WITH_SPEEDS: [Way<'static>; 2] = [
+    (
+        &[
+            sample!(0, distance: 0, enhanced_speed: 9000),
+            sample!(10, distance: 12345, enhanced_speed: 70_000),
+        ],
+        (Some(12345), Some(12345)),
+    ),
+    (
+        &[sample!(1, speed: 5000, enhanced_speed: 6000)],
+        (None, None),
+    ),
+];
 
 // Average speeds are computed from distances, whatever the speeds are.
 #[test]
 fn averages_no_speeds(rt: HostRuntime) {
-    let sample = |time, distance, enhanced_speed| {
-        Entry::Sample(Sample {
-            distance: Some(distance),
-            enhanced_speed: Some(enhanced_speed),
-            ..Sample::new(time)
-        })
-    };
-    let entries = [sample(T, 0, 9000), sample(T + 10, 12345, 70_000)];
-    equal(
-        &rt,
-        distance_and_speed(&rt, &entries),
-        (Some(12345), Some(12345)),
-    );
-    let standing = [with_speeds(T + 1, Some(5000), Some(6000))];
-    equal(&rt, distance_and_speed(&rt, &standing), (None, None));
+    check_ways(&rt, &WITH_SPEEDS);
 }
 
 #[test]

@@ -1,4 +1,4 @@
--- The result for an input that was read to its end: for `show_input`, `show_json_input` and `check_input`.
+-- The result for an input that was read to its end: for `show_input` and `check_input`, and for crates above.
 use Rattle.std.proofs.Common.{◌≡◌, ℕ, List, Option, Result, Ok, Err, subst}
 use Rattle.std.specs.Prelude.{IfErr}
 use Rattle.fit_grammar.specs.Calls.Output.{WritesText}

@@ -27,3 +27,14 @@ ChecksBytes old new bytes (Err faults.Output) =
     × (activity_in (messages_of v.items) ≡ Ok summary)
     × AppendsBeginning old new (summary_text summary ++ codes "\n")
 ChecksBytes old new bytes (Err fault) = ⊥
+
+-- the summary of a file that is an activity, or why it is none
+abbrev pub SumsUpFile : FileValue → Result Summary ReportFault → Type 0
+SumsUpFile v (Ok summary) = activity_in (messages_of v.items) ≡ Ok summary
+SumsUpFile v (Err (faults.Activity fault)) = activity_in (messages_of v.items) ≡ Err fault
+SumsUpFile v (Err fault) = ⊥
+
+-- the same for bytes
+abbrev pub SumsUp : List ℕ → Result Summary ReportFault → Type 0
+SumsUp bytes (Err (faults.File fault)) = IsFaultOf bytes fault
+SumsUp bytes result = (v : FileValue) × FileOf bytes v × SumsUpFile v result

@@ -1,14 +1,12 @@
 -- The result of showing bytes.
-use Rattle.std.specs.Prelude.{◌≡◌, ℕ, Bool, true, false, List, Option, Result, Ok, Err}
+use Rattle.std.specs.Prelude.{◌≡◌, ℕ, Bool, List, Option, Result, Ok, Err}
 use Rattle.std.specs.Io.KnownBytes.{Appends}
 use Rattle.fit_grammar.specs.Calls.Output.{AppendsBeginning}
 use Rattle.fit_grammar.specs.Format.File.{FileValue, FileOf}
 use Rattle.fit_grammar.specs.Format.Refusal.{IsFaultOf}
 use Rattle.fit_files.specs.declared.fault.ReportFault.{ReportFault}
 use Rattle.fit_files.specs.declared.fault.ReportFault.TheVariants as faults
-use Rattle.fit_text.specs.Json.{json_of}
 use Rattle.fit_text.specs.Text.{text_of}
-use Rattle.fit_table.specs.Json.{profile_json_of}
 
 -- the one fault of an output
 abbrev pub IsOutputFault : ReportFault → Type 0
@@ -28,13 +26,3 @@ ShowsBy text old new bytes (Err fault) =
 abbrev pub ShowsBytes : {T : Type 0} → Bool → Option (List ℕ) → Option (List ℕ) → List ℕ
     → Result T ReportFault → Type 0
 ShowsBytes utc old new bytes result = ShowsBy (text_of utc) old new bytes result
-
--- the JSON of a file, by the Profile or not
-abbrev pub json_by : (profile utc : Bool) → FileValue → List ℕ
-json_by false utc v = json_of utc v
-json_by true utc v = profile_json_of utc v
-
--- the same for the JSON
-abbrev pub ShowsJson : {T : Type 0} → (profile utc : Bool) → Option (List ℕ) → Option (List ℕ)
-    → List ℕ → Result T ReportFault → Type 0
-ShowsJson profile utc old new bytes result = ShowsBy (json_by profile utc) old new bytes result

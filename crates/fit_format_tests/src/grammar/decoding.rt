@@ -2,8 +2,9 @@
 // program, bit by bit.
 
 use crate::equality::equal;
+use crate::grammar::pieces::written;
 use crate::known_files::{EMPTY, FILE_ID};
-use fit_grammar::{FaultKind, FileFault, decode_file, encode_file};
+use fit_grammar::{FaultKind, FileFault, decode_file};
 use std::alloc::{AllocError, Global};
 use std::test::*;
 
@@ -34,7 +35,8 @@ pub(crate) fn outcome(alloc: Global, bytes: &[u8]) -> Option<(FaultKind, usize)>
     }
 }
 
-fn edited(alloc: Global, edits: &[(usize, u8)]) -> Result<Vec<u8>, AllocError> {
+// The file with these bytes at these places.
+pub(crate) fn edited(alloc: Global, edits: &[(usize, u8)]) -> Result<Vec<u8>, AllocError> {
     let mut bytes = FILE_ID.to_vec(alloc)?;
     for (at, byte) in edits {
         if let Some(cell) = bytes.get_mut(*at) {
@@ -53,15 +55,18 @@ pub(crate) fn after_header(alloc: Global, size: u8, records: &[u8]) -> Result<Ve
     Ok(bytes)
 }
 
+// Files, each with the size of its data.
+const FILES: [(&'static [u8], u32); 5] = [
+    (&EMPTY, 0),
+    (&SHORT_HEADER, 0),
+    (&FILE_ID, 18),
+    (&REDEFINED, 23),
+    (&COMPRESSED, 37),
+];
+
 #[test]
 fn files_are_read(rt: HostRuntime) -> Result<(), FileFault> {
-    for (bytes, size) in [
-        (EMPTY.as_slice(), 0),
-        (SHORT_HEADER.as_slice(), 0),
-        (FILE_ID.as_slice(), 18),
-        (REDEFINED.as_slice(), 23),
-        (COMPRESSED.as_slice(), 37),
-    ] {
+    for (bytes, size) in FILES {
         let file = decode_file(rt.alloc(), bytes)?;
         equal(&rt, file.data_size(), size);
     }
@@ -70,17 +75,9 @@ fn files_are_read(rt: HostRuntime) -> Result<(), FileFault> {
 
 #[test]
 fn what_is_read_is_written_again(rt: HostRuntime) -> Result<(), Fail> {
-    for bytes in [
-        EMPTY.as_slice(),
-        SHORT_HEADER.as_slice(),
-        FILE_ID.as_slice(),
-        REDEFINED.as_slice(),
-        COMPRESSED.as_slice(),
-    ] {
+    for (bytes, _) in FILES {
         let file = decode_file(rt.alloc(), bytes)?;
-        let mut written = Vec::new(rt.alloc());
-        encode_file(&file, &mut written)?;
-        equal(&rt, written.as_slice(), bytes);
+        equal(&rt, written(rt.alloc(), &file)?.as_slice(), bytes);
     }
     Ok(())
 }
@@ -93,26 +90,32 @@ fn a_beginning_is_cut_short(rt: HostRuntime) {
     }
 }
 
+// A byte of a file, what stands there instead, and why the file is refused.
+const WRONG: [((usize, u8), (FaultKind, usize)); 3] = [
+    ((27, 0x05), (FaultKind::FileCrc, 32)),
+    ((12, 0xA0), (FaultKind::HeaderCrc, 12)),
+    ((9, 0x00), (FaultKind::Magic, 8)),
+];
+
+// A file with one byte more.
+pub(crate) fn longer(alloc: Global) -> Result<Vec<u8>, AllocError> {
+    let mut bytes = FILE_ID.to_vec(alloc)?;
+    bytes.push(0)?;
+    Ok(bytes)
+}
+
 #[test]
 fn one_byte_is_wrong(rt: HostRuntime) -> Result<(), AllocError> {
-    let alloc = rt.alloc();
-    let crc = edited(alloc, &[(27, 0x05)])?;
-    equal(&rt, outcome(alloc, &crc), Some((FaultKind::FileCrc, 32)));
-    let header = edited(alloc, &[(12, 0xA0)])?;
-    equal(
-        &rt,
-        outcome(alloc, &header),
-        Some((FaultKind::HeaderCrc, 12)),
-    );
-    let magic = edited(alloc, &[(9, 0x00)])?;
-    equal(&rt, outcome(alloc, &magic), Some((FaultKind::Magic, 8)));
-    let mut longer = edited(alloc, &[])?;
-    longer.push(0)?;
-    equal(
-        &rt,
-        outcome(alloc, &longer),
-        Some((FaultKind::TrailingBytes, 34)),
-    );
+    for (edit, fault) in WRONG {
+        let bytes = edited(rt.alloc(), &[edit])?;
+        equal(
+            &rt,
+            (edit, outcome(rt.alloc(), &bytes)),
+            (edit, Some(fault)),
+        );
+    }
+    let fault = outcome(rt.alloc(), &longer(rt.alloc())?);
+    equal(&rt, fault, Some((FaultKind::TrailingBytes, 34)));
     Ok(())
 }
 
@@ -126,68 +129,52 @@ fn a_header_without_its_checksum(rt: HostRuntime) -> Result<(), AllocError> {
     Ok(())
 }
 
+// The size of the data, the bytes after the header, and why they are refused.
+const RECORDS: [(u8, &[u8], (FaultKind, usize)); 6] = [
+    (1, &[0x05, 0x00, 0x00], (FaultKind::UndefinedLocal(5), 12)),
+    (1, &[0x40], (FaultKind::SplitMessage, 12)),
+    (9, &[0x40], (FaultKind::Truncated, 13)),
+    (7, &[0x60], (FaultKind::Truncated, 13)),
+    (8, &[0x40, 0, 0, 0, 0, 1], (FaultKind::SplitMessage, 12)),
+    (9, &[0x40, 0, 0, 0, 0, 1], (FaultKind::Truncated, 18)),
+];
+
+// The beginnings of headers, and why they are refused.
+const HEADERS: [(&[u8], (FaultKind, usize)); 3] = [
+    (&[], (FaultKind::Truncated, 0)),
+    (&[0x0D], (FaultKind::HeaderSize, 0)),
+    (&[0x0E, 0x30], (FaultKind::Protocol, 1)),
+];
+
 #[test]
 fn refused_at_the_first_byte_that_shows_it(rt: HostRuntime) -> Result<(), AllocError> {
-    let alloc = rt.alloc();
-    equal(&rt, outcome(alloc, &[]), Some((FaultKind::Truncated, 0)));
-    equal(
-        &rt,
-        outcome(alloc, &[0x0D]),
-        Some((FaultKind::HeaderSize, 0)),
-    );
-    equal(
-        &rt,
-        outcome(alloc, &[0x0E, 0x30]),
-        Some((FaultKind::Protocol, 1)),
-    );
-    for (size, records, kind, place) in [
-        (
-            1,
-            [0x05, 0x00, 0x00].as_slice(),
-            FaultKind::UndefinedLocal(5),
-            12,
-        ),
-        (1, [0x40].as_slice(), FaultKind::SplitMessage, 12),
-        (9, [0x40].as_slice(), FaultKind::Truncated, 13),
-        (7, [0x60].as_slice(), FaultKind::Truncated, 13),
-        (
-            8,
-            [0x40, 0, 0, 0, 0, 1].as_slice(),
-            FaultKind::SplitMessage,
-            12,
-        ),
-        (
-            9,
-            [0x40, 0, 0, 0, 0, 1].as_slice(),
-            FaultKind::Truncated,
-            18,
-        ),
-    ] {
-        let bytes = after_header(alloc, size, records)?;
-        equal(&rt, outcome(alloc, &bytes), Some((kind, place)));
+    for (bytes, fault) in HEADERS {
+        let reported = outcome(rt.alloc(), bytes);
+        equal(&rt, (bytes, reported), (bytes, Some(fault)));
+    }
+    for (size, records, fault) in RECORDS {
+        let bytes = after_header(rt.alloc(), size, records)?;
+        let reported = outcome(rt.alloc(), &bytes);
+        equal(&rt, (records, size, reported), (records, size, Some(fault)));
     }
     Ok(())
 }
+
+// A header that promises much.
+pub(crate) const PROMISED: [u8; 12] = [
+    0x0C, 0x10, 0x64, 0x00, 0xFF, 0xFF, 0xFF, 0xFF, 0x2E, 0x46, 0x49, 0x54,
+];
 
 // Run with each allocation refused in turn: the fault is at the item that needed it. A header that promises much
 // makes no request.
 #[test]
 fn reports_which_item_wants_memory(rt: HostRuntime) {
     for _ in 0..8 {
-        match outcome(rt.alloc(), &FILE_ID) {
-            None => {}
-            Some((kind, place)) => {
-                equal(&rt, kind, FaultKind::Memory);
-                assert!(rt; place == 14 || place == 26, "{place}");
-            }
+        if let Some((kind, place)) = outcome(rt.alloc(), &FILE_ID) {
+            equal(&rt, kind, FaultKind::Memory);
+            assert!(rt; place == 14 || place == 26, "{place}");
         }
-        let promised = [
-            0x0C, 0x10, 0x64, 0x00, 0xFF, 0xFF, 0xFF, 0xFF, 0x2E, 0x46, 0x49, 0x54,
-        ];
-        equal(
-            &rt,
-            outcome(rt.alloc(), &promised),
-            Some((FaultKind::Truncated, 12)),
-        );
+        let fault = outcome(rt.alloc(), &PROMISED);
+        equal(&rt, fault, Some((FaultKind::Truncated, 12)));
     }
 }

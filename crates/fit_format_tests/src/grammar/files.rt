@@ -54,16 +54,14 @@ fn is_written(alloc: Global, file: &File, bytes: &[u8]) -> bool {
     encode_file(file, &mut out).is_ok() && out.written() == bytes
 }
 
-#[test]
-fn the_example_of_the_crate(rt: HostRuntime) -> Result<(), Fail> {
-    let alloc = rt.alloc();
+// A file with a record of one field.
+fn example(alloc: Global) -> Result<File, PutFault> {
     let mut fields = ArrayVec::new();
     fields.push(FieldDefinition {
         number: 3,
         size: 1,
         base: 0x02,
     });
-    let mut bytes = Vec::new(alloc);
     let frame = Frame {
         header_size: 14,
         protocol: 0x10,
@@ -78,23 +76,38 @@ fn the_example_of_the_crate(rt: HostRuntime) -> Result<(), Fail> {
         developer: ArrayVec::new(),
     })?;
     file.data(0, None, &[100])?;
-    encode_file(&file, &mut bytes)?;
-    let read = decode_file(alloc, bytes.as_slice())?;
+    Ok(file)
+}
+
+#[test]
+fn the_example_of_the_crate(rt: HostRuntime) -> Result<(), Fail> {
+    let mut bytes = Vec::new(rt.alloc());
+    encode_file(&example(rt.alloc())?, &mut bytes)?;
+    let read = decode_file(rt.alloc(), bytes.as_slice())?;
     let message = read.messages().next().expect(&rt, "one message");
     equal(&rt, message.global(), 20);
     Ok(())
 }
 
+// A local number, an offset and content that a file refuses, and why.
+const REFUSED: [(u8, Option<u8>, &'static [u8], PutFault); 3] = [
+    (5, None, &[0], PutFault::UndefinedLocal),
+    (0, None, &[4], PutFault::Length),
+    (0, Some(32), &CONTENT, PutFault::Length),
+];
+
 #[test]
 fn writes_a_file(rt: HostRuntime) -> Result<(), PutFault> {
     let mut file = small_file(rt.alloc())?;
     assert!(rt; is_written(rt.alloc(), &file, &FILE_ID));
-    equal(&rt, file.data(5, None, &[0]), Err(PutFault::UndefinedLocal));
-    assert!(rt; is_written(rt.alloc(), &file, &FILE_ID));
-    equal(&rt, file.data(0, None, &[4]), Err(PutFault::Length));
-    assert!(rt; is_written(rt.alloc(), &file, &FILE_ID));
-    equal(&rt, file.data(0, Some(32), &CONTENT), Err(PutFault::Length));
-    assert!(rt; is_written(rt.alloc(), &file, &FILE_ID));
+    for (local, offset, content, fault) in REFUSED {
+        let answer = file.data(local, offset, content);
+        equal(&rt, (local, offset, answer), (local, offset, Err(fault)));
+        assert!(rt;
+            is_written(rt.alloc(), &file, &FILE_ID),
+            "{local} {offset:?}"
+        );
+    }
     Ok(())
 }
 
@@ -109,20 +122,19 @@ fn offsets_need_a_low_local_number(rt: HostRuntime) -> Result<(), Fail> {
     Ok(())
 }
 
+// file_id has no field 253, and the offset counts from 0
+const TIMES: [Option<u32>; 2] = [None, Some(3)];
+
 #[test]
 fn lends_messages_with_their_times(rt: HostRuntime) -> Result<(), PutFault> {
     let mut file = small_file(rt.alloc())?;
     file.data(0, Some(3), &CONTENT)?;
-    let mut times = [None; 2];
-    let mut count = 0;
+    let mut count = 0usize;
     for message in file.messages() {
-        assert!(rt; count < 2);
-        times[count] = message.time();
-        count += 1;
+        equal(&rt, Some(message.time()), TIMES.get(count).copied());
+        count = count.saturating_add(1);
     }
     equal(&rt, count, 2);
-    // file_id has no field 253, and the offset counts from 0
-    equal(&rt, times, [None, Some(3)]);
     Ok(())
 }
 

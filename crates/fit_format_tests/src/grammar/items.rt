@@ -6,10 +6,52 @@ use fit_grammar::*;
 use std::process::Abort;
 use std::test::*;
 
+// What a message has to state: its global number, its time, its fields (number, base type and value, one value each), and its
+// developer fields (index, number and bytes).
+#[derive(Drop)]
+pub(super) struct Stated<'a> {
+    pub(super) global: u16,
+    pub(super) time: Option<u32>,
+    pub(super) fields: &'a [(u8, u8, u64)],
+    pub(super) developer: &'a [(u8, u8, &'a [u8])],
+}
+
+// The bytes of a definition; or those of a message, with the time before it and what it has to state.
+#[derive(Drop)]
+pub(super) enum Read<'a> {
+    Definition(&'a [u8]),
+    Message(&'a [u8], u32, Stated<'a>),
+}
+
+// Reads these items, one after the other.
+pub(super) fn read_items(rt: &impl Abort, items: &[Read<'_>]) {
+    let mut table = Table::new();
+    for item in items {
+        match item {
+            Read::Definition(bytes) => define(rt, *bytes, &mut table),
+            Read::Message(bytes, before, stated) => {
+                let message = read_message(rt, *bytes, &table, *before);
+                assert_stated(rt, &message, stated);
+            }
+        }
+    }
+}
+
+fn assert_stated(rt: &impl Abort, message: &Message, stated: &Stated<'_>) {
+    equal(rt, message.global(), stated.global);
+    equal(rt, message.time(), stated.time);
+    assert_fields(rt, message, stated.fields);
+    assert_developer(rt, message, stated.developer);
+}
+
+fn needs_more(window: &[u8], table: &Table) -> bool {
+    matches!(next_item(window, table), Step::NeedMore)
+}
+
 // Asserts that each shorter window needs more bytes.
-pub(super) fn assert_begun(rt: &impl Abort, bytes: &[u8], table: &Table) {
+fn assert_begun(rt: &impl Abort, bytes: &[u8], table: &Table) {
     for count in 0..bytes.len() {
-        assert!(rt; matches!(next_item(&bytes[..count], table), Step::NeedMore));
+        assert!(rt; needs_more(&bytes[..count], table), "{bytes:?} {count}");
     }
 }
 
@@ -30,7 +72,7 @@ pub(super) fn define(rt: &impl Abort, bytes: &[u8], table: &mut Table) {
 }
 
 // Reads these bytes as a message.
-pub(super) fn read_message<'a>(
+fn read_message<'a>(
     rt: &impl Abort,
     bytes: &'a [u8],
     table: &'a Table,
@@ -46,76 +88,119 @@ pub(super) fn read_message<'a>(
     }
 }
 
+// The number, the base type and the value of a field of one value.
+fn row_of(field: &Field<'_>) -> Option<(u8, u8, u64)> {
+    let value = &field.value;
+    if value.count() == 1 {
+        Some((field.number, value.base(), value.unsigned(0)))
+    } else {
+        None
+    }
+}
+
 // Asserts that the fields have these numbers, base types and values, one value each.
-pub(super) fn assert_fields(rt: &impl Abort, message: &Message, rows: &[(u8, u8, u64)]) {
-    let mut seen = 0;
+fn assert_fields(rt: &impl Abort, message: &Message, rows: &[(u8, u8, u64)]) {
+    let mut seen = 0usize;
     for field in message.fields() {
-        assert!(rt; seen < rows.len());
-        let (number, base, value) = rows[seen];
-        equal(rt, field.number, number);
-        equal(rt, field.value.base(), base);
-        assert_eq!(rt; field.value.count(), 1);
-        equal(rt, field.value.unsigned(0), value);
-        seen += 1;
+        let row = row_of(&field).expect(rt, "one value");
+        equal(rt, Some(row), rows.get(seen).copied());
+        seen = seen.saturating_add(1);
     }
     equal(rt, seen, rows.len());
 }
 
+// Asserts that the developer fields have these indexes, numbers and bytes.
+fn assert_developer(rt: &impl Abort, message: &Message, rows: &[(u8, u8, &[u8])]) {
+    let mut seen = 0usize;
+    for field in message.developer_fields() {
+        let row = (field.index, field.number, field.bytes);
+        equal(rt, Some(row), rows.get(seen).copied());
+        seen = seen.saturating_add(1);
+    }
+    equal(rt, seen, rows.len());
+}
+
+const REDEFINED: [Read<'static>; 4] = [
+    Read::Definition(&[0x40, 0x00, 0x00, 0x14, 0x00, 0x01, 0x03, 0x01, 0x02]),
+    Read::Message(
+        &[0x00, 0x64],
+        0,
+        Stated {
+            global: 20,
+            time: None,
+            fields: &[(3, 0x02, 100)],
+            developer: &[],
+        },
+    ),
+    Read::Definition(&[0x40, 0x00, 0x00, 0x14, 0x00, 0x01, 0x07, 0x02, 0x84]),
+    Read::Message(
+        &[0x00, 0xC8, 0x00],
+        0,
+        Stated {
+            global: 20,
+            time: None,
+            fields: &[(7, 0x84, 200)],
+            developer: &[],
+        },
+    ),
+];
+
 #[test]
 fn a_second_definition_of_a_local_number(rt: HostRuntime) {
-    let mut table = Table::new();
-    define(
-        &rt,
-        &[0x40, 0x00, 0x00, 0x14, 0x00, 0x01, 0x03, 0x01, 0x02],
-        &mut table,
-    );
-    let first = read_message(&rt, &[0x00, 0x64], &table, 0);
-    equal(&rt, first.global(), 20);
-    equal(&rt, first.time(), None);
-    assert_fields(&rt, &first, &[(3, 0x02, 100)]);
-    define(
-        &rt,
-        &[0x40, 0x00, 0x00, 0x14, 0x00, 0x01, 0x07, 0x02, 0x84],
-        &mut table,
-    );
-    let second = read_message(&rt, &[0x00, 0xC8, 0x00], &table, 0);
-    assert_fields(&rt, &second, &[(7, 0x84, 200)]);
+    read_items(&rt, &REDEFINED);
 }
+
+// An event with a full time, then records with offsets 0, 31 and 0.
+const COMPRESSED: [Read<'static>; 6] = [
+    Read::Definition(&[
+        0x46, 0x00, 0x00, 0x15, 0x00, 0x03, 0xFD, 0x04, 0x86, 0x00, 0x01, 0x00, 0x01, 0x01, 0x00,
+    ]),
+    Read::Message(
+        &[0x06, 0x00, 0xCA, 0x9A, 0x3B, 0x00, 0x00],
+        0,
+        Stated {
+            global: 21,
+            time: Some(1_000_000_000),
+            fields: &[(253, 0x86, 1_000_000_000), (0, 0x00, 0), (1, 0x00, 0)],
+            developer: &[],
+        },
+    ),
+    Read::Definition(&[0x40, 0x00, 0x00, 0x14, 0x00, 0x01, 0x03, 0x01, 0x02]),
+    Read::Message(
+        &[0x80, 0x64],
+        1_000_000_000,
+        Stated {
+            global: 20,
+            time: Some(1_000_000_000),
+            fields: &[(253, 0x86, 1_000_000_000), (3, 0x02, 100)],
+            developer: &[],
+        },
+    ),
+    Read::Message(
+        &[0x9F, 0x65],
+        1_000_000_000,
+        Stated {
+            global: 20,
+            time: Some(1_000_000_031),
+            fields: &[(253, 0x86, 1_000_000_031), (3, 0x02, 101)],
+            developer: &[],
+        },
+    ),
+    Read::Message(
+        &[0x80, 0x66],
+        1_000_000_031,
+        Stated {
+            global: 20,
+            time: Some(1_000_000_032),
+            fields: &[(253, 0x86, 1_000_000_032), (3, 0x02, 102)],
+            developer: &[],
+        },
+    ),
+];
 
 #[test]
 fn compressed_timestamps(rt: HostRuntime) {
-    let mut table = Table::new();
-    define(
-        &rt,
-        &[
-            0x46, 0x00, 0x00, 0x15, 0x00, 0x03, 0xFD, 0x04, 0x86, 0x00, 0x01, 0x00, 0x01, 0x01,
-            0x00,
-        ],
-        &mut table,
-    );
-    let event = read_message(&rt, &[0x06, 0x00, 0xCA, 0x9A, 0x3B, 0x00, 0x00], &table, 0);
-    equal(&rt, event.global(), 21);
-    equal(&rt, event.time(), Some(1_000_000_000));
-    define(
-        &rt,
-        &[0x40, 0x00, 0x00, 0x14, 0x00, 0x01, 0x03, 0x01, 0x02],
-        &mut table,
-    );
-    let mut time = 1_000_000_000;
-    for (bytes, then, rate) in [
-        ([0x80, 0x64], 1_000_000_000, 100),
-        ([0x9F, 0x65], 1_000_000_031, 101),
-        ([0x80, 0x66], 1_000_000_032, 102),
-    ] {
-        let record = read_message(&rt, &bytes, &table, time);
-        equal(&rt, record.time(), Some(then));
-        assert_fields(
-            &rt,
-            &record,
-            &[(253, 0x86, u64::from(then)), (3, 0x02, rate)],
-        );
-        time = then;
-    }
+    read_items(&rt, &COMPRESSED);
 }
 
 #[test]
@@ -134,21 +219,25 @@ fn a_time_that_is_invalid_states_nothing(rt: HostRuntime) {
     equal(&rt, read_message(&rt, &bytes, &table, 9).time(), None);
 }
 
+// The number and the two values of a field.
+fn pair_of(field: &Field<'_>) -> Option<(u8, u64, u64)> {
+    let value = &field.value;
+    if value.count() == 2 {
+        Some((field.number, value.unsigned(0), value.unsigned(1)))
+    } else {
+        None
+    }
+}
+
 #[test]
 fn high_byte_first(rt: HostRuntime) {
     let mut table = Table::new();
-    define(
-        &rt,
-        &[0x40, 0x00, 0x01, 0x00, 0x14, 0x01, 0x63, 0x04, 0x84],
-        &mut table,
-    );
+    let definition = [0x40, 0x00, 0x01, 0x00, 0x14, 0x01, 0x63, 0x04, 0x84];
+    define(&rt, &definition, &mut table);
     let message = read_message(&rt, &[0x00, 0x00, 0x01, 0x00, 0x02], &table, 0);
     equal(&rt, message.global(), 20);
     for field in message.fields() {
-        equal(&rt, field.number, 99);
-        assert_eq!(rt; field.value.count(), 2);
-        equal(&rt, field.value.unsigned(0), 1);
-        equal(&rt, field.value.unsigned(1), 2);
+        equal(&rt, pair_of(&field), Some((99, 1, 2)));
     }
 }
 

@@ -3,7 +3,7 @@
 ghost use Rattle.std.specs.Prelude.{◌<◌};
 
 use crate::equality::equal;
-use crate::grammar::decoding::after_header;
+use crate::grammar::decoding::{PROMISED, after_header, edited, longer};
 use crate::grammar::sizes::{content_of, definition_of};
 use crate::known_files::{FILE_ID, empty_file};
 use fit_grammar::{Decoder, EncodeFault, FaultKind, File, FileFault, encode_file};
@@ -37,12 +37,25 @@ pub(super) fn written(alloc: Global, file: &File) -> Result<Vec<u8>, EncodeFault
     Ok(bytes)
 }
 
+// Asserts that the file is written as these bytes. It was cut at this place, or into pieces of this size.
+fn check_again(
+    rt: &impl Abort,
+    alloc: Global,
+    file: &File,
+    bytes: &[u8],
+    cut: usize,
+) -> Result<(), EncodeFault> {
+    let again = written(alloc, file)?;
+    assert!(rt; again.as_slice() == bytes, "{cut}");
+    Ok(())
+}
+
 // Asserts that the bytes, cut at this place, are a file that is written as they are.
 fn check_cut(rt: &impl Abort, alloc: Global, bytes: &[u8], cut: usize) -> Result<(), Fail> {
     let front = bytes.get(..cut).unwrap_or(&[]);
     let back = bytes.get(cut..).unwrap_or(&[]);
-    let again = written(alloc, &read_in_two(alloc, front, back)?)?;
-    assert!(rt; again.as_slice() == bytes, "{cut}");
+    let file = read_in_two(alloc, front, back)?;
+    check_again(rt, alloc, &file, bytes, cut)?;
     Ok(())
 }
 
@@ -50,8 +63,8 @@ fn check_cut(rt: &impl Abort, alloc: Global, bytes: &[u8], cut: usize) -> Result
 fn check_pieces(rt: &impl Abort, alloc: Global, bytes: &[u8], size: usize) -> Result<(), Fail>
     requires { 0 < size }
 {
-    let again = written(alloc, &read_in_pieces(alloc, bytes, size)?)?;
-    assert!(rt; again.as_slice() == bytes, "{size}");
+    let file = read_in_pieces(alloc, bytes, size)?;
+    check_again(rt, alloc, &file, bytes, size)?;
     Ok(())
 }
 
@@ -109,49 +122,65 @@ pub(super) fn check_shown_by_last(
     check_for_good(rt, decoder, Some(fault));
 }
 
+// The first so many bytes of a file, one of them with another value, and the fault that the last one shows.
+const BEGINNINGS: [(usize, (usize, u8), (FaultKind, usize)); 5] = [
+    (34, (27, 0x05), (FaultKind::FileCrc, 32)),
+    (1, (0, 0x0D), (FaultKind::HeaderSize, 0)),
+    (2, (1, 0x30), (FaultKind::Protocol, 1)),
+    (12, (9, 0x00), (FaultKind::Magic, 8)),
+    (14, (12, 0xA0), (FaultKind::HeaderCrc, 12)),
+];
+
 #[test]
 fn refused_with_the_byte_that_shows_it(rt: HostRuntime) -> Result<(), AllocError> {
     let alloc = rt.alloc();
-    let mut bytes = FILE_ID.to_vec(alloc)?;
-    bytes[27] = 0x05;
-    check_shown_by_last(&rt, alloc, &bytes, (FaultKind::FileCrc, 32));
-    let mut longer = FILE_ID.to_vec(alloc)?;
-    longer.push(0)?;
-    check_shown_by_last(&rt, alloc, &longer, (FaultKind::TrailingBytes, 34));
-    check_shown_by_last(&rt, alloc, &[0x0D], (FaultKind::HeaderSize, 0));
-    check_shown_by_last(&rt, alloc, &[0x0E, 0x30], (FaultKind::Protocol, 1));
-    let mut unmarked = FILE_ID.to_vec(alloc)?;
-    unmarked.truncate(12);
-    unmarked[9] = 0x00;
-    check_shown_by_last(&rt, alloc, &unmarked, (FaultKind::Magic, 8));
+    for (size, edit, fault) in BEGINNINGS {
+        let mut bytes = edited(alloc, &[edit])?;
+        bytes.truncate(size);
+        check_shown_by_last(&rt, alloc, &bytes, fault);
+    }
+    check_shown_by_last(&rt, alloc, &longer(alloc)?, (FaultKind::TrailingBytes, 34));
     let undefined = after_header(alloc, 1, &[0x05])?;
-    let fault = (FaultKind::UndefinedLocal(5), 12);
-    check_shown_by_last(&rt, alloc, &undefined, fault);
-    bytes.truncate(14);
-    bytes[12] = 0xA0;
-    check_shown_by_last(&rt, alloc, &bytes, (FaultKind::HeaderCrc, 12));
+    check_shown_by_last(&rt, alloc, &undefined, (FaultKind::UndefinedLocal(5), 12));
     Ok(())
 }
 
-// A definition of 255 fields and 255 developer fields and a message with 130,050 bytes of content, cut at one place or into pieces.
+// The bytes of a file with a definition of 255 fields and 255 developer fields and a message with 130,050 bytes of content.
+fn long_file(rt: &impl Abort, alloc: Global) -> Result<Vec<u8>, Fail> {
+    let mut file = empty_file(alloc);
+    file.define(&definition_of(rt, 130_050))?;
+    let content = content_of(alloc, 130_050)?;
+    file.data(3, Some(31), content.as_slice())?;
+    Ok(written(alloc, &file)?)
+}
+
+const CUTS: [usize; 14] = [
+    14, 15, 19, 20, 784, 785, 786, 1_550, 1_551, 1_552, 40_000, 131_601, 131_602, 131_603,
+];
+
+// Cut at one place or into pieces.
 #[test]
 fn long_items_are_cut(rt: HostRuntime) -> Result<(), Fail> {
-    let alloc = rt.alloc();
-    let mut file = empty_file(alloc);
-    file.define(&definition_of(&rt, 130_050))?;
-    file.data(3, Some(31), content_of(alloc, 130_050)?.as_slice())?;
-    let bytes = written(alloc, &file)?;
-    let bytes = bytes.as_slice();
-    assert_eq!(rt; bytes.len(), 131_604);
-    for cut in [
-        14, 15, 19, 20, 784, 785, 786, 1_550, 1_551, 1_552, 40_000, 131_601, 131_602, 131_603,
-    ] {
-        check_cut(&rt, alloc, bytes, cut)?;
+    let bytes = long_file(&rt, rt.alloc())?;
+    equal(&rt, bytes.len(), 131_604);
+    for cut in CUTS {
+        check_cut(&rt, rt.alloc(), bytes.as_slice(), cut)?;
     }
     for size in [1, 19, 650, 4_096, 65_536] {
-        check_pieces(&rt, alloc, bytes, size)?;
+        check_pieces(&rt, rt.alloc(), bytes.as_slice(), size)?;
     }
     Ok(())
+}
+
+// The fault of the first byte of a file that shows one, if the file is read byte by byte.
+fn first_fault(decoder: &mut Decoder) -> Option<(FaultKind, usize)> {
+    for byte in FILE_ID {
+        let fault = fault_of(decoder.feed(&[byte]));
+        if fault.is_some() {
+            return fault;
+        }
+    }
+    None
 }
 
 // Run with each allocation refused in turn: the fault is at the item that needed it, and stays.
@@ -159,12 +188,7 @@ fn long_items_are_cut(rt: HostRuntime) -> Result<(), Fail> {
 fn reports_for_good_which_item_wants_memory(rt: HostRuntime) {
     for _ in 0..8 {
         let mut decoder = Decoder::new(rt.alloc());
-        let mut fault = None;
-        for at in 0..FILE_ID.len() {
-            if fault.is_none() {
-                fault = fault_of(decoder.feed(&FILE_ID[at..at + 1]));
-            }
-        }
+        let fault = first_fault(&mut decoder);
         if let Some((kind, place)) = fault {
             equal(&rt, kind, FaultKind::Memory);
             assert!(rt; place == 14 || place == 26, "{place}");
@@ -176,11 +200,8 @@ fn reports_for_good_which_item_wants_memory(rt: HostRuntime) {
 // Run with the first request for memory refused: no request is made.
 #[test]
 fn a_promise_of_much_takes_no_memory(rt: HostRuntime) {
-    let promised = [
-        0x0C, 0x10, 0x64, 0x00, 0xFF, 0xFF, 0xFF, 0xFF, 0x2E, 0x46, 0x49, 0x54,
-    ];
     for size in 1..13 {
-        let answer = read_in_pieces(rt.alloc(), &promised, size);
+        let answer = read_in_pieces(rt.alloc(), &PROMISED, size);
         equal(&rt, fault_of(answer), Some((FaultKind::Truncated, 12)));
     }
 }

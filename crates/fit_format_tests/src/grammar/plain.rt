@@ -1,15 +1,17 @@
 // Files with each compressed timestamp written out. The bytes are from outside.
 
 use crate::equality::equal;
+use crate::grammar::pieces::written;
 use crate::slow::Slow;
 use arrayvec::ArrayVec;
 use fit_base::{Arch, Crc};
 use fit_grammar::{
-    Decoder, Definition, DeveloperFieldDefinition, FaultKind, FieldDefinition, File, FileFault,
-    Frame, LentFile, Places, PlainFault, PlainFaultKind, encode_file, plain_file,
+    Decoder, Definition, DeveloperFieldDefinition, EncodeFault, FaultKind, FieldDefinition, File,
+    FileFault, Frame, LentFile, Places, PlainFault, PlainFaultKind, plain_file,
     write_plain_records,
 };
-use std::alloc::Global;
+use std::alloc::{AllocError, Global};
+use std::process::Abort;
 use std::test::Fail;
 
 // A message with a full time, and two messages of another local number with offsets 30 and 1.
@@ -53,41 +55,45 @@ fn made(alloc: Global, bytes: &[u8]) -> Option<Result<File, PlainFault>> {
     }
 }
 
+// Files, and the same messages with their times written out.
+const FILES: [(&'static [u8], &'static [u8]); 3] = [
+    (&COMPRESSED, &PLAIN),
+    (&PLAIN, &PLAIN),
+    (&DEVELOPER, &PLAIN_DEVELOPER),
+];
+
 #[test]
-fn times_are_written_out(rt: HostRuntime) -> Result<(), Fail> {
-    for (bytes, wanted) in [
-        (COMPRESSED.as_slice(), PLAIN.as_slice()),
-        (PLAIN.as_slice(), PLAIN.as_slice()),
-        (DEVELOPER.as_slice(), PLAIN_DEVELOPER.as_slice()),
-    ] {
-        match made(rt.alloc(), bytes) {
-            Some(Ok(plain)) => {
-                let mut out = Slow::new(rt.alloc(), 128, 128);
-                encode_file(&plain, &mut out)?;
-                assert!(rt; out.written() == wanted);
-            }
-            _ => panic!(rt; "it has a plain form"),
-        }
+fn times_are_written_out(rt: HostRuntime) -> Result<(), EncodeFault> {
+    for (bytes, wanted) in FILES {
+        let plain = made(rt.alloc(), bytes).expect(&rt, "a file");
+        let plain = plain.ok().expect(&rt, "a plain form");
+        equal(&rt, written(rt.alloc(), &plain)?.as_slice(), wanted);
     }
     Ok(())
 }
 
-#[test]
-fn times_are_written_out_of_a_lent_file(rt: HostRuntime) -> Result<(), Fail> {
-    for (bytes, wanted) in [
-        (COMPRESSED.as_slice(), PLAIN.as_slice()),
-        (DEVELOPER.as_slice(), PLAIN_DEVELOPER.as_slice()),
-    ] {
-        let Ok(file) = LentFile::read(bytes) else {
-            panic!(rt; "it is a file");
-        };
-        let mut out = Slow::new(rt.alloc(), 128, 128);
-        write_plain_records(&file, &mut out)?;
-        assert!(rt; Some(out.written()) == wanted.get(14..wanted.len() - 2));
-    }
+// Asserts that the plain records of this file, without a header and checksums, are those of another.
+fn check_records(rt: &impl Abort, alloc: Global, bytes: &[u8], wanted: &[u8]) -> Result<(), Fail> {
+    let file = LentFile::read(bytes).ok().expect(rt, "a file");
+    let mut out = Slow::new(alloc, 128, 128);
+    write_plain_records(&file, &mut out)?;
+    let end = wanted.len().saturating_sub(2);
+    equal(rt, Some(out.written()), wanted.get(14..end));
+    Ok(())
+}
+
+// The plain form of the first file, with its last byte changed.
+fn with_wrong_checksum() -> [u8; 67] {
     let mut wrong = PLAIN;
     wrong[66] = 0;
-    let refused = LentFile::read(&wrong).err();
+    wrong
+}
+
+#[test]
+fn times_are_written_out_of_a_lent_file(rt: HostRuntime) -> Result<(), Fail> {
+    check_records(&rt, rt.alloc(), &COMPRESSED, &PLAIN)?;
+    check_records(&rt, rt.alloc(), &DEVELOPER, &PLAIN_DEVELOPER)?;
+    let refused = LentFile::read(&with_wrong_checksum()).err();
     let fault = FileFault {
         kind: FaultKind::FileCrc,
         place: 65,
@@ -148,29 +154,34 @@ fn a_definition_of_256_fields_is_too_long(rt: HostRuntime) {
     equal(&rt, fault.code(), 1);
 }
 
-// A definition that announces developer fields and has none, in 7 bytes from 14 on; then one of 255 fields in 771 bytes; and at 792 a
-// message with an offset. The first is written in 6 bytes, so the message would be written at 791.
-#[test]
-fn the_place_is_that_of_the_bytes_that_were_read(rt: HostRuntime) -> Result<(), Fail> {
-    let mut bytes = Vec::new(rt.alloc());
-    bytes.extend_from_slice(&[0x0E, 0x10, 0x64, 0x00, 0x0B, 0x03, 0x00, 0x00])?;
-    bytes.extend_from_slice(b".FIT\x00\x00")?;
-    bytes.extend_from_slice(&[0x61, 0x00, 0x00, 0x14, 0x00, 0x00, 0x00])?;
-    bytes.extend_from_slice(&[0x42, 0x00, 0x00, 0x14, 0x00, 0xFF])?;
+// A header of 14 bytes, a definition of 7 that announces developer fields and has none, and the front of one of 255 fields.
+const BEFORE: [u8; 27] = [
+    0x0E, 0x10, 0x64, 0x00, 0x0B, 0x03, 0x00, 0x00, 0x2E, 0x46, 0x49, 0x54, 0x00, 0x00, 0x61, 0x00,
+    0x00, 0x14, 0x00, 0x00, 0x00, 0x42, 0x00, 0x00, 0x14, 0x00, 0xFF,
+];
+
+// A file of those bytes, the 255 fields, and at 792 a message with an offset.
+fn announced(alloc: Global) -> Result<Vec<u8>, AllocError> {
+    let mut bytes = BEFORE.to_vec(alloc)?;
     for _ in 0..255 {
         bytes.extend_from_slice(&[0x03, 0x00, 0x02])?;
     }
     bytes.push(0xC5)?;
     let checksum = Crc::of(&bytes).to_le_bytes();
     bytes.extend_from_slice(&checksum)?;
+    Ok(bytes)
+}
+
+// The first definition is written in 6 bytes, so the message would be written at 791.
+#[test]
+fn the_place_is_that_of_the_bytes_that_were_read(rt: HostRuntime) -> Result<(), AllocError> {
+    let bytes = announced(rt.alloc())?;
+    let refused = made(rt.alloc(), &bytes).expect(&rt, "a file").err();
     let fault = PlainFault {
         kind: PlainFaultKind::TooLong,
         place: 792,
     };
-    match made(rt.alloc(), &bytes) {
-        Some(Err(reported)) => equal(&rt, reported, fault),
-        _ => panic!(rt; "it is a file, and too long"),
-    }
+    equal(&rt, refused, Some(fault));
     Ok(())
 }
 

@@ -7,7 +7,7 @@ use crate::slow::Slow;
 use fit_base::Arch;
 use fit_grammar::File;
 use fit_text::show_json;
-use std::alloc::Global;
+use std::alloc::{AllocError, Global};
 use std::process::Abort;
 use std::test::Fail;
 
@@ -16,6 +16,22 @@ fn json(alloc: Global, file: &File, utc: bool) -> Result<Vec<u8>, Fail> {
     let mut out = Vec::new(alloc);
     show_json(&file.lend(), utc, &mut out)?;
     Ok(out)
+}
+
+// The JSON of a file of one message with one field. The message is its global number and its name; the field has so many bytes, this
+// name and this value. The definition has nine bytes; the message has one byte and its field.
+fn whole(
+    alloc: Global,
+    message: (u16, &str),
+    length: usize,
+    key: &str,
+    value: &str,
+) -> Result<String, AllocError> {
+    let (global, name) = message;
+    let size = length.saturating_add(10);
+    format!(in alloc;
+        "{{\"header\":14,\"protocol\":\"1.0\",\"profile\":100,\"data\":{size}}}\n{{\"number\":0,\"message\":{global},\"name\":{name},\"fields\":{{\"{key}\":{value}}},\"developer\":[]}}\n{{\"messages\":1}}\n"
+    )
 }
 
 // Asserts that a field with these bytes has this value, in a file of one message. The message is its global number and its name;
@@ -29,116 +45,110 @@ fn check_written(
     bytes: &[u8],
     value: &str,
 ) -> Result<(), Fail> {
-    let (global, name) = message;
     let (number, key, base) = field;
     let fields = [(number, u8::try_from(bytes.len())?, base)];
     let items = [
-        Put::Definition(0, Arch::Little, global, &fields, &[]),
+        Put::Definition(0, Arch::Little, message.0, &fields, &[]),
         Put::Data(0, None, bytes),
     ];
     let out = json(alloc, &file_of(alloc, &items)?, utc)?;
-    // The definition has nine bytes; the message has one byte and its field.
-    let size = bytes.len().saturating_add(10);
-    let whole = format!(in alloc;
-        "{{\"header\":14,\"protocol\":\"1.0\",\"profile\":100,\"data\":{size}}}\n{{\"number\":0,\"message\":{global},\"name\":{name},\"fields\":{{\"{key}\":{value}}},\"developer\":[]}}\n{{\"messages\":1}}\n"
-    )?;
-    equal(rt, out.as_slice(), whole.as_bytes());
+    let text = whole(alloc, message, bytes.len(), key, value)?;
+    equal(rt, out.as_slice(), text.as_bytes());
     Ok(())
 }
 
+// A base type, bytes, and their value.
+const VALUES: [(u8, &[u8], &str); 30] = [
+    (0x00, &[4], "4"),
+    (0x00, &[0xFF], "null"),
+    (0x00, &[], "null"),
+    (0x01, &[0x80], "-128"),
+    (0x01, &[0x7F], "null"),
+    (0x01, &[0xFF, 0x80, 0x7F], "[-1,-128,null]"),
+    (0x02, &[0xFF, 0xFF], "[null,null]"),
+    (0x83, &[0xFE, 0xFF], "-2"),
+    (0x84, &[1, 0, 0xFF, 0xFF, 3, 0], "[1,null,3]"),
+    (0x84, &[1, 2, 3], "\"0x010203\""),
+    (0x85, &[0xFF, 0xFF, 0xFF, 0x7F], "null"),
+    (0x86, &[0, 0xCA, 0x9A, 0x3B], "1000000000"),
+    (0x8C, &[0, 0, 0, 0], "null"),
+    // Of 64 bits, past 2^53 and below -2^53.
+    (0x8F, &[1, 0, 0, 0, 0, 0, 0x20, 0], "9007199254740993"),
+    (
+        0x8F,
+        &[0xFE, 0xFF, 0xFF, 0xFF, 0xFF, 0xFF, 0xFF, 0xFF],
+        "18446744073709551614",
+    ),
+    (
+        0x8E,
+        &[0xFF, 0xFF, 0xFF, 0xFF, 0xFF, 0xFF, 0xDF, 0xFF],
+        "-9007199254740993",
+    ),
+    (0x8F, &[0xFF; 8], "null"),
+    // 1.0 and the invalid value, of 32 bits and of 64.
+    (0x88, &[0, 0, 0x80, 0x3F], "\"0x3F800000\""),
+    (0x88, &[0xFF, 0xFF, 0xFF, 0xFF], "null"),
+    (
+        0x88,
+        &[0, 0, 0x80, 0x3F, 0xFF, 0xFF, 0xFF, 0xFF],
+        "[\"0x3F800000\",null]",
+    ),
+    (
+        0x89,
+        &[0, 0, 0, 0, 0, 0, 0xF0, 0x3F],
+        "\"0x3FF0000000000000\"",
+    ),
+    (0x0D, &[0, 0xFF], "\"0x00FF\""),
+    (0x0D, &[0xFF, 0xFF], "null"),
+    // A type that is not known.
+    (0x0F, &[1, 0xAB], "\"0x01AB\""),
+    (0x07, &[0x46, 0x49, 0x54, 0, 0x41], "\"FIT\""),
+    (0x07, &[0], "\"\""),
+    // A quotation mark, a backslash, a line feed and a delete.
+    (
+        0x07,
+        &[0x22, 0x5C, 0x0A, 0x20, 0x7E, 0x7F],
+        "\"\\u0022\\u005C\\u000A ~\\u007F\"",
+    ),
+    // UTF-8 of two bytes and of three.
+    (
+        0x07,
+        &[0x43, 0xC3, 0xA9, 0xE2, 0x98, 0x83],
+        "\"C\u{E9}\u{2603}\"",
+    ),
+    // No UTF-8: a byte of Latin-1, and a surrogate.
+    (0x07, &[0x43, 0xE9, 0x41], "\"C\\u00E9A\""),
+    (0x07, &[0xED, 0xA0, 0x80], "\"\\u00ED\\u00A0\\u0080\""),
+];
+
 #[test]
 fn writes_values(rt: HostRuntime) -> Result<(), Fail> {
-    let cases: [(u8, &[u8], &str); 30] = [
-        (0x00, &[4], "4"),
-        (0x00, &[0xFF], "null"),
-        (0x00, &[], "null"),
-        (0x01, &[0x80], "-128"),
-        (0x01, &[0x7F], "null"),
-        (0x01, &[0xFF, 0x80, 0x7F], "[-1,-128,null]"),
-        (0x02, &[0xFF, 0xFF], "[null,null]"),
-        (0x83, &[0xFE, 0xFF], "-2"),
-        (0x84, &[1, 0, 0xFF, 0xFF, 3, 0], "[1,null,3]"),
-        (0x84, &[1, 2, 3], "\"0x010203\""),
-        (0x85, &[0xFF, 0xFF, 0xFF, 0x7F], "null"),
-        (0x86, &[0, 0xCA, 0x9A, 0x3B], "1000000000"),
-        (0x8C, &[0, 0, 0, 0], "null"),
-        // Of 64 bits, past 2^53 and below -2^53.
-        (0x8F, &[1, 0, 0, 0, 0, 0, 0x20, 0], "9007199254740993"),
-        (
-            0x8F,
-            &[0xFE, 0xFF, 0xFF, 0xFF, 0xFF, 0xFF, 0xFF, 0xFF],
-            "18446744073709551614",
-        ),
-        (
-            0x8E,
-            &[0xFF, 0xFF, 0xFF, 0xFF, 0xFF, 0xFF, 0xDF, 0xFF],
-            "-9007199254740993",
-        ),
-        (0x8F, &[0xFF; 8], "null"),
-        // 1.0 and the invalid value, of 32 bits and of 64.
-        (0x88, &[0, 0, 0x80, 0x3F], "\"0x3F800000\""),
-        (0x88, &[0xFF, 0xFF, 0xFF, 0xFF], "null"),
-        (
-            0x88,
-            &[0, 0, 0x80, 0x3F, 0xFF, 0xFF, 0xFF, 0xFF],
-            "[\"0x3F800000\",null]",
-        ),
-        (
-            0x89,
-            &[0, 0, 0, 0, 0, 0, 0xF0, 0x3F],
-            "\"0x3FF0000000000000\"",
-        ),
-        (0x0D, &[0, 0xFF], "\"0x00FF\""),
-        (0x0D, &[0xFF, 0xFF], "null"),
-        // A type that is not known.
-        (0x0F, &[1, 0xAB], "\"0x01AB\""),
-        (0x07, &[0x46, 0x49, 0x54, 0, 0x41], "\"FIT\""),
-        (0x07, &[0], "\"\""),
-        // A quotation mark, a backslash, a line feed and a delete.
-        (
-            0x07,
-            &[0x22, 0x5C, 0x0A, 0x20, 0x7E, 0x7F],
-            "\"\\u0022\\u005C\\u000A ~\\u007F\"",
-        ),
-        // UTF-8 of two bytes and of three.
-        (
-            0x07,
-            &[0x43, 0xC3, 0xA9, 0xE2, 0x98, 0x83],
-            "\"C\u{E9}\u{2603}\"",
-        ),
-        // No UTF-8: a byte of Latin-1, and a surrogate.
-        (0x07, &[0x43, 0xE9, 0x41], "\"C\\u00E9A\""),
-        (0x07, &[0xED, 0xA0, 0x80], "\"\\u00ED\\u00A0\\u0080\""),
-    ];
-    for (base, bytes, value) in cases {
+    let record = (20, "\"record\"");
+    for (base, bytes, value) in VALUES {
         let field = (99, "field_99", base);
-        check_written(
-            &rt,
-            rt.alloc(),
-            false,
-            (20, "\"record\""),
-            field,
-            bytes,
-            value,
-        )?;
+        check_written(&rt, rt.alloc(), false, record, field, bytes, value)?;
     }
     Ok(())
 }
 
+const TIME: [u8; 4] = [0, 0xCA, 0x9A, 0x3B];
+
+const DATE: &str = "\"2021-09-08T01:46:40Z\"";
+
+const NUMBER: &str = "1000000000";
+
+// Whether times are dates, the message, the field, and its value.
+const DATES: [(bool, (u16, &str), (u8, &str, u8), &str); 5] = [
+    (true, (20, "\"record\""), (253, "timestamp", 0x86), DATE),
+    (false, (20, "\"record\""), (253, "timestamp", 0x86), NUMBER),
+    (true, (0, "\"file_id\""), (4, "time_created", 0x86), DATE),
+    (true, (20, "\"record\""), (5, "distance", 0x86), NUMBER),
+    (true, (65534, "null"), (17, "field_17", 0x86), NUMBER),
+];
+
 #[test]
 fn writes_dates_and_names(rt: HostRuntime) -> Result<(), Fail> {
-    const TIME: [u8; 4] = [0, 0xCA, 0x9A, 0x3B];
-    const DATE: &str = "\"2021-09-08T01:46:40Z\"";
-    const NUMBER: &str = "1000000000";
-    // Whether times are dates, the message, the field, and its value.
-    let cases: [(bool, (u16, &str), (u8, &str, u8), &str); 5] = [
-        (true, (20, "\"record\""), (253, "timestamp", 0x86), DATE),
-        (false, (20, "\"record\""), (253, "timestamp", 0x86), NUMBER),
-        (true, (0, "\"file_id\""), (4, "time_created", 0x86), DATE),
-        (true, (20, "\"record\""), (5, "distance", 0x86), NUMBER),
-        (true, (65534, "null"), (17, "field_17", 0x86), NUMBER),
-    ];
-    for (utc, message, field, value) in cases {
+    for (utc, message, field, value) in DATES {
         check_written(&rt, rt.alloc(), utc, message, field, &TIME, value)?;
     }
     Ok(())
@@ -146,23 +156,25 @@ fn writes_dates_and_names(rt: HostRuntime) -> Result<(), Fail> {
 
 // A record with a heart rate and two developer fields. With a compressed timestamp its time comes first. After it one without fields,
 // and one whose field is there twice.
-fn ride(alloc: Global) -> Result<File, Fail> {
-    let developer = [(0, 2, 0), (7, 0, 250)];
-    let items = [
-        Put::Definition(0, Arch::Little, 20, &[(3, 1, 0x02)], &developer),
-        Put::Data(0, None, &[0x64, 0xAB, 0x0C]),
-        Put::Data(0, Some(3), &[0xFF, 0xFF, 0xFF]),
-        Put::Definition(0, Arch::Little, 21, &[], &[]),
-        Put::Data(0, None, &[]),
-        Put::Data(0, Some(4), &[]),
-        Put::Definition(0, Arch::Little, 20, &[(4, 1, 0x02), (4, 1, 0x01)], &[]),
-        Put::Data(0, None, &[0x50, 0x80]),
-    ];
-    file_of(alloc, &items)
-}
+const ITEMS: [Put<'static>; 8] = [
+    Put::Definition(
+        0,
+        Arch::Little,
+        20,
+        &[(3, 1, 0x02)],
+        &[(0, 2, 0), (7, 0, 250)],
+    ),
+    Put::Data(0, None, &[0x64, 0xAB, 0x0C]),
+    Put::Data(0, Some(3), &[0xFF, 0xFF, 0xFF]),
+    Put::Definition(0, Arch::Little, 21, &[], &[]),
+    Put::Data(0, None, &[]),
+    Put::Data(0, Some(4), &[]),
+    Put::Definition(0, Arch::Little, 20, &[(4, 1, 0x02), (4, 1, 0x01)], &[]),
+    Put::Data(0, None, &[0x50, 0x80]),
+];
 
 // Definitions of 16, 6 and 12 bytes, and messages of 4, 4, 1, 1 and 3.
-const RIDE: [&'static str; 7] = [
+const LINES: [&'static str; 7] = [
     "{\"header\":14,\"protocol\":\"1.0\",\"profile\":100,\"data\":47}\n",
     "{\"number\":0,\"message\":20,\"name\":\"record\",\"fields\":{\"heart_rate\":100},\"developer\":[{\"index\":0,\"number\":0,\"bytes\":\"0xAB0C\"},{\"index\":250,\"number\":7,\"bytes\":\"\"}]}\n",
     "{\"number\":1,\"message\":20,\"name\":\"record\",\"fields\":{\"timestamp\":3,\"heart_rate\":null},\"developer\":[{\"index\":0,\"number\":0,\"bytes\":\"0xFFFF\"},{\"index\":250,\"number\":7,\"bytes\":\"\"}]}\n",
@@ -174,8 +186,8 @@ const RIDE: [&'static str; 7] = [
 
 #[test]
 fn writes_a_line_for_each_message(rt: HostRuntime) -> Result<(), Fail> {
-    let text = joined(rt.alloc(), &RIDE)?;
-    let out = json(rt.alloc(), &ride(rt.alloc())?, true)?;
+    let text = joined(rt.alloc(), &LINES)?;
+    let out = json(rt.alloc(), &file_of(rt.alloc(), &ITEMS)?, true)?;
     equal(&rt, out.as_slice(), text.as_bytes());
     Ok(())
 }
@@ -183,14 +195,14 @@ fn writes_a_line_for_each_message(rt: HostRuntime) -> Result<(), Fail> {
 // A writer that takes seven bytes a call, and so many calls.
 #[test]
 fn a_writer_that_fails_has_a_prefix(rt: HostRuntime) -> Result<(), Fail> {
-    let file = ride(rt.alloc())?;
-    let text = joined(rt.alloc(), &RIDE)?;
+    let file = file_of(rt.alloc(), &ITEMS)?;
+    let text = joined(rt.alloc(), &LINES)?;
     for calls in 0..120 {
         let mut out = Slow::new(rt.alloc(), 7, calls);
         let is_whole = show_json(&file.lend(), true, &mut out).is_ok();
         let taken = text.len().min(7 * calls);
         equal(&rt, out.written(), &text.as_bytes()[..taken]);
-        assert_eq!(rt; is_whole, taken == text.len(), "{calls}");
+        equal(&rt, (calls, is_whole), (calls, taken == text.len()));
     }
     Ok(())
 }

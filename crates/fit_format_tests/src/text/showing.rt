@@ -1,16 +1,36 @@
 // How values, dates and the names of messages and fields are shown, each in the text of a whole file.
 
-use super::shown;
+use super::assert_shown;
 use crate::definitions::{Put, define, file_of, put_data};
-use crate::equality::equal;
 use crate::known_files::empty_file;
 use arrayvec::ArrayVec;
 use fit_base::Arch;
-use fit_grammar::{Definition, FieldDefinition, File, Frame};
-use fit_text::show;
+use fit_grammar::{Definition, FieldDefinition, File, Frame, PutFault};
 use std::alloc::{AllocError, Global};
 use std::process::Abort;
 use std::test::Fail;
+
+// The text of a file of one message with one field of so many bytes. The definition has nine bytes; the message has one byte and its
+// field.
+fn whole(
+    alloc: Global,
+    global: u16,
+    name: &str,
+    length: usize,
+    text: &str,
+) -> Result<String, AllocError> {
+    let message = match global {
+        0 => "file_id",
+        18 => "session",
+        19 => "lap",
+        20 => "record",
+        _ => "message_1000",
+    };
+    let size = length.saturating_add(10);
+    format!(in alloc;
+        "header 14 protocol 1.0 profile 100 data {size}\n0 {message} {name}={text}\nmessages 1\n"
+    )
+}
 
 // Asserts that a field with these bytes is shown as this text, in a file of one message. The field is the global number of its
 // message, its own number, its name and its base type. Times are shown as dates or as numbers.
@@ -29,167 +49,145 @@ fn check_shown(
         Put::Definition(0, arch, global, &fields, &[]),
         Put::Data(0, None, bytes),
     ];
-    let out = shown(alloc, &file_of(alloc, &items)?, utc)?;
-    let message = match global {
-        0 => "file_id",
-        18 => "session",
-        19 => "lap",
-        20 => "record",
-        _ => "message_1000",
-    };
-    // The definition has nine bytes; the message has one byte and its field.
-    let size = bytes.len().saturating_add(10);
-    let whole = format!(in alloc;
-        "header 14 protocol 1.0 profile 100 data {size}\n0 {message} {name}={text}\nmessages 1\n"
-    )?;
-    equal(rt, out.as_slice(), whole.as_bytes());
-    Ok(())
+    let text = whole(alloc, global, name, bytes.len(), text)?;
+    assert_shown(rt, alloc, &file_of(alloc, &items)?, utc, &text)
 }
+
+// A base type, bytes, and how they are shown.
+const VALUES: [(u8, &[u8], &str); 43] = [
+    (0x00, &[4], "4"),
+    (0x00, &[0xFF], "-"),
+    (0x00, &[], ""),
+    (0x01, &[0xFF, 0x80, 0x7F], "-1,-128,-"),
+    (0x02, &[0x64, 0xFF, 0], "100,-,0"),
+    (0x83, &[0xFE, 0xFF], "-2"),
+    (0x83, &[0xFF, 0x7F], "-"),
+    (0x84, &[1, 0, 0xFF, 0xFF, 3, 0], "1,-,3"),
+    (0x84, &[1, 2, 3], "0x010203"),
+    (0x85, &[0, 0, 0, 0x80], "-2147483648"),
+    (0x85, &[0xFF, 0xFF, 0xFF, 0x7F], "-"),
+    (0x86, &[0, 0xCA, 0x9A, 0x3B], "1000000000"),
+    (0x86, &[0xFF, 0xFF, 0xFF, 0xFF], "-"),
+    (0x07, &[0x46, 0x49, 0x54, 0, 0x41], "\"FIT\""),
+    (0x07, &[0x46, 0x49], "\"FI\""),
+    (0x07, &[0], "\"\""),
+    (0x07, &[], ""),
+    (
+        0x07,
+        &[0x22, 0x5C, 0x0A, 0x20, 0x7E, 0x7F, 0xE2],
+        "\"\\x22\\x5C\\x0A ~\\x7F\\xE2\"",
+    ),
+    (0x88, &[0, 0, 0x80, 0x3F], "0x3F800000"),
+    (0x88, &[0xFF, 0xFF, 0xFF, 0xFF, 1, 0, 0, 0], "-,0x00000001"),
+    (0x89, &[0, 0, 0, 0, 0, 0, 0xF0, 0x3F], "0x3FF0000000000000"),
+    (0x89, &[0xFF; 8], "-"),
+    (0x0A, &[0, 0xFF], "-,255"),
+    (0x8B, &[0, 0, 1, 0], "-,1"),
+    (0x8C, &[7, 0, 0, 0], "7"),
+    (0x8C, &[0, 0, 0, 0], "-"),
+    (0x0D, &[0, 0xFF], "0x00FF"),
+    (0x0D, &[0xFF, 0xFF], "-"),
+    (0x0D, &[], ""),
+    (0x0F, &[1, 2, 0xAB], "0x0102AB"),
+    (0x0F, &[0xFF], "0xFF"),
+    (0x0F, &[], ""),
+    (0x8E, &[1, 0, 0, 0, 0, 0, 0, 0], "1"),
+    (0x8E, &[0xFF; 8], "-1"),
+    (0x8E, &[0, 0, 0, 0, 0, 0, 0, 0x80], "-9223372036854775808"),
+    (0x8E, &[0xFF, 0xFF, 0xFF, 0xFF, 0xFF, 0xFF, 0xFF, 0x7F], "-"),
+    (0x8E, &[1, 0, 0, 0], "0x01000000"),
+    (
+        0x8F,
+        &[0xFE, 0xFF, 0xFF, 0xFF, 0xFF, 0xFF, 0xFF, 0xFF],
+        "18446744073709551614",
+    ),
+    (0x8F, &[0xFF; 8], "-"),
+    (
+        0x8F,
+        &[2, 0, 0, 0, 0, 0, 0, 0, 0, 0, 0, 0, 1, 0, 0, 0],
+        "2,4294967296",
+    ),
+    (0x90, &[0, 0, 0, 0, 0, 0, 0, 0], "-"),
+    (0x91, &[1, 0, 0, 0, 0, 0, 0, 0], "0x0100000000000000"),
+    (0x06, &[1, 0], "0x0100"),
+];
 
 #[test]
 fn shows_values(rt: HostRuntime) -> Result<(), Fail> {
-    let cases: [(u8, &[u8], &str); 43] = [
-        (0x00, &[4], "4"),
-        (0x00, &[0xFF], "-"),
-        (0x00, &[], ""),
-        (0x01, &[0xFF, 0x80, 0x7F], "-1,-128,-"),
-        (0x02, &[0x64, 0xFF, 0], "100,-,0"),
-        (0x83, &[0xFE, 0xFF], "-2"),
-        (0x83, &[0xFF, 0x7F], "-"),
-        (0x84, &[1, 0, 0xFF, 0xFF, 3, 0], "1,-,3"),
-        (0x84, &[1, 2, 3], "0x010203"),
-        (0x85, &[0, 0, 0, 0x80], "-2147483648"),
-        (0x85, &[0xFF, 0xFF, 0xFF, 0x7F], "-"),
-        (0x86, &[0, 0xCA, 0x9A, 0x3B], "1000000000"),
-        (0x86, &[0xFF, 0xFF, 0xFF, 0xFF], "-"),
-        (0x07, &[0x46, 0x49, 0x54, 0, 0x41], "\"FIT\""),
-        (0x07, &[0x46, 0x49], "\"FI\""),
-        (0x07, &[0], "\"\""),
-        (0x07, &[], ""),
-        (
-            0x07,
-            &[0x22, 0x5C, 0x0A, 0x20, 0x7E, 0x7F, 0xE2],
-            "\"\\x22\\x5C\\x0A ~\\x7F\\xE2\"",
-        ),
-        (0x88, &[0, 0, 0x80, 0x3F], "0x3F800000"),
-        (0x88, &[0xFF, 0xFF, 0xFF, 0xFF, 1, 0, 0, 0], "-,0x00000001"),
-        (0x89, &[0, 0, 0, 0, 0, 0, 0xF0, 0x3F], "0x3FF0000000000000"),
-        (0x89, &[0xFF; 8], "-"),
-        (0x0A, &[0, 0xFF], "-,255"),
-        (0x8B, &[0, 0, 1, 0], "-,1"),
-        (0x8C, &[7, 0, 0, 0], "7"),
-        (0x8C, &[0, 0, 0, 0], "-"),
-        (0x0D, &[0, 0xFF], "0x00FF"),
-        (0x0D, &[0xFF, 0xFF], "-"),
-        (0x0D, &[], ""),
-        (0x0F, &[1, 2, 0xAB], "0x0102AB"),
-        (0x0F, &[0xFF], "0xFF"),
-        (0x0F, &[], ""),
-        (0x8E, &[1, 0, 0, 0, 0, 0, 0, 0], "1"),
-        (0x8E, &[0xFF; 8], "-1"),
-        (0x8E, &[0, 0, 0, 0, 0, 0, 0, 0x80], "-9223372036854775808"),
-        (0x8E, &[0xFF, 0xFF, 0xFF, 0xFF, 0xFF, 0xFF, 0xFF, 0x7F], "-"),
-        (0x8E, &[1, 0, 0, 0], "0x01000000"),
-        (
-            0x8F,
-            &[0xFE, 0xFF, 0xFF, 0xFF, 0xFF, 0xFF, 0xFF, 0xFF],
-            "18446744073709551614",
-        ),
-        (0x8F, &[0xFF; 8], "-"),
-        (
-            0x8F,
-            &[2, 0, 0, 0, 0, 0, 0, 0, 0, 0, 0, 0, 1, 0, 0, 0],
-            "2,4294967296",
-        ),
-        (0x90, &[0, 0, 0, 0, 0, 0, 0, 0], "-"),
-        (0x91, &[1, 0, 0, 0, 0, 0, 0, 0], "0x0100000000000000"),
-        (0x06, &[1, 0], "0x0100"),
-    ];
-    for (base, bytes, text) in cases {
+    for (base, bytes, text) in VALUES {
         let field = (20, 99, "field_99", base);
         check_shown(&rt, rt.alloc(), false, Arch::Little, field, bytes, text)?;
     }
-    let field = (20, 99, "field_99", 0x86);
-    check_shown(
-        &rt,
-        rt.alloc(),
-        false,
-        Arch::Big,
-        field,
-        &[0, 0, 1, 2],
-        "258",
-    )
+    let (field, bytes) = ((20, 99, "field_99", 0x86), [0, 0, 1, 2]);
+    check_shown(&rt, rt.alloc(), false, Arch::Big, field, &bytes, "258")
 }
+
+// Times, and how they are shown.
+const TIMES: [(u32, &str); 13] = [
+    (1_000_000_000, "2021-09-08T01:46:40Z"),
+    (0x1000_0000, "1998-07-03T21:24:16Z"),
+    (0x0FFF_FFFF, "268435455"),
+    (0, "0"),
+    (315_619_199, "1999-12-31T23:59:59Z"),
+    (315_619_200, "2000-01-01T00:00:00Z"),
+    (320_803_199, "2000-02-29T23:59:59Z"),
+    (320_803_200, "2000-03-01T00:00:00Z"),
+    (347_198_400, "2000-12-31T12:00:00Z"),
+    (3_476_476_799, "2100-02-28T23:59:59Z"),
+    (3_476_476_800, "2100-03-01T00:00:00Z"),
+    (0xFFFF_FFFE, "2126-02-06T06:28:14Z"),
+    (0xFFFF_FFFF, "-"),
+];
+
+// A time in a message without a name, and in a record.
+const TIMESTAMPS: [(u16, u8, &str, u8); 2] = [
+    (1000, 253, "timestamp", 0x86),
+    (20, 253, "timestamp", 0x86),
+];
 
 #[test]
 fn shows_dates(rt: HostRuntime) -> Result<(), Fail> {
-    let times: [(u32, &str); 13] = [
-        (1_000_000_000, "2021-09-08T01:46:40Z"),
-        (0x1000_0000, "1998-07-03T21:24:16Z"),
-        (0x0FFF_FFFF, "268435455"),
-        (0, "0"),
-        (315_619_199, "1999-12-31T23:59:59Z"),
-        (315_619_200, "2000-01-01T00:00:00Z"),
-        (320_803_199, "2000-02-29T23:59:59Z"),
-        (320_803_200, "2000-03-01T00:00:00Z"),
-        (347_198_400, "2000-12-31T12:00:00Z"),
-        (3_476_476_799, "2100-02-28T23:59:59Z"),
-        (3_476_476_800, "2100-03-01T00:00:00Z"),
-        (0xFFFF_FFFE, "2126-02-06T06:28:14Z"),
-        (0xFFFF_FFFF, "-"),
-    ];
-    for (time, text) in times {
-        let (unnamed, record) = ((1000, 253, "timestamp", 0x86), (20, 253, "timestamp", 0x86));
-        check_shown(
-            &rt,
-            rt.alloc(),
-            true,
-            Arch::Little,
-            unnamed,
-            &time.to_le_bytes(),
-            text,
-        )?;
-        check_shown(
-            &rt,
-            rt.alloc(),
-            true,
-            Arch::Big,
-            record,
-            &time.to_be_bytes(),
-            text,
-        )?;
+    let [unnamed, record] = TIMESTAMPS;
+    for (time, text) in TIMES {
+        let (little, big) = (time.to_le_bytes(), time.to_be_bytes());
+        check_shown(&rt, rt.alloc(), true, Arch::Little, unnamed, &little, text)?;
+        check_shown(&rt, rt.alloc(), true, Arch::Big, record, &big, text)?;
     }
     Ok(())
 }
+
+const TIME: [u8; 4] = [0, 0xCA, 0x9A, 0x3B];
+
+const DATE: &str = "2021-09-08T01:46:40Z";
+
+const NUMBER: &str = "1000000000";
+
+// Whether times are shown as dates, the field, its bytes and their text.
+const FIELDS: [(bool, (u16, u8, &str, u8), &[u8], &str); 13] = [
+    (true, (0, 4, "time_created", 0x86), &TIME, DATE),
+    (true, (18, 2, "start_time", 0x86), &TIME, DATE),
+    (true, (19, 2, "start_time", 0x86), &TIME, DATE),
+    (false, (0, 4, "time_created", 0x86), &TIME, NUMBER),
+    (false, (20, 253, "timestamp", 0x86), &TIME, NUMBER),
+    (true, (0, 2, "product", 0x86), &TIME, NUMBER),
+    (true, (19, 4, "field_4", 0x86), &TIME, NUMBER),
+    (true, (20, 5, "distance", 0x86), &TIME, NUMBER),
+    (true, (0, 3, "serial_number", 0x86), &TIME, NUMBER),
+    (true, (20, 253, "timestamp", 0x8C), &TIME, NUMBER),
+    (true, (20, 253, "timestamp", 0x85), &TIME, NUMBER),
+    (
+        true,
+        (20, 253, "timestamp", 0x86),
+        &[0, 0xCA, 0x9A, 0x3B, 0, 0xCA, 0x9A, 0x3B],
+        "1000000000,1000000000",
+    ),
+    (true, (20, 253, "timestamp", 0x86), &[], ""),
+];
 
 // Which fields are dates, and what they have to hold.
 #[test]
 fn shows_other_numbers_as_they_are(rt: HostRuntime) -> Result<(), Fail> {
-    const TIME: [u8; 4] = [0, 0xCA, 0x9A, 0x3B];
-    const DATE: &str = "2021-09-08T01:46:40Z";
-    const NUMBER: &str = "1000000000";
-    // Whether times are shown as dates, the field, its bytes and their text.
-    let cases: [(bool, (u16, u8, &str, u8), &[u8], &str); 13] = [
-        (true, (0, 4, "time_created", 0x86), &TIME, DATE),
-        (true, (18, 2, "start_time", 0x86), &TIME, DATE),
-        (true, (19, 2, "start_time", 0x86), &TIME, DATE),
-        (false, (0, 4, "time_created", 0x86), &TIME, NUMBER),
-        (false, (20, 253, "timestamp", 0x86), &TIME, NUMBER),
-        (true, (0, 2, "product", 0x86), &TIME, NUMBER),
-        (true, (19, 4, "field_4", 0x86), &TIME, NUMBER),
-        (true, (20, 5, "distance", 0x86), &TIME, NUMBER),
-        (true, (0, 3, "serial_number", 0x86), &TIME, NUMBER),
-        (true, (20, 253, "timestamp", 0x8C), &TIME, NUMBER),
-        (true, (20, 253, "timestamp", 0x85), &TIME, NUMBER),
-        (
-            true,
-            (20, 253, "timestamp", 0x86),
-            &[0, 0xCA, 0x9A, 0x3B, 0, 0xCA, 0x9A, 0x3B],
-            "1000000000,1000000000",
-        ),
-        (true, (20, 253, "timestamp", 0x86), &[], ""),
-    ];
-    for (utc, field, bytes, text) in cases {
+    for (utc, field, bytes, text) in FIELDS {
         check_shown(&rt, rt.alloc(), utc, Arch::Little, field, bytes, text)?;
     }
     Ok(())
@@ -219,8 +217,8 @@ fn definition(local: u8, global: u16, number: u8, last: u8) -> Result<Definition
     })
 }
 
-#[test]
-fn the_example_of_the_crate(rt: HostRuntime) -> Result<(), Fail> {
+// A file with a file_id message of two fields.
+fn example(alloc: Global) -> Result<File, PutFault> {
     let frame = Frame {
         header_size: 14,
         protocol: 0x10,
@@ -237,7 +235,7 @@ fn the_example_of_the_crate(rt: HostRuntime) -> Result<(), Fail> {
         size: 4,
         base: 0x86,
     });
-    let mut file = File::new(rt.alloc(), frame);
+    let mut file = File::new(alloc, frame);
     file.define(&Definition {
         local: 0,
         arch: Arch::Little,
@@ -246,12 +244,14 @@ fn the_example_of_the_crate(rt: HostRuntime) -> Result<(), Fail> {
         developer: ArrayVec::new(),
     })?;
     file.data(0, None, &[4, 0x00, 0xCA, 0x9A, 0x3B])?;
-    let mut out = Vec::new(rt.alloc());
-    show(&file.lend(), true, &mut out)?;
+    Ok(file)
+}
+
+#[test]
+fn the_example_of_the_crate(rt: HostRuntime) -> Result<(), Fail> {
     let text =
         "header 14 protocol 1.0 profile 100 data 18\n0 file_id type=4 time_created=2021-09-08T01:46:40Z\nmessages 1\n";
-    equal(&rt, out.as_slice(), text.as_bytes());
-    Ok(())
+    assert_shown(&rt, rt.alloc(), &example(rt.alloc())?, true, text)
 }
 
 // The definitions of sixteen local numbers, and of two of them again. Each begins with the number of the message that it comes
@@ -319,9 +319,7 @@ fn check_many(rt: &impl Abort, alloc: Global, last: u8, size: u32) -> Result<(),
         text.push_str(&format!(in alloc; "{message} {names}={message}{empty}\n")?)?;
     }
     text.push_str("messages 64\n")?;
-    let out = shown(alloc, &file, false)?;
-    equal(rt, out.as_slice(), text.as_bytes());
-    Ok(())
+    assert_shown(rt, alloc, &file, false, &text)
 }
 
 // Sixteen local numbers take turns, and two of them are defined again on the way. The columns of sixteen plans have room if each

@@ -4,11 +4,15 @@
 ghost use Rattle.std.specs.Prelude.{◌≤◌};
 
 use super::resuming::{committed_in_a_row, resumed};
-use super::{RUN, SHORT_RIDE, TIME, begun, committed, copy_of, one, play, short_ride};
+use super::{
+    RUN, SHORT, SHORT_RIDE, TIME, after_a_cut, begun, committed, copy_of, ends_at, one, play,
+    recovers, started,
+};
 use crate::equality::equal;
-use fit_activity::Entry;
+use fit_activity::{Entry, Summary};
 use fit_disk::{Disk, Memory, Which};
-use fit_recorder::{RecFault, Recorder, erase, recover};
+use fit_recorder::{RecFault, erase, recover};
+use std::process::Abort;
 use std::test::Fail;
 
 // The header while a ride is recorded: it counts no records.
@@ -20,14 +24,21 @@ const NO_RECORDS: [u8; 14] = [
 // the four calls that close the file.
 const RECOVERY: u32 = 2 + 1 + 1 + 1 + 4;
 
+// The answer of a recovery whose power goes at the k-th call.
+fn recovery_until(mut disk: Memory, k: u32) -> Result<Summary, RecFault>
+    requires { 1 ≤ k }
+{
+    disk.cut_at(k);
+    recover(&mut disk)
+}
+
 #[test]
 fn a_recovery_makes_just_its_calls(rt: HostRuntime) -> Result<(), RecFault> {
-    let mut disk = committed(&rt)?;
-    disk.cut_at(RECOVERY);
-    equal(&rt, recover(&mut disk), Err(RecFault::Device));
+    let cut = recovery_until(committed(&rt)?, RECOVERY);
+    equal(&rt, cut, Err(RecFault::Device));
     let mut disk = committed(&rt)?;
     disk.cut_at(RECOVERY + 1);
-    equal(&rt, recover(&mut disk), Ok(SHORT_RIDE));
+    recovers(&rt, &mut disk, Ok(SHORT_RIDE));
     equal(&rt, disk.size(Which::Data).is_ok(), false);
     Ok(())
 }
@@ -41,9 +52,8 @@ fn a_recovery_over_a_row_makes_just_its_calls(rt: HostRuntime) -> Result<(), Fai
         (RECOVERY_OVER_A_ROW, Err(RecFault::Device)),
         (RECOVERY_OVER_A_ROW + 1, Ok(SHORT_RIDE)),
     ] {
-        let mut disk = committed_in_a_row(&rt, 2)?;
-        disk.cut_at(k);
-        equal(&rt, recover(&mut disk), expected);
+        let answer = recovery_until(committed_in_a_row(&rt, 2)?, k);
+        equal(&rt, answer, expected);
     }
     Ok(())
 }
@@ -69,13 +79,18 @@ fn a_start_that_finds_a_ride_makes_two_calls(rt: HostRuntime) -> Result<(), RecF
     for (k, expected) in [(2, RecFault::Device), (3, RecFault::NotEmpty)] {
         let mut disk = committed(&rt)?;
         disk.cut_at(k);
-        let fault = match Recorder::start(disk, RUN) {
-            Ok(_) => None,
-            Err((_, fault)) => Some(fault),
-        };
-        equal(&rt, fault, Some(expected));
+        equal(&rt, started(disk, RUN).1, Some(expected));
     }
     Ok(())
+}
+
+// The answer of an erasing whose power goes at the k-th call, and the disk after it.
+fn erased_until(mut disk: Memory, k: u32) -> (Memory, Result<(), RecFault>)
+    requires { 1 ≤ k }
+{
+    disk.cut_at(k);
+    let answer = erase(&mut disk);
+    (after_a_cut(disk), answer)
 }
 
 // If the data file is empty the journal is left as it is, with its mark.
@@ -84,41 +99,30 @@ fn an_erasing_of_nothing_makes_three_calls(rt: HostRuntime) -> Result<(), RecFau
     for (k, expected) in [(3, Err(RecFault::Device)), (4, Ok(()))] {
         let mut disk = Memory::new(rt.alloc());
         disk.write(Which::Journal, 0, &[0x46, 0x52])?;
-        disk.cut_at(k);
-        equal(&rt, erase(&mut disk), expected);
-        disk.cycle(&[]);
-        equal(&rt, disk.content(Which::Journal), [0x46, 0x52].as_slice());
+        let (disk, answer) = erased_until(disk, k);
+        equal(&rt, answer, expected);
+        ends_at(&rt, &disk, Which::Journal, 0, &[0x46, 0x52]);
     }
     Ok(())
 }
 
 // A recovery begins with two syncs. If it finds nothing, it ends with the size of an empty data file, or with the head of a journal
 // that has none. If the head shows damage, it ends there too.
+// Files, the call at which the power goes, and the fault.
+const EARLY_ENDS: [(&[u8], &[u8], u32, RecFault); 6] = [
+    (b"", b"FRJ1", 3, RecFault::Device),
+    (b"", b"FRJ1", 4, RecFault::NothingRecorded),
+    (b"data", b"FRJ1", 4, RecFault::Device),
+    (b"data", b"FRJ1", 5, RecFault::NothingRecorded),
+    (b"data", b"FRJ1....", 4, RecFault::Device),
+    (b"data", b"FRJ1....", 5, RecFault::Damaged),
+];
+
 #[test]
 fn a_recovery_that_finds_no_ride_ends_early(rt: HostRuntime) -> Result<(), RecFault> {
-    let cases: [(&[u8], &[u8], [(u32, RecFault); 2]); 3] = [
-        (
-            b"",
-            b"FRJ1",
-            [(3, RecFault::Device), (4, RecFault::NothingRecorded)],
-        ),
-        (
-            b"data",
-            b"FRJ1",
-            [(4, RecFault::Device), (5, RecFault::NothingRecorded)],
-        ),
-        (
-            b"data",
-            b"FRJ1....",
-            [(4, RecFault::Device), (5, RecFault::Damaged)],
-        ),
-    ];
-    for (data, journal, answers) in cases {
-        for (k, expected) in answers {
-            let mut disk = copy_of(rt.alloc(), data, journal)?;
-            disk.cut_at(k);
-            equal(&rt, recover(&mut disk), Err(expected));
-        }
+    for (data, journal, k, fault) in EARLY_ENDS {
+        let answer = recovery_until(copy_of(rt.alloc(), data, journal)?, k);
+        assert_eq!(rt; answer, Err(fault), "{data:?}, {journal:?}, call {k}");
     }
     Ok(())
 }
@@ -129,12 +133,9 @@ fn a_start_keeps_the_data_first(rt: HostRuntime) -> Result<(), RecFault> {
     let mut disk = Memory::new(rt.alloc());
     disk.write(Which::Data, 0, b"data")?;
     disk.fail_at(2);
-    let (mut disk, fault) = match Recorder::start(disk, RUN) {
-        Ok(recorder) => (recorder.into_disk(), None),
-        Err((disk, fault)) => (disk, Some(fault)),
-    };
+    let (disk, fault) = started(disk, RUN);
     equal(&rt, fault, Some(RecFault::Device));
-    disk.cycle(&[]);
+    let disk = after_a_cut(disk);
     equal(&rt, disk.content(Which::Data), b"data".as_slice());
     Ok(())
 }
@@ -143,9 +144,8 @@ fn a_start_keeps_the_data_first(rt: HostRuntime) -> Result<(), RecFault> {
 #[test]
 fn an_erasing_without_a_mark_makes_seven_calls(rt: HostRuntime) -> Result<(), RecFault> {
     for (k, expected) in [(7, Err(RecFault::Device)), (8, Ok(()))] {
-        let mut disk = copy_of(rt.alloc(), b"data", b"")?;
-        disk.cut_at(k);
-        equal(&rt, erase(&mut disk), expected);
+        let (_, answer) = erased_until(copy_of(rt.alloc(), b"data", b"")?, k);
+        equal(&rt, answer, expected);
     }
     Ok(())
 }
@@ -155,12 +155,18 @@ fn an_erasing_without_a_mark_makes_seven_calls(rt: HostRuntime) -> Result<(), Re
 fn a_recovery_keeps_the_data_first(rt: HostRuntime) -> Result<(), Fail> {
     let mut disk = begun(&rt)?.into_disk();
     disk.write(Which::Data, 0, b"data")?;
-    let data = Vec::from_slice(rt.alloc(), disk.content(Which::Data))?;
-    disk.fail_at(2);
-    equal(&rt, recover(&mut disk), Err(RecFault::Device));
-    disk.cycle(&[0xFF; 400]);
+    let data = disk.content(Which::Data).to_vec(rt.alloc())?;
+    let disk = recovered_without_its_second_call(&rt, disk);
     equal(&rt, disk.content(Which::Data), data.as_slice());
     Ok(())
+}
+
+// The disk after a recovery whose second call fails, and a power cut.
+fn recovered_without_its_second_call(rt: &impl Abort, mut disk: Memory) -> Memory {
+    disk.fail_at(2);
+    recovers(rt, &mut disk, Err(RecFault::Device));
+    disk.cycle(&[0xFF; 400]);
+    disk
 }
 
 // The size of the data file after a call that failed, if its header still counts no records.
@@ -178,7 +184,7 @@ fn stopped_until(rt: &HostRuntime, k: u32) -> Result<Option<usize>, RecFault>
     requires { 1 ≤ k }
 {
     let mut recorder = begun(rt)?;
-    play(&mut recorder, &short_ride())?;
+    play(&mut recorder, &SHORT)?;
     recorder.fail_at(k);
     let fault = one(&mut recorder, &Entry::Stop(TIME + 2));
     Ok(unfinished(fault, &recorder.into_disk()))

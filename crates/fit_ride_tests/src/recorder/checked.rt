@@ -5,14 +5,16 @@ ghost use Rattle.std.specs.Prelude.{true, IfOk};
 ghost use Rattle.fit_disk.specs.Memory.{memory_story};
 ghost use Rattle.fit_recorder.specs.Calls.Recorder.{GoesOn};
 
-use super::resuming::{refusal_of, resumed};
-use super::{RUN, START_RECORDS, TIME, copy_of, heart_rate, play, short_ride};
+use super::resuming::{gone_on, refusal_of};
+use super::{
+    RUN, SHORT, START_RECORDS, Step, TIME, after_a_cut, copy_of, ends_at, has, heart_rate,
+    is_found_damaged, play,
+};
 use crate::equality::equal;
 use fit_activity::Entry;
 use fit_disk::{Memory, Which};
-use fit_recorder::{RecFault, Recorder, recover};
+use fit_recorder::{RecFault, Recorder};
 use std::alloc::Global;
-use std::process::Abort;
 use std::test::Fail;
 
 // A recording with that start and a journal with checksums, on a fresh disk.
@@ -33,134 +35,131 @@ fn committed(alloc: Global, entries: &[Entry]) -> Result<Memory, RecFault> {
     Ok(recorder.into_disk())
 }
 
+// The journal of a start.
+const CHECKED_JOURNAL: [u8; 24] = [
+    0x46, 0x52, 0x4A, 0x43, 0, 0, 0, 0, 0xA5, 0x48, 0, 0, 0, 0x80, 0x9D, 0, 0, 0, 0, 0, 0, 0, 0, 0,
+];
+
 #[test]
 fn a_checked_start_is_committed(rt: HostRuntime) -> Result<(), RecFault> {
     let disk = begun_checked(rt.alloc())?.into_disk();
-    equal(
-        &rt,
-        disk.content(Which::Data).get(14..),
-        Some(START_RECORDS.as_slice()),
-    );
-    let journal = [
-        0x46, 0x52, 0x4A, 0x43, 0, 0, 0, 0, 0xA5, 0x48, 0, 0, 0, 0x80, 0x9D, 0, 0, 0, 0, 0, 0, 0,
-        0, 0,
-    ];
-    equal(&rt, disk.content(Which::Journal), journal.as_slice());
+    ends_at(&rt, &disk, Which::Data, 14, &START_RECORDS);
+    ends_at(&rt, &disk, Which::Journal, 0, &CHECKED_JOURNAL);
     Ok(())
 }
 
+// The slots of the short ride.
+const SLOTS: [u8; 16] = [
+    0xA5, 0x48, 0, 0, 0, 0x80, 0x9D, 0, 0xA5, 0xAE, 0, 0, 0, 0xE3, 0x89, 0,
+];
+
 #[test]
 fn a_commit_states_the_checksum_of_the_body(rt: HostRuntime) -> Result<(), RecFault> {
-    let disk = committed(rt.alloc(), &short_ride())?;
-    let slots = [
-        0xA5, 0x48, 0, 0, 0, 0x80, 0x9D, 0, 0xA5, 0xAE, 0, 0, 0, 0xE3, 0x89, 0,
-    ];
-    equal(
-        &rt,
-        disk.content(Which::Journal).get(8..),
-        Some(slots.as_slice()),
-    );
+    let disk = committed(rt.alloc(), &SHORT)?;
+    ends_at(&rt, &disk, Which::Journal, 8, &SLOTS);
     Ok(())
 }
 
 // Whether a recovery and a resume of files with this content answer `Damaged` and change nothing.
 fn is_damaged(alloc: Global, data: &[u8], journal: &[u8]) -> Result<bool, Fail> {
     let mut disk = copy_of(alloc, data, journal)?;
-    let is_damaged = recover(&mut disk) == Err(RecFault::Damaged);
-    let is_same = disk.content(Which::Data) == data && disk.content(Which::Journal) == journal;
+    let is_recovery = is_found_damaged(&mut disk) && has(&disk, data, journal);
     let refusal = refusal_of(alloc, copy_of(alloc, data, journal)?)?;
-    Ok(is_damaged && is_same && refusal == Some(RecFault::Damaged))
+    Ok(is_recovery && refusal == Some(RecFault::Damaged))
 }
 
 const BITS: [u8; 8] = [1, 2, 4, 8, 16, 32, 64, 128];
 
-#[test]
-fn a_changed_bit_of_the_body_is_damaged(rt: HostRuntime) -> Result<(), Fail> {
-    let alloc = rt.alloc();
-    let disk = committed(alloc, &short_ride())?;
-    let journal = disk.content(Which::Journal);
-    let mut data = disk.content(Which::Data).to_vec(alloc)?;
-    assert_eq!(rt; data.len(), 188);
-    for place in 14..188 {
-        let kept = data[place];
-        for bit in BITS {
-            data[place] = kept ^ bit;
-            assert!(rt;
-                is_damaged(alloc, &data, journal)?,
-                "byte {place}, bit {bit}"
-            );
-        }
-        data[place] = kept;
+// This content with one bit of it changed.
+fn changed(alloc: Global, content: &[u8], place: usize, bit: u8) -> Result<Vec<u8>, Fail> {
+    let mut bytes = content.to_vec(alloc)?;
+    if let Some(byte) = bytes.get_mut(place) {
+        *byte ^= bit;
     }
-    // The room for the header is no part of it.
-    data[13] ^= 1;
-    equal(&rt, is_damaged(alloc, &data, journal)?, false);
-    Ok(())
+    Ok(bytes)
 }
 
 #[test]
-fn a_changed_checksum_is_damaged(rt: HostRuntime) -> Result<(), Fail> {
+fn a_changed_bit_of_the_body_is_damaged(rt: HostRuntime) -> Result<(), Fail> {
     let alloc = rt.alloc();
-    let disk = committed(alloc, &short_ride())?;
-    let mut journal = disk.content(Which::Journal).to_vec(alloc)?;
-    assert_eq!(rt; journal.len(), 24);
-    let data = disk.content(Which::Data);
-    // That of the earlier commit does not count, nor do the bytes after the checksums.
-    for place in [13, 14, 15, 23] {
-        if let Some(byte) = journal.get_mut(place) {
-            *byte ^= 0xFF;
-        }
-    }
-    assert_eq!(rt; journal.len(), 24);
-    equal(&rt, is_damaged(alloc, data, &journal)?, false);
-    for place in 21..23 {
-        let kept = journal[place];
+    let disk = committed(alloc, &SHORT)?;
+    let (data, journal) = (disk.content(Which::Data), disk.content(Which::Journal));
+    equal(&rt, data.len(), 188);
+    for place in 14..188 {
         for bit in BITS {
-            journal[place] = kept ^ bit;
+            let other = changed(alloc, data, place, bit)?;
             assert!(rt;
-                is_damaged(alloc, data, &journal)?,
+                is_damaged(alloc, &other, journal)?,
                 "byte {place}, bit {bit}"
             );
         }
-        journal[place] = 0; // Zero states a checksum too.
-        assert!(rt; is_damaged(alloc, data, &journal)?, "byte {place}");
-        journal[place] = kept;
     }
-    // Without checksums nothing is compared.
-    journal[3] = 0x32;
-    journal[21] = 0;
-    equal(&rt, is_damaged(alloc, data, &journal)?, false);
+    // The room for the header is no part of it.
+    let other = changed(alloc, data, 13, 1)?;
+    equal(&rt, is_damaged(alloc, &other, journal)?, false);
     Ok(())
+}
+
+// The journal of the short ride with this last byte of its mark and this checksum. The checksum of the earlier commit is another one,
+// and so are the bytes after the checksums: they do not count.
+fn journal_with(mark: u8, low: u8, high: u8) -> [u8; 24] {
+    [
+        0x46, 0x52, 0x4A, mark, 0, 0, 0, 0, 0xA5, 0x48, 0, 0, 0, 0x7F, 0x62, 0xFF, 0xA5, 0xAE, 0,
+        0, 0, low, high, 0xFF,
+    ]
+}
+
+// Marks and checksums, and whether they are damaged. Zero states a checksum too, but with the mark of a journal without checksums
+// nothing is compared.
+const CHECKSUMS: [(u8, u8, u8, bool); 4] = [
+    (0x43, 0xE3, 0x89, false),
+    (0x43, 0x00, 0x89, true),
+    (0x43, 0xE3, 0x00, true),
+    (0x32, 0x00, 0x89, false),
+];
+
+#[test]
+fn a_changed_checksum_is_damaged(rt: HostRuntime) -> Result<(), Fail> {
+    let disk = committed(rt.alloc(), &SHORT)?;
+    let data = disk.content(Which::Data);
+    for (mark, low, high, is_wrong) in CHECKSUMS {
+        let answer = is_damaged(rt.alloc(), data, &journal_with(mark, low, high))?;
+        assert_eq!(rt; answer, is_wrong, "mark {mark}, checksum {low} {high}");
+    }
+    for bit in BITS {
+        let low = is_damaged(rt.alloc(), data, &journal_with(0x43, 0xE3 ^ bit, 0x89))?;
+        let high = is_damaged(rt.alloc(), data, &journal_with(0x43, 0xE3, 0x89 ^ bit))?;
+        assert_eq!(rt; (low, high), (true, true), "bit {bit}");
+    }
+    Ok(())
+}
+
+// Whether the data file of a ride with this heart rate and the journal of a ride with that one are damaged.
+fn are_damaged(alloc: Global, rate: u8, other: u8) -> Result<bool, Fail> {
+    let one = committed(alloc, &[heart_rate(TIME, rate)])?;
+    let two = committed(alloc, &[heart_rate(TIME, other)])?;
+    is_damaged(alloc, one.content(Which::Data), two.content(Which::Journal))
 }
 
 #[test]
 fn files_of_two_rides_are_damaged(rt: HostRuntime) -> Result<(), Fail> {
-    let alloc = rt.alloc();
-    let one = committed(alloc, &[heart_rate(TIME, 100)])?;
-    let other = committed(alloc, &[heart_rate(TIME, 101)])?;
-    let (data, journal) = (one.content(Which::Data), other.content(Which::Journal));
-    assert!(rt; is_damaged(alloc, data, journal)?);
-    equal(
-        &rt,
-        is_damaged(alloc, data, one.content(Which::Journal))?,
-        false,
-    );
+    equal(&rt, are_damaged(rt.alloc(), 100, 101)?, true);
+    equal(&rt, are_damaged(rt.alloc(), 100, 100)?, false);
     Ok(())
 }
+
+const RESUMED_STEPS: [Step; 2] = [Step::Hand(rate!(2, 110), Ok(())), Step::Commit(Ok(()))];
+
+const RESUMED_JOURNAL: [u8; 24] = [
+    0x46, 0x52, 0x4A, 0x43, 0, 0, 0, 0, 0xA5, 0x5E, 0, 0, 0, 0xA4, 0x59, 0, 0xA5, 0x53, 0, 0, 0,
+    0xEE, 0xBD, 0,
+];
 
 // A heart rate after the resume has its definition again, so the body has 94 bytes.
 #[test]
 fn a_resumed_ride_keeps_its_checksums(rt: HostRuntime) -> Result<(), RecFault> {
-    let mut disk = committed(rt.alloc(), &[heart_rate(TIME, 100)])?;
-    disk.cycle(&[]);
-    let mut recorder = resumed(disk)?;
-    recorder.hand(&heart_rate(TIME + 2, 110))?;
-    recorder.commit()?;
-    let disk = recorder.into_disk();
-    let journal = [
-        0x46, 0x52, 0x4A, 0x43, 0, 0, 0, 0, 0xA5, 0x5E, 0, 0, 0, 0xA4, 0x59, 0, 0xA5, 0x53, 0, 0,
-        0, 0xEE, 0xBD, 0,
-    ];
-    equal(&rt, disk.content(Which::Journal), journal.as_slice());
+    let disk = after_a_cut(committed(rt.alloc(), &[heart_rate(TIME, 100)])?);
+    let disk = gone_on(&rt, disk, &RESUMED_STEPS)?;
+    ends_at(&rt, &disk, Which::Journal, 0, &RESUMED_JOURNAL);
     Ok(())
 }

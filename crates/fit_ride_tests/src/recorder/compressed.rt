@@ -7,7 +7,10 @@ ghost use Rattle.fit_disk.specs.Memory.{memory_story};
 ghost use Rattle.fit_recorder.specs.Calls.Recorder.{GoesOn};
 
 use super::stopping::{size_with_definition, some_fields};
-use super::{ALONE, RUN, TIME, begun, begun_on, entries_reported, heart_rate, play};
+use super::{
+    ALONE, EMPTY, RUN, Step, TIME, after, begun, begun_as, committed_on, encodes, ends_at,
+    entries_reported, has_at, recovers,
+};
 use crate::equality::equal;
 use fit_activity::{Entry, Sample, Start, Summary};
 use fit_disk::{Memory, Which};
@@ -20,142 +23,171 @@ use std::test::Fail;
 // The records of these entries after those of the start. Asserts that a recovery leaves them as they are, and that its file encodes
 // these entries.
 fn recorded(rt: &impl Abort, alloc: Global, entries: &[Entry]) -> Result<Vec<u8>, Fail> {
-    let mut recorder = begun_on(Memory::new(alloc))?;
-    play(&mut recorder, entries)?;
-    recorder.commit()?;
-    let mut disk = recorder.into_disk();
-    let records = disk.content(Which::Data).get(86..).unwrap_or(&[]);
-    let records = records.to_vec(alloc)?;
+    let mut disk = committed_on(Memory::new(alloc), entries)?;
+    let records = records_of(alloc, &disk)?;
     recover(&mut disk)?;
-    let written = disk.content(Which::Data);
-    assert!(rt; written.get(86..).unwrap_or(&[]).starts_with(&records));
-    let file = decode_file(alloc, written)?;
-    equal(rt, entries_reported(&file, entries), Some(entries.len()));
+    has_at(rt, &disk, Which::Data, 86, &records);
+    encodes(rt, alloc, &disk, entries)?;
     Ok(records)
 }
+
+// What a data file has after the records of the start.
+fn records_of(alloc: Global, disk: &Memory) -> Result<Vec<u8>, Fail> {
+    let records = disk.content(Which::Data).get(86..).unwrap_or(&[]);
+    Ok(records.to_vec(alloc)?)
+}
+
+// Entries, a place after the records of the start, and the records from there on.
+type Case = (&'static [Entry], usize, &'static [u8]);
+
+// Asserts that these entries have these records.
+fn has_records(rt: &impl Abort, alloc: Global, case: Case) -> Result<(), Fail> {
+    let (entries, place, expected) = case;
+    let records = recorded(rt, alloc, entries)?;
+    assert_eq!(rt; records.get(place..), Some(expected), "{entries:?}");
+    Ok(())
+}
+
+const SOON: Case = (
+    &[rate!(31, 100), rate!(63, 101), rate!(63, 102)],
+    0,
+    &[
+        0x40, 0x00, 0x00, 0x14, 0x00, 0x01, 0x03, 0x01, 0x02, 0x9F, 0x64, 0x41, 0x00, 0x00, 0x14,
+        0x00, 0x02, 0xFD, 0x04, 0x86, 0x03, 0x01, 0x02, 0x01, 0x3F, 0xCA, 0x9A, 0x3B, 0x65, 0x9F,
+        0x66,
+    ],
+);
 
 // Up to 31 seconds after the last entry, and 32.
 #[test]
 fn a_time_soon_after_is_compressed(rt: HostRuntime) -> Result<(), Fail> {
-    let entries = [
-        heart_rate(TIME + 31, 100),
-        heart_rate(TIME + 63, 101),
-        heart_rate(TIME + 63, 102),
-    ];
-    let records = [
-        0x40, 0x00, 0x00, 0x14, 0x00, 0x01, 0x03, 0x01, 0x02, 0x9F, 0x64, 0x41, 0x00, 0x00, 0x14,
-        0x00, 0x02, 0xFD, 0x04, 0x86, 0x03, 0x01, 0x02, 0x01, 0x3F, 0xCA, 0x9A, 0x3B, 0x65, 0x9F,
-        0x66,
-    ];
-    equal(
-        &rt,
-        recorded(&rt, rt.alloc(), &entries)?.as_slice(),
-        records.as_slice(),
-    );
-    Ok(())
+    has_records(&rt, rt.alloc(), SOON)
 }
+
+const LAST_TIMES: [Case; 4] = [
+    (
+        &[Entry::Lap(TIME + 2), rate!(2, 110)],
+        87,
+        &[
+            0x40, 0x00, 0x00, 0x14, 0x00, 0x01, 0x03, 0x01, 0x02, 0x82, 0x6E,
+        ],
+    ),
+    (
+        &[
+            Entry::Pause(TIME + 5),
+            Entry::Resume(TIME + 10),
+            rate!(41, 100),
+        ],
+        14,
+        &[
+            0x40, 0x00, 0x00, 0x14, 0x00, 0x01, 0x03, 0x01, 0x02, 0x89, 0x64,
+        ],
+    ),
+    (
+        &[
+            Entry::Pause(TIME + 5),
+            Entry::Resume(TIME + 10),
+            rate!(42, 100),
+        ],
+        14,
+        &[
+            0x40, 0x00, 0x00, 0x14, 0x00, 0x02, 0xFD, 0x04, 0x86, 0x03, 0x01, 0x02, 0x00, 0x2A,
+            0xCA, 0x9A, 0x3B, 0x64,
+        ],
+    ),
+    (
+        &[
+            Entry::Sample(Sample {
+                time: TIME + 1,
+                ..EMPTY
+            }),
+            rate!(2, 100),
+        ],
+        0,
+        &[
+            0x40, 0x00, 0x00, 0x14, 0x00, 0x01, 0xFD, 0x04, 0x86, 0x00, 0x01, 0xCA, 0x9A, 0x3B,
+            0x41, 0x00, 0x00, 0x14, 0x00, 0x01, 0x03, 0x01, 0x02, 0xA2, 0x64,
+        ],
+    ),
+];
 
 // After a lap, after the end of a pause, and after a sample without fields, which has its own time.
 #[test]
 fn each_entry_is_a_last_time(rt: HostRuntime) -> Result<(), Fail> {
-    let at_a_lap = [Entry::Lap(TIME + 2), heart_rate(TIME + 2, 110)];
-    let records = recorded(&rt, rt.alloc(), &at_a_lap)?;
-    let last = [
-        0x40, 0x00, 0x00, 0x14, 0x00, 0x01, 0x03, 0x01, 0x02, 0x82, 0x6E,
-    ];
-    assert!(rt; records.as_slice().ends_with(&last));
-
-    let pause = Entry::Pause(TIME + 5);
-    let resume = Entry::Resume(TIME + 10);
-    let records = recorded(
-        &rt,
-        rt.alloc(),
-        &[pause, resume, heart_rate(TIME + 41, 100)],
-    )?;
-    let last = [
-        0x40, 0x00, 0x00, 0x14, 0x00, 0x01, 0x03, 0x01, 0x02, 0x89, 0x64,
-    ];
-    assert!(rt; records.as_slice().ends_with(&last));
-    let records = recorded(
-        &rt,
-        rt.alloc(),
-        &[pause, resume, heart_rate(TIME + 42, 100)],
-    )?;
-    let last = [
-        0x40, 0x00, 0x00, 0x14, 0x00, 0x02, 0xFD, 0x04, 0x86, 0x03, 0x01, 0x02, 0x00, 0x2A, 0xCA,
-        0x9A, 0x3B, 0x64,
-    ];
-    assert!(rt; records.as_slice().ends_with(&last));
-
-    let empty = Entry::Sample(Sample::new(TIME + 1));
-    let records = recorded(&rt, rt.alloc(), &[empty, heart_rate(TIME + 2, 100)])?;
-    let all = [
-        0x40, 0x00, 0x00, 0x14, 0x00, 0x01, 0xFD, 0x04, 0x86, 0x00, 0x01, 0xCA, 0x9A, 0x3B, 0x41,
-        0x00, 0x00, 0x14, 0x00, 0x01, 0x03, 0x01, 0x02, 0xA2, 0x64,
-    ];
-    equal(&rt, records.as_slice(), all.as_slice());
+    for case in LAST_TIMES {
+        has_records(&rt, rt.alloc(), case)?;
+    }
     Ok(())
 }
+
+const AROUND: Case = (
+    &[
+        rate!(30, 100),
+        rate!(31, 100),
+        rate!(32, 100),
+        rate!(33, 100),
+        rate!(64, 100),
+        rate!(64, 100),
+        rate!(96, 100),
+    ],
+    0,
+    &[
+        0x40, 0x00, 0x00, 0x14, 0x00, 0x01, 0x03, 0x01, 0x02, 0x9E, 0x64, 0x9F, 0x64, 0x80, 0x64,
+        0x81, 0x64, 0x80, 0x64, 0x80, 0x64, 0x41, 0x00, 0x00, 0x14, 0x00, 0x02, 0xFD, 0x04, 0x86,
+        0x03, 0x01, 0x02, 0x01, 0x60, 0xCA, 0x9A, 0x3B, 0x64,
+    ],
+);
 
 // Around a multiple of 32, and 32 seconds later with the same low five bits.
 #[test]
 fn an_offset_below_the_last_is_32_seconds_on(rt: HostRuntime) -> Result<(), Fail> {
-    let entries = [
-        heart_rate(TIME + 30, 100),
-        heart_rate(TIME + 31, 100),
-        heart_rate(TIME + 32, 100),
-        heart_rate(TIME + 33, 100),
-        heart_rate(TIME + 64, 100),
-        heart_rate(TIME + 64, 100),
-        heart_rate(TIME + 96, 100),
-    ];
-    let records = [
-        0x40, 0x00, 0x00, 0x14, 0x00, 0x01, 0x03, 0x01, 0x02, 0x9E, 0x64, 0x9F, 0x64, 0x80, 0x64,
-        0x81, 0x64, 0x80, 0x64, 0x80, 0x64, 0x41, 0x00, 0x00, 0x14, 0x00, 0x02, 0xFD, 0x04, 0x86,
-        0x03, 0x01, 0x02, 0x01, 0x60, 0xCA, 0x9A, 0x3B, 0x64,
-    ];
-    equal(
-        &rt,
-        recorded(&rt, rt.alloc(), &entries)?.as_slice(),
-        records.as_slice(),
-    );
-    Ok(())
+    has_records(&rt, rt.alloc(), AROUND)
 }
 
-// A recording that starts at this time.
-fn begun_at(rt: &HostRuntime, time: u32) -> Result<Recorder<Memory>, RecFault>
-    ensures { IfOk result (λ recorder. GoesOn true memory_story recorder) }
-{
-    match Recorder::start(Memory::new(rt.alloc()), Start { time, ..RUN }) {
-        Ok(recorder) => Ok(recorder),
-        Err((_, fault)) => Err(fault),
-    }
-}
+// A start, and two samples up to the last time.
+const LATE: Start = Start {
+    time: 0xFFFF_FFD0,
+    ..RUN
+};
+
+const LATE_STEPS: [Step; 3] = [
+    Step::Hand(
+        Entry::Sample(Sample {
+            time: 0xFFFF_FFE0,
+            heart_rate: Some(100),
+            ..EMPTY
+        }),
+        Ok(()),
+    ),
+    Step::Hand(
+        Entry::Sample(Sample {
+            time: 0xFFFF_FFFE,
+            heart_rate: Some(101),
+            ..EMPTY
+        }),
+        Ok(()),
+    ),
+    Step::Commit(Ok(())),
+];
+
+const LATE_RECORDS: [u8; 13] = [
+    0x40, 0x00, 0x00, 0x14, 0x00, 0x01, 0x03, 0x01, 0x02, 0x80, 0x64, 0x9E, 0x65,
+];
+
+const LATE_SUMMARY: Summary = Summary {
+    records: 2,
+    start: Some(0xFFFF_FFD0),
+    elapsed_ms: Some(46_000),
+    timer_ms: Some(46_000),
+    ..ALONE
+};
 
 #[test]
 fn the_last_times_are_compressed(rt: HostRuntime) -> Result<(), RecFault> {
-    let start = 0xFFFF_FFD0;
-    let mut recorder = begun_at(&rt, start)?;
-    recorder.hand(&heart_rate(0xFFFF_FFE0, 100))?;
-    recorder.hand(&heart_rate(0xFFFF_FFFE, 101))?;
-    recorder.commit()?;
-    let mut disk = recorder.into_disk();
-    let records = [
-        0x40, 0x00, 0x00, 0x14, 0x00, 0x01, 0x03, 0x01, 0x02, 0x80, 0x64, 0x9E, 0x65,
-    ];
-    equal(
-        &rt,
-        disk.content(Which::Data).get(86..),
-        Some(records.as_slice()),
-    );
-    let summary = Summary {
-        records: 2,
-        start: Some(start),
-        elapsed_ms: Some(46_000),
-        timer_ms: Some(46_000),
-        ..ALONE
-    };
-    equal(&rt, recover(&mut disk), Ok(summary));
+    let recorder = begun_as(Memory::new(rt.alloc()), LATE)?;
+    let mut disk = after(&rt, recorder, &LATE_STEPS);
+    ends_at(&rt, &disk, Which::Data, 86, &LATE_RECORDS);
+    recovers(&rt, &mut disk, Ok(LATE_SUMMARY));
     Ok(())
 }
 

@@ -4,13 +4,12 @@ ghost use Rattle.std.specs.Prelude.{◌≤◌};
 
 use super::power_cuts::Trouble;
 use super::{
-    ALONE, SHORT_RIDE, TIME, begun_on, committed, copy_of, entries_reported, heart_rate, play,
-    ride, short_ride, start_cut_at,
+    ALONE, SHORT, SHORT_RIDE, STOPPED, TIME, begun_on, committed, copy_of, encodes, recovers,
+    reported_in, ride, ride_on, start_cut_at, sums_up,
 };
 use crate::equality::equal;
-use fit_activity::{Entry, Summary, check_activity};
+use fit_activity::{Entry, Summary};
 use fit_disk::{Memory, Which};
-use fit_grammar::decode_file;
 use fit_recorder::{RecFault, erase, recover};
 use std::alloc::Global;
 use std::process::Abort;
@@ -20,41 +19,38 @@ use std::test::Fail;
 // seventh cuts the data file.
 const CALLS: u32 = 8;
 
-// The entries of the short ride with its stop.
-fn stopped_ride() -> [Entry; 5] {
-    let [first, second, lap, third] = short_ride();
-    [first, second, lap, third, Entry::Stop(TIME + 2)]
-}
+const ANEW: [Entry; 2] = [rate!(5, 90), Entry::Stop(TIME + 9)];
+
+const ANEW_SUMMARY: Summary = Summary {
+    records: 1,
+    elapsed_ms: Some(9000),
+    timer_ms: Some(9000),
+    ..ALONE
+};
 
 // Records a ride of one sample on a disk that was erased. The finished file encodes that ride alone.
 fn rides_anew(rt: &impl Abort, alloc: Global, disk: Memory) -> Result<(), Fail> {
     equal(rt, disk.content(Which::Data).len(), 0);
-    let mut recorder = begun_on(disk)?;
-    let entries = [heart_rate(TIME + 5, 90), Entry::Stop(TIME + 9)];
-    play(&mut recorder, &entries)?;
-    let disk = recorder.into_disk();
-    let file = decode_file(alloc, disk.content(Which::Data))?;
-    let summary = Summary {
-        records: 1,
-        elapsed_ms: Some(9000),
-        timer_ms: Some(9000),
-        ..ALONE
-    };
-    equal(rt, check_activity(&file.lend()), Ok(summary));
-    equal(rt, entries_reported(&file, &entries), Some(2));
-    Ok(())
+    let disk = ride_on(disk, &ANEW)?;
+    sums_up(rt, alloc, &disk, ANEW_SUMMARY)?;
+    encodes(rt, alloc, &disk, &ANEW)
 }
 
 #[test]
 fn an_erased_ride_makes_room_for_another(rt: HostRuntime) -> Result<(), Fail> {
-    let mut disk = ride(&rt, &stopped_ride())?;
+    let mut disk = ride(&rt, &STOPPED)?;
     equal(&rt, disk.content(Which::Data).len(), 427);
     disk.cut_at(CALLS + 1);
-    equal(&rt, erase(&mut disk), Ok(()));
+    erases(&rt, &mut disk, Ok(()));
     equal(&rt, disk.content(Which::Data).len(), 0);
     disk.cycle(&[0xFF; 16]);
-    equal(&rt, recover(&mut disk), Err(RecFault::NothingRecorded));
+    recovers(&rt, &mut disk, Err(RecFault::NothingRecorded));
     rides_anew(&rt, rt.alloc(), disk)
+}
+
+// Asserts that an erasing of a disk gives this answer.
+fn erases(rt: &impl Abort, disk: &mut Memory, answer: Result<(), RecFault>) {
+    equal(rt, erase(disk), answer);
 }
 
 #[test]
@@ -62,8 +58,8 @@ fn a_start_that_was_cut_off_is_erased(rt: HostRuntime) -> Result<(), RecFault> {
     let (mut disk, fault) = start_cut_at(&rt, 5);
     equal(&rt, fault, Some(RecFault::Device));
     disk.cycle(&[]);
-    equal(&rt, recover(&mut disk), Err(RecFault::NothingRecorded));
-    equal(&rt, erase(&mut disk), Ok(()));
+    recovers(&rt, &mut disk, Err(RecFault::NothingRecorded));
+    erases(&rt, &mut disk, Ok(()));
     equal(&rt, begun_on(disk)?.data_len(), 72);
     Ok(())
 }
@@ -72,13 +68,13 @@ fn a_start_that_was_cut_off_is_erased(rt: HostRuntime) -> Result<(), RecFault> {
 fn an_erasing_done_again_does_not_bring_the_ride_back(rt: HostRuntime) -> Result<(), RecFault> {
     let mut disk = committed(&rt)?;
     disk.fail_at(7);
-    equal(&rt, erase(&mut disk), Err(RecFault::Device));
+    erases(&rt, &mut disk, Err(RecFault::Device));
     // The mark is gone, so the fifth call is the sync of the journal.
     disk.cut_at(5);
-    equal(&rt, erase(&mut disk), Err(RecFault::Device));
+    erases(&rt, &mut disk, Err(RecFault::Device));
     disk.cycle(&[0, 0, 0, 0, 0, 0, 0, 0, 0x46]);
     equal(&rt, disk.content(Which::Data).len(), 188);
-    equal(&rt, recover(&mut disk), Err(RecFault::NothingRecorded));
+    recovers(&rt, &mut disk, Err(RecFault::NothingRecorded));
     Ok(())
 }
 
@@ -136,8 +132,7 @@ fn finds_it_or_nothing(
     let answer = recover(disk);
     if is_left(attempt) {
         assert_eq!(rt; answer, Ok(SHORT_RIDE), "{attempt:?}");
-        let file = decode_file(alloc, disk.content(Which::Data))?;
-        let reported = entries_reported(&file, &short_ride());
+        let reported = reported_in(alloc, disk, &SHORT)?;
         assert_eq!(rt; reported, Some(4), "{attempt:?}");
     } else {
         assert_eq!(rt; answer, Err(RecFault::NothingRecorded), "{attempt:?}");
@@ -206,7 +201,7 @@ fn an_erasing_that_ends_early_leaves_a_committed_ride_or_nothing(
 fn an_erasing_that_ends_early_leaves_a_stopped_ride_or_nothing(
     rt: HostRuntime,
 ) -> Result<(), Fail> {
-    let disk = ride(&rt, &stopped_ride())?;
+    let disk = ride(&rt, &STOPPED)?;
     equal(&rt, disk.content(Which::Data).len(), 427);
     leaves_it_or_nothing(&rt, rt.alloc(), &disk)
 }

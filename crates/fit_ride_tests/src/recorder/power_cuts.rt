@@ -5,12 +5,11 @@ ghost use Rattle.std.specs.Prelude.{◌≤◌, true};
 ghost use Rattle.fit_disk.specs.Memory.{memory_story};
 ghost use Rattle.fit_recorder.specs.Calls.Recorder.{GoesOn};
 
-use super::stopping::full_sample;
-use super::{RUN, TIME, copy_of, entries_reported, heart_rate, one};
+use super::stopping::FULL;
+use super::{EMPTY, RUN, TIME, copy_of, heart_rate, one, reported_in, sums_up};
 use crate::equality::equal;
-use fit_activity::{Entry, Sample, Summary, check_activity};
+use fit_activity::{Entry, Sample, Summary};
 use fit_disk::{Memory, Which};
-use fit_grammar::decode_file;
 use fit_recorder::{RecFault, Recorder, recover};
 use std::alloc::Global;
 use std::process::Abort;
@@ -33,22 +32,31 @@ const RECOVERY_CALLS: u32 = 100;
 type Step = (Entry, bool);
 
 // Entries of each kind.
-fn ride_with_commits() -> [Step; 10] {
-    let mut far = Sample::new(TIME + 6);
-    far.distance = Some(4000);
-    [
-        (Entry::Sample(full_sample(TIME)), true),
-        (heart_rate(TIME + 1, 101), false),
-        (Entry::Lap(TIME + 2), true),
-        (Entry::Pause(TIME + 4), false),
-        (Entry::Resume(TIME + 6), true),
-        (Entry::Sample(far), false),
-        (Entry::Sample(Sample::new(TIME + 7)), true),
-        (Entry::Lap(TIME + 7), true),
-        (heart_rate(TIME + 8, 102), false),
-        (Entry::Stop(TIME + 9), false),
-    ]
-}
+const WITH_COMMITS: [Step; 10] = [
+    (Entry::Sample(FULL), true),
+    (rate!(1, 101), false),
+    (Entry::Lap(TIME + 2), true),
+    (Entry::Pause(TIME + 4), false),
+    (Entry::Resume(TIME + 6), true),
+    (
+        Entry::Sample(Sample {
+            time: TIME + 6,
+            distance: Some(4000),
+            ..EMPTY
+        }),
+        false,
+    ),
+    (
+        Entry::Sample(Sample {
+            time: TIME + 7,
+            ..EMPTY
+        }),
+        true,
+    ),
+    (Entry::Lap(TIME + 7), true),
+    (rate!(8, 102), false),
+    (Entry::Stop(TIME + 9), false),
+];
 
 // Two hundred samples and a stop, each 32 seconds after the one before.
 fn long_ride(alloc: Global) -> Result<Vec<Step>, Fail> {
@@ -157,27 +165,94 @@ fn ride_with(alloc: Global, ride: &[Step], trouble: Trouble, k: u32) -> (Memory,
     }
 }
 
-// How many entries of the ride the file of a recovery with this answer encodes. None if nothing was recorded.
+// What a recovery made of a disk: the disk before and after it, and its answer.
+#[derive(Drop)]
+struct Recovery {
+    before: Memory,
+    after: Memory,
+    answer: Result<Summary, RecFault>,
+}
+
+impl Recovery {
+    fn of(alloc: Global, mut disk: Memory) -> Result<Recovery, RecFault> {
+        let before = copied(alloc, &disk)?;
+        let answer = recover(&mut disk);
+        Ok(Recovery {
+            before,
+            after: disk,
+            answer,
+        })
+    }
+}
+
+fn copied(alloc: Global, disk: &Memory) -> Result<Memory, RecFault> {
+    copy_of(
+        alloc,
+        disk.content(Which::Data),
+        disk.content(Which::Journal),
+    )
+}
+
+// How many entries of the ride the file of a recovery encodes. None if nothing was recorded.
 fn entries_in(
     rt: &impl Abort,
     alloc: Global,
     ride: &[Step],
-    disk: &Memory,
-    answer: Result<Summary, RecFault>,
+    recovery: &Recovery,
 ) -> Result<Option<usize>, Fail> {
-    if answer == Err(RecFault::NothingRecorded) {
+    if recovery.answer == Err(RecFault::NothingRecorded) {
         return Ok(None);
     }
-    let file = decode_file(alloc, disk.content(Which::Data))?;
-    let summary = answer?;
-    equal(rt, check_activity(&file.lend()), Ok(summary));
+    sums_up(rt, alloc, &recovery.after, recovery.answer?)?;
     let mut entries = Vec::new(alloc);
     for (entry, _) in ride {
         entries.push(*entry)?;
     }
-    let reported = entries_reported(&file, &entries);
+    let reported = reported_in(alloc, &recovery.after, &entries)?;
     assert!(rt; reported.is_some());
     Ok(reported)
+}
+
+// The answers of a recovery with trouble at its k-th call, and of another after a power cut with these choices.
+fn recover_twice(
+    disk: &mut Memory,
+    trouble: Trouble,
+    k: u32,
+    choices: &[u8],
+) -> [Result<Summary, RecFault>; 2]
+    requires { 1 ≤ k }
+{
+    trouble.befall(disk, k);
+    let first = recover(disk);
+    disk.cycle(choices);
+    [first, recover(disk)]
+}
+
+// Cuts the power at each call of a recovery, or lets that call fail. Asserts that another recovery after it gives the same answer and
+// the same file. Returns how many recoveries there were.
+fn recover_again(
+    rt: &impl Abort,
+    alloc: Global,
+    recovery: &Recovery,
+    trouble: Trouble,
+    k: u32,
+    choices: &[u8],
+) -> Result<u32, Fail> {
+    let whole = recovery.after.content(Which::Data);
+    for again in 1..=RECOVERY_CALLS {
+        let mut copy = copied(alloc, &recovery.before)?;
+        let [first, second] = recover_twice(&mut copy, trouble, again, choices);
+        assert_eq!(rt;
+            (second, copy.content(Which::Data)),
+            (recovery.answer, whole),
+            "call {k}, and call {again} of the recovery"
+        );
+        if first != Err(RecFault::Device) {
+            return Ok(again);
+        }
+    }
+    assert!(rt; false, "a recovery of more calls");
+    Ok(0)
 }
 
 // Cuts the power at the k-th call of the ride, or lets that call fail, and then does the same at each call of the recovery, with
@@ -194,36 +269,13 @@ fn recover_from(
 {
     let (mut disk, way) = ride_with(alloc, ride, trouble, k);
     disk.cycle(choices);
-    let data = disk.content(Which::Data).to_vec(alloc)?;
-    let journal = disk.content(Which::Journal).to_vec(alloc)?;
-    let answer = recover(&mut disk);
-    let reported = entries_in(rt, alloc, ride, &disk, answer)?;
+    let recovery = Recovery::of(alloc, disk)?;
+    let reported = entries_in(rt, alloc, ride, &recovery)?;
     assert!(rt;
         reported == way.committed || reported == way.begun,
         "call {k}"
     );
-    let whole = disk.content(Which::Data);
-    for again in 1..=RECOVERY_CALLS {
-        let mut copy = copy_of(alloc, &data, &journal)?;
-        trouble.befall(&mut copy, again);
-        let first = recover(&mut copy);
-        copy.cycle(choices);
-        assert_eq!(rt;
-            recover(&mut copy),
-            answer,
-            "call {k}, and call {again} of the recovery"
-        );
-        assert_eq!(rt;
-            copy.content(Which::Data),
-            whole,
-            "call {k}, and call {again} of the recovery"
-        );
-        if first != Err(RecFault::Device) {
-            return Ok(again);
-        }
-    }
-    assert!(rt; false, "a recovery of more calls");
-    Ok(0)
+    recover_again(rt, alloc, &recovery, trouble, k, choices)
 }
 
 // The next number of a pseudorandom sequence.
@@ -276,35 +328,47 @@ fn try_each_call(
     Ok(recoveries)
 }
 
+// How many entries are committed, and how many were begun, if the power goes at the k-th call of the ride.
+fn way_until(alloc: Global, ride: &[Step], k: u32) -> (Option<usize>, Option<usize>)
+    requires { 1 ≤ k }
+{
+    let (_, way) = ride_with(alloc, ride, Trouble::Cut, k);
+    (way.committed, way.begun)
+}
+
 #[test]
 fn the_rides_make_so_many_calls(rt: HostRuntime) -> Result<(), Fail> {
-    let ride = ride_with_commits();
-    let (_, cut) = ride_with(rt.alloc(), &ride, Trouble::Cut, CALLS);
-    equal(&rt, (cut.committed, cut.begun), (Some(8), Some(10)));
-    let (_, whole) = ride_with(rt.alloc(), &ride, Trouble::Cut, CALLS + 1);
-    equal(&rt, (whole.committed, whole.begun), (Some(10), Some(10)));
+    let cut = way_until(rt.alloc(), &WITH_COMMITS, CALLS);
+    equal(&rt, cut, (Some(8), Some(10)));
+    let whole = way_until(rt.alloc(), &WITH_COMMITS, CALLS + 1);
+    equal(&rt, whole, (Some(10), Some(10)));
     let ride = long_ride(rt.alloc())?;
-    let (_, cut) = ride_with(rt.alloc(), &ride, Trouble::Cut, LONG_CALLS);
-    equal(&rt, (cut.committed, cut.begun), (Some(200), Some(201)));
-    let (_, whole) = ride_with(rt.alloc(), &ride, Trouble::Cut, LONG_CALLS + 1);
-    equal(&rt, (whole.committed, whole.begun), (Some(201), Some(201)));
+    let cut = way_until(rt.alloc(), &ride, LONG_CALLS);
+    equal(&rt, cut, (Some(200), Some(201)));
+    let whole = way_until(rt.alloc(), &ride, LONG_CALLS + 1);
+    equal(&rt, whole, (Some(201), Some(201)));
     Ok(())
 }
 
 #[test]
 fn power_cuts_leave_what_was_committed(rt: HostRuntime) -> Result<(), Fail> {
-    let ride = ride_with_commits();
     let kinds = 4 + NOISES;
-    let recoveries = try_each_call(&rt, rt.alloc(), &ride, CALLS, Trouble::Cut, kinds)?;
+    let recoveries = try_each_call(&rt, rt.alloc(), &WITH_COMMITS, CALLS, Trouble::Cut, kinds)?;
     assert!(rt; recoveries > 0);
     Ok(())
 }
 
 #[test]
 fn failures_leave_what_was_committed(rt: HostRuntime) -> Result<(), Fail> {
-    let ride = ride_with_commits();
     let kinds = 4 + NOISES;
-    let recoveries = try_each_call(&rt, rt.alloc(), &ride, CALLS, Trouble::Failure, kinds)?;
+    let recoveries = try_each_call(
+        &rt,
+        rt.alloc(),
+        &WITH_COMMITS,
+        CALLS,
+        Trouble::Failure,
+        kinds,
+    )?;
     assert!(rt; recoveries > 0);
     Ok(())
 }

@@ -2,13 +2,15 @@
 
 ghost use Rattle.std.specs.Prelude.{◌≡◌, ◌<◌, ◌≤◌, ◌^◌, length};
 
-use super::stopping::full_sample;
+use super::bodies::{body_of, definition_of};
+use super::stopping::FULL;
 use super::{
-    ALONE, SHORT_RIDE, START_RECORDS, TIME, begun, begun_on, committed, copy_of, entries_reported,
-    heart_rate, holding, ride, short_ride, start_cut_at, value_in,
+    ALONE, EMPTY, SHORT, SHORT_RIDE, START_RECORDS, STOPPED, Step, TIME, after_a_cut, begun,
+    begun_on, committed, copy_of, encodes, has, has_at, heart_rate, holding, is_found_damaged,
+    recorded, recovers, ride, start_cut_at, sums_up, value_in,
 };
 use crate::equality::equal;
-use fit_activity::{Entry, Sample, Summary, check_activity};
+use fit_activity::{Entry, Sample, Summary};
 use fit_disk::{Disk, Memory, Which};
 use fit_grammar::{File, decode_file};
 use fit_recorder::{RecFault, recover};
@@ -21,11 +23,11 @@ pub(super) type Reported = (u8, Option<u64>);
 
 // The global number and the fields of the message at a place of a file.
 pub(super) fn reported_at(
-    rt: &HostRuntime,
+    alloc: Global,
     file: &File,
     place: usize,
 ) -> Result<(Option<u16>, Vec<Reported>), Fail> {
-    let mut reported = Vec::new(rt.alloc());
+    let mut reported = Vec::new(alloc);
     let mut left = place;
     for message in file.messages() {
         if left == 0 {
@@ -42,120 +44,120 @@ pub(super) fn reported_at(
 #[test]
 fn what_is_committed_is_recovered(rt: HostRuntime) -> Result<(), Fail> {
     let mut disk = committed(&rt)?;
-    equal(&rt, recover(&mut disk), Ok(SHORT_RIDE));
-    let file = decode_file(rt.alloc(), disk.content(Which::Data))?;
-    equal(&rt, check_activity(&file.lend()), Ok(SHORT_RIDE));
-    equal(&rt, entries_reported(&file, &short_ride()), Some(4));
+    recovers(&rt, &mut disk, Ok(SHORT_RIDE));
+    sums_up(&rt, rt.alloc(), &disk, SHORT_RIDE)?;
+    encodes(&rt, rt.alloc(), &disk, &SHORT)
+}
+
+const BEGINNING: Option<u64> = Some(1_000_000_000);
+
+const END: Option<u64> = Some(1_000_000_002);
+
+const FIRST_LAP: [Reported; 15] = [
+    (254, Some(0)),
+    (253, END),
+    (0, Some(9)),
+    (1, Some(1)),
+    (2, BEGINNING),
+    (7, Some(2000)),
+    (8, Some(2000)),
+    (9, None),
+    (13, None),
+    (14, None),
+    (15, Some(100)),
+    (16, Some(101)),
+    (19, None),
+    (20, None),
+    (24, Some(0)),
+];
+
+const LAST_RECORD: [Reported; 2] = [(253, END), (3, Some(110))];
+
+const STOP: [Reported; 3] = [(253, END), (0, Some(0)), (1, Some(4))];
+
+const LAST_LAP: [Reported; 15] = [
+    (254, Some(1)),
+    (253, END),
+    (0, Some(9)),
+    (1, Some(1)),
+    (2, END),
+    (7, Some(0)),
+    (8, Some(0)),
+    (9, None),
+    (13, None),
+    (14, None),
+    (15, Some(110)),
+    (16, Some(110)),
+    (19, None),
+    (20, None),
+    (24, Some(7)),
+];
+
+const SESSION: [Reported; 19] = [
+    (254, Some(0)),
+    (253, END),
+    (0, Some(8)),
+    (1, Some(1)),
+    (2, BEGINNING),
+    (5, Some(1)),
+    (6, Some(0)),
+    (7, Some(2000)),
+    (8, Some(2000)),
+    (9, None),
+    (14, None),
+    (15, None),
+    (16, Some(103)),
+    (17, Some(110)),
+    (20, None),
+    (21, None),
+    (25, Some(0)),
+    (26, Some(2)),
+    (28, Some(0)),
+];
+
+const ACTIVITY: [Reported; 6] = [
+    (253, END),
+    (0, Some(2000)),
+    (1, Some(1)),
+    (2, Some(0)),
+    (3, Some(26)),
+    (4, Some(1)),
+];
+
+// Asserts that the message at a place of a file has this global number and these fields.
+fn reports(
+    rt: &impl Abort,
+    alloc: Global,
+    file: &File,
+    place: usize,
+    global: u16,
+    fields: &[Reported],
+) -> Result<(), Fail> {
+    let (answer, reported) = reported_at(alloc, file, place)?;
+    assert_eq!(rt;
+        (answer, reported.as_slice()),
+        (Some(global), fields),
+        "message {place}"
+    );
     Ok(())
 }
 
 #[test]
 fn a_recovered_file_reports_what_it_adds_up_to(rt: HostRuntime) -> Result<(), Fail> {
     let mut disk = committed(&rt)?;
-    recover(&mut disk)?;
+    recovers(&rt, &mut disk, Ok(SHORT_RIDE));
     let file = decode_file(rt.alloc(), disk.content(Which::Data))?;
-    let end = Some(1_000_000_002);
-    let first_lap = [
-        (254, Some(0)),
-        (253, end),
-        (0, Some(9)),
-        (1, Some(1)),
-        (2, Some(1_000_000_000)),
-        (7, Some(2000)),
-        (8, Some(2000)),
-        (9, None),
-        (13, None),
-        (14, None),
-        (15, Some(100)),
-        (16, Some(101)),
-        (19, None),
-        (20, None),
-        (24, Some(0)),
+    let messages: [(u16, &[Reported]); 6] = [
+        (19, &FIRST_LAP),
+        (20, &LAST_RECORD),
+        (21, &STOP),
+        (19, &LAST_LAP),
+        (18, &SESSION),
+        (34, &ACTIVITY),
     ];
-    let (global, reported) = reported_at(&rt, &file, 5)?;
-    equal(
-        &rt,
-        (global, reported.as_slice()),
-        (Some(19), first_lap.as_slice()),
-    );
-    let last_record = [(253, end), (3, Some(110))];
-    let (global, reported) = reported_at(&rt, &file, 6)?;
-    equal(
-        &rt,
-        (global, reported.as_slice()),
-        (Some(20), last_record.as_slice()),
-    );
-    let stop = [(253, end), (0, Some(0)), (1, Some(4))];
-    let (global, reported) = reported_at(&rt, &file, 7)?;
-    equal(
-        &rt,
-        (global, reported.as_slice()),
-        (Some(21), stop.as_slice()),
-    );
-    let last_lap = [
-        (254, Some(1)),
-        (253, end),
-        (0, Some(9)),
-        (1, Some(1)),
-        (2, end),
-        (7, Some(0)),
-        (8, Some(0)),
-        (9, None),
-        (13, None),
-        (14, None),
-        (15, Some(110)),
-        (16, Some(110)),
-        (19, None),
-        (20, None),
-        (24, Some(7)),
-    ];
-    let (global, reported) = reported_at(&rt, &file, 8)?;
-    equal(
-        &rt,
-        (global, reported.as_slice()),
-        (Some(19), last_lap.as_slice()),
-    );
-    let session = [
-        (254, Some(0)),
-        (253, end),
-        (0, Some(8)),
-        (1, Some(1)),
-        (2, Some(1_000_000_000)),
-        (5, Some(1)),
-        (6, Some(0)),
-        (7, Some(2000)),
-        (8, Some(2000)),
-        (9, None),
-        (14, None),
-        (15, None),
-        (16, Some(103)),
-        (17, Some(110)),
-        (20, None),
-        (21, None),
-        (25, Some(0)),
-        (26, Some(2)),
-        (28, Some(0)),
-    ];
-    let (global, reported) = reported_at(&rt, &file, 9)?;
-    equal(
-        &rt,
-        (global, reported.as_slice()),
-        (Some(18), session.as_slice()),
-    );
-    let activity = [
-        (253, end),
-        (0, Some(2000)),
-        (1, Some(1)),
-        (2, Some(0)),
-        (3, Some(26)),
-        (4, Some(1)),
-    ];
-    let (global, reported) = reported_at(&rt, &file, 10)?;
-    equal(
-        &rt,
-        (global, reported.as_slice()),
-        (Some(34), activity.as_slice()),
-    );
+    for (i, (global, fields)) in messages.iter().enumerate() {
+        reports(&rt, rt.alloc(), &file, 5 + i, *global, fields)?;
+    }
     Ok(())
 }
 
@@ -170,15 +172,12 @@ pub(super) fn recovers_the_start(
     alloc: Global,
     mut disk: Memory,
 ) -> Result<(), Fail> {
-    equal(rt, recover(&mut disk), Ok(ALONE));
-    let written = disk.content(Which::Data);
-    assert_eq!(rt; written.len(), 340);
-    equal(rt, &written[..14], ALONE_HEADER.as_slice());
-    equal(rt, &written[14..86], START_RECORDS.as_slice());
-    let file = decode_file(alloc, written)?;
-    equal(rt, check_activity(&file.lend()), Ok(ALONE));
-    equal(rt, entries_reported(&file, &[]), Some(0));
-    Ok(())
+    recovers(rt, &mut disk, Ok(ALONE));
+    equal(rt, disk.content(Which::Data).len(), 340);
+    has_at(rt, &disk, Which::Data, 0, &ALONE_HEADER);
+    has_at(rt, &disk, Which::Data, 14, &START_RECORDS);
+    sums_up(rt, alloc, &disk, ALONE)?;
+    encodes(rt, alloc, &disk, &[])
 }
 
 #[test]
@@ -243,17 +242,15 @@ fn nothing_is_recorded_before_a_start_is_committed(rt: HostRuntime) -> Result<()
     Ok(())
 }
 
-// The bytes of the finished file of a recovery, after an earlier recovery whose k-th call failed with the power
-// gone.
-fn recovered_again(rt: &HostRuntime, mut disk: Memory, k: u32) -> Result<Vec<u8>, Fail>
+// The disk after a recovery, and an earlier recovery whose k-th call failed with the power gone.
+fn recovered_again(mut disk: Memory, k: u32) -> Result<Memory, RecFault>
     requires { 1 ≤ k }
 {
     disk.cut_at(k);
     let _ = recover(&mut disk);
-    disk.cycle(&[]);
+    let mut disk = after_a_cut(disk);
     recover(&mut disk)?;
-    let bytes = disk.content(Which::Data).to_vec(rt.alloc())?;
-    Ok(bytes)
+    Ok(disk)
 }
 
 #[test]
@@ -262,23 +259,19 @@ fn a_recovery_may_be_cut_off(rt: HostRuntime) -> Result<(), Fail> {
     recover(&mut disk)?;
     let whole = disk.content(Which::Data);
     for k in 1..=40 {
-        let again = recovered_again(&rt, committed(&rt)?, k)?;
-        assert_eq!(rt; again.as_slice(), whole, "call {k}");
+        let again = recovered_again(committed(&rt)?, k)?;
+        assert_eq!(rt; again.content(Which::Data), whole, "call {k}");
     }
     Ok(())
 }
 
 #[test]
 fn a_stopped_recording_is_finished(rt: HostRuntime) -> Result<(), Fail> {
-    let [first, second, lap, last] = short_ride();
-    let entries = [first, second, lap, last, Entry::Stop(TIME + 2)];
-    let mut disk = ride(&rt, &entries)?;
+    let mut disk = ride(&rt, &STOPPED)?;
     let stopped = disk.content(Which::Data).to_vec(rt.alloc())?;
-    recover(&mut disk)?;
+    recovers(&rt, &mut disk, Ok(SHORT_RIDE));
     equal(&rt, disk.content(Which::Data), stopped.as_slice());
-    let file = decode_file(rt.alloc(), &stopped)?;
-    equal(&rt, entries_reported(&file, &entries), Some(5));
-    Ok(())
+    encodes(&rt, rt.alloc(), &disk, &STOPPED)
 }
 
 // A recording spelled in another way: other local numbers, high byte first, reserved bits and bytes that are set, a
@@ -305,33 +298,37 @@ pub(super) const OTHER_SPELLING: [u8; 216] = [
     0x64, 0x64, 0x00, 0xC8, 0x00, 0xC8, 0x00,
 ];
 
+const OTHER_ENTRIES: [Entry; 5] = [
+    Entry::Sample(Sample {
+        time: TIME + 1,
+        heart_rate: Some(100),
+        power: Some(200),
+        ..EMPTY
+    }),
+    Entry::Pause(TIME + 5),
+    Entry::Resume(TIME + 7),
+    Entry::Sample(Sample {
+        time: TIME + 9,
+        ..EMPTY
+    }),
+    Entry::Lap(TIME + 10),
+];
+
+const OTHER_SUMMARY: Summary = Summary {
+    records: 2,
+    laps: 2,
+    elapsed_ms: Some(10_000),
+    timer_ms: Some(8000),
+    ..ALONE
+};
+
 #[test]
 fn another_spelling_is_recovered_as_it_stands(rt: HostRuntime) -> Result<(), Fail> {
     let mut disk = holding(rt.alloc(), &OTHER_SPELLING, 216)?;
-    let summary = Summary {
-        records: 2,
-        laps: 2,
-        elapsed_ms: Some(10_000),
-        timer_ms: Some(8000),
-        ..ALONE
-    };
-    equal(&rt, recover(&mut disk), Ok(summary));
-    let written = disk.content(Which::Data);
-    equal(&rt, written.get(14..230), Some(OTHER_SPELLING.as_slice()));
-    let file = decode_file(rt.alloc(), written)?;
-    equal(&rt, check_activity(&file.lend()), Ok(summary));
-    let mut sample = Sample::new(TIME + 1);
-    sample.heart_rate = Some(100);
-    sample.power = Some(200);
-    let entries = [
-        Entry::Sample(sample),
-        Entry::Pause(TIME + 5),
-        Entry::Resume(TIME + 7),
-        Entry::Sample(Sample::new(TIME + 9)),
-        Entry::Lap(TIME + 10),
-    ];
-    equal(&rt, entries_reported(&file, &entries), Some(5));
-    Ok(())
+    recovers(&rt, &mut disk, Ok(OTHER_SUMMARY));
+    has_at(&rt, &disk, Which::Data, 14, &OTHER_SPELLING);
+    sums_up(&rt, rt.alloc(), &disk, OTHER_SUMMARY)?;
+    encodes(&rt, rt.alloc(), &disk, &OTHER_ENTRIES)
 }
 
 // The longest entry is a sample with each field: its definition, and its record 40 seconds after the start.
@@ -344,12 +341,27 @@ const LONGEST: [u8; 76] = [
 ];
 
 fn longest_sample(time: u32) -> Sample {
-    Sample {
-        enhanced_speed: Some(70_000),
-        enhanced_altitude: Some(0xFFFF_FFFE),
-        ..full_sample(time)
-    }
+    Sample { time, ..FULLEST }
 }
+
+// A sample with each field.
+const FULLEST: Sample = Sample {
+    enhanced_speed: Some(70_000),
+    enhanced_altitude: Some(0xFFFF_FFFE),
+    ..FULL
+};
+
+const LONGEST_STEPS: [Step; 3] = [
+    Step::Hand(
+        Entry::Sample(Sample {
+            time: TIME + 40,
+            ..FULLEST
+        }),
+        Ok(()),
+    ),
+    Step::Size(72 + 76),
+    Step::Commit(Ok(())),
+];
 
 // Recovers a disk on which only that sample is committed, so many seconds after the start.
 fn recovers_the_longest(
@@ -367,23 +379,15 @@ fn recovers_the_longest(
         distance_cm: Some(5),
         ..ALONE
     };
-    equal(rt, recover(&mut disk), Ok(summary));
-    let file = decode_file(alloc, disk.content(Which::Data))?;
+    recovers(rt, &mut disk, Ok(summary));
     let sample = Entry::Sample(longest_sample(TIME + seconds));
-    equal(rt, entries_reported(&file, &[sample]), Some(1));
-    Ok(())
+    encodes(rt, alloc, &disk, &[sample])
 }
 
 #[test]
 fn the_longest_entry_is_recovered(rt: HostRuntime) -> Result<(), Fail> {
-    let mut recorder = begun(&rt)?;
-    recorder.hand(&Entry::Sample(longest_sample(TIME + 40)))?;
-    equal(&rt, recorder.data_len(), 72 + 76);
-    recorder.commit()?;
-    let mut disk = recorder.into_disk();
-    disk.cycle(&[]);
-    let written = disk.content(Which::Data);
-    equal(&rt, written.get(86..162), Some(LONGEST.as_slice()));
+    let disk = after_a_cut(recorded(&rt, rt.alloc(), &LONGEST_STEPS)?);
+    has_at(&rt, &disk, Which::Data, 86, &LONGEST);
     recovers_the_longest(&rt, rt.alloc(), disk, 40)
 }
 
@@ -400,49 +404,59 @@ fn the_longest_entry_with_a_compressed_timestamp_is_recovered(rt: HostRuntime) -
 }
 
 // Whether a recovery of these records, so many bytes of which are committed, answers Damaged and changes nothing.
-pub(super) fn is_damaged(rt: &HostRuntime, records: &[u8], len: u32) -> Result<bool, Fail> {
-    let mut disk = holding(rt.alloc(), records, len)?;
-    let data = disk.content(Which::Data).to_vec(rt.alloc())?;
-    let journal = disk.content(Which::Journal).to_vec(rt.alloc())?;
-    let is_reported = recover(&mut disk) == Err(RecFault::Damaged);
-    let is_same = disk.content(Which::Data) == data.as_slice()
-        && disk.content(Which::Journal) == journal.as_slice();
-    Ok(is_reported && is_same)
+pub(super) fn is_damaged(alloc: Global, records: &[u8], len: u32) -> Result<bool, Fail> {
+    let mut disk = holding(alloc, records, len)?;
+    let data = disk.content(Which::Data).to_vec(alloc)?;
+    let journal = disk.content(Which::Journal).to_vec(alloc)?;
+    Ok(is_found_damaged(&mut disk) && has(&disk, &data, &journal))
 }
 
 // The records of the short ride, and more after them.
 fn with_more(rt: &HostRuntime, more: &[u8]) -> Result<Vec<u8>, Fail> {
     let disk = committed(rt)?;
     let records = disk.content(Which::Data).get(14..).unwrap_or(&[]);
-    let mut records = records.to_vec(rt.alloc())?;
-    records.extend_from_slice(more)?;
-    Ok(records)
+    body_of(rt.alloc(), records, more)
 }
 
 // Whether a recovery of the records of the short ride and more after them answers Damaged and changes nothing.
 fn is_damaged_by(rt: &HostRuntime, more: &[u8]) -> Result<bool, Fail> {
     let records = with_more(rt, more)?;
     let len = u32::try_from(records.len()).unwrap_or(0);
-    is_damaged(rt, &records, len)
+    is_damaged(rt.alloc(), &records, len)
 }
+
+// What may come after the records of the short ride, and whether that is damaged.
+const MORE: [(&[u8], bool); 5] = [
+    (&[], false),
+    // A record at the last time, after its definition.
+    (
+        &[
+            0x41, 0x00, 0x00, 0x14, 0x00, 0x02, 0xFD, 0x04, 0x86, 0x03, 0x01, 0x02, 0x01, 0x02,
+            0xCA, 0x9A, 0x3B, 0x65,
+        ],
+        false,
+    ),
+    // One that is earlier.
+    (
+        &[
+            0x41, 0x00, 0x00, 0x14, 0x00, 0x02, 0xFD, 0x04, 0x86, 0x03, 0x01, 0x02, 0x01, 0x01,
+            0xCA, 0x9A, 0x3B, 0x65,
+        ],
+        true,
+    ),
+    // A second start.
+    (&START_RECORDS, true),
+    // A record under a local number without a definition.
+    (&[0x03, 0x02, 0xCA, 0x9A, 0x3B, 0x65], true),
+];
 
 #[test]
 fn what_is_no_recording_is_damaged(rt: HostRuntime) -> Result<(), Fail> {
-    assert!(rt; !is_damaged_by(&rt, &[])?);
-    // A record at the last time, after its definition; then one that is earlier.
-    let mut record = [
-        0x41, 0x00, 0x00, 0x14, 0x00, 0x02, 0xFD, 0x04, 0x86, 0x03, 0x01, 0x02, 0x01, 0x02, 0xCA,
-        0x9A, 0x3B, 0x65,
-    ];
-    assert!(rt; !is_damaged_by(&rt, &record)?);
-    record[13] = 0x01;
-    assert!(rt; is_damaged_by(&rt, &record)?);
-    // A second start.
-    assert!(rt; is_damaged_by(&rt, &START_RECORDS)?);
-    // A record under a local number without a definition.
-    assert!(rt; is_damaged_by(&rt, &[0x03, 0x02, 0xCA, 0x9A, 0x3B, 0x65])?);
+    for (more, is_wrong) in MORE {
+        assert_eq!(rt; is_damaged_by(&rt, more)?, is_wrong, "{more:?}");
+    }
     // No records at all.
-    assert!(rt; is_damaged(&rt, &START_RECORDS, 0)?);
+    assert!(rt; is_damaged(rt.alloc(), &START_RECORDS, 0)?);
     Ok(())
 }
 
@@ -458,7 +472,7 @@ fn a_lap_with_another_value_is_damaged(rt: HostRuntime) -> Result<(), Fail> {
     if let Some(byte) = records.get_mut(149) {
         *byte = 0xD1;
     }
-    assert!(rt; is_damaged(&rt, &records, 174)?);
+    assert!(rt; is_damaged(rt.alloc(), &records, 174)?);
     Ok(())
 }
 
@@ -466,35 +480,33 @@ fn a_lap_with_another_value_is_damaged(rt: HostRuntime) -> Result<(), Fail> {
 fn a_body_shorter_than_committed_is_damaged(rt: HostRuntime) -> Result<(), Fail> {
     let records = with_more(&rt, &[])?;
     equal(&rt, records.len(), 174);
-    assert!(rt; is_damaged(&rt, records.get(..173).unwrap_or(&[]), 174)?);
+    assert!(rt; is_damaged(rt.alloc(), records.get(..173).unwrap_or(&[]), 174)?);
     // The last item is cut in two.
-    assert!(rt; is_damaged(&rt, &records, 173)?);
-    assert!(rt; !is_damaged(&rt, &records, 172)?);
+    assert!(rt; is_damaged(rt.alloc(), &records, 173)?);
+    assert!(rt; !is_damaged(rt.alloc(), &records, 172)?);
     Ok(())
 }
 
 #[test]
 fn an_item_above_96_bytes_is_damaged(rt: HostRuntime) -> Result<(), Fail> {
-    let mut definition = [0; 99];
-    definition[0] = 0x43;
-    definition[3] = 0x14;
-    definition[5] = 30;
-    assert!(rt; !is_damaged_by(&rt, &definition[..96])?);
-    definition[5] = 31;
-    assert!(rt; is_damaged_by(&rt, &definition)?);
+    for (fields, is_wrong) in [(30, false), (31, true)] {
+        let definition = definition_of(rt.alloc(), 0x43, fields, &[])?;
+        assert_eq!(rt;
+            is_damaged_by(&rt, &definition)?,
+            is_wrong,
+            "{fields} fields"
+        );
+    }
     Ok(())
 }
 
 // Records of so many bytes: the start, samples with a power of 300, of 7 bytes each, and definitions of 96 bytes that
 // nothing uses.
-fn filled(rt: &HostRuntime, len: usize) -> Result<Vec<u8>, Fail> {
+fn filled(alloc: Global, len: usize) -> Result<Vec<u8>, Fail> {
     let sample = [0x00, 0x00, 0xCA, 0x9A, 0x3B, 0x2C, 0x01];
-    let mut unused = [0; 96];
-    unused[0] = 0x43;
-    unused[3] = 0x14;
-    unused[5] = 30;
-    let mut records = START_RECORDS.to_vec(rt.alloc())?;
-    records.extend_from_slice(&[0x40, 0, 0, 0x14, 0, 2, 0xFD, 4, 0x86, 7, 2, 0x84])?;
+    let unused = definition_of(alloc, 0x43, 30, &[])?;
+    let power = [0x40, 0, 0, 0x14, 0, 2, 0xFD, 4, 0x86, 7, 2, 0x84];
+    let mut records = body_of(alloc, &START_RECORDS, &power)?;
     for _ in 0..96 {
         if len.saturating_sub(records.len()) % 96 != 0 {
             records.extend_from_slice(&sample)?;
@@ -506,28 +518,26 @@ fn filled(rt: &HostRuntime, len: usize) -> Result<Vec<u8>, Fail> {
     Ok(records)
 }
 
+// Whether a body of so many bytes, of records and what ends it, is damaged.
+fn is_too_long(rt: &impl Abort, alloc: Global, len: usize, end: &[u8]) -> Result<bool, Fail> {
+    let mut records = filled(alloc, len.saturating_sub(end.len()))?;
+    records.extend_from_slice(end)?;
+    equal(rt, records.len(), len);
+    is_damaged(alloc, &records, u32::try_from(len)?)
+}
+
 #[test]
 fn a_body_has_room_for_its_end(rt: HostRuntime) -> Result<(), Fail> {
-    let records = filled(&rt, 16_776_704)?;
-    equal(&rt, records.len(), 16_776_704);
-    assert!(rt; !is_damaged(&rt, &records, 16_776_704)?);
-    let records = filled(&rt, 16_776_705)?;
-    equal(&rt, records.len(), 16_776_705);
-    assert!(rt; is_damaged(&rt, &records, 16_776_705)?);
+    equal(&rt, is_too_long(&rt, rt.alloc(), 16_776_704, &[])?, false);
+    equal(&rt, is_too_long(&rt, rt.alloc(), 16_776_705, &[])?, true);
     Ok(())
 }
 
 #[test]
 fn a_stopped_body_has_a_most(rt: HostRuntime) -> Result<(), Fail> {
     let stop = [0x06, 0x00, 0xCA, 0x9A, 0x3B, 0x00, 0x04];
-    let mut records = filled(&rt, 16_777_216 - 7)?;
-    records.extend_from_slice(&stop)?;
-    equal(&rt, records.len(), 16_777_216);
-    assert!(rt; !is_damaged(&rt, &records, 16_777_216)?);
-    let mut records = filled(&rt, 16_777_217 - 7)?;
-    records.extend_from_slice(&stop)?;
-    equal(&rt, records.len(), 16_777_217);
-    assert!(rt; is_damaged(&rt, &records, 16_777_217)?);
+    equal(&rt, is_too_long(&rt, rt.alloc(), 16_777_216, &stop)?, false);
+    equal(&rt, is_too_long(&rt, rt.alloc(), 16_777_217, &stop)?, true);
     Ok(())
 }
 

@@ -5,13 +5,13 @@ ghost use Rattle.fit_activity.specs.Rides.Recording.{Added, is_stop};
 ghost use Rattle.fit_disk.specs.Memory.{memory_story};
 ghost use Rattle.fit_recorder.specs.Calls.Recorder.{GoesOn};
 
-use super::recovering::{OTHER_SPELLING, reported_at};
+use super::recovering::{OTHER_SPELLING, Reported, reported_at};
 use super::{
-    ALONE, SHORT_RIDE, START_RECORDS, TIME, begun, committed, copy_of, entries_reported,
-    heart_rate, holding, ride, short_ride,
+    ALONE, EMPTY, SHORT_RIDE, START_RECORDS, Step, TIME, after, after_a_cut, begun, committed,
+    copy_of, encodes, has, has_at, heart_rate, holding, recorded, recovers, ride, sums_up,
 };
 use crate::equality::equal;
-use fit_activity::{Entry, Refusal, Sample, Summary, check_activity};
+use fit_activity::{Entry, Refusal, Sample, Summary};
 use fit_disk::{Memory, Which};
 use fit_grammar::decode_file;
 use fit_recorder::{RecFault, Recorder, recover, resume};
@@ -39,14 +39,31 @@ fn refused(disk: Memory) -> Option<(Memory, RecFault)> {
 
 // Why a resume of this disk is refused. None if it is not refused, or if it changes anything.
 pub(super) fn refusal_of(alloc: Global, disk: Memory) -> Result<Option<RecFault>, Fail> {
-    let data = disk.content(Which::Data).to_vec(alloc)?;
-    let journal = disk.content(Which::Journal).to_vec(alloc)?;
+    let before = copy_of(
+        alloc,
+        disk.content(Which::Data),
+        disk.content(Which::Journal),
+    )?;
     let Some((disk, fault)) = refused(disk) else {
         return Ok(None);
     };
-    let is_same = disk.content(Which::Data) == data.as_slice()
-        && disk.content(Which::Journal) == journal.as_slice();
+    let is_same = has(
+        &disk,
+        before.content(Which::Data),
+        before.content(Which::Journal),
+    );
     Ok(if is_same { Some(fault) } else { None })
+}
+
+// Asserts that a resume of this disk is refused for this reason and changes nothing.
+fn is_refused(rt: &impl Abort, alloc: Global, disk: Memory, fault: RecFault) -> Result<(), Fail> {
+    equal(rt, refusal_of(alloc, disk)?, Some(fault));
+    Ok(())
+}
+
+// The disk after a resume and these steps.
+pub(super) fn gone_on(rt: &impl Abort, disk: Memory, steps: &[Step]) -> Result<Memory, RecFault> {
+    Ok(after(rt, resumed(disk)?, steps))
 }
 
 // A sample with its definition, since the earlier one is no longer in force, and a stop.
@@ -56,106 +73,119 @@ const GONE_ON: [u8; 33] = [
     0x04,
 ];
 
-#[test]
-fn a_ride_goes_on_after_what_was_committed(rt: HostRuntime) -> Result<(), Fail> {
-    let mut recorder = begun(&rt)?;
-    recorder.hand(&heart_rate(TIME, 100))?;
-    recorder.commit()?;
-    recorder.hand(&heart_rate(TIME + 1, 101))?;
-    let mut disk = recorder.into_disk();
-    disk.cycle(&[]);
-    let mut recorder = resumed(disk)?;
-    equal(&rt, recorder.data_len(), 83);
-    recorder.hand(&heart_rate(TIME + 2, 110))?;
-    recorder.stop(TIME + 2)?;
-    let disk = recorder.into_disk();
-    let written = disk.content(Which::Data);
-    equal(&rt, written.get(14..86), Some(START_RECORDS.as_slice()));
-    equal(&rt, written.get(97..130), Some(GONE_ON.as_slice()));
-    let file = decode_file(rt.alloc(), written)?;
-    let summary = Summary {
-        records: 2,
-        elapsed_ms: Some(2000),
-        timer_ms: Some(2000),
-        ..ALONE
-    };
-    equal(&rt, check_activity(&file.lend()), Ok(summary));
-    // Average and greatest heart rate of the session.
-    let (global, reported) = reported_at(&rt, &file, 7)?;
-    equal(&rt, global, Some(18));
-    equal(
-        &rt,
-        reported.get(12..14),
-        Some([(16, Some(105)), (17, Some(110))].as_slice()),
-    );
-    let refusal = refusal_of(rt.alloc(), disk)?;
-    equal(&rt, refusal, Some(RecFault::Refused(Refusal::Stopped)));
+const CUT_OFF_STEPS: [Step; 3] = [
+    Step::Hand(rate!(0, 100), Ok(())),
+    Step::Commit(Ok(())),
+    Step::Hand(rate!(1, 101), Ok(())),
+];
+
+const GONE_ON_STEPS: [Step; 3] = [
+    Step::Size(83),
+    Step::Hand(rate!(2, 110), Ok(())),
+    Step::Hand(Entry::Stop(TIME + 2), Ok(())),
+];
+
+const GONE_ON_SUMMARY: Summary = Summary {
+    records: 2,
+    elapsed_ms: Some(2000),
+    timer_ms: Some(2000),
+    ..ALONE
+};
+
+// Asserts the average and the greatest heart rate of the session, which is the message at place 7.
+fn has_heart_rates(
+    rt: &impl Abort,
+    alloc: Global,
+    disk: &Memory,
+    rates: [Reported; 2],
+) -> Result<(), Fail> {
+    let file = decode_file(alloc, disk.content(Which::Data))?;
+    let (global, reported) = reported_at(alloc, &file, 7)?;
+    equal(rt, global, Some(18));
+    equal(rt, reported.get(12..14), Some(rates.as_slice()));
     Ok(())
 }
 
 #[test]
-fn what_is_no_ride_does_not_go_on(rt: HostRuntime) -> Result<(), Fail> {
-    let fresh = refusal_of(rt.alloc(), Memory::new(rt.alloc()))?;
-    equal(&rt, fresh, Some(RecFault::NothingRecorded));
-    let closed = copy_of(rt.alloc(), &[0x0E], &[])?;
-    equal(
-        &rt,
-        refusal_of(rt.alloc(), closed)?,
-        Some(RecFault::NothingRecorded),
-    );
-    let later = copy_of(rt.alloc(), &[0x0E], &[0x46, 0x52, 0x4A, 0x33, 0, 0, 0, 0])?;
-    equal(&rt, refusal_of(rt.alloc(), later)?, Some(RecFault::Damaged));
-    let cut = holding(rt.alloc(), &START_RECORDS, 71)?;
-    equal(&rt, refusal_of(rt.alloc(), cut)?, Some(RecFault::Damaged));
-    Ok(())
+fn a_ride_goes_on_after_what_was_committed(rt: HostRuntime) -> Result<(), Fail> {
+    let disk = after_a_cut(recorded(&rt, rt.alloc(), &CUT_OFF_STEPS)?);
+    let disk = gone_on(&rt, disk, &GONE_ON_STEPS)?;
+    has_at(&rt, &disk, Which::Data, 14, &START_RECORDS);
+    has_at(&rt, &disk, Which::Data, 97, &GONE_ON);
+    sums_up(&rt, rt.alloc(), &disk, GONE_ON_SUMMARY)?;
+    has_heart_rates(&rt, rt.alloc(), &disk, [(16, Some(105)), (17, Some(110))])?;
+    is_refused(&rt, rt.alloc(), disk, STOPPED)
 }
+
+// The files of disks without a ride that can go on, and why it cannot.
+const NO_RIDES: [(&[u8], &[u8], RecFault); 3] = [
+    (&[], &[], RecFault::NothingRecorded),
+    (&[0x0E], &[], RecFault::NothingRecorded),
+    (
+        &[0x0E],
+        &[0x46, 0x52, 0x4A, 0x33, 0, 0, 0, 0],
+        RecFault::Damaged,
+    ),
+];
+
+#[test]
+fn what_is_no_ride_does_not_go_on(rt: HostRuntime) -> Result<(), Fail> {
+    is_refused(
+        &rt,
+        rt.alloc(),
+        Memory::new(rt.alloc()),
+        RecFault::NothingRecorded,
+    )?;
+    for (data, journal, fault) in NO_RIDES {
+        is_refused(&rt, rt.alloc(), copy_of(rt.alloc(), data, journal)?, fault)?;
+    }
+    let cut = holding(rt.alloc(), &START_RECORDS, 71)?;
+    is_refused(&rt, rt.alloc(), cut, RecFault::Damaged)
+}
+
+const ONE_MORE_STEPS: [Step; 3] = [
+    Step::Size(174),
+    Step::Hand(rate!(3, 120), Ok(())),
+    Step::Hand(Entry::Stop(TIME + 3), Ok(())),
+];
+
+// The short ride, one more sample and a stop.
+const ONE_MORE: [Entry; 6] = [
+    rate!(0, 100),
+    rate!(1, 101),
+    Entry::Lap(TIME + 2),
+    rate!(2, 110),
+    rate!(3, 120),
+    Entry::Stop(TIME + 3),
+];
 
 #[test]
 fn a_recovered_ride_goes_on(rt: HostRuntime) -> Result<(), Fail> {
     let mut disk = committed(&rt)?;
-    recover(&mut disk)?;
-    let mut recorder = resumed(disk)?;
-    equal(&rt, recorder.data_len(), 174);
-    recorder.hand(&heart_rate(TIME + 3, 120))?;
-    recorder.stop(TIME + 3)?;
-    let disk = recorder.into_disk();
-    let file = decode_file(rt.alloc(), disk.content(Which::Data))?;
-    let [first, second, lap, last] = short_ride();
-    let entries = [
-        first,
-        second,
-        lap,
-        last,
-        heart_rate(TIME + 3, 120),
-        Entry::Stop(TIME + 3),
-    ];
-    equal(&rt, entries_reported(&file, &entries), Some(6));
-    Ok(())
+    recovers(&rt, &mut disk, Ok(SHORT_RIDE));
+    let disk = gone_on(&rt, disk, &ONE_MORE_STEPS)?;
+    encodes(&rt, rt.alloc(), &disk, &ONE_MORE)
 }
 
 #[test]
 fn what_closes_a_recovered_file_is_cut_off(rt: HostRuntime) -> Result<(), RecFault> {
     let mut disk = committed(&rt)?;
-    recover(&mut disk)?;
-    let mut disk = resumed(disk)?.into_disk();
+    recovers(&rt, &mut disk, Ok(SHORT_RIDE));
+    let mut disk = gone_on(&rt, disk, &[])?;
     equal(&rt, disk.content(Which::Data).len(), 14 + 174);
-    equal(&rt, recover(&mut disk), Ok(SHORT_RIDE));
+    recovers(&rt, &mut disk, Ok(SHORT_RIDE));
     Ok(())
 }
+
+const STOPPED: RecFault = RecFault::Refused(Refusal::Stopped);
 
 #[test]
 fn a_stopped_ride_does_not_go_on(rt: HostRuntime) -> Result<(), Fail> {
     let disk = ride(&rt, &[Entry::Stop(TIME)])?;
-    let mut again = copy_of(
-        rt.alloc(),
-        disk.content(Which::Data),
-        disk.content(Which::Journal),
-    )?;
-    let stopped = Some(RecFault::Refused(Refusal::Stopped));
-    equal(&rt, refusal_of(rt.alloc(), disk)?, stopped);
-    recover(&mut again)?;
-    equal(&rt, refusal_of(rt.alloc(), again)?, stopped);
-    Ok(())
+    is_refused(&rt, rt.alloc(), disk, STOPPED)?;
+    let mut again = ride(&rt, &[Entry::Stop(TIME)])?;
+    recovers(&rt, &mut again, Ok(ALONE));
+    is_refused(&rt, rt.alloc(), again, STOPPED)
 }
 
 // A journal of an older program, with the length of the short ride in so many open slots.
@@ -175,155 +205,177 @@ pub(super) fn committed_in_a_row(rt: &HostRuntime, slots: usize) -> Result<Memor
     Ok(copy_of(rt.alloc(), disk.content(Which::Data), &row)?)
 }
 
+const LAST_SLOT_STEPS: [Step; 3] = [
+    Step::Commit(Err(RecFault::JournalFull)),
+    Step::Hand(rate!(3, 120), Ok(())),
+    Step::Hand(Entry::Stop(TIME + 4), Ok(())),
+];
+
+const LAST_SLOT_SUMMARY: Summary = Summary {
+    records: 4,
+    elapsed_ms: Some(4000),
+    timer_ms: Some(4000),
+    ..SHORT_RIDE
+};
+
 #[test]
 fn a_row_of_slots_goes_on_while_one_is_left(rt: HostRuntime) -> Result<(), Fail> {
-    let mut recorder = resumed(committed_in_a_row(&rt, 4095)?)?;
-    equal(&rt, recorder.commit(), Err(RecFault::JournalFull));
-    recorder.hand(&heart_rate(TIME + 3, 120))?;
-    recorder.stop(TIME + 4)?;
-    let written = recorder.into_disk();
-    let file = decode_file(rt.alloc(), written.content(Which::Data))?;
-    let summary = Summary {
-        records: 4,
-        elapsed_ms: Some(4000),
-        timer_ms: Some(4000),
-        ..SHORT_RIDE
-    };
-    equal(&rt, check_activity(&file.lend()), Ok(summary));
+    let disk = gone_on(&rt, committed_in_a_row(&rt, 4095)?, &LAST_SLOT_STEPS)?;
+    sums_up(&rt, rt.alloc(), &disk, LAST_SLOT_SUMMARY)?;
     let full = committed_in_a_row(&rt, 4096)?;
-    equal(
-        &rt,
-        refusal_of(rt.alloc(), full)?,
-        Some(RecFault::JournalFull),
-    );
-    Ok(())
+    is_refused(&rt, rt.alloc(), full, RecFault::JournalFull)
 }
 
-// Resumes a ride whose journal is a row: one sample is committed, and another is handed in before the power goes.
-fn one_more_in_a_row(disk: Memory, time: u32) -> Result<Memory, RecFault>
-    requires { time < 4000000000 }
-{
-    let mut recorder = resumed(disk)?;
-    recorder.hand(&heart_rate(time, 120))?;
-    recorder.commit()?;
-    recorder.hand(&heart_rate(time + 1, 121))?;
-    let mut disk = recorder.into_disk();
+// Three rides in a row of slots, each of which commits a sample and hands in another before the power goes, with how many samples a
+// recovery then finds, in how many ms.
+const IN_A_ROW: [([Step; 3], u32, u32); 3] = [
+    (
+        [
+            Step::Hand(rate!(3, 120), Ok(())),
+            Step::Commit(Ok(())),
+            Step::Hand(rate!(4, 121), Ok(())),
+        ],
+        4,
+        3000,
+    ),
+    (
+        [
+            Step::Hand(rate!(4, 120), Ok(())),
+            Step::Commit(Ok(())),
+            Step::Hand(rate!(5, 121), Ok(())),
+        ],
+        5,
+        4000,
+    ),
+    (
+        [
+            Step::Hand(rate!(5, 120), Ok(())),
+            Step::Commit(Ok(())),
+            Step::Hand(rate!(6, 121), Ok(())),
+        ],
+        6,
+        5000,
+    ),
+];
+
+// The disk after such a ride.
+fn one_more_in_a_row(rt: &impl Abort, disk: Memory, steps: &[Step]) -> Result<Memory, RecFault> {
+    let mut disk = gone_on(rt, disk, steps)?;
     disk.cycle(&[0xA5; 64]);
     Ok(disk)
 }
 
+// The disk after the three rides, with a recovery after each.
+fn three_more_in_a_row(rt: &impl Abort, mut disk: Memory) -> Result<Memory, RecFault> {
+    for (steps, records, ms) in IN_A_ROW {
+        disk = one_more_in_a_row(rt, disk, &steps)?;
+        let summary = Summary {
+            records,
+            elapsed_ms: Some(ms),
+            timer_ms: Some(ms),
+            ..SHORT_RIDE
+        };
+        recovers(rt, &mut disk, Ok(summary));
+    }
+    Ok(disk)
+}
+
+const NO_SLOT_STEPS: [Step; 2] = [
+    Step::Commit(Err(RecFault::JournalFull)),
+    Step::Hand(Entry::Stop(TIME + 6), Ok(())),
+];
+
+// What they record, with a stop.
+const THREE_MORE: [Entry; 8] = [
+    rate!(0, 100),
+    rate!(1, 101),
+    Entry::Lap(TIME + 2),
+    rate!(2, 110),
+    rate!(3, 120),
+    rate!(4, 120),
+    rate!(5, 120),
+    Entry::Stop(TIME + 6),
+];
+
 // Each commit takes a slot, which a power cut and a recovery after it keep. The last slot is reserved for the stop.
 #[test]
 fn commits_go_on_in_a_row_until_one_slot_is_left(rt: HostRuntime) -> Result<(), Fail> {
-    let mut disk = committed_in_a_row(&rt, 4092)?;
-    for more in 1..=3 {
-        disk = one_more_in_a_row(disk, TIME + 2 + more)?;
-        let summary = Summary {
-            records: 3 + more,
-            elapsed_ms: Some(2000 + 1000 * more),
-            timer_ms: Some(2000 + 1000 * more),
-            ..SHORT_RIDE
-        };
-        equal(&rt, recover(&mut disk), Ok(summary));
-    }
-    let mut recorder = resumed(disk)?;
-    equal(&rt, recorder.commit(), Err(RecFault::JournalFull));
-    recorder.stop(TIME + 6)?;
-    let disk = recorder.into_disk();
-    let file = decode_file(rt.alloc(), disk.content(Which::Data))?;
-    let [first, second, lap, last] = short_ride();
-    let entries = [
-        first,
-        second,
-        lap,
-        last,
-        heart_rate(TIME + 3, 120),
-        heart_rate(TIME + 4, 120),
-        heart_rate(TIME + 5, 120),
-        Entry::Stop(TIME + 6),
-    ];
-    equal(&rt, entries_reported(&file, &entries), Some(8));
-    equal(
-        &rt,
-        refusal_of(rt.alloc(), disk)?,
-        Some(RecFault::Refused(Refusal::Stopped)),
-    );
-    Ok(())
+    let disk = three_more_in_a_row(&rt, committed_in_a_row(&rt, 4092)?)?;
+    let disk = gone_on(&rt, disk, &NO_SLOT_STEPS)?;
+    encodes(&rt, rt.alloc(), &disk, &THREE_MORE)?;
+    is_refused(&rt, rt.alloc(), disk, STOPPED)
 }
+
+const OTHER_STEPS: [Step; 4] = [
+    Step::Size(216),
+    Step::Hand(rate!(12, 120), Ok(())),
+    Step::Hand(rate!(13, 121), Ok(())),
+    Step::Hand(Entry::Stop(TIME + 13), Ok(())),
+];
+
+// The definitions of the other spelling are no longer in force, and the first new one takes local number 0.
+const OTHER_SAMPLES: [u8; 13] = [
+    0x40, 0x00, 0x00, 0x14, 0x00, 0x01, 0x03, 0x01, 0x02, 0x8C, 0x78, 0x8D, 0x79,
+];
+
+const OTHER_SUMMARY: Summary = Summary {
+    records: 4,
+    laps: 2,
+    elapsed_ms: Some(13_000),
+    timer_ms: Some(11_000),
+    ..ALONE
+};
 
 #[test]
 fn another_spelling_goes_on(rt: HostRuntime) -> Result<(), Fail> {
-    let mut recorder = resumed(holding(rt.alloc(), &OTHER_SPELLING, 216)?)?;
-    equal(&rt, recorder.data_len(), 216);
-    recorder.hand(&heart_rate(TIME + 12, 120))?;
-    recorder.hand(&heart_rate(TIME + 13, 121))?;
-    recorder.stop(TIME + 13)?;
-    let disk = recorder.into_disk();
-    let written = disk.content(Which::Data);
-    equal(&rt, written.get(14..230), Some(OTHER_SPELLING.as_slice()));
-    // Its definitions are no longer in force, and the first new one takes local number 0.
-    let samples = [
-        0x40, 0x00, 0x00, 0x14, 0x00, 0x01, 0x03, 0x01, 0x02, 0x8C, 0x78, 0x8D, 0x79,
-    ];
-    equal(&rt, written.get(230..243), Some(samples.as_slice()));
-    let summary = Summary {
-        records: 4,
-        laps: 2,
-        elapsed_ms: Some(13_000),
-        timer_ms: Some(11_000),
-        ..ALONE
-    };
-    let file = decode_file(rt.alloc(), written)?;
-    equal(&rt, check_activity(&file.lend()), Ok(summary));
-    Ok(())
+    let disk = holding(rt.alloc(), &OTHER_SPELLING, 216)?;
+    let disk = gone_on(&rt, disk, &OTHER_STEPS)?;
+    has_at(&rt, &disk, Which::Data, 14, &OTHER_SPELLING);
+    has_at(&rt, &disk, Which::Data, 230, &OTHER_SAMPLES);
+    sums_up(&rt, rt.alloc(), &disk, OTHER_SUMMARY)
 }
 
-fn at_distance(time: u32, distance: u32) -> Entry
-    ensures { is_stop (Added result) ≡ false }
-{
-    let mut sample = Sample::new(time);
-    sample.distance = Some(distance);
-    Entry::Sample(sample)
+// A sample with this distance alone, so many seconds after the start.
+macro_rules! distance {
+    ($seconds:expr, $distance:expr) => {
+        Entry::Sample(Sample {
+            time: TIME + $seconds,
+            distance: Some($distance),
+            ..EMPTY
+        })
+    };
 }
+
+const ADDED_UP_STEPS: [Step; 4] = [
+    Step::Hand(distance!(1, 500), Ok(())),
+    Step::Hand(Entry::Lap(TIME + 2), Ok(())),
+    Step::Hand(Entry::Pause(TIME + 3), Ok(())),
+    Step::Commit(Ok(())),
+];
+
+const MORE_STEPS: [Step; 6] = [
+    Step::Hand(Entry::Lap(TIME + 2), Err(RecFault::Refused(Refusal::Time))),
+    Step::Hand(rate!(4, 100), Err(RecFault::Refused(Refusal::TimerStopped))),
+    Step::Hand(Entry::Resume(TIME + 5), Ok(())),
+    Step::Hand(distance!(6, 499), Err(RecFault::Refused(Refusal::Distance))),
+    Step::Hand(distance!(6, 600), Ok(())),
+    Step::Hand(Entry::Stop(TIME + 7), Ok(())),
+];
+
+const ADDED_UP: Summary = Summary {
+    records: 2,
+    laps: 2,
+    elapsed_ms: Some(7000),
+    timer_ms: Some(5000),
+    distance_cm: Some(600),
+    ..ALONE
+};
 
 #[test]
 fn what_was_added_up_goes_on(rt: HostRuntime) -> Result<(), Fail> {
-    let mut recorder = begun(&rt)?;
-    recorder.hand(&at_distance(TIME + 1, 500))?;
-    recorder.hand(&Entry::Lap(TIME + 2))?;
-    recorder.hand(&Entry::Pause(TIME + 3))?;
-    recorder.commit()?;
-    let mut recorder = resumed(recorder.into_disk())?;
-    equal(
-        &rt,
-        recorder.hand(&Entry::Lap(TIME + 2)),
-        Err(RecFault::Refused(Refusal::Time)),
-    );
-    equal(
-        &rt,
-        recorder.hand(&heart_rate(TIME + 4, 100)),
-        Err(RecFault::Refused(Refusal::TimerStopped)),
-    );
-    recorder.hand(&Entry::Resume(TIME + 5))?;
-    equal(
-        &rt,
-        recorder.hand(&at_distance(TIME + 6, 499)),
-        Err(RecFault::Refused(Refusal::Distance)),
-    );
-    recorder.hand(&at_distance(TIME + 6, 600))?;
-    recorder.stop(TIME + 7)?;
-    let disk = recorder.into_disk();
-    let file = decode_file(rt.alloc(), disk.content(Which::Data))?;
-    let summary = Summary {
-        records: 2,
-        laps: 2,
-        elapsed_ms: Some(7000),
-        timer_ms: Some(5000),
-        distance_cm: Some(600),
-        ..ALONE
-    };
-    equal(&rt, check_activity(&file.lend()), Ok(summary));
-    Ok(())
+    let disk = recorded(&rt, rt.alloc(), &ADDED_UP_STEPS)?;
+    let disk = gone_on(&rt, disk, &MORE_STEPS)?;
+    sums_up(&rt, rt.alloc(), &disk, ADDED_UP)
 }
 
 // How many calls of the device a resume of a short ride makes.
@@ -347,25 +399,35 @@ fn goes_on_until(mut disk: Memory, k: u32) -> (Memory, bool)
     (recorder.into_disk(), is_committed)
 }
 
+// The short ride with that sample.
+const LONGER: Summary = Summary {
+    records: 4,
+    elapsed_ms: Some(3000),
+    timer_ms: Some(3000),
+    ..SHORT_RIDE
+};
+
+// Asserts what a recovery finds after a power cut at the k-th call that leaves this byte.
+fn goes_on_or_not(rt: &impl Abort, disk: Memory, k: u32, choice: u8) -> Result<(), RecFault>
+    requires { 1 ≤ k }
+{
+    let (mut disk, is_committed) = goes_on_until(disk, k);
+    disk.cycle(&[choice; 256]);
+    let summary = recover(&mut disk)?;
+    assert!(rt;
+        summary == LONGER || (!is_committed && summary == SHORT_RIDE),
+        "call {k}"
+    );
+    assert!(rt; k > RESUME_CALLS || summary == SHORT_RIDE, "call {k}");
+    assert!(rt; k <= RESUME_AND_COMMIT_CALLS || is_committed, "call {k}");
+    Ok(())
+}
+
 #[test]
 fn power_cuts_leave_what_was_committed_before_or_after(rt: HostRuntime) -> Result<(), RecFault> {
-    let longer = Summary {
-        records: 4,
-        elapsed_ms: Some(3000),
-        timer_ms: Some(3000),
-        ..SHORT_RIDE
-    };
     for k in 1..=RESUME_AND_COMMIT_CALLS + 1 {
         for choice in [0x00, 0xA5, 0xFF] {
-            let (mut disk, is_committed) = goes_on_until(committed(&rt)?, k);
-            disk.cycle(&[choice; 256]);
-            let summary = recover(&mut disk)?;
-            assert!(rt;
-                summary == longer || (!is_committed && summary == SHORT_RIDE),
-                "call {k}"
-            );
-            assert!(rt; k > RESUME_CALLS || summary == SHORT_RIDE, "call {k}");
-            assert!(rt; k <= RESUME_AND_COMMIT_CALLS || is_committed, "call {k}");
+            goes_on_or_not(&rt, committed(&rt)?, k, choice)?;
         }
     }
     Ok(())
@@ -411,11 +473,8 @@ fn a_ride_goes_on_ten_times(rt: HostRuntime) -> Result<(), Fail> {
         disk = goes_on_by_one(&rt, disk, &sample)?;
         entries.push(sample)?;
     }
-    let mut recorder = resumed(disk)?;
-    recorder.stop(TIME + 10)?;
-    entries.push(Entry::Stop(TIME + 10))?;
-    let disk = recorder.into_disk();
-    let file = decode_file(rt.alloc(), disk.content(Which::Data))?;
-    equal(&rt, entries_reported(&file, &entries), Some(11));
-    Ok(())
+    let stop = Entry::Stop(TIME + 10);
+    entries.push(stop)?;
+    let disk = gone_on(&rt, disk, &[Step::Hand(stop, Ok(()))])?;
+    encodes(&rt, rt.alloc(), &disk, &entries)
 }

@@ -1,17 +1,20 @@
 // Rides that end with a stop, and their finished files.
 
-ghost use Rattle.std.specs.Prelude.{◌≤◌, true};
+ghost use Rattle.std.specs.Prelude.{◌≡◌, ◌≤◌, IfOk, true, false};
+ghost use Rattle.fit_activity.specs.Rides.Recording.{Added, is_stop};
 ghost use Rattle.fit_disk.specs.Memory.{memory_story};
 ghost use Rattle.fit_recorder.specs.Calls.Recorder.{GoesOn};
 
 use super::{
-    RUN, SHORT_RIDE, START_RECORDS, TIME, begun, heart_rate, play, ride, short_ride, value_in,
+    EMPTY, SHORT_RIDE, START_RECORDS, Step, TIME, after, begun, begun_on, has_at, one, recorded,
+    ride, sums_up, value_in,
 };
 use crate::equality::equal;
 use fit_activity::{Entry, Refusal, Sample, check_activity, entry_of};
 use fit_disk::{Memory, Which};
 use fit_grammar::{File, Message, decode_file};
 use fit_recorder::{RecFault, Recorder};
+use std::alloc::Global;
 use std::process::Abort;
 use std::test::Fail;
 
@@ -46,157 +49,149 @@ fn lap_values(
     None
 }
 
+// Asserts that two fields of the lap with this index have these values.
+fn laps_have(rt: &impl Abort, file: &File, index: u64, numbers: (u8, u8), values: (u64, u64)) {
+    let (first, second) = numbers;
+    assert_eq!(rt;
+        lap_values(file, index, first, second),
+        Some((Some(values.0), Some(values.1))),
+        "lap {index}"
+    );
+}
+
+const IS_STOPPED: Result<(), RecFault> = Err(RecFault::Refused(Refusal::Stopped));
+
+const STOPPED_STEPS: [Step; 9] = [
+    Step::Hand(rate!(0, 100), Ok(())),
+    Step::Hand(rate!(1, 101), Ok(())),
+    Step::Hand(Entry::Lap(TIME + 2), Ok(())),
+    Step::Hand(rate!(2, 110), Ok(())),
+    Step::Size(174),
+    Step::Hand(Entry::Stop(TIME + 2), Ok(())),
+    Step::Hand(Entry::Stop(TIME + 2), IS_STOPPED),
+    Step::Commit(IS_STOPPED),
+    Step::Hand(rate!(3, 90), IS_STOPPED),
+];
+
+const STOPPED_HEADER: [u8; 12] = [
+    0x0E, 0x10, 0x64, 0x00, 0x9B, 0x01, 0x00, 0x00, 0x2E, 0x46, 0x49, 0x54,
+];
+
 #[test]
 fn a_stop_closes_the_file(rt: HostRuntime) -> Result<(), Fail> {
-    let mut recorder = begun(&rt)?;
-    play(&mut recorder, &short_ride())?;
-    equal(&rt, recorder.data_len(), 174);
-    recorder.stop(TIME + 2)?;
-    equal(
-        &rt,
-        recorder.stop(TIME + 2),
-        Err(RecFault::Refused(Refusal::Stopped)),
-    );
-    equal(
-        &rt,
-        recorder.commit(),
-        Err(RecFault::Refused(Refusal::Stopped)),
-    );
-    equal(
-        &rt,
-        recorder.hand(&heart_rate(TIME + 3, 90)),
-        Err(RecFault::Refused(Refusal::Stopped)),
-    );
-    let disk = recorder.into_disk();
-    let written = disk.content(Which::Data);
-    equal(&rt, written.len(), 427);
-    let header = [
-        0x0E, 0x10, 0x64, 0x00, 0x9B, 0x01, 0x00, 0x00, 0x2E, 0x46, 0x49, 0x54,
-    ];
-    equal(&rt, written.get(..12), Some(header.as_slice()));
-    equal(&rt, written.get(14..86), Some(START_RECORDS.as_slice()));
-    let file = decode_file(rt.alloc(), written)?;
-    equal(&rt, check_activity(&file.lend()), Ok(SHORT_RIDE));
-    equal(
-        &rt,
-        lap_values(&file, 0, 15, 16),
-        Some((Some(100), Some(101))),
-    );
-    equal(
-        &rt,
-        lap_values(&file, 1, 15, 16),
-        Some((Some(110), Some(110))),
-    );
+    let disk = recorded(&rt, rt.alloc(), &STOPPED_STEPS)?;
+    equal(&rt, disk.content(Which::Data).len(), 427);
+    has_at(&rt, &disk, Which::Data, 0, &STOPPED_HEADER);
+    has_at(&rt, &disk, Which::Data, 14, &START_RECORDS);
+    sums_up(&rt, rt.alloc(), &disk, SHORT_RIDE)?;
+    let file = decode_file(rt.alloc(), disk.content(Which::Data))?;
+    laps_have(&rt, &file, 0, (15, 16), (100, 101));
+    laps_have(&rt, &file, 1, (15, 16), (110, 110));
     Ok(())
 }
 
-// Elapsed time and timer time of the first two laps of a ride, in ms.
-fn two_laps(
-    rt: &HostRuntime,
-    entries: &[Entry],
-) -> Result<[Option<(Option<u64>, Option<u64>)>; 2], Fail> {
-    let disk = ride(rt, entries)?;
-    let file = decode_file(rt.alloc(), disk.content(Which::Data))?;
-    Ok([lap_values(&file, 0, 7, 8), lap_values(&file, 1, 7, 8)])
-}
+const PAUSED_AT_ONCE: [Entry; 4] = [
+    Entry::Pause(TIME + 5),
+    Entry::Resume(TIME + 5),
+    Entry::Lap(TIME + 5),
+    Entry::Stop(TIME + 8),
+];
 
+const PAUSED_ACROSS: [Entry; 4] = [
+    Entry::Pause(TIME + 5),
+    Entry::Lap(TIME + 5),
+    Entry::Resume(TIME + 7),
+    Entry::Stop(TIME + 8),
+];
+
+// Elapsed time and timer time of the two laps, in ms.
 #[test]
 fn pauses_are_not_timed(rt: HostRuntime) -> Result<(), Fail> {
-    let at_once = [
-        Entry::Pause(TIME + 5),
-        Entry::Resume(TIME + 5),
-        Entry::Lap(TIME + 5),
-        Entry::Stop(TIME + 8),
-    ];
-    equal(
-        &rt,
-        two_laps(&rt, &at_once)?,
-        [
-            Some((Some(5000), Some(5000))),
-            Some((Some(3000), Some(3000))),
-        ],
-    );
-    let across = [
-        Entry::Pause(TIME + 5),
-        Entry::Lap(TIME + 5),
-        Entry::Resume(TIME + 7),
-        Entry::Stop(TIME + 8),
-    ];
-    equal(
-        &rt,
-        two_laps(&rt, &across)?,
-        [
-            Some((Some(5000), Some(5000))),
-            Some((Some(3000), Some(1000))),
-        ],
-    );
+    for (entries, second_lap) in [
+        (PAUSED_AT_ONCE, (3000, 3000)),
+        (PAUSED_ACROSS, (3000, 1000)),
+    ] {
+        let disk = ride(&rt, &entries)?;
+        let file = decode_file(rt.alloc(), disk.content(Which::Data))?;
+        laps_have(&rt, &file, 0, (7, 8), (5000, 5000));
+        laps_have(&rt, &file, 1, (7, 8), second_lap);
+    }
     Ok(())
 }
 
-// The distance (cm) and the average speed (mm/s) of the only lap of a ride with these two samples.
+// The distance (cm) and the average speed (mm/s) of the only lap of a ride with two samples: at once without a distance, and at
+// its end with this one.
 fn distance_and_speed(
     rt: &HostRuntime,
-    first: Entry,
-    second: Entry,
-    end: u32,
-) -> Result<Option<(Option<u64>, Option<u64>)>, Fail> {
-    let disk = ride(rt, &[first, second, Entry::Stop(end)])?;
+    seconds: u32,
+    distance: u32,
+) -> Result<Option<(Option<u64>, Option<u64>)>, Fail>
+    requires { seconds ≤ 10 }
+{
+    let end = TIME + seconds;
+    let entries = [
+        with_distance(TIME, 0),
+        with_distance(end, distance),
+        Entry::Stop(end),
+    ];
+    let disk = ride(rt, &entries)?;
     let file = decode_file(rt.alloc(), disk.content(Which::Data))?;
     Ok(lap_values(&file, 0, 9, 13))
 }
 
 #[test]
 fn distances_and_average_speeds(rt: HostRuntime) -> Result<(), Fail> {
-    let zero = with_distance(TIME, 0);
-    let far = distance_and_speed(&rt, zero, with_distance(TIME + 10, 12345), TIME + 10)?;
+    let far = distance_and_speed(&rt, 10, 12345)?;
     equal(&rt, far, Some((Some(12345), Some(12345))));
-    let zero = with_distance(TIME, 0);
-    let slow = distance_and_speed(&rt, zero, with_distance(TIME + 7, 100), TIME + 7)?;
+    let slow = distance_and_speed(&rt, 7, 100)?;
     equal(&rt, slow, Some((Some(100), Some(142))));
-    let zero = with_distance(TIME, 0);
-    let fast = distance_and_speed(&rt, zero, with_distance(TIME + 1, 100_000), TIME + 1)?;
+    let fast = distance_and_speed(&rt, 1, 100_000)?;
     equal(&rt, fast, Some((Some(100_000), None)));
     Ok(())
 }
 
 // A sample with each field except the longer ones of newer devices.
-pub(super) fn full_sample(time: u32) -> Sample {
-    Sample {
-        lat: Some(-1),
-        long: Some(2),
-        altitude: Some(2600),
-        heart_rate: Some(120),
-        cadence: Some(90),
-        distance: Some(5),
-        speed: Some(8000),
-        power: Some(250),
-        temperature: Some(-3),
-        ..Sample::new(time)
+pub(super) const FULL: Sample = Sample {
+    lat: Some(-1),
+    long: Some(2),
+    altitude: Some(2600),
+    heart_rate: Some(120),
+    cadence: Some(90),
+    distance: Some(5),
+    speed: Some(8000),
+    power: Some(250),
+    temperature: Some(-3),
+    ..EMPTY
+};
+
+// A recording that has taken so many such samples.
+fn begun_full(rt: &HostRuntime, samples: u32) -> Result<Recorder<Memory>, RecFault>
+    ensures { IfOk result (λ recorder. GoesOn true memory_story recorder) }
+{
+    let mut recorder = begun(rt)?;
+    for _ in 0..samples {
+        recorder.hand(&Entry::Sample(FULL))?;
     }
+    Ok(recorder)
 }
 
+const FULL_STEPS: [Step; 10] = [
+    Step::Hand(Entry::Pause(TIME), Ok(())),
+    Step::Size(16_776_608),
+    Step::Hand(Entry::Resume(TIME), Ok(())),
+    Step::Size(16_776_615),
+    Step::Hand(Entry::Sample(FULL), Err(RecFault::Full)),
+    Step::Hand(Entry::Lap(TIME), Err(RecFault::Full)),
+    Step::Size(16_776_615),
+    Step::Commit(Ok(())),
+    Step::Hand(Entry::Pause(TIME), Err(RecFault::Full)),
+    Step::Hand(Entry::Stop(TIME), Ok(())),
+];
+
+// The first sample has its definition of 33 bytes. Each has 22 bytes of its own, and the pause and the resume 7.
 #[test]
 fn a_full_recording_takes_no_entry_more(rt: HostRuntime) -> Result<(), Fail> {
-    let mut recorder = begun(&rt)?;
-    // The first sample has its definition of 33 bytes. Each has 22 bytes of its own, and the pause 7.
-    for _ in 0..762_568 {
-        recorder.hand(&Entry::Sample(full_sample(TIME)))?;
-    }
-    recorder.hand(&Entry::Pause(TIME))?;
-    equal(&rt, recorder.data_len(), 16_776_608);
-    recorder.hand(&Entry::Resume(TIME))?;
-    let len = recorder.data_len();
-    equal(
-        &rt,
-        recorder.hand(&Entry::Sample(full_sample(TIME))),
-        Err(RecFault::Full),
-    );
-    equal(&rt, recorder.hand(&Entry::Lap(TIME)), Err(RecFault::Full));
-    equal(&rt, recorder.data_len(), len);
-    recorder.commit()?;
-    equal(&rt, recorder.hand(&Entry::Pause(TIME)), Err(RecFault::Full));
-    recorder.stop(TIME)?;
-    let disk = recorder.into_disk();
+    let disk = after(&rt, begun_full(&rt, 762_568)?, &FULL_STEPS);
     let file = decode_file(rt.alloc(), disk.content(Which::Data))?;
     let summary = check_activity(&file.lend()).map(|summary| summary.records);
     equal(&rt, summary, Ok(762_568));
@@ -241,43 +236,61 @@ pub(super) fn size_with_definition(set: u8) -> u32
     time + sensors + size_of_field(set, 8, 4) + size_of_field(set, 16, 1)
 }
 
-#[test]
-fn record_definitions_take_turns(rt: HostRuntime) -> Result<(), Fail> {
-    let mut recorder = begun(&rt)?;
-    for set in 1..=17 {
+// The sample of this number, from 1 on: each of the first seventeen has other fields, and the eighteenth those of the first.
+fn numbered(number: u8) -> Entry
+    requires { number ≤ 18 }
+    ensures { is_stop (Added result) ≡ false }
+{
+    let set = if number <= 17 { number } else { 1 };
+    Entry::Sample(some_fields(TIME + 32 * u32::from(number), set))
+}
+
+// The disk after the eighteen samples and a stop, and where the records end before the stop. Asserts that each sample takes as many
+// bytes as it has with its definition.
+fn in_turns(rt: &impl Abort, alloc: Global) -> Result<(Memory, usize), RecFault> {
+    let mut recorder = begun_on(Memory::new(alloc))?;
+    for set in 1..=18 {
         let before = recorder.data_len();
-        recorder.hand(&Entry::Sample(some_fields(TIME + 32 * u32::from(set), set)))?;
-        let size = before.saturating_add(size_with_definition(set));
-        assert_eq!(rt; recorder.data_len(), size, "fields {set}");
+        recorder.hand(&numbered(set))?;
+        let size = size_with_definition(if set <= 17 { set } else { 1 });
+        assert_eq!(rt;
+            recorder.data_len(),
+            before.saturating_add(size),
+            "fields {set}"
+        );
     }
-    // The eighteenth definition takes local number 1.
-    let before = recorder.data_len();
-    recorder.hand(&Entry::Sample(some_fields(TIME + 32 * 18, 1)))?;
-    let size = before.saturating_add(size_with_definition(1));
-    equal(&rt, recorder.data_len(), size);
+    let end = 14 + recorder.data_len() as usize;
     recorder.stop(TIME + 32 * 18)?;
-    let disk = recorder.into_disk();
-    let written = disk.content(Which::Data);
-    let last = [
-        0x41, 0, 0, 0x14, 0, 2, 0xFD, 4, 0x86, 3, 1, 2, 0x01, 0x40, 0xCC, 0x9A, 0x3B, 1,
-    ];
-    let end = 14 + size as usize;
-    equal(
-        &rt,
-        written.get(end.saturating_sub(18)..end),
-        Some(last.as_slice()),
-    );
-    let file = decode_file(rt.alloc(), written)?;
-    let mut set = 1;
+    Ok((recorder.into_disk(), end))
+}
+
+// Asserts that the records of a file are the eighteen samples.
+fn has_the_eighteen(rt: &impl Abort, file: &File) {
+    let mut number = 1;
     for message in file.messages() {
-        if message.global() == 20 && set <= 18 {
-            let fields = if set <= 17 { set } else { 1 };
-            let sample = some_fields(TIME + 32 * u32::from(set), fields);
-            equal(&rt, entry_of(&message), Some(Entry::Sample(sample)));
-            set += 1;
+        if message.global() == 20 && number <= 18 {
+            assert_eq!(rt;
+                entry_of(&message),
+                Some(numbered(number)),
+                "sample {number}"
+            );
+            number += 1;
         }
     }
-    equal(&rt, set, 19);
+    equal(rt, number, 19);
+}
+
+// The eighteenth definition takes local number 1.
+const EIGHTEENTH: [u8; 18] = [
+    0x41, 0, 0, 0x14, 0, 2, 0xFD, 4, 0x86, 3, 1, 2, 0x01, 0x40, 0xCC, 0x9A, 0x3B, 1,
+];
+
+#[test]
+fn record_definitions_take_turns(rt: HostRuntime) -> Result<(), Fail> {
+    let (disk, end) = in_turns(&rt, rt.alloc())?;
+    has_at(&rt, &disk, Which::Data, end.saturating_sub(18), &EIGHTEENTH);
+    let file = decode_file(rt.alloc(), disk.content(Which::Data))?;
+    has_the_eighteen(&rt, &file);
     Ok(())
 }
 
@@ -289,29 +302,40 @@ fn ride_failing_at(rt: &HostRuntime, k: u32) -> Option<(u32, bool)>
 {
     let mut disk = Memory::new(rt.alloc());
     disk.fail_at(11 + k);
-    let Ok(mut recorder) = Recorder::start(disk, RUN) else {
+    let Ok(mut recorder) = begun_on(disk) else {
         return None;
     };
-    let answers = [
-        recorder.hand(&heart_rate(TIME, 100)),
+    Some(gone(&answers(&mut recorder)))
+}
+
+// The answers of a sample, a commit, a lap and two stops.
+fn answers(recorder: &mut Recorder<Memory>) -> [Result<(), RecFault>; 5]
+    requires { GoesOn true memory_story recorder.old }
+{
+    [
+        one(recorder, &rate!(0, 100)),
         recorder.commit(),
-        recorder.hand(&Entry::Lap(TIME + 1)),
-        recorder.stop(TIME + 2),
-        recorder.stop(TIME + 2),
-    ];
+        one(recorder, &Entry::Lap(TIME + 1)),
+        one(recorder, &Entry::Stop(TIME + 2)),
+        one(recorder, &Entry::Stop(TIME + 2)),
+    ]
+}
+
+// How many of these answers come before the first Device, and whether each one after it is Failed.
+fn gone(answers: &[Result<(), RecFault>]) -> (u32, bool) {
     let mut went = 0;
     let mut failed = false;
     let mut only_failed = true;
     for answer in answers {
         if failed {
-            only_failed = only_failed && answer == Err(RecFault::Failed);
-        } else if answer == Err(RecFault::Device) {
+            only_failed = only_failed && *answer == Err(RecFault::Failed);
+        } else if *answer == Err(RecFault::Device) {
             failed = true;
         } else if went < 5 {
             went += 1;
         }
     }
-    Some((went, only_failed && failed))
+    (went, only_failed && failed)
 }
 
 #[test]

@@ -7,7 +7,7 @@ use Rattle.std.proofs.lemmas.Grind.{common_steps}
 use Rattle.std.specs.List.{cons_option, list_all, list_any}
 use Rattle.std.specs.Option.{option_or}
 use Rattle.std.specs.Str.{bytes_eq}
-use Rattle.fit_activity.specs.Rides.Table.{FieldRow}
+use Rattle.fit_fields.specs.Table.{FieldRow}
 use Rattle.fit_scripts.specs.Scripts.Script.{event_of, events_of}
 use Rattle.fit_scripts.specs.Scripts.Sample.{key_in, setting_value, is_setting, is_new_setting, has_no_repeat, are_settings, stated_value, values_stated, number_by, stands_in, with_setting}
 

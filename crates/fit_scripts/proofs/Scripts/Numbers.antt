@@ -9,7 +9,8 @@ use Rattle.fit_base.specs.Base.{row_of}
 use Rattle.fit_base.specs.Number.{as_unsigned}
 use Rattle.fit_base.specs.declared.base.BaseType.{BaseType}
 use Rattle.fit_base.specs.declared.base.BaseType.TheVariants.{Enum, Sint8, Uint8, Sint16, Uint16, Sint32, Uint32, String, Float32, Float64, Uint8z, Uint16z, Uint32z, Byte, Sint64, Uint64, Uint64z}
-use Rattle.fit_activity.specs.Rides.Table.{FieldRow, ValuesFit}
+use Rattle.fit_fields.specs.Table.{FieldRow}
+use Rattle.fit_activity.specs.Rides.Table.{ValuesFit}
 use Rattle.fit_scripts.specs.Scripts.Words.{decimal_number, signed_number, number_as, is_numeral}
 use Rattle.fit_scripts.specs.Scripts.Sample.{number_by, with_setting}
 

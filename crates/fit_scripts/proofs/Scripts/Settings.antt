@@ -9,7 +9,7 @@ use Rattle.std.specs.List.{list_any, list_all, position, position_or_len}
 use Rattle.std.specs.Option.{option_or, is_some}
 use Rattle.std.specs.Str.{bytes_eq}
 use Rattle.fit_base.specs.declared.base.BaseType.TheVariants.{Sint8}
-use Rattle.fit_activity.specs.Rides.Table.{FieldRow, sample_rows}
+use Rattle.fit_fields.specs.Table.{FieldRow, sample_rows}
 use Rattle.fit_scripts.proofs.Scripts.Lines.{any_map}
 use Rattle.fit_scripts.specs.Scripts.Words.{number_as}
 use Rattle.fit_scripts.specs.declared.script.fault.ScriptFaultKind.{ScriptFaultKind}

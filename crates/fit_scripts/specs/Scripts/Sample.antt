@@ -5,7 +5,8 @@ use Rattle.std.specs.Option.{is_some, option_or}
 use Rattle.std.specs.Str.{bytes_eq}
 use Rattle.fit_activity.specs.declared.recording.entry.Sample.{Sample}
 use Rattle.fit_base.specs.declared.base.BaseType.{BaseType}
-use Rattle.fit_activity.specs.Rides.Table.{FieldRow, sample_rows, of_raw}
+use Rattle.fit_fields.specs.Table.{FieldRow, sample_rows}
+use Rattle.fit_activity.specs.Rides.Table.{of_raw}
 use Rattle.fit_scripts.specs.Scripts.Words.{number_as}
 
 -- the part of a word before its first `=`, and the part after it

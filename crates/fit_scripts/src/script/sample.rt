@@ -4,7 +4,7 @@ ghost use Rattle.std.specs.Prelude.{◌≡◌, ◌==◌, ◌<◌, ◌≤◌, ℕ
 ghost use Rattle.std.specs.List.{position, position_or_len};
 ghost use Rattle.std.specs.Result.{result_ok};
 ghost use Rattle.std.specs.Str.{bytes_eq};
-ghost use Rattle.fit_activity.specs.Rides.Table.{FieldRow as AnyRow, rows_of, sample_rows};
+ghost use Rattle.fit_fields.specs.Table.{FieldRow as AnyRow, rows_of, sample_rows};
 ghost use Rattle.fit_scripts.specs.Scripts.Faults.{has_equals, setting_fault, settings_fault};
 ghost use Rattle.fit_scripts.specs.Scripts.Sample.{key_in, setting_value, is_new_setting, are_settings, sample_at, values_stated, with_setting};
 ghost use Rattle.fit_scripts.specs.Scripts.Words.{number_as};
@@ -12,7 +12,8 @@ ghost use Rattle.fit_scripts.specs.declared.script.fault.ScriptFaultKind.TheVari
 
 use crate::script::fault::ScriptFaultKind;
 use crate::script::number::number_as;
-use fit_activity::{FIELDS, FieldRow, SAMPLE_FIELDS, Sample};
+use fit_activity::Sample;
+use fit_fields::{FIELDS, FieldRow, SAMPLE_FIELDS};
 
 /// The sample at a time, in seconds since 1989-12-31T00:00:00Z, with these settings.
 pub fn sample_at(time: u32, settings: &[&[u8]]) -> Result<Sample, ScriptFaultKind>

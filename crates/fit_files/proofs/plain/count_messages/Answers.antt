@@ -1,6 +1,6 @@
 use Rattle.std.proofs.Common.{length, ap, ◌∙◌, arith}
 use Rattle.fit_grammar.proofs.Encoder.Encoded.{encoded_is_file}
-use Rattle.fit_activity.proofs.FinishedActivity.Counted.{few_messages}
+use Rattle.fit_grammar.proofs.Counted.{few_messages}
 use Rattle.fit_files.proofs.plain.count_messages.Goals as goal
 
 pub loop-message-preserved : goal.loop-message-preserved

@@ -1,7 +1,7 @@
 use Rattle.std.proofs.Common.{ℕ, ◌+◌, ◌++◌, ◌∷◌, [], ◌<◌, ◌^◌, cond, length, refl, ap, sym, ◌∙◌, arith, append-nil, append_assoc}
 use Rattle.std.proofs.lemmas.Bool.{eq-eqb, ne_eqb}
 use Rattle.fit_activity.specs.Files.Activity.{messages_counted}
-use Rattle.fit_activity.proofs.FinishedActivity.Counted.{few_messages}
+use Rattle.fit_grammar.proofs.Counted.{few_messages}
 use Rattle.fit_activity.proofs.FinishedActivity.Passed.{count-push, count-room}
 use Rattle.fit_finishing.proofs.closing.count_of.Goals as goal
 

@@ -1,5 +1,5 @@
 use Rattle.std.proofs.Common.{◌++◌, ◌∷◌, [], ◌<◌, ◌^◌, length, refl, ap, sym, ◌∙◌, subst, arith, append-nil, append_assoc, length-append}
-use Rattle.fit_activity.proofs.FinishedActivity.Counted.{few_messages}
+use Rattle.fit_grammar.proofs.Counted.{few_messages}
 use Rattle.fit_finishing.specs.Heard.{heard_as, heard_if}
 use Rattle.fit_finishing.specs.Private.Ride.{IsHearing}
 use Rattle.fit_finishing.proofs.Room.{heard-held, heard-push, none-given}

@@ -1,5 +1,5 @@
 use Rattle.std.proofs.Common.{Some, ap, sym, ◌∙◌}
-use Rattle.fit_activity.proofs.OneList.OneOf.{one-of-one, one-of-other}
+use Rattle.fit_grammar.proofs.OneValue.{one-of-one, one-of-other}
 use Rattle.fit_finishing.proofs.value.one_value.Goals as goal
 
 pub returns-then-count-eq1-clause-value : goal.returns-then-count-eq1-clause-value

@@ -1,5 +1,5 @@
 use Rattle.std.proofs.Common.{◌∷◌, length, ap, ◌∙◌, arith}
-use Rattle.fit_activity.proofs.FinishedActivity.Counted.{few_messages}
+use Rattle.fit_grammar.proofs.Counted.{few_messages}
 use Rattle.fit_grammar.specs.Calls.LentItem.{lent_item, messages_in}
 use Rattle.fit_table.proofs.described.descriptions_of.Goals as goal
 

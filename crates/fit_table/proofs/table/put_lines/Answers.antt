@@ -1,5 +1,5 @@
 use Rattle.std.proofs.Common.{◌≡◌, ◌∷◌, [], length, map, ap, sym, ◌∙◌, arith}
-use Rattle.fit_activity.proofs.FinishedActivity.Counted.{few_messages}
+use Rattle.fit_grammar.proofs.Counted.{few_messages}
 use Rattle.fit_grammar.specs.Format.Item.{Defines}
 use Rattle.fit_grammar.specs.Format.Message.{messages_of}
 use Rattle.fit_grammar.specs.Format.Records.{in_force}

@@ -1,7 +1,7 @@
 use Rattle.std.proofs.Common.{◌++◌, ◌∷◌, [], ◌<◌, ◌^◌, length, refl, ap, sym, ◌∙◌, arith, append-nil, append_assoc}
 use Rattle.fit_activity.specs.Files.Activity.{activity_in}
 use Rattle.fit_activity.specs.Private.Seen.{seen_with, activity_seen}
-use Rattle.fit_activity.proofs.FinishedActivity.Counted.{few_messages}
+use Rattle.fit_grammar.proofs.Counted.{few_messages}
 use Rattle.fit_activity.proofs.FinishedActivity.Passed.{seen-push, count-room}
 use Rattle.fit_activity.proofs.activity.checking.check_activity.Goals as goal
 

@@ -1,6 +1,6 @@
 use Rattle.std.proofs.Common.{◌≡◌}
 use Rattle.std.specs.Prelude.{option_and_then, find, ◌==◌}
-use Rattle.fit_activity.specs.Files.Activity.{value_in}
+use Rattle.fit_grammar.specs.Format.OneValue.{value_in}
 use Rattle.fit_activity.proofs.activity.field_value.value_of.Given as goal
 
 abbrev pub invariant-loop-field : goal.invariant-loop-field

@@ -1,5 +1,5 @@
 use Rattle.std.proofs.Common.{◌++◌, ◌∷◌, [], length, refl, ap, sym, ◌∙◌, arith, append_assoc, length-append}
-use Rattle.fit_activity.proofs.FinishedActivity.Counted.{few_messages}
+use Rattle.fit_grammar.proofs.Counted.{few_messages}
 use Rattle.fit_activity_tests.proofs.activity.replays.replay.Goals as goal
 
 pub loop-message-init : goal.loop-message-init

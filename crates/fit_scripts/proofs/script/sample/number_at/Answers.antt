@@ -1,6 +1,6 @@
 use Rattle.std.proofs.Common.{sym, ap, ◌∙◌}
 use Rattle.std.proofs.lemmas.List.{get_or-map}
-use Rattle.fit_activity.specs.Rides.Table.{FieldRow, row_in}
+use Rattle.fit_fields.specs.Table.{FieldRow, row_in}
 use Rattle.fit_scripts.specs.Scripts.Words.{number_as}
 use Rattle.fit_scripts.proofs.script.sample.number_at.Goals as goal
 

@@ -1,6 +1,6 @@
 use Rattle.std.proofs.Common.{sym, ◌∙◌}
 use Rattle.std.specs.Str.{bytes_eq}
-use Rattle.fit_activity.specs.Rides.Table.{FieldRow, row_in}
+use Rattle.fit_fields.specs.Table.{FieldRow, row_in}
 use Rattle.fit_scripts.proofs.Scripts.Settings.{position_map}
 use Rattle.fit_scripts.proofs.script.sample.row_of.Goals as goal
 

@@ -1,7 +1,7 @@
 use Rattle.std.proofs.Common.{refl, arith}
 use Rattle.fit_text.proofs.PenLemmas.{puts_then, puts_stop, puts_same}
 use Rattle.fit_text.proofs.FieldLemmas.{file_parts}
-use Rattle.fit_activity.proofs.FinishedActivity.Counted.{few_messages}
+use Rattle.fit_grammar.proofs.Counted.{few_messages}
 use Rattle.fit_text.proofs.form.file.put_lines.Goals as goal
 
 pub returns-in_err-put_header : goal.returns-in_err-put_header

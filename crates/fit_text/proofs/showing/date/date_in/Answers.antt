@@ -1,6 +1,6 @@
 use Rattle.std.proofs.Common.{◌≡◌, Bool, true, false, None, refl, ◌∙◌, if◌then◌else◌}
 use Rattle.std.specs.Option.{option_and_then}
-use Rattle.fit_activity.proofs.OneList.OneOf.{one-of-other}
+use Rattle.fit_grammar.proofs.OneValue.{one-of-other}
 use Rattle.fit_text.specs.Date.{calendar_time}
 use Rattle.fit_text.proofs.showing.date.date_in.Goals as goal
 

@@ -1,8 +1,8 @@
 use Rattle.std.proofs.Common.{option_map}
-use Rattle.fit_files.specs.Printed.Tabled.{ShowsTable}
+use Rattle.fit_exports.specs.Tabled.{ShowsTable}
 use Rattle.fit_files.proofs.Reported.Inputs.{outcome_of, no_input}
-use Rattle.fit_files.proofs.Reported.Tabled.{shows_table}
-use Rattle.fit_files.proofs.tabling.table_input.Goals as goal
+use Rattle.fit_exports.proofs.Tabled.{shows_table}
+use Rattle.fit_exports.proofs.table.table_input.Goals as goal
 
 pub returns-in-Ok-clause-shown : goal.returns-in-Ok-clause-shown
 returns-in-Ok-clause-shown g c =

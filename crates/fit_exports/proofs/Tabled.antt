@@ -1,4 +1,4 @@
--- The result of writing a table: for `tabling`.
+-- The result of writing a table: for `table`.
 use Rattle.std.proofs.Common.{ℕ, List, Option, Result, Ok, Err}
 use Rattle.std.specs.Prelude.{IfErr}
 use Rattle.fit_grammar.specs.Format.File.{FileValue, FileOf}
@@ -7,7 +7,7 @@ use Rattle.fit_table.specs.Tokens.{WritesTokens}
 use Rattle.fit_files.specs.declared.fault.ReportFault.{ReportFault}
 use Rattle.fit_files.specs.declared.fault.ReportFault.TheVariants.{File, Activity, Output, Input, Plain}
 use Rattle.fit_files.specs.Printed.Shown.{IsOutputFault}
-use Rattle.fit_files.specs.Printed.Tabled.{tabled, ShowsTable}
+use Rattle.fit_exports.specs.Tabled.{tabled, ShowsTable}
 
 -- a table was written, or the output failed
 pub shows_table : {T : Type 0} → (layout : Layout) (front : Option (List ℕ)) (old new : Option (List ℕ)) (bytes : List ℕ) (v : FileValue) (result : Result T ReportFault) →

@@ -1,4 +1,4 @@
-// Prints the table of a file, and sums a file up for a list of many.
+// Prints a file as a table.
 
 ghost use Rattle.std.specs.Prelude.{◌≡◌, ◌≤◌, ℕ, List, length, Option, Err, option_map, IfErr};
 ghost use Rattle.fit_grammar.specs.Calls.Output.{WritesText};
@@ -9,11 +9,9 @@ ghost use Rattle.fit_files.specs.declared.fault.ReportFault.TheVariants.{Input};
 ghost use Rattle.fit_files.specs.declared.reading.ReadFault.{ReadFault};
 ghost use Rattle.fit_files.specs.Calls.Reading.{ReportsInput};
 ghost use Rattle.fit_files.specs.Printed.Shown.{IsOutputFault};
-ghost use Rattle.fit_files.specs.Printed.Tabled.{tabled, ShowsTable, SumsUp, SumsUpFile};
+ghost use Rattle.fit_exports.specs.Tabled.{tabled, ShowsTable};
 
-use crate::decoding::decode_input;
-use crate::fault::ReportFault;
-use fit_activity::{Summary, check_activity};
+use fit_files::{ReportFault, decode_input};
 use fit_grammar::{File, LentFile, WriteFailed};
 use fit_table::{Layout, write_head, write_lines, write_table};
 use std::alloc::Global;
@@ -55,29 +53,6 @@ pub fn table_head<O: Write>(
     match write_head(layout, front, out) {
         Ok(()) => Ok(()),
         Err(_) => Err(ReportFault::Output),
-    }
-}
-
-/// Reads a file of at most `most` bytes from an input, and sums it up if it is an activity.
-pub fn sum_up_input<T: Read>(
-    alloc: Global,
-    from: &mut T,
-    most: usize,
-) -> Result<Summary, ReportFault>
-    ensures { ReportsInput most (T.remaining from.old) (T.remaining from.new) SumsUp result }
-{
-    match decode_input(alloc, from, most) {
-        Ok(file) => sum_up(&file),
-        Err(fault) => Err(fault),
-    }
-}
-
-fn sum_up(file: &File) -> Result<Summary, ReportFault>
-    ensures { SumsUpFile file.now result }
-{
-    match check_activity(&file.lend()) {
-        Ok(summary) => Ok(summary),
-        Err(fault) => Err(ReportFault::Activity(fault)),
     }
 }
 

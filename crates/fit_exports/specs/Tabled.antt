@@ -1,7 +1,5 @@
--- The result of printing bytes as a table, and of summing them up.
+-- The result of printing bytes as a table.
 use Rattle.std.specs.Prelude.{◌≡◌, ℕ, List, Option, Some, None, Result, Ok, Err}
-use Rattle.fit_activity.specs.declared.activity.Summary.{Summary}
-use Rattle.fit_activity.specs.Files.Activity.{activity_in}
 use Rattle.fit_grammar.specs.Format.File.{FileValue, FileOf}
 use Rattle.fit_grammar.specs.Format.Message.{messages_of}
 use Rattle.fit_grammar.specs.Format.Refusal.{IsFaultOf}
@@ -30,14 +28,3 @@ ShowsTable {T} layout front old new bytes (Err fault) =
     ((v : FileValue) × FileOf bytes v
     × WritesTokens {T = T} {E = ReportFault} old new (Err fault) (tabled layout front v))
     × IsOutputFault fault
-
--- the summary of a file that is an activity, or why it is none
-abbrev pub SumsUpFile : FileValue → Result Summary ReportFault → Type 0
-SumsUpFile v (Ok summary) = activity_in (messages_of v.items) ≡ Ok summary
-SumsUpFile v (Err (faults.Activity fault)) = activity_in (messages_of v.items) ≡ Err fault
-SumsUpFile v (Err fault) = ⊥
-
--- the same for bytes
-abbrev pub SumsUp : List ℕ → Result Summary ReportFault → Type 0
-SumsUp bytes (Err (faults.File fault)) = IsFaultOf bytes fault
-SumsUp bytes result = (v : FileValue) × FileOf bytes v × SumsUpFile v result

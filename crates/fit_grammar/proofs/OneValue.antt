@@ -1,12 +1,9 @@
--- The one value of a field, and the base type of its byte.
+-- The one value of a field.
 use Rattle.std.proofs.Common.{◌≡◌, ◌≢◌, ℕ, zero, suc, ◌*◌, ◌/◌, Bool, true, false, cond, List, length, take, drop, Some, None, refl, sym, ap, ◌∙◌, arith}
 use Rattle.fit_base.specs.declared.order.Arch.{Arch}
-use Rattle.fit_base.specs.declared.base.BaseType.{BaseType}
-use Rattle.fit_base.specs.declared.base.BaseType.TheVariants.{Enum, Sint8, Uint8, Sint16, Uint16, Sint32, Uint32, String, Float32, Float64, Uint8z, Uint16z, Uint32z, Byte, Sint64, Uint64, Uint64z}
-use Rattle.fit_base.specs.Base.{row_of, base_type}
 use Rattle.fit_base.specs.Number.{number}
 use Rattle.fit_base.specs.Value.{Field, Numbers, Raw, numbers, is_raw, value_size, count_of, unsigned_at, values_of}
-use Rattle.fit_activity.specs.Messages.ProfileField.{one_of}
+use Rattle.fit_grammar.specs.Format.OneValue.{one_of}
 
 one-by : (raw : Bool) (arch : Arch) (size whole : ℕ) (bytes : List ℕ) → cond raw 0 whole ≡ 1
     → one_of (cond raw (Raw bytes) (Numbers (numbers arch size (cond raw 0 whole) bytes))) ≡ Some (number arch (take size bytes))
@@ -29,23 +26,3 @@ one-of-one field one =
 
 pub one-of-other : (field : Field) → count_of field ≢ 1 → one_of (values_of field) ≡ None
 one-of-other field other = other-by (is_raw field) field.arch (value_size field) (length field.bytes / value_size field) field.bytes other
-
--- the byte of a base type gives the type
-pub base_type-code : (base : BaseType) → base_type (row_of base).code ≡ Some base
-base_type-code Enum = refl
-base_type-code Sint8 = refl
-base_type-code Uint8 = refl
-base_type-code Sint16 = refl
-base_type-code Uint16 = refl
-base_type-code Sint32 = refl
-base_type-code Uint32 = refl
-base_type-code String = refl
-base_type-code Float32 = refl
-base_type-code Float64 = refl
-base_type-code Uint8z = refl
-base_type-code Uint16z = refl
-base_type-code Uint32z = refl
-base_type-code Byte = refl
-base_type-code Sint64 = refl
-base_type-code Uint64 = refl
-base_type-code Uint64z = refl

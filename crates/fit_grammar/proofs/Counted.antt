@@ -1,4 +1,4 @@
--- A file has no more messages than bytes of records: for `check_activity`, and for the numbers of lines that `fitrec` shows.
+-- A file has no more messages than bytes of records: for crates above.
 use Rattle.std.proofs.Common.{◌≡◌, ℕ, ◌+◌, ◌≤◌, List, [], ◌∷◌, ◌++◌, length, length-append, arith}
 use Rattle.std.proofs.lemmas.List.Sums.{sum_by-cons}
 use Rattle.std.specs.Prelude.{Option, Some, None, unwrap_or, option_to_list}

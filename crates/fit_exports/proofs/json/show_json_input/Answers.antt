@@ -1,6 +1,6 @@
-use Rattle.fit_files.specs.Printed.Shown.{json_by, ShowsJson}
+use Rattle.fit_exports.specs.Json.{json_by, ShowsJson}
 use Rattle.fit_files.proofs.Reported.Inputs.{shows_file, outcome_of, no_input}
-use Rattle.fit_files.proofs.json.show_json_input.Goals as goal
+use Rattle.fit_exports.proofs.json.show_json_input.Goals as goal
 
 pub returns-in-Ok-clause-shown : goal.returns-in-Ok-clause-shown
 returns-in-Ok-clause-shown g c =

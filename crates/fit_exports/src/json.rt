@@ -5,10 +5,10 @@ ghost use Rattle.fit_grammar.specs.Calls.Output.{WritesText};
 ghost use Rattle.fit_files.specs.declared.fault.ReportFault.TheVariants.{Input};
 ghost use Rattle.fit_files.specs.declared.reading.ReadFault.{ReadFault};
 ghost use Rattle.fit_files.specs.Calls.Reading.{ReportsInput};
-ghost use Rattle.fit_files.specs.Printed.Shown.{json_by, ShowsJson, IsOutputFault};
+ghost use Rattle.fit_files.specs.Printed.Shown.{IsOutputFault};
+ghost use Rattle.fit_exports.specs.Json.{json_by, ShowsJson};
 
-use crate::decoding::decode_input;
-use crate::fault::ReportFault;
+use fit_files::{ReportFault, decode_input};
 use fit_grammar::{File, LentFile, WriteFailed};
 use fit_table::show_profile_json;
 use fit_text::{ShowFault, show_json};

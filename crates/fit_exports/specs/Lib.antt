@@ -1,0 +1,3 @@
+-- What is printed of a file in other forms than its text.
+pub mod Json
+pub mod Tabled
