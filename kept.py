@@ -46,17 +46,25 @@ def tree_of(to, names, changed=()):
     return to / "crates"
 
 
-def has_passed(folder, line):
-    """Whether the gate has proved the library in a crate's folder, from the sources of this line. The gate leaves no stamp, by which `rt` would
-    know that; any other build leaves one."""
-    rlib, passed = folder / "out/rlib", folder / "out/passed"
-    return rlib.is_dir() and not (rlib / "stamp").exists() and passed.exists() and passed.read_text() == line
+def sources():
+    """The line of the sources that crates are proved from."""
+    return subprocess.run([ROOT / "sources", "crates"], stdout=subprocess.PIPE, text=True, check=True).stdout
+
+
+def has_passed(name, line):
+    """Whether the gate has proved a crate from the sources of this line."""
+    passed = ROOT / "crates" / name / "out/passed"
+    return passed.exists() and passed.read_text() == line
 
 
 def are_proved(crates):
-    """Whether these libraries, as `rt` knows them, are there: all as `rt` proved them, or all as the gate did."""
-    line = subprocess.run([ROOT / "sources", "crates"], stdout=subprocess.PIPE, text=True, check=True).stdout
-    return all(it.is_built() for it in crates) or all(has_passed(ROOT / "crates" / it.name, line) for it in crates)
+    """Whether these libraries, as `rt` knows them, are there: all as `rt` proved them, or all as the gate did, which leaves no stamp by which
+    `rt` would know that; any other build leaves one."""
+    line = sources()
+    if all(it.is_built() for it in crates):
+        return True
+    rlibs = [ROOT / "crates" / it.name / "out/rlib" for it in crates]
+    return all(it.is_dir() and not (it / "stamp").exists() for it in rlibs) and all(has_passed(it.name, line) for it in crates)
 
 
 def static_library(crate, rt):

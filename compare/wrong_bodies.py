@@ -7,6 +7,7 @@ import pathlib
 import re
 import sys
 import tempfile
+import time
 
 from tools.checks import Check, differs, unless
 from tools.edits import MOST, Edit, batches_of, merged, refused_in
@@ -17,7 +18,7 @@ from tools.program import ROOT
 sys.path.insert(0, str(ROOT))
 import kept
 
-NEEDS = ("fitrec", "rt")
+NEEDS = ("rt",)
 JOBS = ["--jobs", "1"]
 
 
@@ -25,8 +26,10 @@ def bodies_of(crate):
     return sorted(pathlib.Path(crate.folder, "wrong/in_gate").glob("*.edit"))
 
 
-def tried(rt, crate):
-    """The checks of a crate's wrong bodies."""
+def tried(rt, crate, waits):
+    """The checks of a crate's wrong bodies, once the gate has proved the crate if they wait for that."""
+    while waits and not kept.has_passed(crate.name, kept.sources()):
+        time.sleep(5)
     edits = [Edit(it, crate.folder, rt.read_edit(it, crate.folder)[0]) for it in bodies_of(crate)]
     found = [Check(crate.name, it.path.stem, unless(it.function, "another edit", "a change of one function")) for it in edits if not it.function]
     with tempfile.TemporaryDirectory(prefix="wrong-") as work:
@@ -52,9 +55,11 @@ def check(given):
     rt = load_rt()
     rt.rtlib.guarded()
     crates = [it for it in rt.rtlib.crates_below(str(ROOT)) if bodies_of(it) and (not given.groups or it.name in given.groups)]
-    for crate in crates:
+    # The gate proves them in this order.
+    crates.sort(key=lambda it: len(it.below()))
+    for crate in () if given.waits else crates:
         if not kept.are_proved(crate.below()):
             yield "the crates below " + crate.name, differs([it.name for it in crate.below() if it.build_rlib(JOBS, anew=False)], [])
     with concurrent.futures.ThreadPoolExecutor(os.cpu_count()) as pool:
-        for found in pool.map(lambda it: tried(rt, it), crates):
+        for found in pool.map(lambda it: tried(rt, it, given.waits), crates):
             yield from found

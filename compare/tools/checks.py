@@ -50,12 +50,14 @@ def ended_early(group):
 
 @dataclass
 class Run:
-    """What a part is given: the program, how many random files are made, and the seed. What is run alone, if anything is."""
+    """What a part is given: the program, how many random files are made, and the seed. What is run alone, if anything is. Whether it waits
+    for what the gate is proving."""
 
     files: int = 3000
     seed: int = 1
     groups: tuple = ()
     number: int | None = None
+    waits: bool = False
     fitrec: pathlib.Path = FITREC
 
     @property

@@ -1,4 +1,6 @@
 // Rides that are known from outside: what they are refused for, what they add up to, and their messages.
+//
+// Tables are statics: a proof reads the values of a constant, which costs much in a long table, and not those of a static.
 
 ghost use Rattle.std.specs.Prelude.{◌≡◌, ◌+◌, ◌≤◌, ◌<◌, ◌^◌, List, None, length};
 ghost use Rattle.fit_activity.specs.Rides.Recording.{Recorded};
@@ -15,12 +17,24 @@ macro_rules! sample {
     };
 }
 
+// Definitions of fields. Each triple is number, size and base type.
+macro_rules! fields {
+    ($([$number:expr, $size:expr, $base:expr]),*) => {
+        &[$(fit_grammar::FieldDefinition {
+            number: $number,
+            size: $size,
+            base: $base,
+        }),*]
+    };
+}
+
 use crate::equality::equal;
 use fit_activity::{Entry, Refusal, Sample, Speech, Sport, Start, Totals, speak, speak_compressed};
 use std::process::Abort;
 
 mod activities;
 mod developer;
+mod files;
 mod messages;
 mod refusals;
 mod replays;
@@ -50,20 +64,6 @@ const EMPTY: Sample = Sample {
     enhanced_speed: None,
     enhanced_altitude: None,
 };
-
-fn with_heart_rate(time: u32, rate: u8) -> Entry {
-    Entry::Sample(Sample {
-        heart_rate: Some(rate),
-        ..Sample::new(time)
-    })
-}
-
-fn with_distance(time: u32, distance: u32) -> Entry {
-    Entry::Sample(Sample {
-        distance: Some(distance),
-        ..Sample::new(time)
-    })
-}
 
 // The totals of a ride. Each of its entries is allowed.
 fn ride(rt: &impl Abort, entries: &[Entry]) -> Totals

@@ -1,80 +1,33 @@
 // Messages with developer fields. In a recording no message has one; in an activity they are ignored.
 
-ghost use Rattle.std.specs.Prelude.{◌≡◌, IfOk};
-
-use super::messages::empty_file;
+use super::files::{Row, empty_file, put_row};
+use super::messages::RIDE_MESSAGES;
 use super::replays::replay;
 use crate::equality::equal;
-use arrayvec::ArrayVec;
 use fit_activity::{Summary, check_activity, entry_of, file_id_of, sport_of};
 use fit_base::Arch;
-use fit_grammar::{Definition, DeveloperFieldDefinition, FieldDefinition, File};
+use fit_grammar::{DeveloperFieldDefinition, File};
+use std::alloc::Global;
 use std::test::Fail;
 
-// Field definitions. Each triple is number, size and base type.
-fn own(fields: &[[u8; 3]]) -> Result<ArrayVec<FieldDefinition, 255>, Fail> {
-    let mut own = ArrayVec::new();
-    for [number, size, base] in fields {
-        own.try_push(FieldDefinition {
-            number: *number,
-            size: *size,
-            base: *base,
-        })?;
-    }
-    Ok(own)
-}
-
 // Definitions of developer fields. Each triple is number, size and index.
-fn more(fields: &[[u8; 3]]) -> Result<ArrayVec<DeveloperFieldDefinition, 255>, Fail> {
-    let mut more = ArrayVec::new();
-    for [number, size, index] in fields {
-        more.try_push(DeveloperFieldDefinition {
-            number: *number,
-            size: *size,
-            index: *index,
-        })?;
-    }
-    Ok(more)
+macro_rules! developer {
+    ($([$number:expr, $size:expr, $index:expr]),*) => {
+        &[$(DeveloperFieldDefinition {
+            number: $number,
+            size: $size,
+            index: $index,
+        }),*]
+    };
 }
 
-// A definition of these fields and developer fields.
-fn definition(global: u16, fields: &[[u8; 3]], developer: &[[u8; 3]]) -> Result<Definition, Fail>
-    ensures { IfOk result (λ d. d.local ≡ 0) }
-{
-    Ok(Definition {
-        local: 0,
-        arch: Arch::Little,
-        global,
-        fields: own(fields)?,
-        developer: more(developer)?,
-    })
-}
+// Developer fields and their content.
+type Developer<'a> = (&'a [DeveloperFieldDefinition], &'a [u8]);
 
-// The messages of a start and a sample: global number, fields and content of each.
-const RIDE: [(u16, &[[u8; 3]], &[u8]); 4] = [
-    (
-        0,
-        &[
-            [0, 1, 0],
-            [1, 2, 0x84],
-            [2, 2, 0x84],
-            [3, 4, 0x8C],
-            [4, 4, 0x86],
-        ],
-        &[4, 255, 0, 1, 0, 7, 0, 0, 0, 0x00, 0xCA, 0x9A, 0x3B],
-    ),
-    (12, &[[0, 1, 0], [1, 1, 0]], &[1, 0]),
-    (
-        21,
-        &[[253, 4, 0x86], [0, 1, 0], [1, 1, 0]],
-        &[0x00, 0xCA, 0x9A, 0x3B, 0, 0],
-    ),
-    (
-        20,
-        &[[253, 4, 0x86], [3, 1, 0x02]],
-        &[0x00, 0xCA, 0x9A, 0x3B, 100],
-    ),
-];
+const NONE: Developer<'static> = (&[], &[]);
+
+// One field of no byte, and one of one byte.
+static ONE: [Developer<'static>; 2] = [(developer!([0, 0, 0]), &[]), (developer!([0, 1, 0]), &[9])];
 
 // How many of the messages encode a part of a ride.
 fn reported(file: &File) -> usize {
@@ -90,30 +43,42 @@ fn reported(file: &File) -> usize {
     reported
 }
 
-// The message at this place has a developer field of this size, and the others have none. After the last place no message has one.
+// The messages of a ride, of which the one at this place has these developer fields.
+fn ride_with(alloc: Global, developer: &Developer<'_>, place: usize) -> Result<File, Fail> {
+    let mut file = empty_file(alloc);
+    for (at, row) in RIDE_MESSAGES.iter().enumerate() {
+        let added = if at == place { developer } else { &NONE };
+        put_added(alloc, &mut file, row, added)?;
+    }
+    Ok(file)
+}
+
+fn put_added(
+    alloc: Global,
+    file: &mut File,
+    row: &Row<'_>,
+    developer: &Developer<'_>,
+) -> Result<(), Fail> {
+    let (local, global, fields, content) = row;
+    let mut bytes = content.to_vec(alloc)?;
+    bytes.extend_from_slice(developer.1)?;
+    let row = (*local, *global, *fields, bytes.as_slice());
+    put_row(file, Arch::Little, &row, developer.0)
+}
+
+// After the last place no message has one.
 #[test]
 fn no_message_of_a_ride_has_one(rt: HostRuntime) -> Result<(), Fail> {
-    for size in [0, 1] {
-        for place in 0..=RIDE.len() {
-            let mut file = empty_file(rt.alloc());
-            for (at, (global, fields, content)) in RIDE.iter().enumerate() {
-                let own = [[0, size, 0]];
-                let (developer, more) = if at == place {
-                    (own.as_slice(), usize::from(size))
-                } else {
-                    ([].as_slice(), 0)
-                };
-                file.define(&definition(*global, fields, developer)?)?;
-                let mut bytes = content.to_vec(rt.alloc())?;
-                bytes.extend_from_slice(&[9][..more])?;
-                file.data(0, None, &bytes)?;
-            }
-            let is_ride = place == RIDE.len();
-            assert_eq!(rt; replay(&file).is_some(), is_ride, "{size} {place}");
-            assert_eq!(rt;
-                reported(&file),
-                if is_ride { 4 } else { 3 },
-                "{size} {place}"
+    for developer in &ONE {
+        for place in 0..=RIDE_MESSAGES.len() {
+            let file = ride_with(rt.alloc(), developer, place)?;
+            let is_ride = place == RIDE_MESSAGES.len();
+            let parts = if is_ride { 4 } else { 3 };
+            let wanted = (*developer, place, is_ride, parts);
+            equal(
+                &rt,
+                (*developer, place, replay(&file).is_some(), reported(&file)),
+                wanted,
             );
         }
     }
@@ -121,19 +86,23 @@ fn no_message_of_a_ride_has_one(rt: HostRuntime) -> Result<(), Fail> {
 }
 
 // Developer fields with the numbers of the fields that are read.
+static ACTIVITY: [(Row<'static>, &[DeveloperFieldDefinition]); 5] = [
+    ((0, 0, fields!([0, 1, 0]), &[4, 5]), developer!([0, 1, 0])),
+    ((0, 20, &[], &[1, 2, 3, 4]), developer!([253, 4, 0x86])),
+    ((0, 19, &[], &[]), developer!([0, 0, 0])),
+    (
+        (0, 18, fields!([2, 4, 0x86]), &[1, 0, 0, 0, 2, 0, 0, 0]),
+        developer!([7, 4, 0x86]),
+    ),
+    ((0, 34, &[], &[]), &[]),
+];
+
 #[test]
 fn an_activity_may_have_them(rt: HostRuntime) -> Result<(), Fail> {
     let mut file = empty_file(rt.alloc());
-    file.define(&definition(0, &[[0, 1, 0]], &[[0, 1, 0]])?)?;
-    file.data(0, None, &[4, 5])?;
-    file.define(&definition(20, &[], &[[253, 4, 0x86]])?)?;
-    file.data(0, None, &[1, 2, 3, 4])?;
-    file.define(&definition(19, &[], &[[0, 0, 0]])?)?;
-    file.data(0, None, &[])?;
-    file.define(&definition(18, &[[2, 4, 0x86]], &[[7, 4, 0x86]])?)?;
-    file.data(0, None, &[1, 0, 0, 0, 2, 0, 0, 0])?;
-    file.define(&definition(34, &[], &[])?)?;
-    file.data(0, None, &[])?;
+    for (row, developer) in &ACTIVITY {
+        put_row(&mut file, Arch::Little, row, *developer)?;
+    }
     let summary = Summary {
         records: 1,
         laps: 1,

@@ -17,7 +17,7 @@ const RESUMED: [Entry; 3] = [
 
 const STOPPED: [Entry; 2] = [sample!(10, distance: 500), Entry::Stop(T + 10)];
 
-const KNOWN: [Row<'static>; 13] = [
+static KNOWN: [Row<'static>; 13] = [
     (&FAR, sample!(9), Some(Refusal::Time)),
     (&FAR, sample!(10, distance: 499), Some(Refusal::Distance)),
     (&FAR, sample!(10, distance: 500), None),
@@ -42,7 +42,7 @@ fn refuses_as_known(rt: HostRuntime) {
     check_refusals(&rt, &KNOWN);
 }
 
-const TIMES: [Row<'static>; 6] = [
+static TIMES: [Row<'static>; 6] = [
     (&[], Entry::Lap(T - 1), Some(Refusal::Time)),
     (&[], Entry::Lap(T), None),
     (&[], Entry::Lap(0xFFFF_FFFF), Some(Refusal::Time)),
@@ -101,7 +101,7 @@ const MOST: Entry = Entry::Sample(Sample {
 
 const LEAST: Entry = sample!(0, lat: i32::MIN, long: -1, distance: 0, temperature: -128);
 
-const EXTREME: [Row<'static>; 3] = [
+static EXTREME: [Row<'static>; 3] = [
     (&[], MOST, None),
     (&[], LEAST, None),
     (&[MOST], LEAST, Some(Refusal::Distance)),
@@ -124,7 +124,7 @@ const INVALID_TIME: Entry = Entry::Sample(Sample {
 
 const IN_TIME: Entry = sample!(10, distance: 1, power: 0xFFFF);
 
-const FIRST: [Row<'static>; 12] = [
+static FIRST: [Row<'static>; 12] = [
     (&STOPPED, Entry::Stop(T + 10), Some(Refusal::Stopped)),
     (&STOPPED, Entry::Stop(T + 9), Some(Refusal::Stopped)),
     (&STOPPED, BAD, Some(Refusal::Stopped)),

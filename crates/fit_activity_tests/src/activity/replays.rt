@@ -2,12 +2,12 @@
 
 ghost use Rattle.std.specs.Prelude.{◌<◌, ◌^◌, length};
 
-use super::messages::{empty_file, put, put_messages};
-use super::{START, T, ride, spell, with_distance, with_heart_rate};
+use super::files::{empty_file, finished, put, put_but, reported};
+use super::{START, T, ride, spell};
 use crate::equality::equal;
 use fit_activity::{
-    Entry, Replay, Sample, Speech, SpokenMessage, Start, Summary, check_activity, speak_closing,
-    speak_start,
+    ActivitySummary, Entry, LapSummary, Replay, SessionSummary, Speech, SpokenMessage, Start,
+    Summary, Totals, check_activity, speak_closing, speak_start,
 };
 use fit_grammar::{File, PutFault};
 use std::alloc::Global;
@@ -27,93 +27,97 @@ pub(super) fn replay(file: &File) -> Option<Replay> {
     Some(replay)
 }
 
-// The messages of a ride, without those that close it.
-fn reported(rt: &impl Abort, alloc: Global, entries: &[Entry]) -> Result<File, PutFault>
+// What the messages of a file encode. All of them are accepted.
+fn recording(rt: &impl Abort, file: &File) -> Option<(Totals, Summary)> {
+    let replay = replay(file).expect(rt, "each message is heard");
+    replay.into_recording()
+}
+
+// All that totals add up to, and whether the timer runs, and whether the ride is stopped.
+fn added_up(totals: &Totals) -> (SessionSummary, LapSummary, ActivitySummary, bool, bool) {
+    (
+        totals.session(),
+        totals.lap(),
+        totals.activity(),
+        totals.running(),
+        totals.stopped(),
+    )
+}
+
+static RIDE: [Entry; 9] = [
+    sample!(0, distance: 100),
+    sample!(4, heart_rate: 120),
+    Entry::Lap(T + 5),
+    Entry::Pause(T + 6),
+    Entry::Resume(T + 9),
+    sample!(9, distance: 250),
+    Entry::Lap(T + 9),
+    Entry::Lap(T + 12),
+    Entry::Stop(T + 12),
+];
+
+fn check_again(rt: &impl Abort, alloc: Global, entries: &[Entry]) -> Result<(), PutFault>
     requires { length entries.now < 2 ^ 31 }
 {
-    let mut file = empty_file(alloc);
-    let mut speech = Speech::new();
-    speak_start(&START, &mut speech);
-    put(&mut file, &speech)?;
-    for i in 0..entries.len() {
-        spell(rt, &entries[..i], entries[i], &mut speech);
-        put(&mut file, &speech)?;
-    }
-    Ok(file)
+    let reported = recording(rt, &reported(rt, alloc, entries)?);
+    let (totals, _) = reported.expect(rt, "a start and entries");
+    equal(rt, added_up(&totals), added_up(&ride(rt, entries)));
+    Ok(())
 }
 
 #[test]
 fn hears_a_ride_again(rt: HostRuntime) -> Result<(), PutFault> {
-    let entries = [
-        with_distance(T, 100),
-        with_heart_rate(T + 4, 120),
-        Entry::Lap(T + 5),
-        Entry::Pause(T + 6),
-        Entry::Resume(T + 9),
-        with_distance(T + 9, 250),
-        Entry::Lap(T + 9),
-        Entry::Lap(T + 12),
-        Entry::Stop(T + 12),
-    ];
     for count in 0..10 {
-        let replay = replay(&reported(&rt, rt.alloc(), &entries[..count])?);
-        let replay = replay.expect(&rt, "each message is heard");
-        let reported = replay.into_recording();
-        let (totals, _) = reported.expect(&rt, "a start and entries");
-        let wanted = ride(&rt, &entries[..count]);
-        equal(&rt, totals.session(), wanted.session());
-        equal(&rt, totals.lap(), wanted.lap());
-        equal(&rt, totals.activity(), wanted.activity());
-        equal(&rt, totals.running(), wanted.running());
-        equal(&rt, totals.stopped(), wanted.stopped());
+        check_again(&rt, rt.alloc(), &RIDE[..count])?;
     }
     Ok(())
 }
 
 // The summary from a ride's messages before it is finished, and the summary of its finished file.
-fn summaries(
+fn check_summaries(
     rt: &impl Abort,
     alloc: Global,
     entries: &[Entry],
-) -> Result<(Option<Summary>, Option<Summary>), PutFault>
+    wanted: Summary,
+) -> Result<(), PutFault>
     requires { length entries.now < 2 ^ 31 }
 {
-    let mut file = reported(rt, alloc, entries)?;
-    let replay = replay(&file).expect(rt, "each message is heard");
-    let mut speech = Speech::new();
-    speak_closing(&ride(rt, entries), &mut speech);
-    put(&mut file, &speech)?;
-    let reported = replay.into_recording().map(|(_, summary)| summary);
-    Ok((reported, check_activity(&file.lend()).ok()))
+    let reported = recording(rt, &reported(rt, alloc, entries)?);
+    let summary = reported.map(|(_, summary)| summary);
+    let file = finished(rt, alloc, entries)?;
+    equal(
+        rt,
+        (summary, check_activity(&file.lend())),
+        (Some(wanted), Ok(wanted)),
+    );
+    Ok(())
 }
+
+static PAUSED: [Entry; 9] = [
+    sample!(0, distance: 100),
+    sample!(4, heart_rate: 120),
+    Entry::Lap(T + 5),
+    Entry::Pause(T + 6),
+    Entry::Lap(T + 8),
+    Entry::Resume(T + 9),
+    sample!(9, distance: 250),
+    Entry::Lap(T + 12),
+    Entry::Stop(T + 12),
+];
+
+const WHOLE: Summary = Summary {
+    records: 3,
+    laps: 4,
+    sessions: 1,
+    start: Some(1_000_000_000),
+    elapsed_ms: Some(12_000),
+    timer_ms: Some(9_000),
+    distance_cm: Some(250),
+};
 
 #[test]
 fn sums_up_the_finished_file(rt: HostRuntime) -> Result<(), PutFault> {
-    let entries = [
-        with_distance(T, 100),
-        with_heart_rate(T + 4, 120),
-        Entry::Lap(T + 5),
-        Entry::Pause(T + 6),
-        Entry::Lap(T + 8),
-        Entry::Resume(T + 9),
-        with_distance(T + 9, 250),
-        Entry::Lap(T + 12),
-        Entry::Stop(T + 12),
-    ];
-    let whole = Summary {
-        records: 3,
-        laps: 4,
-        sessions: 1,
-        start: Some(1_000_000_000),
-        elapsed_ms: Some(12_000),
-        timer_ms: Some(9_000),
-        distance_cm: Some(250),
-    };
-    equal(
-        &rt,
-        summaries(&rt, rt.alloc(), &entries)?,
-        (Some(whole), Some(whole)),
-    );
+    check_summaries(&rt, rt.alloc(), &PAUSED, WHOLE)?;
 
     // Cut off in its second lap, and right after its start.
     let paused = Summary {
@@ -122,27 +126,18 @@ fn sums_up_the_finished_file(rt: HostRuntime) -> Result<(), PutFault> {
         elapsed_ms: Some(6_000),
         timer_ms: Some(6_000),
         distance_cm: Some(100),
-        ..whole
+        ..WHOLE
     };
-    equal(
-        &rt,
-        summaries(&rt, rt.alloc(), &entries[..4])?,
-        (Some(paused), Some(paused)),
-    );
+    check_summaries(&rt, rt.alloc(), &PAUSED[..4], paused)?;
     let begun = Summary {
         records: 0,
         laps: 1,
         elapsed_ms: Some(0),
         timer_ms: Some(0),
         distance_cm: None,
-        ..whole
+        ..WHOLE
     };
-    equal(
-        &rt,
-        summaries(&rt, rt.alloc(), &[])?,
-        (Some(begun), Some(begun)),
-    );
-    Ok(())
+    check_summaries(&rt, rt.alloc(), &[], begun)
 }
 
 // Adds a message with the byte at this place of its content changed.
@@ -152,8 +147,7 @@ fn put_changed(
     message: &SpokenMessage,
     place: usize,
 ) -> Result<(), PutFault> {
-    let mut content = Vec::new(alloc);
-    content.extend_from_slice(message.content())?;
+    let mut content = message.content().to_vec(alloc)?;
     if let Some(byte) = content.get_mut(place) {
         *byte ^= 1;
     }
@@ -164,43 +158,59 @@ fn put_changed(
     Ok(())
 }
 
+static SAMPLES: [Entry; 2] = [sample!(0, heart_rate: 100), sample!(1, distance: 700)];
+
+// A ride and a lap, in which the byte at this place is changed.
+fn changed(
+    rt: &impl Abort,
+    alloc: Global,
+    place: usize,
+    speech: &mut Speech,
+) -> Result<File, PutFault> {
+    let mut file = reported(rt, alloc, &SAMPLES)?;
+    spell(rt, &SAMPLES, Entry::Lap(T + 2), speech);
+    for message in speech.messages() {
+        put_changed(alloc, &mut file, message, place)?;
+    }
+    Ok(file)
+}
+
 #[test]
 fn refuses_a_lap_with_another_value(rt: HostRuntime) -> Result<(), PutFault> {
-    let entries = [with_heart_rate(T, 100), with_distance(T + 1, 700)];
     let mut speech = Speech::new();
-    for place in 0..36 {
-        let mut file = reported(&rt, rt.alloc(), &entries)?;
-        spell(&rt, &entries, Entry::Lap(T + 2), &mut speech);
-        for message in speech.messages() {
-            put_changed(rt.alloc(), &mut file, message, place)?;
-        }
+    for place in 0..36usize {
+        let heard = replay(&changed(&rt, rt.alloc(), place, &mut speech)?).is_some();
         // After the last byte of the content nothing is changed.
-        assert_eq!(rt; replay(&file).is_some(), place == 35, "at {place}");
+        equal(&rt, (place, heard), (place, place == 35));
     }
     Ok(())
 }
 
+// Adds the messages of a start, without those of these global numbers.
+fn put_start(file: &mut File, start: &Start, left_out: &[u16]) -> Result<(), PutFault> {
+    let mut speech = Speech::new();
+    speak_start(start, &mut speech);
+    put_but(file, &speech, left_out)
+}
+
 #[test]
 fn hears_starts(rt: HostRuntime) -> Result<(), PutFault> {
-    let mut speech = Speech::new();
-    speak_start(&START, &mut speech);
+    // The file_id is missing.
     let mut file = empty_file(rt.alloc());
-    put_messages(&mut file, &speech.messages()[1..])?;
+    put_start(&mut file, &START, &[0])?;
     assert!(rt; replay(&file).is_none());
 
-    // Two messages are not a recording yet.
+    // A file_id and a sport are not a recording yet.
     let mut file = empty_file(rt.alloc());
-    put_messages(&mut file, &speech.messages()[..2])?;
-    let begun = replay(&file).expect(&rt, "each message is heard");
-    assert!(rt; begun.into_recording().is_none());
+    put_start(&mut file, &START, &[21])?;
+    assert!(rt; recording(&rt, &file).is_none());
 
     // The timer starts at another time.
     let later = Start {
         time: T + 1,
         ..START
     };
-    speak_start(&later, &mut speech);
-    put_messages(&mut file, &speech.messages()[2..])?;
+    put_start(&mut file, &later, &[0, 12])?;
     assert!(rt; replay(&file).is_none());
 
     // The start is before the first calendar time.
@@ -208,42 +218,41 @@ fn hears_starts(rt: HostRuntime) -> Result<(), PutFault> {
         time: 0x0FFF_FFFF,
         ..START
     };
-    speak_start(&early, &mut speech);
     let mut file = empty_file(rt.alloc());
-    put(&mut file, &speech)?;
+    put_start(&mut file, &early, &[])?;
     assert!(rt; replay(&file).is_none());
     Ok(())
 }
 
-// Whether the messages of a ride are heard if these follow.
-fn hears_after(
+// The messages of a ride are not heard if these follow.
+fn check_refused(
     rt: &impl Abort,
     alloc: Global,
     entries: &[Entry],
     speech: &Speech,
-) -> Result<bool, PutFault>
+) -> Result<(), PutFault>
     requires { length entries.now < 2 ^ 31 }
 {
     let mut file = reported(rt, alloc, entries)?;
     put(&mut file, speech)?;
-    Ok(replay(&file).is_some())
+    assert!(rt; replay(&file).is_none(), "after {entries:?}");
+    Ok(())
 }
 
 #[test]
 fn refuses_what_may_not_come_next(rt: HostRuntime) -> Result<(), PutFault> {
     let mut speech = Speech::new();
     speak_start(&START, &mut speech);
-    assert!(rt; !hears_after(&rt, rt.alloc(), &[], &speech)?);
+    check_refused(&rt, rt.alloc(), &[], &speech)?;
 
     spell(&rt, &[], Entry::Pause(T + 6), &mut speech);
-    assert!(rt; !hears_after(&rt, rt.alloc(), &[Entry::Pause(T + 5)], &speech)?);
+    check_refused(&rt, rt.alloc(), &[Entry::Pause(T + 5)], &speech)?;
 
-    spell(&rt, &[], Entry::Sample(Sample::new(T + 4)), &mut speech);
-    assert!(rt; !hears_after(&rt, rt.alloc(), &[with_distance(T + 5, 100)], &speech)?);
+    spell(&rt, &[], sample!(4), &mut speech);
+    check_refused(&rt, rt.alloc(), &[sample!(5, distance: 100)], &speech)?;
 
     // The lap that closes a recording encodes no entry.
     let stopped = [Entry::Stop(T + 1)];
     speak_closing(&ride(&rt, &stopped), &mut speech);
-    assert!(rt; !hears_after(&rt, rt.alloc(), &stopped, &speech)?);
-    Ok(())
+    check_refused(&rt, rt.alloc(), &stopped, &speech)
 }

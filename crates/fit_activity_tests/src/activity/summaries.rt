@@ -16,7 +16,7 @@ fn lap_times(rt: &impl Abort, entries: &[Entry]) -> (u32, u32)
 }
 
 // Rides, and the times of their open laps.
-const LAP_TIMES: [(&[Entry], (u32, u32)); 4] = [
+static LAP_TIMES: [(&[Entry], (u32, u32)); 4] = [
     (&[Entry::Pause(T + 5), Entry::Resume(T + 5)], (5000, 5000)),
     (
         &[
@@ -41,9 +41,10 @@ const LAP_TIMES: [(&[Entry], (u32, u32)); 4] = [
 
 #[test]
 fn times_laps(rt: HostRuntime) {
-    for (entries, times) in LAP_TIMES {
+    for (entries, times) in &LAP_TIMES {
         assert!(rt; entries.len() < 1000);
-        equal(&rt, (entries, lap_times(&rt, entries)), (entries, times));
+        let reported = lap_times(&rt, *entries);
+        equal(&rt, (*entries, reported), (*entries, *times));
     }
 }
 
@@ -66,7 +67,7 @@ fn check_ways(rt: &impl Abort, ways: &[Way<'_>]) {
     }
 }
 
-const WAYS: [Way<'static>; 7] = [
+static WAYS: [Way<'static>; 7] = [
     (
         &[
             sample!(0, distance: 0),
@@ -114,14 +115,14 @@ fn distances(rt: &impl Abort, entries: &[Entry]) -> (u16, Option<u32>, Option<u3
     )
 }
 
-const LATER: [Entry; 3] = [
+static LATER: [Entry; 3] = [
     sample!(10, distance: 500),
     Entry::Lap(T + 10),
     sample!(20, distance: 800),
 ];
 
 // No distance in this lap: 800 is already known at its start.
-const KNOWN: [Entry; 2] = [sample!(10, distance: 800), Entry::Lap(T + 10)];
+static KNOWN: [Entry; 2] = [sample!(10, distance: 800), Entry::Lap(T + 10)];
 
 #[test]
 fn measures_a_lap_from_its_beginning(rt: HostRuntime) {
@@ -130,7 +131,7 @@ fn measures_a_lap_from_its_beginning(rt: HostRuntime) {
 }
 
 // A ride of two laps, with heart rates 100 and 101 in the first and 110 in the second.
-const TWO_LAPS: [Entry; 4] = [
+static TWO_LAPS: [Entry; 4] = [
     sample!(0, heart_rate: 100),
     sample!(1, heart_rate: 101),
     Entry::Lap(T + 2),
@@ -151,7 +152,7 @@ const NOTHING: Stretch = Stretch {
     greatest_power: None,
 };
 
-const FIRST_LAP: LapSummary = LapSummary {
+static FIRST_LAP: LapSummary = LapSummary {
     index: 0,
     stretch: Stretch {
         end: T + 1,
@@ -163,7 +164,7 @@ const FIRST_LAP: LapSummary = LapSummary {
     },
 };
 
-const SECOND_LAP: LapSummary = LapSummary {
+static SECOND_LAP: LapSummary = LapSummary {
     index: 1,
     stretch: Stretch {
         start: T + 2,
@@ -174,7 +175,7 @@ const SECOND_LAP: LapSummary = LapSummary {
     },
 };
 
-const BOTH_LAPS: SessionSummary = SessionSummary {
+static BOTH_LAPS: SessionSummary = SessionSummary {
     sport: Sport::Running,
     laps: 2,
     stretch: Stretch {
@@ -199,7 +200,7 @@ fn adds_up_a_ride_of_two_laps(rt: HostRuntime) {
     equal(&rt, totals.end_time(), T + 2);
 }
 
-const POWERFUL: [Entry; 5] = [
+static POWERFUL: [Entry; 5] = [
     sample!(0, speed: 9000, power: 400),
     sample!(1, speed: 8000, power: 101),
     Entry::Lap(T + 1),
@@ -247,7 +248,7 @@ fn check_greatest(rt: &impl Abort, rows: &[Speeds<'_>]) {
     }
 }
 
-const GREATER: [Speeds<'static>; 7] = [
+static GREATER: [Speeds<'static>; 7] = [
     (
         &[
             sample!(0, speed: 5000, enhanced_speed: 6000),
@@ -288,7 +289,7 @@ fn takes_the_greater_speed(rt: HostRuntime) {
 
 // A lap whose greatest speed is more than its field holds, alone and before a lap whose greatest speed is not. Then speeds above that,
 // which give none, however great: only 0xFFFF_FFFF, the invalid value, is refused.
-const TOO_GREAT: [Speeds<'static>; 4] = [
+static TOO_GREAT: [Speeds<'static>; 4] = [
     (
         &[sample!(0, speed: 65_534, enhanced_speed: 65_535)],
         (None, None),
@@ -313,7 +314,7 @@ fn reports_no_greatest_speed_above_65534(rt: HostRuntime) {
     check_greatest(&rt, &TOO_GREAT);
 }
 
-const WITH_SPEEDS: [Way<'static>; 2] = [
+static WITH_SPEEDS: [Way<'static>; 2] = [
     (
         &[
             sample!(0, distance: 0, enhanced_speed: 9000),
