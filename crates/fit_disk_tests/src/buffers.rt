@@ -3,6 +3,7 @@
 use crate::equality::equal;
 use fit_buffers::Buffers;
 use fit_disk::{DeviceError, Disk, Which};
+use std::process::Abort;
 
 // The calls of the buffers without their contracts: only their answers count here.
 fn size(disk: &mut Buffers, which: Which) -> Result<u64, DeviceError> {
@@ -34,25 +35,56 @@ fn cut(disk: &mut Buffers, which: Which, len: usize) -> Result<(), DeviceError> 
     disk.cut(which, len as u64)
 }
 
+// Asserts what a read of the data file from a place on answers, and what is in the buffer then, which had four dots before.
+fn expect_read(
+    rt: &impl Abort,
+    disk: &mut Buffers,
+    at: u64,
+    count: usize,
+    expected: [u8; 4],
+) -> Result<(), DeviceError> {
+    let mut buffer = *b"....";
+    let answer = read(disk, Which::Data, at, &mut buffer)?;
+    equal(rt, answer, count);
+    equal(rt, buffer, expected);
+    Ok(())
+}
+
+// Asserts what both files hold.
+fn expect(rt: &impl Abort, disk: &Buffers, in_data: &[u8], in_journal: &[u8]) {
+    equal(rt, disk.content(Which::Data), in_data);
+    equal(rt, disk.content(Which::Journal), in_journal);
+}
+
+fn expect_changes(rt: &impl Abort, disk: &mut Buffers) -> Result<(), DeviceError> {
+    equal(rt, size(disk, Which::Data)?, 5);
+    expect_read(rt, disk, 3, 2, *b"de..")?;
+    write(disk, Which::Data, 4, b"XYZ")?;
+    write(disk, Which::Journal, 0, b"j")?;
+    sync(disk, Which::Data)?;
+    expect(rt, disk, b"abcdXYZ", b"j");
+    cut(disk, Which::Data, 1)?;
+    expect(rt, disk, b"a", b"j");
+    expect_read(rt, disk, 7, 0, *b"....")
+}
+
 #[test]
 fn reads_give_what_was_found_and_written(rt: HostRuntime) -> Result<(), DeviceError> {
     let mut data_bytes = *b"abcdefgh";
     let mut journal_bytes = [0; 4];
     let mut disk = Buffers::new(&mut data_bytes, 5, &mut journal_bytes, 0);
-    let mut buffer = [0x2E; 4];
-    let sizes = (
-        size(&mut disk, Which::Data)?,
-        read(&mut disk, Which::Data, 3, &mut buffer)?,
-    );
-    equal(&rt, (sizes, buffer), ((5, 2), *b"de.."));
-    write(&mut disk, Which::Data, 4, b"XYZ")?;
-    write(&mut disk, Which::Journal, 0, b"j")?;
-    sync(&mut disk, Which::Data)?;
-    equal(&rt, disk.content(Which::Data), b"abcdXYZ".as_slice());
-    equal(&rt, disk.content(Which::Journal), b"j".as_slice());
-    cut(&mut disk, Which::Data, 1)?;
-    equal(&rt, disk.content(Which::Data), b"a".as_slice());
-    equal(&rt, read(&mut disk, Which::Data, 7, &mut buffer)?, 0);
+    expect_changes(&rt, &mut disk)
+}
+
+fn expect_no_room(rt: &impl Abort, disk: &mut Buffers) -> Result<(), DeviceError> {
+    let answers = [
+        write(disk, Which::Data, 5, b"1234"),
+        write(disk, Which::Journal, 0, b"j"),
+    ];
+    equal(rt, answers, [Err(DeviceError); 2]);
+    expect(rt, disk, b"abcde", b"");
+    write(disk, Which::Data, 5, b"123")?;
+    expect(rt, disk, b"abcde123", b"");
     Ok(())
 }
 
@@ -61,13 +93,5 @@ fn a_write_without_room_fails_and_changes_nothing(rt: HostRuntime) -> Result<(),
     let mut data_bytes = *b"abcdefgh";
     let mut journal_bytes = [0; 0];
     let mut disk = Buffers::new(&mut data_bytes, 5, &mut journal_bytes, 0);
-    let answers = [
-        write(&mut disk, Which::Data, 5, b"1234"),
-        write(&mut disk, Which::Journal, 0, b"j"),
-    ];
-    equal(&rt, answers, [Err(DeviceError); 2]);
-    equal(&rt, disk.content(Which::Data), b"abcde".as_slice());
-    write(&mut disk, Which::Data, 5, b"123")?;
-    equal(&rt, disk.content(Which::Data), b"abcde123".as_slice());
-    Ok(())
+    expect_no_room(&rt, &mut disk)
 }

@@ -9,6 +9,7 @@ mod ranges;
 
 use crate::equality::equal;
 use fit_disk::{DeviceError, Disk, Memory, Which};
+use std::alloc::Global;
 use std::process::Abort;
 
 // A call of the memory disk.
@@ -38,6 +39,19 @@ enum Step {
     Buffer([u8; 6]),
 }
 
+// Takes these steps on a fresh disk.
+fn follow_afresh(rt: &impl Abort, alloc: Global, steps: &[Step]) -> Result<(), DeviceError> {
+    follow(rt, &mut Memory::new(alloc), steps)
+}
+
+// The same for each case.
+fn follow_each(rt: &impl Abort, alloc: Global, cases: &[&[Step]]) -> Result<(), DeviceError> {
+    for steps in cases {
+        follow_afresh(rt, alloc, steps)?;
+    }
+    Ok(())
+}
+
 // Takes these steps, one after another.
 fn follow(rt: &impl Abort, disk: &mut Memory, steps: &[Step]) -> Result<(), DeviceError> {
     let mut buffer = *b"......";
@@ -58,15 +72,18 @@ fn take(
             make(disk, buffer, call)?;
         }
         Step::Gives(call, number) => equal(rt, make(disk, buffer, call)?, *number),
-        Step::Fails(call) => {
-            disk.fail_at(1);
-            equal(rt, make(disk, buffer, call), Err(DeviceError));
-        }
+        Step::Fails(call) => equal(rt, fail(disk, buffer, call), Err(DeviceError)),
         Step::Cycle(choices, taken) => cycle(rt, disk, choices, *taken),
         Step::Holds(which, content) => expect(rt, disk, *which, content),
         Step::Buffer(expected) => equal(rt, *buffer, *expected),
     }
     Ok(())
+}
+
+// Makes a call that is scheduled to fail.
+fn fail(disk: &mut Memory, buffer: &mut [u8; 6], call: &Call) -> Result<u64, DeviceError> {
+    disk.fail_at(1);
+    make(disk, buffer, call)
 }
 
 // Makes a call. Returns the size, the number of bytes that were read, or 0.

@@ -76,7 +76,7 @@ fn types_by_their_bytes(rt: HostRuntime) {
 }
 
 // Each type at 0, at its greatest value and at its invalid value; if 0 is the invalid value, the third is another one.
-const CASES: [Case<'static>; 18] = [
+static CASES: [Case<'static>; 18] = [
     Case {
         code: 0x00,
         little: &[0x00, 0xFE, 0xFF],
@@ -312,7 +312,7 @@ fn a_byte_field_that_is_all_ff(rt: HostRuntime) {
 const BYTES: [u8; 8] = [0x80, 0x00, 0x00, 0x00, 0x7F, 0xFF, 0xFF, 0xFE];
 
 // A type, a byte order, bytes, and their values.
-const SIGNED: [(u8, Arch, &[u8], &[i64]); 8] = [
+static SIGNED: [(u8, Arch, &[u8], &[i64]); 8] = [
     (0x01, Arch::Big, &[0x80, 0x00, 0x00, 0x00], &[-128, 0, 0, 0]),
     (
         0x01,

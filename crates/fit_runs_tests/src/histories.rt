@@ -38,7 +38,7 @@ const STARTED: &str =
     "ok\nDevice\nok\nok records=0 laps=1 sessions=1 start=1000000000 elapsed_ms=0 timer_ms=0 distance_cm=-\n";
 
 // The header of the file of a start alone, and the messages of the start.
-const START_FRONT: [u8; 86] = [
+static START_FRONT: [u8; 86] = [
     0x0E, 0x10, 0x64, 0x00, 0x44, 0x01, 0x00, 0x00, 0x2E, 0x46, 0x49, 0x54, 0x34, 0xED, 0x44, 0x00,
     0x00, 0x00, 0x00, 0x05, 0x00, 0x01, 0x00, 0x01, 0x02, 0x84, 0x02, 0x02, 0x84, 0x03, 0x04, 0x8C,
     0x04, 0x04, 0x86, 0x04, 0x04, 0xFF, 0x00, 0x01, 0x00, 0x07, 0x00, 0x00, 0x00, 0x00, 0xCA, 0x9A,
@@ -48,7 +48,7 @@ const START_FRONT: [u8; 86] = [
 ];
 
 // The choice bytes that leave the gate of a start, if the power goes at its write.
-const GATE: [u8; 9] = [0, 0, 0, 0, 0, 0, 0, 0, 0xA5];
+static GATE: [u8; 9] = [0, 0, 0, 0, 0, 0, 0, 0, 0xA5];
 
 // The power goes at the write of a start's gate.
 const CUT_START: &str = "cut 10\nstart 1000000000 7 running\npower\nrecover\n";
@@ -133,7 +133,7 @@ fn the_choices_decide_what_a_power_cut_leaves(rt: HostRuntime) -> Result<(), Fai
 }
 
 // The choice bytes of two power cuts, each at the write of a gate, and the answers.
-const TWO_CUTS: [([u8; 18], &str); 2] = [
+static TWO_CUTS: [([u8; 18], &str); 2] = [
     (
         [0, 0, 0, 0, 0, 0, 0, 0, 0xA5, 0, 0, 0, 0, 0, 0, 0, 0, 0],
         "ok\nDevice\nok\nok records=0 laps=1 sessions=1 start=1000000000 elapsed_ms=0 timer_ms=0 distance_cm=-\nok\nok\nDevice\nok\nNothingRecorded\n",

@@ -103,7 +103,7 @@ fn states_where_output_fails(rt: HostRuntime) -> Result<(), AllocError> {
 
 // How many bytes an output takes a call, how many of its flushes come before the one that fails, what is reported, and whether all
 // of the text is written. The output takes nothing; or it takes all and its flush fails; or it takes little at a time.
-const OUTPUTS: [(usize, usize, Result<(), ReportFault>, bool); 6] = [
+static OUTPUTS: [(usize, usize, Result<(), ReportFault>, bool); 6] = [
     (0, usize::MAX, Err(ReportFault::Output), false),
     (usize::MAX, 0, Err(ReportFault::Output), true),
     (1, usize::MAX, Ok(()), true),

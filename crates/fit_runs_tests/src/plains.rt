@@ -26,7 +26,7 @@ const PLAIN: [u8; 67] = [
 ];
 
 // Files, their plain forms, and how many messages these have.
-const FILES: [(&[u8], &[u8], usize); 3] = [
+static FILES: [(&[u8], &[u8], usize); 3] = [
     (&COMPRESSED, &PLAIN, 3),
     (&PLAIN, &PLAIN, 3),
     (&ONE_MESSAGE, &ONE_MESSAGE, 1),

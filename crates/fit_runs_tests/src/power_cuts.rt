@@ -14,7 +14,7 @@ const COMMIT_CALLS: u32 = 6;
 const RECOVERY_CALLS: u32 = 60;
 
 // The value of each byte that a power cut may change.
-const NOISE: [u8; 2] = [0xA5, 0xFF];
+static NOISE: [u8; 2] = [0xA5, 0xFF];
 
 // A ride of two samples, before its only commit.
 const ONE_COMMIT: &str =

@@ -91,7 +91,7 @@ fn reports_a_failed_read_from_too_much(rt: HostRuntime) {
 }
 
 // The bytes that are read before a failure, and where it was.
-const FRONTS: [(&[u8], Option<usize>); 6] = [
+static FRONTS: [(&[u8], Option<usize>); 6] = [
     (b"", Some(0)),
     (b"abc", Some(3)),
     (b"abcdef", Some(6)),
@@ -162,7 +162,7 @@ fn shows_a_file_in_pieces(rt: HostRuntime) {
 }
 
 // The file with a wrong size of its header, and a byte after its end.
-const NO_FILE: [u8; 35] = [
+static NO_FILE: [u8; 35] = [
     0x0D, 0x10, 0x64, 0x00, 0x12, 0x00, 0x00, 0x00, 0x2E, 0x46, 0x49, 0x54, 0xA1, 0x3B, 0x40, 0x00,
     0x00, 0x00, 0x00, 0x02, 0x00, 0x01, 0x00, 0x04, 0x04, 0x86, 0x00, 0x04, 0x00, 0xCA, 0x9A, 0x3B,
     0x38, 0x1C, 0x00,
@@ -174,7 +174,7 @@ const HEADER_SIZE: FileFault = FileFault {
 };
 
 // How many of these bytes there are, how many calls read them, and the fault.
-const NO_FILES: [(usize, usize, ReportFault); 3] = [
+static NO_FILES: [(usize, usize, ReportFault); 3] = [
     (34, 35, ReportFault::File(HEADER_SIZE)),
     (34, 34, ReportFault::Input(ReadFault::Failed)),
     (35, 35, ReportFault::Input(ReadFault::TooLarge)),

@@ -47,7 +47,7 @@ fn expect_answers(rt: &impl Abort, alloc: Global, cases: &[Case]) {
     }
 }
 
-const LINES: [Case; 3] = [
+static LINES: [Case; 3] = [
     (
         b"start 1000000000 7 running\n\n# a comment\nsample 1000000001 hr=90\ncommit\nstop 1000000002\n",
         None,
@@ -131,7 +131,7 @@ fn a_reader_that_lags_ends_no_recording(rt: HostRuntime) -> Result<(), AllocErro
 
 const ONE_SAMPLE_ANSWERS: &str = "1 start: ok\n2 sample: ok\n3 commit: ok\n";
 
-const ENDS: [Case; 3] = [
+static ENDS: [Case; 3] = [
     (
         b"start 1000000000 7 running\nsample 1000000001\n",
         None,
@@ -200,7 +200,7 @@ const TOO_LONG: &str = "1 start: ok\n2 line: TooLong\n3 commit: ok\n";
 const NOT_TOO_LONG: &str = "1 start: ok\n3 commit: ok\n";
 
 // The length of a line, its end, its answers, and how many of these are not ok.
-const LONG_LINES: [(usize, &[u8], &str, usize); 6] = [
+static LONG_LINES: [(usize, &[u8], &str, usize); 6] = [
     (4097, b"", TOO_LONG, 1),
     (4096, b"", NOT_TOO_LONG, 0),
     (4097, b"\n", TOO_LONG, 1),
@@ -237,7 +237,7 @@ const EVERY_FIVE: &str =
 const NEVER: &str =
     "1 start: ok\n2 sample: ok\n3 sample: ok\n4 lap: ok\n5 sample: Refused(Time)\n6 commit: ok\n7 sample: ok\n8 sample: ok\n9 stop: ok\n";
 
-const COMMITS: [Case; 3] = [
+static COMMITS: [Case; 3] = [
     (COMMITTED, Some(5), EVERY_FIVE, 1),
     (COMMITTED, None, NEVER, 1),
     (COMMITTED, Some(u32::MAX), NEVER, 1),
@@ -257,7 +257,7 @@ sample 1000000024
 sample 1000000025
 ";
 
-const COMMITS_AFTER_A_REOPENING: [Case; 2] = [
+static COMMITS_AFTER_A_REOPENING: [Case; 2] = [
     (
         REOPENED,
         Some(5),
@@ -284,7 +284,7 @@ const TWO_SAMPLES_ANSWERS: &str =
     "1 start: ok\n2 sample: ok\n2 commit: ok\n3 sample: ok\n3 commit: ok\n4 commit: ok\n";
 
 // How many bytes of the answers are printed if this one is refused, and how many records are left.
-const KEPT: [(usize, u32); 7] = [(0, 0), (12, 0), (25, 1), (38, 1), (51, 2), (64, 2), (77, 2)];
+static KEPT: [(usize, u32); 7] = [(0, 0), (12, 0), (25, 1), (38, 1), (51, 2), (64, 2), (77, 2)];
 
 // Whether the recording ends if this answer is refused, with so many bytes printed and so many records left.
 fn ends(alloc: Global, answered: usize, printed: usize, records: u32) -> bool {

@@ -16,7 +16,7 @@ const GONE_ON: &str =
     "start 1000000000 7 running\nsample 1000000000 hr=100\ncommit\nsample 1000000001 hr=101\npower\nreopen\nsample 1000000002 hr=110\nstop 1000000002\n";
 
 // What is recorded after the bytes of the commit: a record under its own definition, and the stop under another one.
-const AFTER: [u8; 33] = [
+static AFTER: [u8; 33] = [
     0x40, 0x00, 0x00, 0x14, 0x00, 0x01, 0x03, 0x01, 0x02, 0x82, 0x6E, 0x46, 0x00, 0x00, 0x15, 0x00,
     0x03, 0xFD, 0x04, 0x86, 0x00, 0x01, 0x00, 0x01, 0x01, 0x00, 0x06, 0x02, 0xCA, 0x9A, 0x3B, 0x00,
     0x04,
@@ -137,7 +137,7 @@ const PROMISED: &str =
 
 const HANDED: &str = "start 1000000000 7 running\nsample 1000000005\nreopen\nsample 1000000004\n";
 
-const FAULTS: [RecFault; 9] = [
+static FAULTS: [RecFault; 9] = [
     RecFault::Refused(Refusal::Stopped),
     RecFault::Refused(Refusal::Time),
     RecFault::NotEmpty,
@@ -150,7 +150,7 @@ const FAULTS: [RecFault; 9] = [
 ];
 
 // The only refusal of each reopening.
-const REFUSALS: [(&str, Option<RecFault>); 4] = [
+static REFUSALS: [(&str, Option<RecFault>); 4] = [
     (RIDING, None),
     (STOPPED, Some(RecFault::Refused(Refusal::Stopped))),
     (BROKEN, Some(RecFault::Device)),
@@ -167,7 +167,7 @@ fn the_table_allows_a_reopening_one_refusal(rt: HostRuntime) -> Result<(), Fail>
 }
 
 // Whether each script may end with this answer. The ride goes on after what was promised; what was not may be recorded or not.
-const ENDS: [(&str, Result<(), RecFault>, bool); 9] = [
+static ENDS: [(&str, Result<(), RecFault>, bool); 9] = [
     (RIDING, Ok(()), true),
     (BROKEN, Ok(()), true),
     (STOPPED, Ok(()), false),

@@ -53,11 +53,11 @@ fn the_example_of_the_crate(rt: HostRuntime) -> Result<(), Fail> {
 }
 
 // The journal of a start alone; its 72 bytes have the checksum 9D80.
-const CHECKED_START: [u8; 24] = [
+static CHECKED_START: [u8; 24] = [
     0x46, 0x52, 0x4A, 0x43, 0, 0, 0, 0, 0xA5, 0x48, 0, 0, 0, 0x80, 0x9D, 0, 0, 0, 0, 0, 0, 0, 0, 0,
 ];
 
-const PLAIN_START: [u8; 24] = [
+static PLAIN_START: [u8; 24] = [
     0x46, 0x52, 0x4A, 0x32, 0, 0, 0, 0, 0xA5, 0x48, 0, 0, 0, 0, 0, 0, 0, 0, 0, 0, 0, 0, 0, 0,
 ];
 
@@ -116,7 +116,7 @@ pub fn records_left(mut disk: Memory) -> Option<u32> {
 
 // How many calls of an output come before the ones that fail, and how many flushes before the one that fails; how many bytes are
 // then printed, and how many records a recovery finds. The event whose line fails was run.
-const OUTPUTS: [(usize, usize, usize, u32); 8] = [
+static OUTPUTS: [(usize, usize, usize, u32); 8] = [
     (0, usize::MAX, 0, 0),
     (1, usize::MAX, 12, 0),
     (2, usize::MAX, 25, 1),
@@ -163,7 +163,7 @@ fn a_replay_ends_where_its_output_fails(rt: HostRuntime) -> Result<(), Fail> {
 }
 
 // The number of a fault and its line, or 0 for bytes that are not text.
-const NOT_REPLAYED: [(&[u8], u8, usize); 6] = [
+static NOT_REPLAYED: [(&[u8], u8, usize); 6] = [
     (b"lap 5000000000\n\xFF", 1, 0),
     (b"lap 5000000000\n", 2, 1),
     (b"cut 1\nlap\n", 2, 2),

@@ -55,7 +55,7 @@ fn a_saved_ride_is_the_plain_form_of_a_repaired_one(rt: HostRuntime) -> Result<(
 }
 
 // The bytes of two files, and why no ride is saved from them. The journal of the second has a form that is not read.
-const NO_RIDES: [(&[u8], &[u8], RecFault); 2] = [
+static NO_RIDES: [(&[u8], &[u8], RecFault); 2] = [
     (&[], &[], RecFault::NothingRecorded),
     (
         &[0x0E; 20],

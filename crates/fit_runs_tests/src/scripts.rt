@@ -64,7 +64,7 @@ fn expect_each(
     }
 }
 
-const REFUSED: [(&str, ScriptFaultKind); 51] = [
+static REFUSED: [(&str, ScriptFaultKind); 51] = [
     ("sample 1000000000 hr=1 hr=2", RepeatedKey),
     ("sample 1000000000 hr", UnknownKey),
     ("sample 1000000000 hr=x hr=2", BadNumber),
@@ -128,7 +128,7 @@ fn refuses_lines(rt: HostRuntime) {
 }
 
 // The greatest and the least number in each place.
-const FITTING: [&str; 6] = [
+static FITTING: [&str; 6] = [
     "start 4294967295 4294967295 generic",
     "lap 4294967295",
     "fail 4294967295",
@@ -138,7 +138,7 @@ const FITTING: [&str; 6] = [
 ];
 
 // The number after it, which does not fit.
-const TOO_GREAT: [&str; 30] = [
+static TOO_GREAT: [&str; 30] = [
     "start 4294967296 1 generic",
     "start 1 4294967296 generic",
     "lap 4294967296",
@@ -184,7 +184,7 @@ fn expect_commands(rt: &impl Abort, alloc: Global, cases: &[(&str, Command)]) {
     }
 }
 
-const COMMANDS: [(&str, Command); 15] = [
+static COMMANDS: [(&str, Command); 15] = [
     (
         "start 1000000000 7 running",
         Command::Start(Start {
@@ -244,7 +244,7 @@ const WHOLE: Sample = Sample {
 };
 
 // The whole sample, with its settings in several orders.
-const ORDERS: [&str; 3] = [
+static ORDERS: [&str; 3] = [
     "sample 10 lat=-1 long=2 alt=3 hr=4 cad=5 dist=6 speed=7 power=8 temp=-9 espeed=10 ealt=11",
     "sample 10 ealt=11 espeed=10 temp=-9 power=8 speed=7 dist=6 cad=5 hr=4 alt=3 long=2 lat=-1",
     "\t sample\t10 hr=0000000000000000000000000000000004  lat=-01 dist=6 temp=-9\tlong=2 alt=3 cad=5 ealt=0011 power=8 speed=7 espeed=10 ",
@@ -270,14 +270,14 @@ fn reads_samples(rt: HostRuntime) {
 }
 
 // Empty lines and comments are not events.
-const NO_EVENTS: [&str; 6] = ["", "\n", "\r\n", " \t\n\n", "# a ride", "  #lap x\n"];
+static NO_EVENTS: [&str; 6] = ["", "\n", "\r\n", " \t\n\n", "# a ride", "  #lap x\n"];
 
-const TWO_EVENTS: [&str; 2] = [
+static TWO_EVENTS: [&str; 2] = [
     "# a ride\n\nlap 9\n \n#\ncommit",
     "# a ride\r\n\r\nlap 9\r\n\t\r\n#\r\ncommit\r\n",
 ];
 
-const LAP_AND_COMMIT: [Event; 2] = [
+static LAP_AND_COMMIT: [Event; 2] = [
     Event {
         line: 3,
         command: Command::Entry(Entry::Lap(9)),
@@ -303,7 +303,7 @@ fn counts_lines(rt: HostRuntime) {
 }
 
 // By their numbers.
-const KINDS: [ScriptFaultKind; 7] = [
+static KINDS: [ScriptFaultKind; 7] = [
     UnknownWord,
     MissingWord,
     ExtraWord,
@@ -320,7 +320,7 @@ fn numbers_of_faults(rt: HostRuntime) {
     }
 }
 
-const COMMITS: [Event; 2] = [
+static COMMITS: [Event; 2] = [
     Event {
         line: 1,
         command: Command::Commit,

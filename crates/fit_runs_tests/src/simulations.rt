@@ -14,7 +14,7 @@ const CUT_OFF_ANSWERS: &str =
     "1 cut: ok\n2 start: Device\n3 power: ok\n4 recover: ok records=0 laps=1 sessions=1 start=1000000000 elapsed_ms=0 timer_ms=0 distance_cm=-\n";
 
 // The choice bytes that leave what was written.
-const CHOICES: [u8; 9] = [0, 0, 0, 0, 0, 0, 0, 0, 0xA5];
+static CHOICES: [u8; 9] = [0, 0, 0, 0, 0, 0, 0, 0, 0xA5];
 
 #[test]
 fn a_simulation_is_reported(rt: HostRuntime) -> Result<(), Fail> {
@@ -51,7 +51,7 @@ fn a_simulation_states_where_its_output_fails(rt: HostRuntime) {
 }
 
 // The number of each fault.
-const NO_SCRIPTS: [(&[u8], u8); 3] = [
+static NO_SCRIPTS: [(&[u8], u8); 3] = [
     (b"lap 5000000000\n\xFF", 1),
     (b"lap 5000000000\n", 2),
     (b"cut 1\nlap\n", 2),

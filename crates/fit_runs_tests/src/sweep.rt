@@ -30,7 +30,7 @@ const RECOVERY_CALLS: u32 = 2 + 1 + 1 + 1 + 4;
 const GOING_ON_CALLS: u32 = 2 + 1 + 1 + 1 + 2 + 8;
 
 // The choice bytes of a power cut: none, all open gates, and all FF.
-const CHOICES: [&[u8]; 3] = [&[], &[0xA5; 600], &[0xFF; 600]];
+static CHOICES: [&[u8]; 3] = [&[], &[0xA5; 600], &[0xFF; 600]];
 
 // The summary of the ride without its stop.
 const UNSTOPPED: Summary = Summary {
@@ -44,7 +44,7 @@ const UNSTOPPED: Summary = Summary {
 };
 
 // The same with one more entry.
-const GONE_ON: Summary = Summary {
+static GONE_ON: Summary = Summary {
     records: 3,
     ..UNSTOPPED
 };

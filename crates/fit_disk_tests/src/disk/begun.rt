@@ -2,11 +2,11 @@
 
 use super::Call::{Cut, Sync, Write};
 use super::Step::{Cycle, Fails, Holds, Passes};
-use super::{Step, follow};
+use super::{Step, follow_each};
+use fit_disk::DeviceError;
 use fit_disk::Which::{Data, Journal};
-use fit_disk::{DeviceError, Memory};
 
-const CASES: [&[Step]; 5] = [
+static CASES: [&[Step]; 5] = [
     // A failed write at place 0 was begun.
     &[
         Passes(Write(Data, 0, b"abcd")),
@@ -61,8 +61,5 @@ const CASES: [&[Step]; 5] = [
 
 #[test]
 fn a_call_that_failed_was_begun(rt: HostRuntime) -> Result<(), DeviceError> {
-    for steps in CASES {
-        follow(&rt, &mut Memory::new(rt.alloc()), steps)?;
-    }
-    Ok(())
+    follow_each(&rt, rt.alloc(), &CASES)
 }

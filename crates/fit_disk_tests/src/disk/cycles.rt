@@ -2,7 +2,7 @@
 
 use super::Call::{Cut, Sync, Write};
 use super::Step::{Cycle, Holds, Passes};
-use super::{Step, cycle, expect, follow};
+use super::{Step, cycle, expect, follow, follow_afresh};
 use fit_disk::Which::{Data, Journal};
 use fit_disk::{DeviceError, Memory};
 use std::alloc::Global;
@@ -19,7 +19,7 @@ const TORN: [Step; 3] = [
 type Left = (&'static [u8], usize, &'static [u8]);
 
 // What is done before the power cut, and what it leaves then.
-const CASES: [(&[Step], &[Left]); 3] = [
+static CASES: [(&[Step], &[Left]); 3] = [
     // Only the written middle varies.
     (
         &TORN,
@@ -87,16 +87,24 @@ fn expect_left(
     Ok(())
 }
 
-#[test]
-fn what_was_not_synced_varies(rt: HostRuntime) -> Result<(), DeviceError> {
-    for (before, leaves) in CASES {
-        expect_left(&rt, rt.alloc(), before, leaves)?;
+fn expect_each(
+    rt: &impl Abort,
+    alloc: Global,
+    cases: &[(&[Step], &[Left])],
+) -> Result<(), DeviceError> {
+    for (before, leaves) in cases {
+        expect_left(rt, alloc, before, leaves)?;
     }
     Ok(())
 }
 
+#[test]
+fn what_was_not_synced_varies(rt: HostRuntime) -> Result<(), DeviceError> {
+    expect_each(&rt, rt.alloc(), &CASES)
+}
+
 // Each of the two files takes a choice byte for its one byte.
-const BOTH: [Step; 5] = [
+static BOTH: [Step; 5] = [
     Passes(Write(Journal, 0, b"j")),
     Passes(Write(Data, 0, b"d")),
     Cycle(&[1, 0, 0, 0, 0x11, 1, 0, 0, 0, 0x22, 0x33], 10),
@@ -106,11 +114,11 @@ const BOTH: [Step; 5] = [
 
 #[test]
 fn the_data_file_takes_its_choices_first(rt: HostRuntime) -> Result<(), DeviceError> {
-    follow(&rt, &mut Memory::new(rt.alloc()), &BOTH)
+    follow_afresh(&rt, rt.alloc(), &BOTH)
 }
 
 // Power cuts one after another, from `TORN` on.
-const CUTS_IN_TURN: [Step; 7] = [
+static CUTS_IN_TURN: [Step; 7] = [
     Cycle(&[0, 0, 0, 0, 0xA5, 0xFF], 6),
     Cycle(&[7, 7, 7], 3),
     Cycle(&[7; 10], 8),

@@ -3,6 +3,7 @@
 use super::{cycle, size, sync, write};
 use crate::equality::equal;
 use fit_disk::{DeviceError, Memory, Which};
+use std::process::Abort;
 
 const PIECE: usize = 65_536;
 
@@ -23,6 +24,10 @@ fn ends(disk: &Memory) -> (usize, Option<&[u8]>, Option<&u8>) {
     (content.len(), content.get(..3), content.last())
 }
 
+fn expect_ends(rt: &impl Abort, disk: &Memory, first: &[u8], last: u8) {
+    equal(rt, ends(disk), (16_777_216, Some(first), Some(&last)));
+}
+
 #[test]
 fn a_file_of_16_mib_is_filled_and_comes_back(rt: HostRuntime) -> Result<(), DeviceError> {
     let mut disk = Memory::new(rt.alloc());
@@ -31,17 +36,9 @@ fn a_file_of_16_mib_is_filled_and_comes_back(rt: HostRuntime) -> Result<(), Devi
     sync(&mut disk, Which::Data)?;
     fill(&mut disk, 0x6B)?;
     equal(&rt, disk.spent(), false);
-    equal(
-        &rt,
-        ends(&disk),
-        (16_777_216, Some(&[0x6B; 3]), Some(&0x6B)),
-    );
+    expect_ends(&rt, &disk, &[0x6B; 3], 0x6B);
     // Each of its bytes varies.
     cycle(&rt, &mut disk, &[0, 0, 0, 0, 0xA5], 5);
-    equal(
-        &rt,
-        ends(&disk),
-        (16_777_216, Some(&[0xA5, 0, 0]), Some(&0)),
-    );
+    expect_ends(&rt, &disk, &[0xA5, 0, 0], 0);
     Ok(())
 }

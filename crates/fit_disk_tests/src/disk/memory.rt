@@ -2,13 +2,13 @@
 
 use super::Call::{Cut, Read, Size, Sync, Write};
 use super::Step::{Buffer, Cycle, Gives, Holds, Passes};
-use super::{Call, Step, cycle, follow, make, sync};
+use super::{Call, Step, cycle, follow, follow_afresh, make, sync};
 use crate::equality::equal;
 use fit_disk::Which::{Data, Journal};
 use fit_disk::{DeviceError, Memory};
 use std::process::Abort;
 
-const READS: [Step; 18] = [
+static READS: [Step; 18] = [
     Gives(Size(Data), 0),
     Gives(Read(Data, 0, 6), 0),
     Passes(Write(Data, 0, b"abcd")),
@@ -32,10 +32,10 @@ const READS: [Step; 18] = [
 
 #[test]
 fn reads_what_was_written(rt: HostRuntime) -> Result<(), DeviceError> {
-    follow(&rt, &mut Memory::new(rt.alloc()), &READS)
+    follow_afresh(&rt, rt.alloc(), &READS)
 }
 
-const CUTS: [Step; 13] = [
+static CUTS: [Step; 13] = [
     Passes(Write(Journal, 0, b"abcdef")),
     Passes(Write(Data, 0, b"1")),
     Passes(Cut(Journal, 6)),
@@ -60,7 +60,7 @@ fn cuts_and_syncs_change_no_other_byte(rt: HostRuntime) -> Result<(), DeviceErro
 }
 
 // A run of twelve calls.
-const CALLS: [Call; 12] = [
+static CALLS: [Call; 12] = [
     Write(Data, 0, b"ab"),
     Write(Journal, 0, b"cd"),
     Sync(Data),
@@ -81,11 +81,8 @@ fn expect_failures(rt: &impl Abort, disk: &mut Memory, first: u32, last: u32) {
     for call in &CALLS {
         number = number.saturating_add(1);
         let failed = make(disk, &mut [0; 6], call).is_err();
-        assert_eq!(rt;
-            failed,
-            first <= number && number <= last,
-            "call {number} of {first}"
-        );
+        let expected = first <= number && number <= last;
+        equal(rt, (first, number, failed), (first, number, expected));
     }
 }
 
@@ -143,7 +140,7 @@ fn lengths(disk: &Memory) -> [usize; 2] {
 }
 
 // What the twelve calls leave, and a power cut after them.
-const AFTER_CALLS: [Step; 5] = [
+static AFTER_CALLS: [Step; 5] = [
     Holds(Data, b"abe"),
     Holds(Journal, b"c"),
     Cycle(&[0, 0, 0, 0, 1, 0, 0, 0, 0xA5], 9),

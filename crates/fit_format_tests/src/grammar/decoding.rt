@@ -56,7 +56,7 @@ pub(crate) fn after_header(alloc: Global, size: u8, records: &[u8]) -> Result<Ve
 }
 
 // Files, each with the size of its data.
-const FILES: [(&'static [u8], u32); 5] = [
+static FILES: [(&'static [u8], u32); 5] = [
     (&EMPTY, 0),
     (&SHORT_HEADER, 0),
     (&FILE_ID, 18),
@@ -91,7 +91,7 @@ fn a_beginning_is_cut_short(rt: HostRuntime) {
 }
 
 // A byte of a file, what stands there instead, and why the file is refused.
-const WRONG: [((usize, u8), (FaultKind, usize)); 3] = [
+static WRONG: [((usize, u8), (FaultKind, usize)); 3] = [
     ((27, 0x05), (FaultKind::FileCrc, 32)),
     ((12, 0xA0), (FaultKind::HeaderCrc, 12)),
     ((9, 0x00), (FaultKind::Magic, 8)),
@@ -130,7 +130,7 @@ fn a_header_without_its_checksum(rt: HostRuntime) -> Result<(), AllocError> {
 }
 
 // The size of the data, the bytes after the header, and why they are refused.
-const RECORDS: [(u8, &[u8], (FaultKind, usize)); 6] = [
+static RECORDS: [(u8, &[u8], (FaultKind, usize)); 6] = [
     (1, &[0x05, 0x00, 0x00], (FaultKind::UndefinedLocal(5), 12)),
     (1, &[0x40], (FaultKind::SplitMessage, 12)),
     (9, &[0x40], (FaultKind::Truncated, 13)),
@@ -140,7 +140,7 @@ const RECORDS: [(u8, &[u8], (FaultKind, usize)); 6] = [
 ];
 
 // The beginnings of headers, and why they are refused.
-const HEADERS: [(&[u8], (FaultKind, usize)); 3] = [
+static HEADERS: [(&[u8], (FaultKind, usize)); 3] = [
     (&[], (FaultKind::Truncated, 0)),
     (&[0x0D], (FaultKind::HeaderSize, 0)),
     (&[0x0E, 0x30], (FaultKind::Protocol, 1)),
@@ -161,7 +161,7 @@ fn refused_at_the_first_byte_that_shows_it(rt: HostRuntime) -> Result<(), AllocE
 }
 
 // A header that promises much.
-pub(crate) const PROMISED: [u8; 12] = [
+pub(crate) static PROMISED: [u8; 12] = [
     0x0C, 0x10, 0x64, 0x00, 0xFF, 0xFF, 0xFF, 0xFF, 0x2E, 0x46, 0x49, 0x54,
 ];
 

@@ -90,7 +90,7 @@ fn the_example_of_the_crate(rt: HostRuntime) -> Result<(), Fail> {
 }
 
 // A local number, an offset and content that a file refuses, and why.
-const REFUSED: [(u8, Option<u8>, &'static [u8], PutFault); 3] = [
+static REFUSED: [(u8, Option<u8>, &'static [u8], PutFault); 3] = [
     (5, None, &[0], PutFault::UndefinedLocal),
     (0, None, &[4], PutFault::Length),
     (0, Some(32), &CONTENT, PutFault::Length),
@@ -123,7 +123,7 @@ fn offsets_need_a_low_local_number(rt: HostRuntime) -> Result<(), Fail> {
 }
 
 // file_id has no field 253, and the offset counts from 0
-const TIMES: [Option<u32>; 2] = [None, Some(3)];
+static TIMES: [Option<u32>; 2] = [None, Some(3)];
 
 #[test]
 fn lends_messages_with_their_times(rt: HostRuntime) -> Result<(), PutFault> {

@@ -19,7 +19,7 @@ fn front_at(places: &[usize], size: usize) -> usize {
 }
 
 // Files, the size of their data, and the places in it where items end.
-const ENDS: [(&'static [u8], usize, &'static [usize]); 4] = [
+static ENDS: [(&'static [u8], usize, &'static [usize]); 4] = [
     // a definition of six bytes and two fields, and its message
     (&FILE_ID, 18, &[12, 18]),
     (&REDEFINED, 23, &[9, 11, 20, 23]),
@@ -39,11 +39,11 @@ fn a_front_ends_after_a_whole_item(rt: HostRuntime) {
 }
 
 // The definition of local number 0 and a message.
-const WHOLE: [u8; 11] = [0x40, 0, 0, 20, 0, 1, 3, 1, 2, 0x00, 0x64];
+static WHOLE: [u8; 11] = [0x40, 0, 0, 20, 0, 1, 3, 1, 2, 0x00, 0x64];
 
 // Data of another local number, data of local number 0 that is cut short, definitions that are cut short in their header, their
 // fields or their developer fields, and nothing.
-const NO_ITEMS: [&'static [u8]; 6] = [
+static NO_ITEMS: [&'static [u8]; 6] = [
     &[0x05, 0x64, 0, 0, 0, 0, 0, 0, 0],
     &[0xA0],
     &[0x60, 0, 0, 20, 0, 0],
@@ -66,7 +66,7 @@ fn a_front_ends_before_what_is_no_item(rt: HostRuntime) -> Result<(), AllocError
 }
 
 // A definition without fields.
-const BARE: [u8; 6] = [0x40, 0, 0, 0xE8, 3, 0];
+static BARE: [u8; 6] = [0x40, 0, 0, 0xE8, 3, 0];
 
 // That definition and a million messages without content.
 fn many_messages(alloc: Global) -> Result<Vec<u8>, AllocError> {

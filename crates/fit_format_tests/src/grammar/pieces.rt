@@ -123,7 +123,7 @@ pub(super) fn check_shown_by_last(
 }
 
 // The first so many bytes of a file, one of them with another value, and the fault that the last one shows.
-const BEGINNINGS: [(usize, (usize, u8), (FaultKind, usize)); 5] = [
+static BEGINNINGS: [(usize, (usize, u8), (FaultKind, usize)); 5] = [
     (34, (27, 0x05), (FaultKind::FileCrc, 32)),
     (1, (0, 0x0D), (FaultKind::HeaderSize, 0)),
     (2, (1, 0x30), (FaultKind::Protocol, 1)),
@@ -154,7 +154,7 @@ fn long_file(rt: &impl Abort, alloc: Global) -> Result<Vec<u8>, Fail> {
     Ok(written(alloc, &file)?)
 }
 
-const CUTS: [usize; 14] = [
+static CUTS: [usize; 14] = [
     14, 15, 19, 20, 784, 785, 786, 1_550, 1_551, 1_552, 40_000, 131_601, 131_602, 131_603,
 ];
 

@@ -56,7 +56,7 @@ fn made(alloc: Global, bytes: &[u8]) -> Option<Result<File, PlainFault>> {
 }
 
 // Files, and the same messages with their times written out.
-const FILES: [(&'static [u8], &'static [u8]); 3] = [
+static FILES: [(&'static [u8], &'static [u8]); 3] = [
     (&COMPRESSED, &PLAIN),
     (&PLAIN, &PLAIN),
     (&DEVELOPER, &PLAIN_DEVELOPER),
@@ -155,7 +155,7 @@ fn a_definition_of_256_fields_is_too_long(rt: HostRuntime) {
 }
 
 // A header of 14 bytes, a definition of 7 that announces developer fields and has none, and the front of one of 255 fields.
-const BEFORE: [u8; 27] = [
+static BEFORE: [u8; 27] = [
     0x0E, 0x10, 0x64, 0x00, 0x0B, 0x03, 0x00, 0x00, 0x2E, 0x46, 0x49, 0x54, 0x00, 0x00, 0x61, 0x00,
     0x00, 0x14, 0x00, 0x00, 0x00, 0x42, 0x00, 0x00, 0x14, 0x00, 0xFF,
 ];

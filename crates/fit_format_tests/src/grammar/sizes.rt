@@ -138,7 +138,7 @@ fn check_read(rt: &impl Abort, alloc: Global, bytes: &[u8], content: &[u8]) -> R
 }
 
 // The size of content, and that of its definition: six bytes, three for each field, and one more if there are developer fields.
-const SIZES: [(usize, usize); 6] = [
+static SIZES: [(usize, usize); 6] = [
     (255, 9),
     (256, 12),
     (5_000, 66),

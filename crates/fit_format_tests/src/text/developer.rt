@@ -9,7 +9,7 @@ use std::alloc::{AllocError, Global};
 use std::test::Fail;
 
 // Definitions of 19, 9 and 10 bytes, and messages of 8, 8, 2 and 2.
-const ITEMS: [Put<'static>; 7] = [
+static ITEMS: [Put<'static>; 7] = [
     Put::Definition(
         0,
         Arch::Big,
@@ -25,7 +25,7 @@ const ITEMS: [Put<'static>; 7] = [
     Put::Data(0, None, &[0x67]),
 ];
 
-const LINES: [&'static str; 6] = [
+static LINES: [&'static str; 6] = [
     "header 14 protocol 1.0 profile 100 data 58\n",
     "0 record heart_rate=100 developer_0_0=0xAB0C developer_250_7= developer_1_253=0x3B9ACA00\n",
     "1 record timestamp=3 heart_rate=101 developer_0_0=0xFFFF developer_250_7= developer_1_253=0x00000000\n",
@@ -51,7 +51,7 @@ fn push_line(alloc: Global, text: &mut String, message: u8, count: u8) -> Result
     text.push_str("\n")
 }
 
-const FIELDS: [(u8, u8, u8); 16] = [
+static FIELDS: [(u8, u8, u8); 16] = [
     (0, 1, 9),
     (1, 1, 9),
     (2, 1, 9),

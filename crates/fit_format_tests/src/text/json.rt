@@ -58,7 +58,7 @@ fn check_written(
 }
 
 // A base type, bytes, and their value.
-const VALUES: [(u8, &[u8], &str); 30] = [
+static VALUES: [(u8, &[u8], &str); 30] = [
     (0x00, &[4], "4"),
     (0x00, &[0xFF], "null"),
     (0x00, &[], "null"),
@@ -138,7 +138,7 @@ const DATE: &str = "\"2021-09-08T01:46:40Z\"";
 const NUMBER: &str = "1000000000";
 
 // Whether times are dates, the message, the field, and its value.
-const DATES: [(bool, (u16, &str), (u8, &str, u8), &str); 5] = [
+static DATES: [(bool, (u16, &str), (u8, &str, u8), &str); 5] = [
     (true, (20, "\"record\""), (253, "timestamp", 0x86), DATE),
     (false, (20, "\"record\""), (253, "timestamp", 0x86), NUMBER),
     (true, (0, "\"file_id\""), (4, "time_created", 0x86), DATE),
@@ -156,7 +156,7 @@ fn writes_dates_and_names(rt: HostRuntime) -> Result<(), Fail> {
 
 // A record with a heart rate and two developer fields. With a compressed timestamp its time comes first. After it one without fields,
 // and one whose field is there twice.
-const ITEMS: [Put<'static>; 8] = [
+static ITEMS: [Put<'static>; 8] = [
     Put::Definition(
         0,
         Arch::Little,
@@ -174,7 +174,7 @@ const ITEMS: [Put<'static>; 8] = [
 ];
 
 // Definitions of 16, 6 and 12 bytes, and messages of 4, 4, 1, 1 and 3.
-const LINES: [&'static str; 7] = [
+static LINES: [&'static str; 7] = [
     "{\"header\":14,\"protocol\":\"1.0\",\"profile\":100,\"data\":47}\n",
     "{\"number\":0,\"message\":20,\"name\":\"record\",\"fields\":{\"heart_rate\":100},\"developer\":[{\"index\":0,\"number\":0,\"bytes\":\"0xAB0C\"},{\"index\":250,\"number\":7,\"bytes\":\"\"}]}\n",
     "{\"number\":1,\"message\":20,\"name\":\"record\",\"fields\":{\"timestamp\":3,\"heart_rate\":null},\"developer\":[{\"index\":0,\"number\":0,\"bytes\":\"0xFFFF\"},{\"index\":250,\"number\":7,\"bytes\":\"\"}]}\n",

@@ -11,7 +11,7 @@ use std::test::Fail;
 
 // The rows of the profile: for each message its number, its name and its fields. They are stated here again, from the FIT profile,
 // since the definition of the text reads the program's own table, and no proof would see a wrong name in it.
-const ROWS: [(u16, &'static str, &[(u8, &'static str)]); 7] = [
+static ROWS: [(u16, &'static str, &[(u8, &'static str)]); 7] = [
     (
         0,
         "file_id",

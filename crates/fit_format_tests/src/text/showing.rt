@@ -54,7 +54,7 @@ fn check_shown(
 }
 
 // A base type, bytes, and how they are shown.
-const VALUES: [(u8, &[u8], &str); 43] = [
+static VALUES: [(u8, &[u8], &str); 43] = [
     (0x00, &[4], "4"),
     (0x00, &[0xFF], "-"),
     (0x00, &[], ""),
@@ -123,7 +123,7 @@ fn shows_values(rt: HostRuntime) -> Result<(), Fail> {
 }
 
 // Times, and how they are shown.
-const TIMES: [(u32, &str); 13] = [
+static TIMES: [(u32, &str); 13] = [
     (1_000_000_000, "2021-09-08T01:46:40Z"),
     (0x1000_0000, "1998-07-03T21:24:16Z"),
     (0x0FFF_FFFF, "268435455"),
@@ -140,7 +140,7 @@ const TIMES: [(u32, &str); 13] = [
 ];
 
 // A time in a message without a name, and in a record.
-const TIMESTAMPS: [(u16, u8, &str, u8); 2] = [
+static TIMESTAMPS: [(u16, u8, &str, u8); 2] = [
     (1000, 253, "timestamp", 0x86),
     (20, 253, "timestamp", 0x86),
 ];
@@ -163,7 +163,7 @@ const DATE: &str = "2021-09-08T01:46:40Z";
 const NUMBER: &str = "1000000000";
 
 // Whether times are shown as dates, the field, its bytes and their text.
-const FIELDS: [(bool, (u16, u8, &str, u8), &[u8], &str); 13] = [
+static FIELDS: [(bool, (u16, u8, &str, u8), &[u8], &str); 13] = [
     (true, (0, 4, "time_created", 0x86), &TIME, DATE),
     (true, (18, 2, "start_time", 0x86), &TIME, DATE),
     (true, (19, 2, "start_time", 0x86), &TIME, DATE),
@@ -256,7 +256,7 @@ fn the_example_of_the_crate(rt: HostRuntime) -> Result<(), Fail> {
 
 // The definitions of sixteen local numbers, and of two of them again. Each begins with the number of the message that it comes
 // before; then come its local number, its global number, the number of its first field, and the names of both.
-const MANY: [(u8, u8, u16, u8, &'static str); 18] = [
+static MANY: [(u8, u8, u16, u8, &'static str); 18] = [
     (0, 0, 0, 0, "file_id type"),
     (0, 1, 12, 0, "sport sport"),
     (0, 2, 18, 5, "session sport"),

@@ -12,20 +12,20 @@ use std::process::Abort;
 use std::test::Fail;
 
 // A record definition with a time and a heart rate, and two records.
-const RECORDS: [u8; 24] = [
+static RECORDS: [u8; 24] = [
     0x40, 0, 0, 0x14, 0, 2, 0xFD, 4, 0x86, 3, 1, 2, 0x00, 0x00, 0xCA, 0x9A, 0x3B, 0x64, 0x00, 0x01,
     0xCA, 0x9A, 0x3B, 0x65,
 ];
 
 // An event with a time, and three records with compressed timestamps.
-const COMPRESSED: [u8; 37] = [
+static COMPRESSED: [u8; 37] = [
     0x46, 0x00, 0x00, 0x15, 0x00, 0x03, 0xFD, 0x04, 0x86, 0x00, 0x01, 0x00, 0x01, 0x01, 0x00, 0x06,
     0x00, 0xCA, 0x9A, 0x3B, 0x00, 0x00, 0x40, 0x00, 0x00, 0x14, 0x00, 0x01, 0x03, 0x01, 0x02, 0x80,
     0x64, 0x9F, 0x65, 0x80, 0x66,
 ];
 
 // A record with the high byte first.
-const HIGH_FIRST: [u8; 14] = [
+static HIGH_FIRST: [u8; 14] = [
     0x40, 0, 1, 0, 0x14, 0x01, 0xFD, 4, 0x86, 0x00, 0x3B, 0x9A, 0xCA, 0x00,
 ];
 
@@ -78,7 +78,7 @@ fn a_body_is_read_back(rt: HostRuntime) -> Result<(), Fail> {
 }
 
 // The length after the start, the place of the item that it cuts, and the samples before that.
-const BROKEN: [(u32, usize, &[Entry]); 3] = [
+static BROKEN: [(u32, usize, &[Entry]); 3] = [
     (11, 0, &[]),
     (17, 12, &[]),
     (23, 18, &[rate!(0, 100)]),
@@ -110,7 +110,7 @@ pub(super) fn definition_of(
 }
 
 // A record definition with a time, a heart rate and a cadence.
-const DEFINITION: [u8; 15] = [0x40, 0, 0, 0x14, 0, 3, 0xFD, 4, 0x86, 3, 1, 2, 4, 1, 2];
+static DEFINITION: [u8; 15] = [0x40, 0, 0, 0x14, 0, 3, 0xFD, 4, 0x86, 3, 1, 2, 4, 1, 2];
 
 // Two hundred samples, a second apart.
 fn two_hundred(alloc: Global) -> Result<Vec<Entry>, Fail> {

@@ -16,7 +16,7 @@ use std::process::Abort;
 use std::test::Fail;
 
 // The header while a ride is recorded: it counts no records.
-const NO_RECORDS: [u8; 14] = [
+static NO_RECORDS: [u8; 14] = [
     0x0E, 0x10, 0x64, 0x00, 0x00, 0x00, 0x00, 0x00, 0x2E, 0x46, 0x49, 0x54, 0x21, 0xEE,
 ];
 
@@ -109,7 +109,7 @@ fn an_erasing_of_nothing_makes_three_calls(rt: HostRuntime) -> Result<(), RecFau
 // A recovery begins with two syncs. If it finds nothing, it ends with the size of an empty data file, or with the head of a journal
 // that has none. If the head shows damage, it ends there too.
 // Files, the call at which the power goes, and the fault.
-const EARLY_ENDS: [(&[u8], &[u8], u32, RecFault); 6] = [
+static EARLY_ENDS: [(&[u8], &[u8], u32, RecFault); 6] = [
     (b"", b"FRJ1", 3, RecFault::Device),
     (b"", b"FRJ1", 4, RecFault::NothingRecorded),
     (b"data", b"FRJ1", 4, RecFault::Device),

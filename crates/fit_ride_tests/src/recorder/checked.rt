@@ -36,7 +36,7 @@ fn committed(alloc: Global, entries: &[Entry]) -> Result<Memory, RecFault> {
 }
 
 // The journal of a start.
-const CHECKED_JOURNAL: [u8; 24] = [
+static CHECKED_JOURNAL: [u8; 24] = [
     0x46, 0x52, 0x4A, 0x43, 0, 0, 0, 0, 0xA5, 0x48, 0, 0, 0, 0x80, 0x9D, 0, 0, 0, 0, 0, 0, 0, 0, 0,
 ];
 
@@ -49,7 +49,7 @@ fn a_checked_start_is_committed(rt: HostRuntime) -> Result<(), RecFault> {
 }
 
 // The slots of the short ride.
-const SLOTS: [u8; 16] = [
+static SLOTS: [u8; 16] = [
     0xA5, 0x48, 0, 0, 0, 0x80, 0x9D, 0, 0xA5, 0xAE, 0, 0, 0, 0xE3, 0x89, 0,
 ];
 
@@ -68,7 +68,7 @@ fn is_damaged(alloc: Global, data: &[u8], journal: &[u8]) -> Result<bool, Fail> 
     Ok(is_recovery && refusal == Some(RecFault::Damaged))
 }
 
-const BITS: [u8; 8] = [1, 2, 4, 8, 16, 32, 64, 128];
+static BITS: [u8; 8] = [1, 2, 4, 8, 16, 32, 64, 128];
 
 // This content with one bit of it changed.
 fn changed(alloc: Global, content: &[u8], place: usize, bit: u8) -> Result<Vec<u8>, Fail> {
@@ -111,7 +111,7 @@ fn journal_with(mark: u8, low: u8, high: u8) -> [u8; 24] {
 
 // Marks and checksums, and whether they are damaged. Zero states a checksum too, but with the mark of a journal without checksums
 // nothing is compared.
-const CHECKSUMS: [(u8, u8, u8, bool); 4] = [
+static CHECKSUMS: [(u8, u8, u8, bool); 4] = [
     (0x43, 0xE3, 0x89, false),
     (0x43, 0x00, 0x89, true),
     (0x43, 0xE3, 0x00, true),
@@ -148,9 +148,9 @@ fn files_of_two_rides_are_damaged(rt: HostRuntime) -> Result<(), Fail> {
     Ok(())
 }
 
-const RESUMED_STEPS: [Step; 2] = [Step::Hand(rate!(2, 110), Ok(())), Step::Commit(Ok(()))];
+static RESUMED_STEPS: [Step; 2] = [Step::Hand(rate!(2, 110), Ok(())), Step::Commit(Ok(()))];
 
-const RESUMED_JOURNAL: [u8; 24] = [
+static RESUMED_JOURNAL: [u8; 24] = [
     0x46, 0x52, 0x4A, 0x43, 0, 0, 0, 0, 0xA5, 0x5E, 0, 0, 0, 0xA4, 0x59, 0, 0xA5, 0x53, 0, 0, 0,
     0xEE, 0xBD, 0,
 ];

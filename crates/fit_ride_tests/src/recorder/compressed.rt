@@ -48,7 +48,7 @@ fn has_records(rt: &impl Abort, alloc: Global, case: Case) -> Result<(), Fail> {
     Ok(())
 }
 
-const SOON: Case = (
+static SOON: Case = (
     &[rate!(31, 100), rate!(63, 101), rate!(63, 102)],
     0,
     &[
@@ -64,7 +64,7 @@ fn a_time_soon_after_is_compressed(rt: HostRuntime) -> Result<(), Fail> {
     has_records(&rt, rt.alloc(), SOON)
 }
 
-const LAST_TIMES: [Case; 4] = [
+static LAST_TIMES: [Case; 4] = [
     (
         &[Entry::Lap(TIME + 2), rate!(2, 110)],
         87,
@@ -120,7 +120,7 @@ fn each_entry_is_a_last_time(rt: HostRuntime) -> Result<(), Fail> {
     Ok(())
 }
 
-const AROUND: Case = (
+static AROUND: Case = (
     &[
         rate!(30, 100),
         rate!(31, 100),
@@ -145,12 +145,12 @@ fn an_offset_below_the_last_is_32_seconds_on(rt: HostRuntime) -> Result<(), Fail
 }
 
 // A start, and two samples up to the last time.
-const LATE: Start = Start {
+static LATE: Start = Start {
     time: 0xFFFF_FFD0,
     ..RUN
 };
 
-const LATE_STEPS: [Step; 3] = [
+static LATE_STEPS: [Step; 3] = [
     Step::Hand(
         Entry::Sample(Sample {
             time: 0xFFFF_FFE0,
@@ -170,11 +170,11 @@ const LATE_STEPS: [Step; 3] = [
     Step::Commit(Ok(())),
 ];
 
-const LATE_RECORDS: [u8; 13] = [
+static LATE_RECORDS: [u8; 13] = [
     0x40, 0x00, 0x00, 0x14, 0x00, 0x01, 0x03, 0x01, 0x02, 0x80, 0x64, 0x9E, 0x65,
 ];
 
-const LATE_SUMMARY: Summary = Summary {
+static LATE_SUMMARY: Summary = Summary {
     records: 2,
     start: Some(0xFFFF_FFD0),
     elapsed_ms: Some(46_000),

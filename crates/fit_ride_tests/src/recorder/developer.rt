@@ -9,14 +9,14 @@ use std::process::Abort;
 use std::test::Fail;
 
 // A record definition with a time, a heart rate and a developer field of one byte.
-const DEFINITION: [u8; 16] = [0x60, 0, 0, 0x14, 0, 2, 0xFD, 4, 0x86, 3, 1, 2, 1, 0, 1, 0];
+static DEFINITION: [u8; 16] = [0x60, 0, 0, 0x14, 0, 2, 0xFD, 4, 0x86, 3, 1, 2, 1, 0, 1, 0];
 
 // The same without the developer field, and a record.
-const RECORD: [u8; 18] = [
+static RECORD: [u8; 18] = [
     0x40, 0, 0, 0x14, 0, 2, 0xFD, 4, 0x86, 3, 1, 2, 0x00, 0x01, 0xCA, 0x9A, 0x3B, 0x65,
 ];
 
-const MESSAGES: [&[u8]; 3] = [
+static MESSAGES: [&[u8]; 3] = [
     &[
         0x60, 0, 0, 0x14, 0, 2, 0xFD, 4, 0x86, 3, 1, 2, 1, 0, 1, 0, 0x00, 0x01, 0xCA, 0x9A, 0x3B,
         0x65, 0xAB,
@@ -56,7 +56,7 @@ fn a_definition_that_nothing_uses_is_passed(rt: HostRuntime) -> Result<(), Fail>
 }
 
 // The same definition announces developer fields and has none, and a record.
-const ANNOUNCED: [u8; 19] = [
+static ANNOUNCED: [u8; 19] = [
     0x60, 0, 0, 0x14, 0, 2, 0xFD, 4, 0x86, 3, 1, 2, 0, 0x00, 0x01, 0xCA, 0x9A, 0x3B, 0x65,
 ];
 
@@ -68,7 +68,7 @@ fn none_may_be_announced(rt: HostRuntime) -> Result<(), Fail> {
 
 // It is written in seven bytes and three for each field of both kinds, or one byte less without developer fields: 94, 93, 96, 97.
 // Each case has the fields, the developer fields with their number, and whether it is passed.
-const DEFINITIONS: [(u8, &[u8], bool); 4] = [
+static DEFINITIONS: [(u8, &[u8], bool); 4] = [
     (28, &[1, 0, 0, 0], true),
     (29, &[0], true),
     (30, &[0], true),

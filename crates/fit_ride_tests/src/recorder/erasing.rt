@@ -19,9 +19,9 @@ use std::test::Fail;
 // seventh cuts the data file.
 const CALLS: u32 = 8;
 
-const ANEW: [Entry; 2] = [rate!(5, 90), Entry::Stop(TIME + 9)];
+static ANEW: [Entry; 2] = [rate!(5, 90), Entry::Stop(TIME + 9)];
 
-const ANEW_SUMMARY: Summary = Summary {
+static ANEW_SUMMARY: Summary = Summary {
     records: 1,
     elapsed_ms: Some(9000),
     timer_ms: Some(9000),

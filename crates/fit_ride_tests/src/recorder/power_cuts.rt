@@ -32,7 +32,7 @@ const RECOVERY_CALLS: u32 = 100;
 type Step = (Entry, bool);
 
 // Entries of each kind.
-const WITH_COMMITS: [Step; 10] = [
+static WITH_COMMITS: [Step; 10] = [
     (Entry::Sample(FULL), true),
     (rate!(1, 101), false),
     (Entry::Lap(TIME + 2), true),

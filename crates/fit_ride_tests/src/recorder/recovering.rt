@@ -53,7 +53,7 @@ const BEGINNING: Option<u64> = Some(1_000_000_000);
 
 const END: Option<u64> = Some(1_000_000_002);
 
-const FIRST_LAP: [Reported; 15] = [
+static FIRST_LAP: [Reported; 15] = [
     (254, Some(0)),
     (253, END),
     (0, Some(9)),
@@ -71,11 +71,11 @@ const FIRST_LAP: [Reported; 15] = [
     (24, Some(0)),
 ];
 
-const LAST_RECORD: [Reported; 2] = [(253, END), (3, Some(110))];
+static LAST_RECORD: [Reported; 2] = [(253, END), (3, Some(110))];
 
-const STOP: [Reported; 3] = [(253, END), (0, Some(0)), (1, Some(4))];
+static STOP: [Reported; 3] = [(253, END), (0, Some(0)), (1, Some(4))];
 
-const LAST_LAP: [Reported; 15] = [
+static LAST_LAP: [Reported; 15] = [
     (254, Some(1)),
     (253, END),
     (0, Some(9)),
@@ -93,7 +93,7 @@ const LAST_LAP: [Reported; 15] = [
     (24, Some(7)),
 ];
 
-const SESSION: [Reported; 19] = [
+static SESSION: [Reported; 19] = [
     (254, Some(0)),
     (253, END),
     (0, Some(8)),
@@ -115,7 +115,7 @@ const SESSION: [Reported; 19] = [
     (28, Some(0)),
 ];
 
-const ACTIVITY: [Reported; 6] = [
+static ACTIVITY: [Reported; 6] = [
     (253, END),
     (0, Some(2000)),
     (1, Some(1)),
@@ -162,7 +162,7 @@ fn a_recovered_file_reports_what_it_adds_up_to(rt: HostRuntime) -> Result<(), Fa
 }
 
 // The header of the finished file of a start alone.
-const ALONE_HEADER: [u8; 14] = [
+static ALONE_HEADER: [u8; 14] = [
     0x0E, 0x10, 0x64, 0x00, 0x44, 0x01, 0x00, 0x00, 0x2E, 0x46, 0x49, 0x54, 0x34, 0xED,
 ];
 
@@ -276,7 +276,7 @@ fn a_stopped_recording_is_finished(rt: HostRuntime) -> Result<(), Fail> {
 
 // A recording spelled in another way: other local numbers, high byte first, reserved bits and bytes that are set, a
 // definition that is never used, and compressed timestamps.
-pub(super) const OTHER_SPELLING: [u8; 216] = [
+pub(super) static OTHER_SPELLING: [u8; 216] = [
     // A definition that no message uses.
     0x53, 0xA7, 0x01, 0x00, 0x14, 0x01, 0xFD, 0x04, 0x86, // The start: its file_id,
     0x5C, 0x00, 0x01, 0x00, 0x00, 0x05, 0x00, 0x01, 0x00, 0x01, 0x02, 0x84, 0x02, 0x02, 0x84, 0x03,
@@ -298,7 +298,7 @@ pub(super) const OTHER_SPELLING: [u8; 216] = [
     0x64, 0x64, 0x00, 0xC8, 0x00, 0xC8, 0x00,
 ];
 
-const OTHER_ENTRIES: [Entry; 5] = [
+static OTHER_ENTRIES: [Entry; 5] = [
     Entry::Sample(Sample {
         time: TIME + 1,
         heart_rate: Some(100),
@@ -314,7 +314,7 @@ const OTHER_ENTRIES: [Entry; 5] = [
     Entry::Lap(TIME + 10),
 ];
 
-const OTHER_SUMMARY: Summary = Summary {
+static OTHER_SUMMARY: Summary = Summary {
     records: 2,
     laps: 2,
     elapsed_ms: Some(10_000),
@@ -332,7 +332,7 @@ fn another_spelling_is_recovered_as_it_stands(rt: HostRuntime) -> Result<(), Fai
 }
 
 // The longest entry is a sample with each field: its definition, and its record 40 seconds after the start.
-const LONGEST: [u8; 76] = [
+static LONGEST: [u8; 76] = [
     0x40, 0x00, 0x00, 0x14, 0x00, 0x0C, 0xFD, 0x04, 0x86, 0x00, 0x04, 0x85, 0x01, 0x04, 0x85, 0x02,
     0x02, 0x84, 0x03, 0x01, 0x02, 0x04, 0x01, 0x02, 0x05, 0x04, 0x86, 0x06, 0x02, 0x84, 0x07, 0x02,
     0x84, 0x0D, 0x01, 0x01, 0x49, 0x04, 0x86, 0x4E, 0x04, 0x86, 0x00, 0x28, 0xCA, 0x9A, 0x3B, 0xFF,
@@ -351,7 +351,7 @@ const FULLEST: Sample = Sample {
     ..FULL
 };
 
-const LONGEST_STEPS: [Step; 3] = [
+static LONGEST_STEPS: [Step; 3] = [
     Step::Hand(
         Entry::Sample(Sample {
             time: TIME + 40,
@@ -426,7 +426,7 @@ fn is_damaged_by(rt: &HostRuntime, more: &[u8]) -> Result<bool, Fail> {
 }
 
 // What may come after the records of the short ride, and whether that is damaged.
-const MORE: [(&[u8], bool); 5] = [
+static MORE: [(&[u8], bool); 5] = [
     (&[], false),
     // A record at the last time, after its definition.
     (
@@ -542,7 +542,7 @@ fn a_stopped_body_has_a_most(rt: HostRuntime) -> Result<(), Fail> {
 }
 
 // The journal of a ride from an older program: a row of slots, with the lengths of its start and of its commit.
-const ROW: [u8; 32] = [
+static ROW: [u8; 32] = [
     0x46, 0x52, 0x4A, 0x31, 0, 0, 0, 0, 0xA5, 0x48, 0, 0, 0, 0, 0, 0, 0xA5, 0xAE, 0, 0, 0, 0, 0, 0,
     0, 0, 0, 0, 0, 0, 0, 0,
 ];

@@ -67,25 +67,25 @@ pub(super) fn gone_on(rt: &impl Abort, disk: Memory, steps: &[Step]) -> Result<M
 }
 
 // A sample with its definition, since the earlier one is no longer in force, and a stop.
-const GONE_ON: [u8; 33] = [
+static GONE_ON: [u8; 33] = [
     0x40, 0x00, 0x00, 0x14, 0x00, 0x01, 0x03, 0x01, 0x02, 0x82, 0x6E, 0x46, 0x00, 0x00, 0x15, 0x00,
     0x03, 0xFD, 0x04, 0x86, 0x00, 0x01, 0x00, 0x01, 0x01, 0x00, 0x06, 0x02, 0xCA, 0x9A, 0x3B, 0x00,
     0x04,
 ];
 
-const CUT_OFF_STEPS: [Step; 3] = [
+static CUT_OFF_STEPS: [Step; 3] = [
     Step::Hand(rate!(0, 100), Ok(())),
     Step::Commit(Ok(())),
     Step::Hand(rate!(1, 101), Ok(())),
 ];
 
-const GONE_ON_STEPS: [Step; 3] = [
+static GONE_ON_STEPS: [Step; 3] = [
     Step::Size(83),
     Step::Hand(rate!(2, 110), Ok(())),
     Step::Hand(Entry::Stop(TIME + 2), Ok(())),
 ];
 
-const GONE_ON_SUMMARY: Summary = Summary {
+static GONE_ON_SUMMARY: Summary = Summary {
     records: 2,
     elapsed_ms: Some(2000),
     timer_ms: Some(2000),
@@ -118,7 +118,7 @@ fn a_ride_goes_on_after_what_was_committed(rt: HostRuntime) -> Result<(), Fail> 
 }
 
 // The files of disks without a ride that can go on, and why it cannot.
-const NO_RIDES: [(&[u8], &[u8], RecFault); 3] = [
+static NO_RIDES: [(&[u8], &[u8], RecFault); 3] = [
     (&[], &[], RecFault::NothingRecorded),
     (&[0x0E], &[], RecFault::NothingRecorded),
     (
@@ -143,14 +143,14 @@ fn what_is_no_ride_does_not_go_on(rt: HostRuntime) -> Result<(), Fail> {
     is_refused(&rt, rt.alloc(), cut, RecFault::Damaged)
 }
 
-const ONE_MORE_STEPS: [Step; 3] = [
+static ONE_MORE_STEPS: [Step; 3] = [
     Step::Size(174),
     Step::Hand(rate!(3, 120), Ok(())),
     Step::Hand(Entry::Stop(TIME + 3), Ok(())),
 ];
 
 // The short ride, one more sample and a stop.
-const ONE_MORE: [Entry; 6] = [
+static ONE_MORE: [Entry; 6] = [
     rate!(0, 100),
     rate!(1, 101),
     Entry::Lap(TIME + 2),
@@ -205,13 +205,13 @@ pub(super) fn committed_in_a_row(rt: &HostRuntime, slots: usize) -> Result<Memor
     Ok(copy_of(rt.alloc(), disk.content(Which::Data), &row)?)
 }
 
-const LAST_SLOT_STEPS: [Step; 3] = [
+static LAST_SLOT_STEPS: [Step; 3] = [
     Step::Commit(Err(RecFault::JournalFull)),
     Step::Hand(rate!(3, 120), Ok(())),
     Step::Hand(Entry::Stop(TIME + 4), Ok(())),
 ];
 
-const LAST_SLOT_SUMMARY: Summary = Summary {
+static LAST_SLOT_SUMMARY: Summary = Summary {
     records: 4,
     elapsed_ms: Some(4000),
     timer_ms: Some(4000),
@@ -228,7 +228,7 @@ fn a_row_of_slots_goes_on_while_one_is_left(rt: HostRuntime) -> Result<(), Fail>
 
 // Three rides in a row of slots, each of which commits a sample and hands in another before the power goes, with how many samples a
 // recovery then finds, in how many ms.
-const IN_A_ROW: [([Step; 3], u32, u32); 3] = [
+static IN_A_ROW: [([Step; 3], u32, u32); 3] = [
     (
         [
             Step::Hand(rate!(3, 120), Ok(())),
@@ -280,13 +280,13 @@ fn three_more_in_a_row(rt: &impl Abort, mut disk: Memory) -> Result<Memory, RecF
     Ok(disk)
 }
 
-const NO_SLOT_STEPS: [Step; 2] = [
+static NO_SLOT_STEPS: [Step; 2] = [
     Step::Commit(Err(RecFault::JournalFull)),
     Step::Hand(Entry::Stop(TIME + 6), Ok(())),
 ];
 
 // What they record, with a stop.
-const THREE_MORE: [Entry; 8] = [
+static THREE_MORE: [Entry; 8] = [
     rate!(0, 100),
     rate!(1, 101),
     Entry::Lap(TIME + 2),
@@ -306,7 +306,7 @@ fn commits_go_on_in_a_row_until_one_slot_is_left(rt: HostRuntime) -> Result<(), 
     is_refused(&rt, rt.alloc(), disk, STOPPED)
 }
 
-const OTHER_STEPS: [Step; 4] = [
+static OTHER_STEPS: [Step; 4] = [
     Step::Size(216),
     Step::Hand(rate!(12, 120), Ok(())),
     Step::Hand(rate!(13, 121), Ok(())),
@@ -314,11 +314,11 @@ const OTHER_STEPS: [Step; 4] = [
 ];
 
 // The definitions of the other spelling are no longer in force, and the first new one takes local number 0.
-const OTHER_SAMPLES: [u8; 13] = [
+static OTHER_SAMPLES: [u8; 13] = [
     0x40, 0x00, 0x00, 0x14, 0x00, 0x01, 0x03, 0x01, 0x02, 0x8C, 0x78, 0x8D, 0x79,
 ];
 
-const OTHER_SUMMARY: Summary = Summary {
+static OTHER_SUMMARY: Summary = Summary {
     records: 4,
     laps: 2,
     elapsed_ms: Some(13_000),
@@ -346,14 +346,14 @@ macro_rules! distance {
     };
 }
 
-const ADDED_UP_STEPS: [Step; 4] = [
+static ADDED_UP_STEPS: [Step; 4] = [
     Step::Hand(distance!(1, 500), Ok(())),
     Step::Hand(Entry::Lap(TIME + 2), Ok(())),
     Step::Hand(Entry::Pause(TIME + 3), Ok(())),
     Step::Commit(Ok(())),
 ];
 
-const MORE_STEPS: [Step; 6] = [
+static MORE_STEPS: [Step; 6] = [
     Step::Hand(Entry::Lap(TIME + 2), Err(RecFault::Refused(Refusal::Time))),
     Step::Hand(rate!(4, 100), Err(RecFault::Refused(Refusal::TimerStopped))),
     Step::Hand(Entry::Resume(TIME + 5), Ok(())),
@@ -362,7 +362,7 @@ const MORE_STEPS: [Step; 6] = [
     Step::Hand(Entry::Stop(TIME + 7), Ok(())),
 ];
 
-const ADDED_UP: Summary = Summary {
+static ADDED_UP: Summary = Summary {
     records: 2,
     laps: 2,
     elapsed_ms: Some(7000),
@@ -400,7 +400,7 @@ fn goes_on_until(mut disk: Memory, k: u32) -> (Memory, bool)
 }
 
 // The short ride with that sample.
-const LONGER: Summary = Summary {
+static LONGER: Summary = Summary {
     records: 4,
     elapsed_ms: Some(3000),
     timer_ms: Some(3000),

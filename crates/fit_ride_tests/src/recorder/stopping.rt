@@ -61,7 +61,7 @@ fn laps_have(rt: &impl Abort, file: &File, index: u64, numbers: (u8, u8), values
 
 const IS_STOPPED: Result<(), RecFault> = Err(RecFault::Refused(Refusal::Stopped));
 
-const STOPPED_STEPS: [Step; 9] = [
+static STOPPED_STEPS: [Step; 9] = [
     Step::Hand(rate!(0, 100), Ok(())),
     Step::Hand(rate!(1, 101), Ok(())),
     Step::Hand(Entry::Lap(TIME + 2), Ok(())),
@@ -73,7 +73,7 @@ const STOPPED_STEPS: [Step; 9] = [
     Step::Hand(rate!(3, 90), IS_STOPPED),
 ];
 
-const STOPPED_HEADER: [u8; 12] = [
+static STOPPED_HEADER: [u8; 12] = [
     0x0E, 0x10, 0x64, 0x00, 0x9B, 0x01, 0x00, 0x00, 0x2E, 0x46, 0x49, 0x54,
 ];
 
@@ -90,14 +90,14 @@ fn a_stop_closes_the_file(rt: HostRuntime) -> Result<(), Fail> {
     Ok(())
 }
 
-const PAUSED_AT_ONCE: [Entry; 4] = [
+static PAUSED_AT_ONCE: [Entry; 4] = [
     Entry::Pause(TIME + 5),
     Entry::Resume(TIME + 5),
     Entry::Lap(TIME + 5),
     Entry::Stop(TIME + 8),
 ];
 
-const PAUSED_ACROSS: [Entry; 4] = [
+static PAUSED_ACROSS: [Entry; 4] = [
     Entry::Pause(TIME + 5),
     Entry::Lap(TIME + 5),
     Entry::Resume(TIME + 7),
@@ -175,7 +175,7 @@ fn begun_full(rt: &HostRuntime, samples: u32) -> Result<Recorder<Memory>, RecFau
     Ok(recorder)
 }
 
-const FULL_STEPS: [Step; 10] = [
+static FULL_STEPS: [Step; 10] = [
     Step::Hand(Entry::Pause(TIME), Ok(())),
     Step::Size(16_776_608),
     Step::Hand(Entry::Resume(TIME), Ok(())),
@@ -281,7 +281,7 @@ fn has_the_eighteen(rt: &impl Abort, file: &File) {
 }
 
 // The eighteenth definition takes local number 1.
-const EIGHTEENTH: [u8; 18] = [
+static EIGHTEENTH: [u8; 18] = [
     0x41, 0, 0, 0x14, 0, 2, 0xFD, 4, 0x86, 3, 1, 2, 0x01, 0x40, 0xCC, 0x9A, 0x3B, 1,
 ];
 

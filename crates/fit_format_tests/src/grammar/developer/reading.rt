@@ -5,7 +5,7 @@ use crate::equality::equal;
 use crate::grammar::items::{Read, Stated, define, read_items};
 use fit_grammar::{Item, Step, Table, least_length, next_item};
 
-const AFTER_FIELDS: [Read<'static>; 2] = [
+static AFTER_FIELDS: [Read<'static>; 2] = [
     Read::Definition(&RECORD),
     Read::Message(
         &[0x00, 0x64, 0xAB, 0xCD],
@@ -25,7 +25,7 @@ fn they_stand_after_the_fields(rt: HostRuntime) {
 }
 
 // The definition has both bits that are reserved in other headers, and the high byte first.
-const SOME_EMPTY: [Read<'static>; 2] = [
+static SOME_EMPTY: [Read<'static>; 2] = [
     Read::Definition(&[0x71, 7, 0xFF, 0, 20, 0, 3, 5, 0, 9, 6, 1, 9, 7, 0, 250]),
     Read::Message(
         &[0x01, 0xEE],
@@ -47,7 +47,7 @@ fn some_have_no_byte(rt: HostRuntime) {
 // A definition that announces developer fields and has none.
 const ANNOUNCED: [u8; 10] = [0x60, 0, 0, 20, 0, 1, 3, 1, 2, 0];
 
-const NONE: [Read<'static>; 2] = [
+static NONE: [Read<'static>; 2] = [
     Read::Definition(&ANNOUNCED),
     Read::Message(
         &[0x00, 0x64],
@@ -80,7 +80,7 @@ fn none_may_be_announced(rt: HostRuntime) {
     read_items(&rt, &NONE);
 }
 
-const AFTER_TIMESTAMP: [Read<'static>; 2] = [
+static AFTER_TIMESTAMP: [Read<'static>; 2] = [
     Read::Definition(&RECORD),
     Read::Message(
         &[0x85, 0x64, 0xAB, 0xCD],
@@ -100,7 +100,7 @@ fn a_compressed_timestamp_stands_before_them(rt: HostRuntime) {
 }
 
 // A developer field with the number of a time.
-const NUMBER_OF_TIME: [Read<'static>; 2] = [
+static NUMBER_OF_TIME: [Read<'static>; 2] = [
     Read::Definition(&[0x60, 0, 0, 20, 0, 0, 1, 253, 4, 0x86]),
     Read::Message(
         &[0, 0x00, 0xCA, 0x9A, 0x3B],
@@ -119,7 +119,7 @@ fn none_of_them_is_a_time(rt: HostRuntime) {
     read_items(&rt, &NUMBER_OF_TIME);
 }
 
-const LATER: [Read<'static>; 3] = [
+static LATER: [Read<'static>; 3] = [
     Read::Definition(&RECORD),
     Read::Definition(&[0x40, 0, 0, 20, 0, 1, 3, 1, 2]),
     Read::Message(
@@ -139,7 +139,7 @@ fn a_later_definition_has_none(rt: HostRuntime) {
     read_items(&rt, &LATER);
 }
 
-const LONG: [u8; 16] = [0x60, 0, 0, 20, 0, 1, 3, 1, 2, 2, 0, 2, 0, 1, 1, 0];
+static LONG: [u8; 16] = [0x60, 0, 0, 20, 0, 1, 3, 1, 2, 2, 0, 2, 0, 1, 1, 0];
 
 // The least length that so many of its first bytes show.
 fn least_by(len: usize) -> usize {
