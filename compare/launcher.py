@@ -168,16 +168,19 @@ def runs_the_released():
 
 
 def builds():
-    """It builds if the contents of a source are others, though its time is the same, and only then. Words and status are passed through."""
+    """It builds if the contents of a source are others, though its time is the same, and only then. Those of tests do not count. Words and
+    status are passed through."""
     # crates.txt, and one of the three sources of each crate, in turn.
     for at in [0, *(3 * crate + 1 + crate % 3 for crate in range(len(crates_of(ROOT))))]:
         with scratch(True) as tree:
             path = tree.sources[at]
             before = path.read_text()
             change(path, before + " \n")
-            for is_built in (True, False):
+            is_of_tests = "_tests/" in path.as_posix()
+            for is_built in (not is_of_tests, False):
                 said, was_built = tree.run()
-                yield "a source is another", differs((said[:2], was_built), (said_by("new"), is_built))
+                wanted = said_by("released" if is_of_tests else "new"), is_built
+                yield "a source is another", differs((said[:2], was_built), wanted)
             change(path, before)
             yield "a source as it was", differs(tree.run(), ((*said_by("released"), ""), False))
     for gone in ("crates/fit_base/src/lib.rt", "crates/fitrec/specs/Lib.antt"):
