@@ -12,7 +12,6 @@ import time
 from tools.checks import Check, differs, unless
 from tools.edits import MOST, Edit, batches_of, merged, refused_in
 from tools.kit import load_rt
-from tools.libraries import build
 from tools.program import ROOT
 
 sys.path.insert(0, str(ROOT))
@@ -33,9 +32,6 @@ def tried(rt, crate, waits):
     edits = [Edit(it, crate.folder, rt.read_edit(it, crate.folder)[0]) for it in bodies_of(crate)]
     found = [Check(crate.name, it.path.stem, unless(it.function, "another edit", "a change of one function")) for it in edits if not it.function]
     with tempfile.TemporaryDirectory(prefix="wrong-") as work:
-        if crate.is_static:
-            # Other parts build the library too, and its proofs are kept.
-            build(work + "/made.a", crate.name, work)
         left = batches_of([it for it in edits if it.function], MOST)
         while left:
             batch = left.pop(0)

@@ -3,7 +3,6 @@
 import contextlib
 import os
 import re
-import shutil
 import subprocess
 import tempfile
 
@@ -15,18 +14,15 @@ COMPILERS = {"as it is": ["-O2"], "under sanitizers": ["-g", "-fsanitize=address
 WARNINGS = ["-Wall", "-Wextra", "-Werror", "-I", ROOT / "include"]
 
 
-def build(to, name="fit_c", proofs=None):
+def build(to, name="fit_c"):
     """Proves a static library over the libraries of the tree, and makes it. Its proofs are kept in the crate's out/, as `rt lib` keeps them,
-    so only the first of those who ask for it proves it. They are copied into a folder, if one is given. The last lines of the build, if that
-    fails."""
+    so only the first of those who ask for it proves it. The last lines of the build, if that fails."""
     rt = load_rt()
     crate = next(it for it in rt.rtlib.crates_below(str(ROOT)) if it.name == name)
     words = [*crate.words(["--jobs", "1"]), *rt.rtlib.KEPT, "--toolchain", rt.KIT + "/toolchain", "-o", to]
     os.makedirs(crate.folder + "/out", exist_ok=True)
     held = rt.rtlib.lock([crate])
     built = subprocess.run([rt.rtlib.RATTLE, "build", *words], cwd=crate.folder, stdout=subprocess.PIPE, stderr=subprocess.STDOUT, text=True)
-    if proofs:
-        shutil.copytree(crate.folder + "/out/incremental", proofs, dirs_exist_ok=True)
     for it in held:
         os.close(it)
     return None if built.returncode == 0 else built.stdout[-2000:]
