@@ -13,7 +13,7 @@ import subprocess
 import tempfile
 
 from tools.checks import Skipped, differs
-from tools.program import NAMES, NOBODY, bytes_of, for_everyone, room, run
+from tools.program import CORES, NAMES, NOBODY, bytes_of, for_everyone, room, run
 from tools.rides import LEFT_OUT, damaged_pair, recording, script_of, uncommitted
 from tools.traced import tracing
 
@@ -118,7 +118,7 @@ def killed_rides(traced, script, new):
 
 
 def of_killed_rides(fitrec, traced):
-    with room() as (script, new), concurrent.futures.ThreadPoolExecutor(os.cpu_count()) as pool:
+    with room() as (script, new), concurrent.futures.ThreadPoolExecutor(CORES) as pool:
         script.parent.chmod(0o755)
         folders = list(killed_rides(traced, script, new))
         # A commit makes at least three writes.

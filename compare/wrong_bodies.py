@@ -2,7 +2,6 @@
 tried in one check, of the changed functions and what they call."""
 
 import concurrent.futures
-import os
 import pathlib
 import re
 import sys
@@ -12,7 +11,7 @@ import time
 from tools.checks import Check, differs, unless
 from tools.edits import MOST, Edit, batches_of, merged, refused_in
 from tools.kit import load_rt
-from tools.program import ROOT
+from tools.program import CORES, ROOT
 
 sys.path.insert(0, str(ROOT))
 import kept
@@ -56,6 +55,6 @@ def check(given):
     for crate in () if given.waits else crates:
         if not kept.are_proved(crate.below()):
             yield "the crates below " + crate.name, differs([it.name for it in crate.below() if it.build_rlib(JOBS, anew=False)], [])
-    with concurrent.futures.ThreadPoolExecutor(os.cpu_count()) as pool:
+    with concurrent.futures.ThreadPoolExecutor(CORES) as pool:
         for found in pool.map(lambda it: tried(rt, it, given.waits), crates):
             yield from found

@@ -1,13 +1,12 @@
 """What a part of compare/run yields: for each check a name, and None, a difference, or why it was skipped."""
 
 import concurrent.futures
-import os
 import pathlib
 import traceback
 from dataclasses import dataclass
 from typing import NamedTuple
 
-from tools.program import FITREC, ROOT
+from tools.program import CORES, FITREC, ROOT
 
 
 class Difference(NamedTuple):
@@ -80,6 +79,6 @@ class Run:
     def judged(self, judge, inputs):
         """The checks of a function that is given a number and an input, and answers a name and a difference. They run side by side."""
         numbered = [it for it in enumerate(inputs) if self.number in (None, it[0])]
-        with concurrent.futures.ThreadPoolExecutor(os.cpu_count()) as pool:
+        with concurrent.futures.ThreadPoolExecutor(CORES) as pool:
             for (number, _), (name, outcome) in zip(numbered, pool.map(lambda it: judge(*it), numbered)):
                 yield Check("", name, outcome, number)

@@ -15,6 +15,8 @@ NAMES = ("activity.fit", "activity.frj")
 NOBODY = 65534
 # The seconds that a run may take.
 LIMIT = 100
+# The cores that may be used: `taskset` can leave fewer than there are.
+CORES = len(os.sched_getaffinity(0))
 
 
 def run(*words, **how):
