@@ -1,6 +1,5 @@
 -- What a note does to a story.
 use Rattle.std.specs.Prelude.{ℕ, true, false, List, []}
-use Rattle.fit_disk.specs.declared.disk.Which.{Which}
 use Rattle.fit_disk.specs.Changes.{after_write, after_cut, after_sync}
 use Rattle.fit_disk.specs.Stored.{at_rest}
 use Rattle.fit_disk.specs.State.{with_file}

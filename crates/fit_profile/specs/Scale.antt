@@ -1,5 +1,5 @@
 -- How the values of each scale are written.
-use Rattle.std.specs.Prelude.{ℕ, suc, ℤ, pos, neg_ℤ}
+use Rattle.std.specs.Prelude.{ℕ, ℤ, pos, neg_ℤ}
 use Rattle.fit_profile.specs.declared.scale.Scale.{Scale}
 use Rattle.fit_profile.specs.declared.scale.Scale.TheVariants.{Time, Whole, Half, Quarter, Fifth, Tenth, Sixteenth, Hundredth, Part128, Part256, Thousandth, Part1024, Part5000, Part32768, Part65535, Part65536, Phase, Attitude, Semicircles, Hundreds, Twos, Height, Crank}
 use Rattle.fit_profile.specs.declared.scale.Parts.{Parts}

@@ -1,5 +1,5 @@
 -- Fields of one value each, and messages of such fields.
-use Rattle.std.specs.Prelude.{ℕ, ◌^◌, ◌<◌, ◌≤◌, Bool, List, [], ◌∷◌, map, flat_map, sum_by, Option, Some, None, IfSome, unwrap_or, ◌==◌}
+use Rattle.std.specs.Prelude.{ℕ, ◌^◌, ◌<◌, ◌≤◌, Bool, List, [], ◌∷◌, map, flat_map, sum_by, Option, IfSome, unwrap_or, ◌==◌}
 use Rattle.std.specs.Int.{bytes_low_first}
 use Rattle.std.specs.List.{AllByRecursion, filter_map}
 use Rattle.fit_base.specs.declared.base.BaseType.{BaseType}

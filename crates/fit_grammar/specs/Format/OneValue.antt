@@ -1,5 +1,5 @@
 -- The one value of a field.
-use Rattle.std.specs.Prelude.{ℕ, List, [], ◌∷◌, Option, Some, None, ◌==◌, find, option_and_then, if◌then◌else◌}
+use Rattle.std.specs.Prelude.{ℕ, [], ◌∷◌, Option, Some, None, ◌==◌, find, option_and_then, if◌then◌else◌}
 use Rattle.fit_base.specs.declared.base.BaseType.{BaseType}
 use Rattle.fit_base.specs.Base.{row_of}
 use Rattle.fit_base.specs.Value.{Values, Numbers}

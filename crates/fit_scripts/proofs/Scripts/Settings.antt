@@ -1,5 +1,5 @@
 -- The row of a key, and what a setting with it changes: for `script/sample`.
-use Rattle.std.proofs.Common.{◌≡◌, ℕ, zero, suc, ◌+◌, ◌<◌, ltb, ◌&&◌, ◌||◌, Bool, true, false, not, List, [], ◌∷◌, length, map, Option, None, Some, refl, sym, ap, ◌∙◌, arith, get_or, set, if◌then◌else◌}
+use Rattle.std.proofs.Common.{◌≡◌, ℕ, zero, suc, ◌+◌, ◌<◌, ltb, ◌||◌, Bool, true, false, not, List, [], ◌∷◌, length, map, Option, None, Some, refl, sym, ap, ◌∙◌, arith, get_or, set, if◌then◌else◌}
 use Rattle.std.proofs.lemmas.Bool.{ltb-false, not-true, and_parts, and_from, and_left, and_right}
 use Rattle.std.proofs.lemmas.List.{get_or-map, length-map}
 use Rattle.std.proofs.lemmas.List.Quantifiers.{position-Some}
@@ -12,7 +12,6 @@ use Rattle.fit_base.specs.declared.base.BaseType.TheVariants.{Sint8}
 use Rattle.fit_fields.specs.Table.{FieldRow, sample_rows}
 use Rattle.fit_scripts.proofs.Scripts.Lines.{any_map}
 use Rattle.fit_scripts.specs.Scripts.Words.{number_as}
-use Rattle.fit_scripts.specs.declared.script.fault.ScriptFaultKind.{ScriptFaultKind}
 use Rattle.fit_scripts.specs.declared.script.fault.ScriptFaultKind.TheVariants.{UnknownKey, RepeatedKey, BadNumber}
 use Rattle.fit_scripts.specs.Scripts.Faults.{has_equals, is_key, setting_fault}
 use Rattle.fit_scripts.specs.Scripts.Sample.{key_in, setting_value, is_setting, are_settings, is_new_setting, stands_in, stated_value, values_stated, has_no_repeat, has_number, with_setting, number_by}

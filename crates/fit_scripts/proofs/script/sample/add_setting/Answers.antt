@@ -1,8 +1,8 @@
-use Rattle.std.proofs.Common.{◌≡◌, Bool, true, false, Option, Some, None, sym, ap, ◌∙◌, get_or, set, arith}
+use Rattle.std.proofs.Common.{None, sym, ap, ◌∙◌, get_or, set, arith}
 use Rattle.std.specs.Option.{is_some, option_or}
 use Rattle.fit_fields.specs.Table.{sample_rows}
-use Rattle.fit_scripts.specs.Scripts.Sample.{setting_value, stands_in, has_number, with_setting}
-use Rattle.fit_scripts.proofs.Scripts.Settings.{IsRowOf, some_row, row_found, row_absent, none_of, row_holds, value_stands, unknown_key, repeated_key, bad_number, new_setting}
+use Rattle.fit_scripts.specs.Scripts.Sample.{setting_value, with_setting}
+use Rattle.fit_scripts.proofs.Scripts.Settings.{some_row, row_found, row_absent, none_of, row_holds, value_stands, unknown_key, repeated_key, bad_number, new_setting}
 use Rattle.fit_scripts.proofs.script.sample.add_setting.Goals as goal
 
 pub returns-in_default-clause-fault : goal.returns-in_default-clause-fault
