@@ -2,6 +2,8 @@
 
 from __future__ import annotations
 
+from bisect import bisect_left
+from fractions import Fraction
 from typing import Dict, List, NamedTuple, Optional, Tuple
 
 from ._items import DESCRIPTION, Group, kind_of, numbers, texts
@@ -48,10 +50,15 @@ def _text(values: Dict[int, object], field: int) -> str:
     return found if isinstance(found, str) else ""
 
 
+def undescribed(key: Key) -> Described:
+    """A field of which nothing is said."""
+    return Described(0, None, Field(key[1], "developer_%d_%d" % key))
+
+
 def _described(start: int, values: Dict[int, object], key: Key) -> Described:
     name = _text(values, _NAME) or "developer_%d_%d" % key
     scale, offset = _whole(values, _SCALE) or 1, _whole(values, _OFFSET, -128, 127) or 0
-    return Described(start, _whole(values, _TYPE), Field(key[1], name, _text(values, _UNITS), scale, offset))
+    return Described(start, _whole(values, _TYPE), Field(key[1], name, _text(values, _UNITS), Fraction(scale), offset))
 
 
 def descriptions(data, groups: List[Group]) -> Dict[Key, List[Described]]:
@@ -68,7 +75,8 @@ def descriptions(data, groups: List[Group]) -> Dict[Key, List[Described]]:
     return found
 
 
-def described_at(said: List[Described], start: int) -> Optional[Described]:
-    """The last of what is said before this place."""
-    before = [it for it in said if it.start < start]
-    return before[-1] if before else None
+def described_at(said: Dict[Key, List[Described]], key: Key, start: int) -> Described:
+    """The last of what is said of a field before this place."""
+    found = said.get(key, [])
+    before = bisect_left(found, (start,))
+    return found[before - 1] if before else undescribed(key)

@@ -4,7 +4,7 @@ values, and developer fields. The bytes are judged by the library; this only wal
 from __future__ import annotations
 
 from functools import cached_property
-from typing import Dict, List, NamedTuple, Optional, Tuple
+from typing import Dict, List, NamedTuple, Optional, Set, Tuple
 
 import numpy as np
 
@@ -31,10 +31,19 @@ class Part(NamedTuple):
 
 
 class Definition(NamedTuple):
+    """A definition: the first field of each number if it has bytes, the index and the number of each (no index if it is no developer field),
+    and the bytes of a message."""
+
     message: int
     big: bool
     parts: List[Part]
+    present: Set[Tuple[Optional[int], int]]
     size: int
+
+    @property
+    def has_developer_fields(self) -> bool:
+        """Whether a message has bytes whose meaning depends on descriptions."""
+        return any(it.developer is not None for it in self.parts)
 
 
 class Run(NamedTuple):
@@ -64,20 +73,29 @@ class Group:
         return np.concatenate([it.row + it.step * np.arange(it.count) for it in self.runs])
 
 
+def _firsts(fields: List[Part]) -> List[Part]:
+    """The first field of each number, if it has bytes."""
+    found: Dict[Tuple[Optional[int], int], Part] = {}
+    for it in fields:
+        found.setdefault((it.developer, it.number), it)
+    return [it for it in found.values() if it.size]
+
+
 def _definition(data, at: int) -> Tuple[Definition, int]:
     """The definition here, and where the next item begins."""
     big = data[at + 2] & 1 == 1
     message = int.from_bytes(data[at + 3:at + 5], "big" if big else "little")
-    parts, size, rows = [], 0, at + 6
+    fields: List[Part] = []
+    size, rows = 0, at + 6
     for _ in range(data[at + 5]):
-        parts.append(Part(data[rows], size, data[rows + 1], data[rows + 2]))
+        fields.append(Part(data[rows], size, data[rows + 1], data[rows + 2]))
         size, rows = size + data[rows + 1], rows + 3
     if data[at] & 0x20:
         count, rows = data[rows], rows + 1
         for _ in range(count):
-            parts.append(Part(data[rows], size, data[rows + 1], None, data[rows + 2]))
+            fields.append(Part(data[rows], size, data[rows + 1], None, data[rows + 2]))
             size, rows = size + data[rows + 1], rows + 3
-    return Definition(message, big, parts, size), rows
+    return Definition(message, big, _firsts(fields), {(it.developer, it.number) for it in fields}, size), rows
 
 
 def _length(data, at: int, end: int, stride: int, mask: int) -> int:
@@ -127,6 +145,8 @@ class _Walk:
         found, at = [], self.at
         while len(found) < length and at < self.end and not self.defines(at):
             local, _ = self.kind(at)
+            if self.latest[local][0].message == DESCRIPTION:
+                break
             found.append((at, local))
             at += 1 + self.latest[local][0].size
         if len(found) < length:
@@ -134,25 +154,21 @@ class _Walk:
         stride = at - self.at
         return found, stride, min(_length(self.data, at, self.end, stride, self.kind(at)[1]) for at, _ in found)
 
-    def take_one(self, at: int, local: int, stride: int, count: int) -> None:
-        """Takes this message, which comes so often."""
+    def group(self, local: int) -> Group:
+        """The messages of the definition in force. Where they have developer fields, those after another description are others."""
         definition, written = self.latest[local]
-        row, key = self.rows.get(definition.message, 0), (self.described, written)
+        key = (self.described if definition.has_developer_fields else 0), written
         if key not in self.groups:
             self.groups[key] = Group(definition)
-        self.groups[key].runs.append(Run(at + 1, count, stride, row, 1))
-        self.rows[definition.message] = row + count
-        self.described += definition.message == DESCRIPTION
-        self.at += stride * count
+        return self.groups[key]
 
     def take(self, found: List[Tuple[int, int]], stride: int, count: int) -> None:
         """Takes these messages, which come so often."""
         numbers = [self.latest[local][0].message for _, local in found]
         for place, (at, local) in enumerate(found):
-            definition, written = self.latest[local]
-            row = self.rows.get(definition.message, 0) + numbers[:place].count(definition.message)
-            group = self.groups.setdefault((self.described, written), Group(definition))
-            group.runs.append(Run(at + 1, count, stride, row, numbers.count(definition.message)))
+            number = numbers[place]
+            row = self.rows.get(number, 0) + numbers[:place].count(number)
+            self.group(local).runs.append(Run(at + 1, count, stride, row, numbers.count(number)))
         for number in numbers:
             self.rows[number] = self.rows.get(number, 0) + count
         self.described += DESCRIPTION in numbers
@@ -168,7 +184,7 @@ class _Walk:
             if often >= 8:
                 self.take(found, long, often)
                 return True
-        self.take_one(self.at, local, stride, count)
+        self.take([(self.at, local)], stride, count)
         return count > 1
 
 

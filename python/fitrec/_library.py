@@ -12,7 +12,7 @@ import numpy as np
 NO_VALUE = np.iinfo(np.int64).min
 MOST_COLUMNS = 128
 
-_NO_ROOM = 20
+_MEMORY, _NO_ROOM = 10, 20
 _FAULTS = {1: "Truncated", 2: "HeaderSize", 3: "Magic", 4: "Protocol", 5: "HeaderCrc", 6: "UndefinedLocal", 7: "SplitMessage",
            8: "FileCrc", 9: "TrailingBytes"}
 
@@ -63,6 +63,8 @@ def fill(data: bytes | np.ndarray, message: int, fields: list[int]) -> np.ndarra
                         ctypes.addressof(rows), ctypes.addressof(place))
         if code == 0:
             return out[:, :rows.value]
+        if code == _MEMORY:
+            raise MemoryError("the library found no memory")
         if code != _NO_ROOM:
             raise FitError(_FAULTS[code], place.value)
         room = rows.value

@@ -3,6 +3,7 @@
 from __future__ import annotations
 
 import pathlib
+from fractions import Fraction
 from typing import NamedTuple
 
 
@@ -13,20 +14,20 @@ class Field(NamedTuple):
     number: int
     name: str
     unit: str = ""
-    scale: float = 1
-    offset: float = 0
+    scale: Fraction = Fraction(1)
+    offset: int = 0
 
 
 _TIME, _INDEX = Field(253, "timestamp", "date"), Field(254, "message_index")
 
 # Semicircles, of which 2^31 are 180 degrees.
-SEMICIRCLES = Field(0, "", "deg", 2**31 / 180)
+SEMICIRCLES = Field(0, "", "deg", Fraction(2**31, 180))
 
 
 def _field(number: str, name: str, unit: str = "-", scale: str = "1", offset: str = "0") -> Field:
     if unit == "semicircles":
         return SEMICIRCLES._replace(number=int(number), name=name)
-    return Field(int(number), name, "" if unit == "-" else unit, float(scale), float(offset))
+    return Field(int(number), name, "" if unit == "-" else unit, Fraction(scale), int(offset))
 
 
 def _read(text: str) -> dict[str, tuple[int, dict[int, Field]]]:

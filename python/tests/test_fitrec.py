@@ -2,8 +2,10 @@
 
 import pathlib
 import pickle
+import sys
 import tempfile
 import unittest
+from unittest import mock
 
 import numpy as np
 
@@ -71,6 +73,36 @@ class OfARide(unittest.TestCase):
                 fitrec.read(RIDE, **words)
         self.assertEqual(len(fitrec.read(RIDE, fields=[])), 0)
 
+    def test_one_field_by_its_name(self):
+        self.assertEqual(list(fitrec.read(RIDE, fields="heart_rate")), ["heart_rate"])
+
+    def test_bytes_in_any_form(self):
+        data = framed("40 00 00 14 00 02 03 01 02 04 01 02  00 5C 50  00 5D 51")
+        for form in bytearray(data), memoryview(data).cast("H"), memoryview(bytes(it for one in data for it in (one, 0)))[::2]:
+            self.assertEqual(fitrec.read(form)["heart_rate"].tolist(), [92, 93])
+
+    def test_digits(self):
+        # each value is the float that is nearest to the exact one, as in a table: -499.8 m, -0.2 m, 62.6 m, and 180 / 2^31 degrees
+        data = framed("40 00 00 14 00 02 02 02 84 00 04 85  00 01 00 01 00 00 00  00 C3 09 FF FF FF FF  00 FD 0A 03 00 00 00")
+        ride = fitrec.read(data)
+        self.assertEqual(ride["altitude"].tolist(), [-499.8, -0.2, 62.6])
+        self.assertEqual(ride["position_lat"].tolist(), [180 / 2**31, -180 / 2**31, 540 / 2**31])
+
+    def test_infinity_is_no_value(self):
+        data = framed("40 00 00 14 00 02 C8 04 88 C9 08 88  00 00 00 80 7F 00 00 80 3F 00 00 80 FF")
+        ride, raw = fitrec.read(data), fitrec.read(data, raw=True)
+        self.assertTrue(np.isnan(ride["field_200"][0]))
+        np.testing.assert_array_equal(ride["field_201"][0], [1, np.nan])
+        self.assertEqual(raw["field_200"].tolist(), [np.inf])
+        self.assertEqual(raw["field_201"][0].tolist(), [1, -np.inf])
+
+    def test_equal_columns(self):
+        ride = fitrec.read(WIDE)
+        self.assertTrue(ride == fitrec.read(WIDE))
+        self.assertEqual((ride == fitrec.read(WIDE, raw=True), ride != fitrec.read(WIDE, raw=True)), (False, True))
+        self.assertEqual((ride == fitrec.read(RIDE), ride == dict(ride), ride == 1), (False, False, False))
+        self.assertEqual(pickle.loads(pickle.dumps(ride)), ride)
+
     def test_names_of_the_profile(self):
         found = fitrec.read(RIDE, fields=["vertical_oscillation", 31, "field_39", 254])
         self.assertEqual(list(found), ["vertical_oscillation", "gps_accuracy", "field_39", "message_index"])
@@ -134,13 +166,82 @@ class OfOtherValues(unittest.TestCase):
         np.testing.assert_array_equal(ride["heart_rate"], [np.nan, 4, 5] * 500)
 
 
+def described_as(index, number, base, name, unit=""):
+    """The content of a message field_description: index, number and base type of the field, name of 10 bytes, unit of 4."""
+    return bytes([1, index, number, base]) + name.encode().ljust(10, b"\0") + unit.encode().ljust(4, b"\0")
+
+
+# The definition of these messages, as local number 1, and that of a record with one developer field of one byte, as 2.
+DESCRIPTIONS = bytes.fromhex("41 00 00 CE 00 05 00 01 02 01 01 02 02 01 02 03 0A 07 08 04 07")
+RECORDS = bytes.fromhex("62 00 00 14 00 00 01 00 01 00")
+
+
+class OfDeveloperFields(unittest.TestCase):
+    def test_described_anew(self):
+        # the same field is a power in watts, and then another one, which the file says in the middle
+        power, balance = described_as(0, 0, 2, "Power", "W"), described_as(0, 0, 2, "wprime_bal", "J")
+        ride = fitrec.read(framed((DESCRIPTIONS + power + RECORDS + b"\2\x64\2\x65" + balance + b"\2\x0C" + power + b"\2\x66").hex()))
+        self.assertEqual(list(ride)[12:], ["Power", "wprime_bal"])
+        np.testing.assert_array_equal(ride["Power"], [100, 101, np.nan, 102])
+        np.testing.assert_array_equal(ride["wprime_bal"], [np.nan, np.nan, 12, np.nan])
+        self.assertEqual((ride.units["Power"], ride.units["wprime_bal"]), ("W", "J"))
+
+    def test_described_in_another_unit(self):
+        first, then = described_as(0, 0, 2, "Power", "W"), described_as(0, 0, 2, "Power", "kW")
+        data = framed((DESCRIPTIONS + first + RECORDS + b"\2\x64" + then + b"\2\x01").hex())
+        ride = fitrec.read(data)
+        self.assertEqual([(it, ride.units[it]) for it in list(ride)[12:]], [("Power", "W"), ("Power_0_0", "kW")])
+        np.testing.assert_array_equal(ride["Power_0_0"], [np.nan, 1])
+        # by its numbers a field has all of its values
+        self.assertEqual(fitrec.read(data, fields=["developer_0_0"], raw=True)["developer_0_0"].tolist(), [100, 1])
+
+    def test_described_too_late(self):
+        late = framed((RECORDS + b"\2\x64" + DESCRIPTIONS + described_as(0, 0, 2, "Power", "W") + b"\2\x65").hex())
+        ride = fitrec.read(late)
+        self.assertEqual((ride["developer_0_0"].tolist(), ride["Power"].tolist()[1]), ([b"\x64", None], 101))
+
+    def test_work_grows_with_the_file(self):
+        # each description has a few records after it, so that none can be taken together with another
+        def lines_run(many):
+            parts = b"".join(described_as(0, 0, 2, "Power", "W") + b"\2\x01" * (1 + it * it % 7) for it in range(many))
+            data, lines = framed_fast(DESCRIPTIONS + RECORDS + parts), [0]
+
+            def count(frame, event, argument):
+                lines[0] += 1
+                return count
+
+            sys.settrace(count)
+            try:
+                self.assertEqual(fitrec.read(data)["Power"].tolist()[:3], [1, 1, 1])
+            finally:
+                sys.settrace(None)
+            return lines[0]
+
+        once, twice = lines_run(200), lines_run(400)
+        self.assertLess(twice, 2.2 * once)
+
+
+def framed_fast(records):
+    """A file whose checksum is not given in the header."""
+    head = bytes.fromhex("0C 10 64 00") + len(records).to_bytes(4, "little") + b".FIT"
+    return head + records + checksum(head + records)
+
+
 class OfFaults(unittest.TestCase):
+    def test_where_descriptions_are_cut_off(self):
+        for size in range(len(WIDE)):
+            self.assertRaises(fitrec.FitError, fitrec.read, WIDE[:size])
+
     def test_kind_and_place(self):
         for data, kind, place in (b"", "Truncated", 0), (b"\0" * 20, "HeaderSize", 0), (RIDE[:-1], "Truncated", len(RIDE) - 1), (
                 RIDE + b"\0", "TrailingBytes", len(RIDE)), (RIDE[:-1] + b"\0", "FileCrc", len(RIDE) - 2):
             with self.assertRaises(fitrec.FitError) as caught:
                 fitrec.read(data)
             self.assertEqual((caught.exception.kind, caught.exception.place, caught.exception.path), (kind, place, None))
+
+    def test_want_of_memory(self):
+        with mock.patch("fitrec._library._columns", return_value=10):
+            self.assertRaises(MemoryError, fitrec.read, RIDE)
 
     def test_of_a_file(self):
         with tempfile.TemporaryDirectory() as folder:
@@ -164,6 +265,27 @@ class OfTables(unittest.TestCase):
     def test_one(self):
         table = fitrec.read(RIDE).to_pandas()
         self.assertEqual((len(table), table["heart_rate"][0], str(table["timestamp"][0])), (3, 92.0, "2021-09-08 01:46:40"))
+
+    def test_of_columns(self):
+        import pandas
+
+        ride = fitrec.read(RIDE)
+        self.assertTrue(pandas.DataFrame(ride).equals(ride.to_pandas()))
+
+    def test_many_that_lack_a_field(self):
+        described = framed((DESCRIPTIONS + described_as(0, 0, 2, "Power", "W") + RECORDS + b"\2\x64").hex())
+        with tempfile.TemporaryDirectory() as folder:
+            paths = [pathlib.Path(folder, name) for name in ("a.fit", "b.fit")]
+            for path, data in zip(paths, (framed("40 00 00 14 00 01 03 01 02  00 5C"), described)):
+                path.write_bytes(data)
+            table, faults = fitrec.read_many(paths, fields=["heart_rate", "Power"])
+            self.assertEqual((list(table), faults), (["file", "heart_rate", "Power"], {}))
+            np.testing.assert_array_equal(table["Power"], [np.nan, 100])
+            np.testing.assert_array_equal(table["heart_rate"], [92, np.nan])
+            self.assertEqual(list(fitrec.read_many(paths, fields="heart_rate")[0]), ["file", "heart_rate"])
+            # a name that no file has is wrong, as it is for one file
+            with self.assertRaisesRegex(ValueError, "Pwoer"):
+                fitrec.read_many(paths, fields=["Pwoer"])
 
     def test_many(self):
         with tempfile.TemporaryDirectory() as folder:
