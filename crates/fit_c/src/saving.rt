@@ -10,7 +10,7 @@ use crate::repairing::{RideSummary, fitrec_repair};
 use fit_grammar::LentFile;
 
 /// Repairs a recording as `fitrec_repair` does, and writes the plain form of its finished file into `out`. Returns 0, and the length of
-/// that file in `out_len`; 7 to 10 as a repair does, with both files as they were; 20 if the file does not fit into `out`, with its
+/// that file in `out_len`; 7 to 10 and 16 as a repair does, with both files as they were; 20 if the file does not fit into `out`, with its
 /// length in `out_len`; 21 if it would be too long. After 0, 20 and 21 the recording is repaired, and `summary` is filled.
 #[unsafe(no_mangle)]
 pub extern "C" fn fitrec_save(
