@@ -3,9 +3,10 @@
 the disk below them (compare/embedded). It is run by hand, with the sources of both, which Debian ships in the source package micropython:
 
     apt-get source --download-only micropython; tar xf micropython_*.orig.tar.xz
-    compare/embedded.py micropython-VERSION/lib [--archive LIBFIT_DEVICE.A] [--runs N] [--seed S]
+    compare/embedded.py micropython-VERSION/lib [--archive LIBFIT_DEVICE.A] [--runs N] [--seed S] [--costs]
 
-A ride that is answered as committed is then recovered, by the device with windows and by `fitrec repair`."""
+A ride that is answered as committed is then recovered, by the device with windows and by `fitrec repair`. With --costs it prints instead
+what a commit takes, also of two other recorders (compare/embedded/costs.c)."""
 
 import argparse
 import collections
@@ -30,8 +31,12 @@ FORMS = DISKS | {name + ", a card that caches": [*words, *CACHED] for name, word
 CONTROLS = {name + ", without syncs": [*words, *NO_SYNC] for name, words in DISKS.items()}
 
 
-def compiled(form, source, archive, folder):
-    """The host over this file system."""
+# What records in costs.c.
+RECORDERS = {"plans": "fitrec", "pair": "two slots, four syncs", "log": "a log alone"}
+
+
+def compiled(form, source, archive, folder, host="host"):
+    """A host over this file system."""
     words = (FORMS | CONTROLS)[form]
     name, own, files, more = ("oofatfs", "fatfs", ["ff", "ffunicode"], FATFS) if "FatFs" in form else ("littlefs", "littlefs", ["lfs2", "lfs2_util"], [])
     (folder / "py").mkdir(exist_ok=True)
@@ -39,10 +44,21 @@ def compiled(form, source, archive, folder):
     cc = ["cc", "-std=gnu11", "-O2", "-I", ROOT / "include", "-I", HERE, "-I", folder, "-I", source / name, *more, *words, "-c"]
     for file in files:
         subprocess.run([*cc, "-w", source / name / (file + ".c"), "-o", folder / (file + ".o")], check=True)
-    for file in ("host", own):
+    for file in (host, own):
         subprocess.run([*cc, "-Wall", "-Wextra", "-Werror", HERE / (file + ".c"), "-o", folder / (file + ".o")], check=True)
-    subprocess.run(["cc", *(folder / (it + ".o") for it in (*files, "host", own)), archive, "-o", folder / "host"], check=True)
-    return folder / "host"
+    subprocess.run(["cc", *(folder / (it + ".o") for it in (*files, host, own)), archive, "-o", folder / host], check=True)
+    return folder / host
+
+
+def print_costs(source, archive, folder):
+    """Prints a row of each file system, recorder and time between commits."""
+    print("%-20s %-22s %4s %6s %6s %8s %7s %7s" % ("file system", "recorder", "s", "waits", "bytes", "sectors", "blocks", "erased"))
+    for form in DISKS:
+        host = compiled(form, source, archive, folder, "costs")
+        for recorder, name in RECORDERS.items():
+            for seconds in 1, 10, 60:
+                said = subprocess.run([host, recorder, str(seconds)], stdout=subprocess.PIPE, text=True, check=True).stdout
+                print("%-20s %-22s %4d %6s %6s %8s %7s %7s" % (form, name, seconds, *said.splitlines()[-1].split()), flush=True)
 
 
 def outcome(fitrec, host, call, seed):
@@ -64,12 +80,15 @@ def main():
     words.add_argument("source", type=pathlib.Path)
     for name, kind, value in (("--archive", pathlib.Path, None), ("--runs", int, 2000), ("--seed", int, 1), ("--program", pathlib.Path, FITREC)):
         words.add_argument(name, type=kind, default=value)
+    words.add_argument("--costs", action="store_true")
     given, failed = words.parse_args(), False
     with tempfile.TemporaryDirectory() as folder:
         folder = pathlib.Path(folder)
         archive = given.archive or folder / "libfit_device.a"
         if not given.archive and build(archive, "fit_device"):
             sys.exit("embedded: the library for devices was not built")
+        if given.costs:
+            return print_costs(given.source, archive, folder)
         for form in [*FORMS, *CONTROLS]:
             host = compiled(form, given.source, archive, folder)
             with tempfile.TemporaryDirectory() as scratch:

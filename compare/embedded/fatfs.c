@@ -43,7 +43,7 @@ DRESULT disk_write(void *drive, const BYTE *bytes, DWORD sector, UINT count) {
         fail("too many writes without a sync", 0);
     for (UINT k = 0; k < count; k++)
         unsure[count_of_unsure++] = sector + k;
-    if (power_goes())
+    if (power_goes(DISK_WRITE, sector * SECTOR, count * SECTOR))
         lose_power();
     if (!CACHED)
         keep_all();
@@ -54,7 +54,7 @@ DRESULT disk_ioctl(void *drive, BYTE command, void *to) {
     (void)drive;
     switch (command) {
     case CTRL_SYNC:
-        if (power_goes())
+        if (power_goes(DISK_SYNC, 0, 0))
             lose_power();
         keep_all();
         return RES_OK;

@@ -28,7 +28,8 @@ uint32_t chance(uint32_t below) {
     return (uint32_t)(chance_state >> 33) % below;
 }
 
-int power_goes(void) {
+int power_goes(enum disk_call kind, uint32_t at, uint32_t count) {
+    (void)kind, (void)at, (void)count;
     calls++;
     return left > 0 && --left == 0;
 }

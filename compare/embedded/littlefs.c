@@ -15,7 +15,7 @@ static int read_block(const struct lfs2_config *it, lfs2_block_t block, lfs2_off
 }
 
 static int program(const struct lfs2_config *it, lfs2_block_t block, lfs2_off_t at, const void *bytes, lfs2_size_t count) {
-    int goes = power_goes();
+    int goes = power_goes(DISK_WRITE, block * BLOCK + at, count);
     (void)it;
     for (lfs2_size_t k = 0; k < count; k++)
         area[block * BLOCK + at + k] &= (uint8_t)(((const uint8_t *)bytes)[k] | (goes ? chance(256) : 0));
@@ -25,7 +25,7 @@ static int program(const struct lfs2_config *it, lfs2_block_t block, lfs2_off_t 
 }
 
 static int erase(const struct lfs2_config *it, lfs2_block_t block) {
-    int goes = power_goes();
+    int goes = power_goes(DISK_ERASE, block * BLOCK, BLOCK);
     (void)it;
     for (int k = 0; k < BLOCK; k++)
         area[block * BLOCK + k] |= (uint8_t)(goes ? chance(256) : 0xFF);

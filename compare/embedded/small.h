@@ -16,8 +16,10 @@ int fs_write(int file, uint64_t at, const void *bytes, uint32_t count);
 int fs_cut(int file, uint64_t len);
 int fs_sync(int file);
 
-/* The disk's side (host.c): whether the power goes inside this call, what comes by chance, and the end of a call without power. */
-int power_goes(void);
+/* The disk's side (host.c): whether the power goes inside this call, at this place and of so many bytes; what comes by chance; and the end of
+   a call without power. */
+enum disk_call { DISK_WRITE, DISK_ERASE, DISK_SYNC };
+int power_goes(enum disk_call kind, uint32_t at, uint32_t count);
 uint32_t chance(uint32_t below);
 _Noreturn void restart_device(void);
 _Noreturn void fail(const char *why, int number);
