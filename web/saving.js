@@ -44,7 +44,8 @@ async function ofEarlier(fitrec, ride) {
   }
 }
 
-// One file. With an offer it is salvaged: the data file of a recording, that with the end which was not confirmed, or all its bytes.
+// One file. If it is damaged, what is readable of it is saved; and after an offer that of the data file of a recording, without or with the
+// end that was not confirmed, or of all its bytes.
 async function ofFile(fitrec, ride, how) {
   const { data, name, isPart } = ride;
   let why = unreadOf(ride);
@@ -65,8 +66,8 @@ async function ofFile(fitrec, ride, how) {
   }
 }
 
-// A rest of so many bytes is one message that was cut off, or a few at most. So many places that are left out are named.
-const SHORT = 64, PLACES = 5;
+// So many places that are left out are named.
+const PLACES = 5;
 
 // Why a file is no activity, and whether a summary would make it one.
 const NO_ACTIVITY = { NoFileId: false, NotActivity: false, NoLap: true, NoSession: true, NoActivity: true };
@@ -80,23 +81,18 @@ const orElse = (answer, other) => answer.catch(error => { if (error.kind) return
 
 const judged = (fitrec, file) => orElse(fitrec.check(file).then(summary => ({ summary })), ({ kind, place }) => ({ kind, place }));
 
-// What is readable of a file up to its first fault. After the faults too, if that was offered and taken, or nothing else is readable; and
-// with a summary, if that was.
+// What is readable of a file, also after its faults; all of it if its checksum is right. With a summary, if that was offered and taken.
 async function salvaged(fitrec, ride, why, how) {
-  const { data, journal } = ride, all = how.includes('all') || how.includes('end');
-  let found = how.includes('skip') ? null : await orElse(fitrec.salvage(data, all), () => null);
-  if (!found || !found.kept) found = await fitrec.skip(data, all);
-  const { kept, looked, more, pieces } = found, isOpen = new DataView(data.buffer, data.byteOffset).getUint32(4, true) === 0;
+  const { data, journal } = ride, all = how.includes('all') || how.includes('end'), found = await fitrec.skip(data, all);
+  const { kept, looked, more } = found, isOpen = new DataView(data.buffer, data.byteOffset).getUint32(4, true) === 0;
   const beside = isOpen && !journal ? [['journalBeside']] : [];
   if (!kept) return { ...nothing(why[0] || ['noMessage'], 'notFitNext'), reasons: [...(why.length ? why : [['noMessage']]), ...beside] };
   const made = how.includes('finish') ? await finished(fitrec, found.file) : { file: found.file, reasons: [] };
   const file = await orElse(fitrec.plain(made.file), () => made.file), { summary, kind } = await judged(fitrec, file);
-  const isWhole = made.isFinished && kept === looked && !why.length;
-  const counts = pieces ? skippedOver(found) : isWhole ? [] : [['salvagedWhy', { kept, looked }]];
+  const isWhole = made.isFinished && kept === looked && !why.length, isWrong = !isOpen && why.some(([key]) => key === 'faultFileCrc');
+  const counts = isWhole ? [] : keptOf(found, isWrong), { next, offers } = made.reasons.length ? finishable() : finishable(kind);
   const reasons = [...beside, ...why, ...counts, ...(more ? [['salvagedMore', { more }]] : []), ...made.reasons];
-  const isCut = !pieces && looked - kept > SHORT, { next, offers } = made.reasons.length ? finishable() : finishable(kind);
-  return { heading: isWhole ? 'finished' : 'salvaged', reasons, next: [...(isCut ? [['skipNext']] : []), ...next],
-    offers: [...(more && !all ? ['all'] : []), ...(isCut ? ['skip'] : []), ...offers], file, summary };
+  return { heading: isWhole ? 'finished' : 'salvaged', reasons, next, offers: [...(more && !all ? ['all'] : []), ...offers], file, summary };
 }
 
 // With laps and totals, or why there are none.
@@ -110,10 +106,13 @@ async function finished(fitrec, file) {
   }
 }
 
-// What is said of the bytes that are kept around faults, and of those that are left out.
-function skippedOver({ kept, looked, pieces }) {
+// What is said of the bytes that are kept, and of those that are left out. Where some are left out before others, or the checksum is wrong,
+// values in what is kept may have changed too.
+function keptOf({ kept, looked, pieces }, isWrong) {
   const count = pieces.filter(it => it.kept).length, left = pieces.filter(it => !it.kept);
   const places = left.slice(0, PLACES).map(({ start, end }) => ['leftOutAt', { count: end - start, place: start }]);
   if (left.length > PLACES) places.push(['leftOutMore', { count: left.length - PLACES }]);
-  return [[count === 1 ? 'skippedOne' : 'skippedWhy', { kept, looked, count }], ...(left.length ? [['leftOut', { places }]] : [])];
+  const isDamaged = isWrong || pieces.slice(0, -1).some(it => !it.kept);
+  return [[count === 1 ? 'keptOne' : 'keptParts', { kept, looked, count }], ...(left.length ? [['leftOut', { places }]] : []),
+    ...(isDamaged ? [['mayBeWrong']] : [])];
 }

@@ -7,7 +7,7 @@ from tools.checks import differs, unless
 from tools.pages import RIDE, both, copy, recorded
 from tools.program import NAMES, bytes_of, run
 from tools.rides import uncommitted
-from tools.visits import ADD, GO_ON, NOTHING, READABLE, SAVED, WINDOWS, Browser
+from tools.visits import ADD, NOTHING, READABLE, SAVED, WINDOWS, Browser
 
 # Samples after the last commit, more than a recorder keeps back.
 NOT_COMMITTED = ["sample %d hr=100 power=200 dist=%d" % (1000000300 + at, 240000 + at) for at in range(120)]
@@ -123,7 +123,7 @@ def of_choosing(fitrec, folder, shots=None):
                   last(READABLE, by("kept.fit", "salvage", "--plain", *longer), "goes on after its end",
                        offers=["Read the bytes after that length too"]))
     browser.visit("bytes after the end, read", [{"files": longer}, {"click": "#offers button"}, {"download": "#save"}],
-                  last(READABLE, by("all.fit", "salvage", "--all", "--plain", *longer), offers=[GO_ON]))
+                  last(READABLE, by("all.fit", "salvage", "--all", "--skip", "--plain", *longer)))
     more = recorded(fitrec, folder / "more", [*RIDE, *NOT_COMMITTED])
     # A header that gives what was committed: until the ride is finished its bytes are free.
     data = (more / NAMES[0]).read_bytes()
@@ -136,8 +136,7 @@ def of_choosing(fitrec, folder, shots=None):
                   last(READABLE, alone, offers=[ADD]))
     spoiled = made("spoiled.fit", whole[:3000] + bytes(80 * [0x0F]) + whole[3080:])
     browser.visit("a damaged middle", [{"files": spoiled}, {"download": "#save"}],
-                  last(READABLE, by("spoiled-kept.fit", "salvage", "--plain", *spoiled), next="more after the damage",
-                       offers=[GO_ON, ADD]))
+                  last(READABLE, by("spoiled-kept.fit", "salvage", "--skip", "--plain", *spoiled), "that the damage changed"))
     browser.visit("an empty ride with its journal", [{"files": [*made("activity.fit", b""), journal]}],
                   last(NOTHING, None, "activity.fit is empty: it has no bytes."))
     browser.visit("an empty journal", [{"files": [ride, *made("activity.frj", b"")]}],

@@ -1,18 +1,18 @@
 """The page in a browser: files with holes, without a header or without a summary, and several that are chained in one."""
 
+import itertools
 import pathlib
 import re
 import shutil
 import zipfile
 
 from tools.checks import differs, unless
-from tools.pages import RIDE, recorded, rounded, rows, tour
+from tools.pages import RIDE, ascent_of, recorded, rows, series_of, tour
 from tools.program import NAMES, bytes_of, run
-from tools.visits import ADD, GO_ON, NOTHING, READABLE, WINDOWS, Browser
+from tools.visits import ADD, NOTHING, READABLE, WINDOWS, Browser
 
 UNFINISHED = "The file is readable, but is not a finished activity"
-# A distance in centimetres that no ride has: a hole wrote it.
-WRONG = 10**8
+MAY_BE_WRONG = "The new file may have values that the damage changed."
 # The button with this text.
 PRESS = "[...document.querySelectorAll('#offers button')].find(it => it.innerText === '%s').id = 'pressed'"
 
@@ -68,10 +68,6 @@ def of_holes(fitrec, folder, shots=None):
             yield "offers", differs(last["offers"], offers)
             if content:
                 yield "samples", differs(last["numbers"]["Samples"], f"{len(rows(content)):,}")
-            if content and GO_ON in offers:
-                distances = [it["distance"] for it in rows(content) if it.get("distance", WRONG) < WRONG]
-                yield "a distance that is far from all others does not count", differs(
-                    last["numbers"]["Distance"], rounded(max(distances) / 1e5, 2) + " km")
             if content and ADD not in offers:
                 yield "laps", differs(last["numbers"].get("Laps", "0"), str(len(rows(content, 19))))
         return judge
@@ -86,12 +82,10 @@ def of_holes(fitrec, folder, shots=None):
             steps = [{"files": [file]}, *presses(*names), *([take] if wanted[2] else [])]
             browser.visit("%s, %s" % (name, window), steps, judged(*wanted), **WINDOWS[window])
 
-        front = by(hole)[0]
-        visit("a hole", hole, [], READABLE, ["There may be more after the damage."], front, [GO_ON, ADD])
         kept, printed = by(hole, "--skip")
-        visit("after a hole", hole, [GO_ON], READABLE, said_by(printed), kept, [])
+        visit("a hole", hole, [], READABLE, [*said_by(printed), MAY_BE_WRONG], kept, [])
         kept, printed = by(holes, "--skip")
-        visit("after many holes", holes, [GO_ON], READABLE, said_by(printed), kept, [])
+        visit("many holes", holes, [], READABLE, [*said_by(printed), MAY_BE_WRONG], kept, [])
         kept, printed = by(bare, "--skip")
         visit("no header", bare, [], READABLE, ["The file begins with no FIT header.", *said_by(printed)], kept, [])
         kept, printed = by(torn, "--skip")
@@ -108,6 +102,47 @@ def of_holes(fitrec, folder, shots=None):
                   judged(READABLE, ["no sample of the file has a time that fits"], empty, []))
     browser.visit("no ride at all", [{"files": [made("picture.fit", b"\x89PNG\r\n\x1a\n" + bytes(range(256)) * 40)]}],
                   judged(NOTHING, ["is not a FIT file", "no message of it is left"], None, []))
+    yield from browser.outcomes()
+
+
+def of_no_messages(fitrec, folder, shots=None):
+    """Zeros and FF in a finished ride and behind a recording, whose bytes can be read as messages: no sample is shown that nobody recorded."""
+    browser, where = Browser(folder, shots), recorded(fitrec, folder / "tour", tour(900))
+    run(fitrec, "save", where, folder / "whole.fit")
+    whole, recording = (folder / "whole.fit").read_bytes(), (where / NAMES[0]).read_bytes()
+    real = rows(whole)
+
+    def judged(size, kept, printed):
+        def judge(shown, made):
+            last, content = shown[-1], bytes_of(pathlib.Path(made[-1]))
+            missing = [it for it in said_by(printed) if it not in last["reason"]]
+            yield "what it says", unless((last["heading"], missing) == (READABLE, []), last["reason"], said_by(printed))
+            yield "no other word", unless("made up" not in last["reason"], last["reason"], "nothing on what was made up")
+            yield "the file", differs(content, kept)
+            foreign, lost = [it for it in rows(content) if it not in real], len(real) - len(rows(content))
+            # A record that a hole only touches may stay. A record of this ride has 26 bytes.
+            yield "its samples", unless(len(foreign) <= 2 and lost <= size // 26 + 3, (foreign[:3], lost), "samples of the ride")
+            yield "their number", differs(last["numbers"]["Samples"], f"{len(rows(content)):,}")
+            metres = int(last["numbers"]["Ascent"].replace(",", "")[:-2])
+            yield "the ascent", unless(metres <= ascent_of(real) + 1, metres, "at most %d" % ascent_of(real))
+            for name, caption in last["captions"].items():
+                numbers = [float(it.replace(",", "")) for it in re.findall(r"-?[\d,.]*\d", caption)]
+                values = [value for _, value in series_of(real, name)]
+                is_in = min(values) - 1 <= numbers[0] and numbers[-1] <= max(values) + 1
+                yield name + ": the lowest and the highest", unless(is_in, caption, (min(values), max(values)))
+            speeds = [float(it[4].split(" ")[0].replace(",", "")) for it in last["laps"][1:]]
+            yield "the speeds of laps", unless(max(speeds) < 100, speeds, "below 100 km/h")
+        return judge
+
+    cases = [("%d of %s in a ride" % (size, name), whole[:9000] + size * byte + whole[9000 + size:], size)
+             for size in (512, 4096) for name, byte in (("zeros", b"\0"), ("FF", b"\xFF"))]
+    cases += [("4096 %s after a recording" % name, recording + 4096 * byte, 0) for name, byte in (("zeros", b"\0"), ("FF", b"\xFF"))]
+    for (name, content, size), window in itertools.product(cases, ("wide", "narrow and dark")):
+        file, kept = folder / (name.replace(" ", "-") + ".fit"), folder / "kept.fit"
+        file.write_bytes(content)
+        printed = run(fitrec, "salvage", "--skip", "--plain", file, kept)[1]
+        browser.visit("%s, %s" % (name, window), [{"files": [file]}, {"download": "#save"}], judged(size, kept.read_bytes(), printed),
+                      **WINDOWS[window])
     yield from browser.outcomes()
 
 

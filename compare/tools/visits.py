@@ -9,7 +9,7 @@ from tools.program import ROOT, run
 BROWSER, PAGE = ROOT / "compare/browser.mjs", ROOT / "web/out/fitrec.html"
 WINDOWS = {"wide": {"width": 1280}, "narrow": {"width": 390, "touch": True},
            "wide and dark": {"width": 1280, "dark": True}, "narrow and dark": {"width": 390, "touch": True, "dark": True}}
-GO_ON, ADD = "Go on after the damage", "Add laps and totals"
+ADD = "Add laps and totals"
 NOTHING, READABLE, SAVED = "Nothing could be saved", "The readable part is saved", "The ride is saved"
 
 
