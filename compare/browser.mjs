@@ -14,6 +14,7 @@
 //     { evaluate }        what an expression is
 //     { download }        by a click on the selector, or by the key Enter
 //     { screenshot }      a path
+//     { removed }         paths of files or folders, which are removed as if a card was pulled out
 //     { wait }            milliseconds
 //     { installed }       what keeps it from being installed as an app
 //     { reload }          opens it anew, without a network
@@ -22,7 +23,7 @@
 // an expression, the path of a download), each request, and each line that the browser logged.
 
 import { spawn } from 'node:child_process';
-import { mkdtempSync, readFileSync, readdirSync, writeFileSync } from 'node:fs';
+import { mkdtempSync, readFileSync, readdirSync, rmSync, writeFileSync } from 'node:fs';
 import { join } from 'node:path';
 
 const [page, folder] = process.argv.slice(2);
@@ -163,7 +164,7 @@ class Visit {
   }
 
   // Does a step, and answers what it made, if anything.
-  async step({ files, drop, click, keys, point, touchAt, evaluate, download, screenshot, wait, installed, reload }) {
+  async step({ files, drop, click, keys, point, touchAt, evaluate, download, screenshot, removed, wait, installed, reload }) {
     if (files) {
       const begun = Date.now();
       await this.choose(files, drop);
@@ -206,6 +207,7 @@ class Visit {
       await this.call('Page.reload');
       return until(() => this.evaluate('document.readyState === "complete" && document.title !== "fitrec"').catch(() => false));
     }
+    if (removed) return removed.forEach(it => rmSync(it, { recursive: true }));
     if (wait) return new Promise(done => setTimeout(done, wait));
     return this.evaluate(evaluate);
   }

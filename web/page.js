@@ -28,10 +28,11 @@ function failure(reason) {
 
 // The answer to a ride, or to one of its offers. A recording is drawn while it is saved.
 async function ask(ride, how) {
-  const { data, journal } = ride, ahead = data && journal && !how.length ? question(painter, { files: [data, journal] }) : null;
+  const { data, journal } = ride, isRecording = data && journal && !how.length;
   progress(0);
-  let given;
+  let given, ahead;
   try {
+    ahead = isRecording && question(painter, { files: (await Promise.all([data, journal].map(keptOf))).map(it => it.blob) });
     given = await bytesOf(ride);
   } catch (error) {
     return failure(error instanceof RangeError ? 'tooLarge' : 'unread');
@@ -95,6 +96,7 @@ async function take(files) {
   byId('list').hidden = byId('result').hidden = true;
   try {
     const { rides: found, others } = await ridesOf(await files);
+    for (const ride of found) await keep(ride);
     if (mine !== turn) return;
     rides = completed(found);
     await (rides.length > 1 ? presentAll(others, mine) : choose(rides[0] || null));

@@ -76,17 +76,32 @@ function rideFrom(data, journal) {
 // The rides of files that are chained in one.
 function ridesIn({ name, folder }, parts) {
   return parts.map((bytes, i) => {
-    return { data: new Blob([bytes]), name: `${name} (${text('ofMany', { n: i + 1, all: parts.length })})`, folder, isPart: true };
+    const data = new Blob([bytes]);
+    kept.set(data, { blob: data });
+    return { data, name: `${name} (${text('ofMany', { n: i + 1, all: parts.length })})`, folder, isPart: true };
   });
+}
+
+// What is kept of each file that was read. Nothing is read twice, so that a card can be pulled out.
+const kept = new WeakMap();
+
+async function keptOf(file) {
+  if (!kept.has(file)) kept.set(file, await frontOf(file));
+  return kept.get(file);
+}
+
+// Reads the files of a ride. One that cannot be read is tried again, and reported, when the ride is asked for.
+async function keep({ data, journal }) {
+  for (const file of [data, journal]) if (file) await keptOf(file).catch(() => {});
 }
 
 // The bytes of a file up to the first that cannot be read, and that place, if there is one after the first byte.
 async function frontOf(file) {
-  const parts = [], read = async part => new Uint8Array(await part.arrayBuffer());
+  const parts = [];
   let at = 0;
   for (let size = file.size; at < file.size;) {
     try {
-      parts.push(await read(file.slice(at, at + size)));
+      parts.push(await file.slice(at, at + size).arrayBuffer());
       at += size;
     } catch (error) {
       if (error instanceof RangeError || (size === 1 && at === 0)) throw error;
@@ -94,12 +109,12 @@ async function frontOf(file) {
       size = Math.ceil(size / 2);
     }
   }
-  const bytes = parts.length === 1 ? parts[0] : await read(new Blob(parts));
-  return { bytes, unread: at < file.size ? at : undefined };
+  return { blob: new Blob(parts), unread: at < file.size ? at : undefined };
 }
 
 // What the worker is given of a ride.
 async function bytesOf({ data, journal, name, isPart }) {
-  const [front, other] = await Promise.all([data, journal].map(it => it ? frontOf(it) : {}));
-  return { name, isPart, journalName: journal && journal.name, data: front.bytes, unread: front.unread, journal: other.bytes };
+  const read = async file => new Uint8Array(await (await keptOf(file)).blob.arrayBuffer());
+  const [bytes, other] = await Promise.all([data, journal].map(it => it && read(it)));
+  return { name, isPart, journalName: journal && journal.name, data: bytes, unread: data && kept.get(data).unread, journal: other };
 }

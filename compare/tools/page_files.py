@@ -116,6 +116,26 @@ def of_choosing(fitrec, folder, shots=None):
     renamed = copy(both(torn), folder / "renamed", ["ride.bin", "other.dat"])
     browser.visit("renamed files", [{"files": renamed}, {"download": "#save"}], last(SAVED, saved))
 
+    # A card that is pulled out once its files were chosen: what was read is saved, shown and finished all the same.
+    for window in WINDOWS:
+        card = folder / ("pulled, " + window)
+        shutil.copytree(torn, card / "a")
+        shutil.copytree(torn, card / "b")
+        (card / "cut.fit").write_bytes(alone)
+        gone, finish = {"removed": [card]}, {"click": "#offers button"}
+        finished = by("finished.fit", "salvage", "--finish", "--plain", folder / "alone.fit")
+        browser.visit("a card that is pulled out, %s" % window,
+                      [{"files": [card], "drop": True}, gone, {"click": "#rides tbody tr:nth-child(2) button"}, {"download": "#save"}],
+                      last(SAVED, saved), **WINDOWS[window])
+        one = folder / ("one, %s.fit" % window)
+        one.write_bytes(alone)
+        browser.visit("a file that is gone, %s" % window, [{"files": [one]}, {"removed": [one]}, finish, {"download": "#save"}],
+                      last("Laps and totals are added", finished), **WINDOWS[window])
+        card = shutil.copytree(torn, folder / ("journal, " + window))
+        browser.visit("a journal that is gone, %s" % window,
+                      [{"files": [card / NAMES[1]]}, {"removed": [card]}, {"files": [ride]}, {"download": "#save"}], last(SAVED, saved),
+                      **WINDOWS[window])
+
     # What is offered, and what the program makes.
     whole = by("whole.fit", "save", torn)
     longer = made("longer.fit", whole + whole[14:2000])
