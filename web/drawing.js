@@ -35,7 +35,7 @@ function curveOf(time, { parts, breaks, from, to, least }) {
       last.low = Math.min(last.low, it.low);
       last.high = Math.max(last.high, it.high);
       last.sum += it.sum;
-      last.count += it.count;
+      last.seconds += it.seconds;
     } else drawn.push(last = { ...it, column, isBegin: !last || k > passed });
   }
   const grid = gridOf(from, to, least);
@@ -45,9 +45,9 @@ function curveOf(time, { parts, breaks, from, to, least }) {
 function linesOf(parts, grid) {
   const y = n => ((grid.high - n) / (grid.high - grid.low) * CURVE).toFixed(1);
   let line = '', bars = '';
-  parts.forEach(({ column, low, high, sum, count, isBegin }, k) => {
+  parts.forEach(({ column, low, high, sum, seconds, isBegin }, k) => {
     const isAlone = isBegin && (k + 1 === parts.length || parts[k + 1].isBegin);
-    line += `${isBegin ? 'M' : 'L'}${column} ${y(sum / count)}${isAlone ? 'h1' : ''}`;
+    line += `${isBegin ? 'M' : 'L'}${column} ${y(sum / seconds)}${isAlone ? 'h1' : ''}`;
     if (low < high) bars += `M${column} ${y(low)}V${y(high)}`;
   });
   return { line, bars };

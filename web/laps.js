@@ -8,7 +8,7 @@ function lapTable(laps) {
     ['begun', ({ start }) => clockText(start, laps[0].start, 1)],
     ['moving', ({ timer }) => durationText(timer)],
     isMeasured && ['distance', ({ distance }) => distance === null ? '' : text('km', { n: numberText(distance / 100000, 2) })],
-    isMeasured && ['speedAverage', ({ distance, timer }) => distance === null || !timer ? '' : valueText('speed', distance / timer * 36)],
+    isMeasured && ['speedAverage', lap => speedOf(lap) === null ? '' : valueText('speed', speedOf(lap))],
     has('heart') && ['heartAverage', value('heart', 'average')],
     has('heart') && ['heartGreatest', value('heart', 'high')],
     has('power') && ['powerAverage', value('power', 'average')],

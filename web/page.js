@@ -175,16 +175,26 @@ function rowOf({ ride, heading, numbers }) {
 
 // ---- one ride
 
-function numbersOf({ summary, ride, heading }) {
-  const of = { ...(ride ? ride.added : {}), ...Object.fromEntries(Object.entries(summary || {}).filter(([, n]) => n !== null)) };
-  const numbers = {}, add = (key, n, shown) => { if (n !== null && n !== undefined && n === n) numbers[key] = shown(n); };
+// What the ride adds up to: by its sessions, else by its summary, and else by its samples.
+function addedUp({ summary, ride }) {
+  const stated = Object.entries(summary || {}).filter(([, n]) => n !== null);
+  return { ...(ride && ride.added), ...Object.fromEntries(stated), ...(ride && ride.sums) };
+}
+
+// In km/h, of centimetres and milliseconds of the timer; null if one is missing.
+const speedOf = ({ distance, timer }) => timer && distance !== null && distance !== undefined ? distance / timer * 36 : null;
+
+function numbersOf(answer) {
+  const { ride } = answer, of = addedUp(answer), numbers = {};
+  const add = (key, n, shown) => { if (n !== null && n !== undefined && n === n) numbers[key] = shown(n); };
   add('start', of.start, startText);
   add('duration', of.elapsed, durationText);
   add('moving', of.timer, durationText);
   add('distance', of.distance, n => text('km', { n: numberText(n / 100000, 2) }));
-  if (of.distance && of.timer) add('speedAverage', of.distance / 100 / (of.timer / 1000) * 3.6, n => valueText('speed', n));
+  if (of.distance) add('speedAverage', speedOf(of), n => valueText('speed', n));
   add('ascent', ride ? ride.ascent : null, n => valueText('height', n));
   add('samples', of.records, n => numberText(n));
+  if (of.sessions > 1) add('sessions', of.sessions, n => numberText(n));
   if (ride && ride.laps.length) add('laps', ride.laps.length, n => numberText(n));
   return numbers;
 }
@@ -201,12 +211,14 @@ function present(answer, how = []) {
   byId('where').hidden = !file;
   link(byId('save'), file, name, file ? text('download', { name }) : '');
   byId('result').hidden = false;
-  draw(ride);
+  draw(ride, speedOf(addedUp(answer)));
   byId('result').focus();
 }
 
-function draw(ride) {
-  const pictures = byId('pictures'), track = ride && ride.track;
+// The line under the speeds has the average that stands among the numbers.
+function draw(ride, average) {
+  const pictures = byId('pictures'), track = ride && ride.track, speed = ride && ride.series.find(it => it.name === 'speed');
+  if (speed && average) speed.average = average;
   if (track) {
     track.startAt = placeOn(track, ride.lat[track.first], ride.long[track.first]);
     track.finishAt = placeOn(track, ride.lat[track.finish], ride.long[track.finish]);

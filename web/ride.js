@@ -1,18 +1,19 @@
 // What the samples of a ride say: its series, from all samples, with their gaps, and its laps.
 
-const TIME = 253, RECORD = 20, LAP = 19, EVENT = 21, SEMICIRCLE = 180 / 2 ** 31;
-// A sample with most of the fields has some more bytes. No distance leaps so far, in centimetres.
-const SAMPLE = 20, FAR = 1e7;
+const TIME = 253, SESSION = 18, LAP = 19, RECORD = 20, EVENT = 21, SEMICIRCLE = 180 / 2 ** 31;
+// A sample with most of the fields has some more bytes. No distance leaps so far, in centimetres. A value counts for so many seconds at most.
+const SAMPLE = 20, FAR = 1e7, LONGEST = 60;
 
-// A field of each series, and one that counts where the first is missing; in its unit a value is raw * scale + offset. `least` is the
-// smallest range of its picture, and `reach` a distance that is usual for it.
+// A field of each series, and one that counts where the first is missing; and those that state its maximum in a session. In its unit a value
+// is raw * scale + offset. No device measures what is below `from` or above `to`: a heart has a beat, and 0 is the altitude of bytes that
+// were never written. `least` is the smallest range of its picture.
 const SERIES = [
-  { name: 'speed', fields: [73, 6], scale: 0.0036, offset: 0, least: 1, reach: 10 },
-  { name: 'heart', fields: [3], scale: 1, offset: 0, least: 5, reach: 50 },
-  { name: 'height', fields: [78, 2], scale: 0.2, offset: -500, least: 5, reach: 50 },
-  { name: 'power', fields: [7], scale: 1, offset: 0, least: 20, reach: 150 },
-  { name: 'cadence', fields: [4], scale: 1, offset: 0, least: 5, reach: 50 },
-  { name: 'warmth', fields: [13], scale: 1, offset: 0, least: 2, reach: 20 },
+  { name: 'speed', fields: [73, 6], maximum: [125, 15], scale: 0.0036, offset: 0, from: 0, to: 1300, least: 1 },
+  { name: 'heart', fields: [3], maximum: [17], scale: 1, offset: 0, from: 1, to: 254, least: 5 },
+  { name: 'height', fields: [78, 2], maximum: [128, 50], scale: 0.2, offset: -500, from: -499, to: 30000, least: 5 },
+  { name: 'power', fields: [7], maximum: [21], scale: 1, offset: 0, from: 0, to: 5000, least: 20 },
+  { name: 'cadence', fields: [4], maximum: [19], scale: 1, offset: 0, from: 0, to: 254, least: 5 },
+  { name: 'warmth', fields: [13], maximum: [58], scale: 1, offset: 0, from: -90, to: 100, least: 2 },
 ];
 const POSITION = [0, 1].map(it => ({ fields: [it], scale: SEMICIRCLE }));
 
@@ -20,23 +21,26 @@ const POSITION = [0, 1].map(it => ({ fields: [it], scale: SEMICIRCLE }));
 async function tablesOf(fitrec, files, records) {
   const [data, journal] = await Promise.all(files.map(async it => new Uint8Array(await it.arrayBuffer())));
   const samples = [RECORD, [TIME, ...POSITION, 5, ...SERIES], records || Math.ceil(data.length / SAMPLE)];
-  const asked = [samples, [EVENT, [TIME, 0, 1]], [LAP, [TIME, 2, 7, 8, 9], 1024]];
+  const sessions = [SESSION, [2, 7, 8, 9, ...SERIES.map(it => ({ ...it, fields: it.maximum }))]];
+  const asked = [samples, [EVENT, [TIME, 0, 1]], [LAP, [TIME, 2, 7, 8, 9], 1024], sessions];
   return journal ? fitrec.committed(data, journal, asked) : fitrec.tables(data, asked);
 }
 
 // The ride of its tables. Times are seconds since 1989-12-31 00:00 UTC, positions are degrees, distances centimetres.
-function rideOf([records, events, found]) {
+function rideOf([records, events, found, [start, elapsed, timer, length, ...stated]]) {
   const [time, lat, long, distance, ...values] = inTime(records), pauses = pausesOf(...events);
   const resumed = pauses.map(([, to]) => sampleAt(time, to)), usual = plausible(distance, extremesOf(distance), FAR);
-  const laps = lapsOf(found, { time, distance, pauses, usual }), breaks = breaksOf(time, time, resumed);
-  const ends = [...columnsOf(time), ...laps.flatMap(it => [it.first, it.last])];
-  const series = SERIES.map((kind, k) => seriesOf(values[k], kind, { time, ends, breaks, resumed })).filter(it => it);
+  leaveOut(distance, usual);
+  const laps = lapsOf(found, { time, distance, pauses }), breaks = breaksOf(time, time, resumed), clock = clockOf(time, pauses);
+  const ends = [...columnsOf(time), ...laps.flatMap(it => [it.first, it.last])], shared = { time, clock, ends, breaks, resumed };
+  shared.weights = weightsOf(clock, time);
+  const series = SERIES.map((kind, k) => seriesOf(values[k], kind, stated[k], shared)).filter(it => it);
   for (const lap of laps) {
     lap.series = {};
     for (const { name, parts } of series) lap.series[name] = rangeOf(parts.filter(it => it.first >= lap.first && it.first < lap.last));
   }
   const ride = { time, lat, long, distance, series, pauses, laps, breaks: lat.includes(NaN) ? breaksOf(time, lat, resumed) : breaks };
-  return { ...ride, ...totalsOf(ride, usual) };
+  return { ...ride, ...totalsOf(ride), sums: sumsOf({ start, elapsed, timer, distance: length }) };
 }
 
 // The columns in the order of their times, without samples whose time is missing or far from all others.
@@ -54,33 +58,72 @@ function inTime(columns) {
   return columns.map(it => Float64Array.from(order, i => it[i]));
 }
 
-// A series with its parts and what they amount to; null if it has no value. The parts end where a column of the picture or a lap does, and
-// where the line is interrupted.
-function seriesOf(values, { name, least, reach }, { time, ends, breaks, resumed }) {
-  let parts = partsOf(values, [...ends, ...breaks]);
-  if (!parts.length) return null;
-  const { count, ...all } = rangeOf(parts), usual = plausible(values, all, reach);
-  const own = count < time.length ? breaksOf(time, values, resumed) : breaks;
-  if (usual.faults || own !== breaks) parts = partsOf(values, [...ends, ...own], usual);
-  return { name, least, values, ...rangeOf(parts), ...usual, parts, breaks: own };
+// A series with its parts and what they amount to, without values that cannot be; null if it has no other. Its greatest value is at least the
+// maximum that a session states. The parts end where a column of the picture or a lap does, and where the line is interrupted.
+function seriesOf(values, kind, stated, { time, clock, weights, ends, breaks, resumed }) {
+  const { faults, count } = leaveOut(values, kind), isFull = count === time.length, own = isFull ? breaks : breaksOf(time, values, resumed);
+  leaveOut(stated, kind);
+  if (!count) return null;
+  const parts = partsOf(values, isFull ? weights : weightsOf(clock, values), [...ends, ...own]), range = rangeOf(parts), { low, high } = range;
+  const most = extremesOf(stated).high, { name, least } = kind;
+  return { name, least, values, ...range, high: most > high ? most : high, from: low, to: high, faults, parts, breaks: own };
 }
 
-// The least, the greatest, the sum and the number of the values up to each of these places, from the one before; without those that are
-// out of the range, and without parts that have none.
-function partsOf(values, ends, { from, to } = { from: -Infinity, to: Infinity }) {
+// Leaves values out that are not from one to another: how many these are, and how many are left.
+function leaveOut(values, { from, to }) {
+  let faults = 0, count = 0;
+  for (let i = 0; i < values.length; i++) {
+    const n = values[i];
+    if (n >= from && n <= to) count++;
+    else if (n === n) {
+      values[i] = NaN;
+      faults++;
+    }
+  }
+  return { faults, count };
+}
+
+// The seconds of the timer at each sample.
+function clockOf(time, pauses) {
+  let k = 0, paused = 0;
+  return time.map(t => {
+    for (; k < pauses.length && pauses[k][1] <= t; k++) paused += pauses[k][1] - pauses[k][0];
+    return (k < pauses.length ? Math.min(t, pauses[k][0]) : t) - paused;
+  });
+}
+
+// For how many seconds of the timer each value counts: half of those since the value before it, and half of those up to the next.
+function weightsOf(clock, values) {
+  const weights = new Float64Array(values.length).fill(1e-9);
+  let last = -1;
+  for (let i = 0; i < values.length; i++) {
+    if (values[i] !== values[i]) continue;
+    if (last >= 0) {
+      const half = Math.max(0, Math.min(clock[i] - clock[last], LONGEST)) / 2;
+      weights[last] += half;
+      weights[i] += half;
+    }
+    last = i;
+  }
+  return weights;
+}
+
+// The least and the greatest value, the sum over the seconds and their number, up to each of these places, from the one before; without
+// parts that have no value.
+function partsOf(values, weights, ends) {
   const parts = [];
   let first = 0;
   for (const end of new Uint32Array([...ends, values.length]).sort()) {
-    let low = Infinity, high = -Infinity, sum = 0, count = 0;
+    let low = Infinity, high = -Infinity, sum = 0, seconds = 0;
     for (let i = first; i < end; i++) {
       const n = values[i];
-      if (!(n >= from && n <= to)) continue;
+      if (n !== n) continue;
       if (n < low) low = n;
       if (n > high) high = n;
-      sum += n;
-      count++;
+      sum += n * weights[i];
+      seconds += weights[i];
     }
-    if (count) parts.push({ first, low, high, sum, count });
+    if (low <= high) parts.push({ first, low, high, sum, seconds });
     first = end;
   }
   return parts;
@@ -88,20 +131,28 @@ function partsOf(values, ends, { from, to } = { from: -Infinity, to: Infinity })
 
 // The least, the greatest and the average of parts; null if there are none.
 function rangeOf(parts) {
-  let low = Infinity, high = -Infinity, sum = 0, count = 0;
+  let low = Infinity, high = -Infinity, sum = 0, seconds = 0;
   for (const it of parts) {
     low = Math.min(low, it.low);
     high = Math.max(high, it.high);
     sum += it.sum;
-    count += it.count;
+    seconds += it.seconds;
   }
-  return count ? { low, high, average: sum / count, count } : null;
+  return low <= high ? { low, high, average: sum / seconds } : null;
 }
 
-const extremesOf = values => rangeOf(partsOf(values, [])) || { low: NaN, high: NaN };
+// The least and the greatest value, or NaN if there is none.
+function extremesOf(values) {
+  let low = Infinity, high = -Infinity;
+  for (const n of values) {
+    if (n < low) low = n;
+    if (n > high) high = n;
+  }
+  return low <= high ? { low, high } : { low: NaN, high: NaN };
+}
 
-// The range that counts of values with this least and greatest. A value counts as a fault if it is far beyond 99 of 100 others: by more
-// than four times their distance from the median, and four times `reach`. `from` and `to` are the least and the greatest of the rest, and
+// The range that counts of times, distances or positions with this least and greatest. One counts as a fault if it is far beyond 99 of 100
+// others: by more than four times their distance from the median, and four times `reach`. `from` and `to` are the least and the greatest of the rest, and
 // `faults` is how many there are.
 function plausible(values, { low, high }, reach) {
   const step = Math.ceil(values.length / 20000), some = [];
@@ -171,8 +222,8 @@ function breaksOf(time, values, resumed) {
 }
 
 // What the samples add up to: for files without a summary, and what no summary has.
-function totalsOf({ time, series, pauses }, { to: farthest }) {
-  const start = time.length ? time[0] : null, end = time.length ? time[time.length - 1] : null;
+function totalsOf({ time, distance, series, pauses }) {
+  const farthest = extremesOf(distance).high, start = time.length ? time[0] : null, end = time.length ? time[time.length - 1] : null;
   const paused = pauses.reduce((sum, [from, to]) => sum + Math.max(0, Math.min(to, end) - Math.max(from, start)), 0);
   const height = series.find(it => it.name === 'height');
   const added = { records: time.length, start, elapsed: start === null ? null : (end - start) * 1000,
@@ -180,12 +231,22 @@ function totalsOf({ time, series, pauses }, { to: farthest }) {
   return { added, ascent: height ? ascentOf(height) : null };
 }
 
+// What the sessions of a file add up to. What none of them states is missing.
+function sumsOf({ start, ...lengths }) {
+  const sums = { sessions: start.length }, earliest = extremesOf(start).low;
+  if (earliest >= 0) sums.start = earliest;
+  for (const [key, values] of Object.entries(lengths)) {
+    const those = values.filter(n => n === n);
+    if (those.length) sums[key] = those.reduce((sum, n) => sum + n);
+  }
+  return sums;
+}
+
 // How many metres are climbed. A rise counts from two metres on, so that the noise of a barometer does not.
-function ascentOf({ values, from, to }) {
+function ascentOf({ values }) {
   let ascent = 0, low = Infinity, high = -Infinity;
-  for (let i = 0; i < values.length; i++) {
-    const n = values[i];
-    if (!(n >= from && n <= to)) continue;
+  for (const n of values) {
+    if (n !== n) continue;
     if (n > high) high = n;
     if (n < low || high - n >= 2) {
       if (high - low >= 2) ascent += high - low;
@@ -196,14 +257,14 @@ function ascentOf({ values, from, to }) {
 }
 
 // The laps that the file has, each with its samples from `first` up to `last`; after them the rest of a ride that was cut off.
-function lapsOf([end, start, elapsed, timer, length], { time, distance, pauses, usual }) {
+function lapsOf([end, start, elapsed, timer, length], { time, distance, pauses }) {
   const laps = [];
   const of = (from, to, given) => {
     const first = sampleAt(time, from), last = Math.min(sampleAt(time, to + (given.isLast ? 1 : 0)), time.length);
     const paused = pauses.reduce((sum, [a, b]) => sum + Math.max(0, Math.min(b, to) - Math.max(a, from)), 0);
-    const own = given.length >= 0 ? null : rangeOf(partsOf(distance.subarray(first, last), [], usual));
+    const { low, high } = extremesOf(distance.subarray(first, last));
     return { start: from, first, last, timer: given.timer >= 0 ? given.timer : (to - from - paused) * 1000,
-      distance: given.length >= 0 ? given.length : own ? own.high - own.low : null, isOpen: Boolean(given.isOpen) };
+      distance: given.length >= 0 ? given.length : high >= low ? high - low : null, isOpen: Boolean(given.isOpen) };
   };
   for (let i = 0; i < end.length; i++) {
     const from = start[i] === start[i] ? start[i] : i ? end[i - 1] : time[0], to = end[i] === end[i] ? end[i] : from + elapsed[i] / 1000;

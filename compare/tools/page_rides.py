@@ -4,11 +4,11 @@ import itertools
 import pathlib
 import re
 import shutil
-import statistics
 import zipfile
 
 from tools.checks import differs, unless
-from tools.pages import RIDE, START, WRONG, ascent_of, both, columns_of, drawn_of, facts_of, recorded, rounded, rows, series_of, tour
+from tools.pages import (RIDE, START, ascent_of, average_of, both, columns_of, drawn_of, facts_of, pauses_of, recorded, rounded, rows,
+                         series_of, tour, weighted)
 from tools.program import bytes_of, run
 from tools.visits import SAVED, WINDOWS, Browser
 
@@ -18,10 +18,12 @@ def of_numbers(fitrec, folder, shots=None):
     browser, places = Browser(folder, shots), {"a tour": tour(), "a tour over 180 degrees": tour(1500, longitude=179.995)}
     outline = {"evaluate": "document.querySelector('.map .casing').getAttribute('d')"}
 
-    def judged(found, breaks):
+    def judged(data, breaks):
+        found = rows(data)
+
         def judge(shown, made):
             last = shown[0]
-            yield "facts", differs(last["captions"], {name: facts_of(found, name) for name in last["captions"]})
+            yield "facts", differs(last["captions"], {name: facts_of(data, name) for name in last["captions"]})
             yield "ascent", differs(last["numbers"]["Ascent"], rounded(ascent_of(found), 0) + " m")
             for name, curve in last["curves"].items():
                 pairs = series_of(found, name)
@@ -32,7 +34,7 @@ def of_numbers(fitrec, folder, shots=None):
                 yield name + ": breaks", differs(curve["line"].count("M"), breaks)
             most = float(last["curves"]["Power"]["high"])
             yield "a wrong value does not flatten the rest", unless(most <= 400, most, "at most 400")
-            yield "a note on it", differs([it for it in last["notes"]], ["1 value is far from all others, and is left out."])
+            yield "a note on it", differs([it for it in last["notes"]], ["1 value cannot be right, and is left out."])
             xs = [float(it) for it in re.findall(r"[ML]([\d.-]+) ", made[1])]
             ys = [float(it) for it in re.findall(r"[ML][\d.-]+ ([\d.-]+)", made[1])]
             steps = [abs(a - b) for a, b in itertools.pairwise(xs)]
@@ -46,8 +48,8 @@ def of_numbers(fitrec, folder, shots=None):
         where = folder / name.replace(" ", "-")
         if not where.exists():
             run(fitrec, "save", recorded(fitrec, where, lines), where.with_suffix(".fit"))
-        found = rows(where.with_suffix(".fit").read_bytes())
-        browser.visit("%s, %s" % (name, window), [{"files": both(where)}, outline], judged(found, 4), **WINDOWS[window])
+        data = where.with_suffix(".fit").read_bytes()
+        browser.visit("%s, %s" % (name, window), [{"files": both(where)}, outline], judged(data, 4), **WINDOWS[window])
     yield from browser.outcomes()
 
 
@@ -56,7 +58,8 @@ def of_looking(fitrec, folder, shots=None):
     browser, where = Browser(folder, shots), recorded(fitrec, folder / "tour", tour())
     run(fitrec, "save", where, folder / "tour.fit")
     data = (folder / "tour.fit").read_bytes()
-    found, laps = rows(data), rows(data, 19)
+    found, laps, pauses = rows(data), rows(data, 19), pauses_of(data)
+    heart, power = (weighted(series_of(found, name), pauses) for name in ("Heart rate", "Power"))
 
     def at(share):
         """The values of the sample whose time is nearest."""
@@ -94,12 +97,12 @@ def of_looking(fitrec, folder, shots=None):
                        "Average power"]]
             for i, lap in enumerate(laps):
                 begin, end = lap["start_time"], lap["timestamp"] + (i == len(laps) - 1)
-                own = [it for it in found if begin <= it["timestamp"] < end]
-                mean = lambda field: rounded(statistics.mean(it[field] for it in own if it[field] != WRONG), 0)
+                own = lambda triples: [it for it in triples if begin <= it[0] < end]
                 wanted.append([str(i + 1), begins[i], "0:%02d:%02d" % divmod(lap["total_timer_time"] // 1000, 60),
                                rounded(lap["total_distance"] / 1e5, 2) + " km",
                                rounded(lap["total_distance"] / 100 / (lap["total_timer_time"] / 1000) * 3.6, 1) + " km/h",
-                               mean("heart_rate") + " bpm", "%d bpm" % max(it["heart_rate"] for it in own), mean("power") + " W"])
+                               rounded(average_of(own(heart)), 0) + " bpm", "%d bpm" % max(it[1] for it in own(heart)),
+                               rounded(average_of(own(power)), 0) + " W"])
             yield "laps", differs(first["laps"], wanted)
             yield "colours", differs(colours, [8, 8, 1])
             yield "marks of the axis", differs(marks, [True, zone])

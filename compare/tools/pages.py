@@ -1,5 +1,6 @@
 """Rides for the page, and what the second reader says of them."""
 
+import itertools
 import math
 import pathlib
 import re
@@ -91,11 +92,36 @@ def rounded(n, decimals):
     return f"{math.floor(n * 10**decimals + 0.5 + 1e-9) / 10**decimals:,.{decimals}f}"
 
 
-def facts_of(found, name):
-    """The line on the lowest, the average and the highest value."""
-    values = [value for _, value in series_of(found, name)]
+def pauses_of(data):
+    """From when to when the timer stood, by the events of the timer."""
+    found, since = [], None
+    for it in rows(data, 21):
+        if it["event"] == 0 and it["event_type"] == 0 and since is not None:
+            found.append((since, it["timestamp"]))
+        since = None if it["event_type"] == 0 else since or it["timestamp"]
+    return found
+
+
+def weighted(pairs, pauses):
+    """The times and values of a series, each with the seconds of the timer for which it counts: half of those since the value before it, and
+    half of those to the next one, a minute of each at most."""
+    clock = [time - sum(min(time, to) - since for since, to in pauses if since < time) for time, _ in pairs]
+    steps = [0, *(min(b - a, 60) for a, b in itertools.pairwise(clock)), 0]
+    return [(*pair, (before + after) / 2) for pair, (before, after) in zip(pairs, itertools.pairwise(steps))]
+
+
+def average_of(triples):
+    return sum(value * seconds for _, value, seconds in triples) / sum(seconds for _, _, seconds in triples)
+
+
+def facts_of(data, name):
+    """The line on the lowest, the average and the highest value. The average is over the time; that of speeds is the way by the time."""
+    pairs, session = series_of(rows(data), name), rows(data, 18)[0]
+    values, average = [value for _, value in pairs], average_of(weighted(pairs, pauses_of(data)))
+    if name == "Speed":
+        average = session["total_distance"] / session["total_timer_time"] * 36
     decimals, unit = SERIES[name][3:]
-    low, average, high = (rounded(it, decimals) for it in (min(values), sum(values) / len(values), max(values)))
+    low, average, high = (rounded(it, decimals) for it in (min(values), average, max(values)))
     return "lowest %s · average %s · highest %s %s" % (low, average, high, unit)
 
 
