@@ -24,17 +24,18 @@ from tools.libraries import build
 from tools.library_calls import of_files, of_finished, of_mended, of_recordings, of_shown_and_checked
 from tools.needs import missing
 from tools.page_app import of_a_long_ride, of_an_app
-from tools.page_files import of_choosing, of_inputs
+from tools.page_files import of_choosing, of_inputs, of_lists
 from tools.page_holes import of_chains, of_holes, of_no_messages
 from tools.page_people import of_people
 from tools.page_rides import of_looking, of_numbers
+from tools.page_values import of_values
 from tools.pages import RIDE, START, both, recorded, tour
 from tools.program import FITREC, NAMES, ROOT, run
 from tools.visits import PAGE
 
 NEEDS = ("fitrec", "rt", "node", "wasm-opt", "chromium")
 WEB, MODULE = ROOT / "web", ROOT / "compare/module.mjs"
-GROUPS = of_inputs, of_choosing, of_holes, of_no_messages, of_chains, of_numbers, of_looking, of_people, of_an_app, of_a_long_ride
+GROUPS = of_inputs, of_choosing, of_lists, of_holes, of_no_messages, of_chains, of_numbers, of_values, of_looking, of_people, of_an_app, of_a_long_ride
 # The most bytes of the page.
 MOST = 160_000
 

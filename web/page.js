@@ -81,13 +81,12 @@ function work(isBusy) {
 // Each choice has a number: the answer to an earlier one is not shown.
 let rides = [], current = null, turn = 0;
 
-// With what is shown, if that lacks the one file that is chosen.
-function completed(found) {
-  const [ride] = found;
-  if (found.length !== 1 || !current) return found;
-  if (!ride.data && current.data && !current.journal) return [{ ...current, journal: ride.journal }];
-  if (!ride.journal && current.journal && !current.data) return [{ ...ride, journal: current.journal }];
-  return found;
+// The ride that is shown with the one file that is chosen, if it lacks that; or null.
+function completed([ride, ...more]) {
+  if (!ride || more.length || !current) return null;
+  if (!ride.data && current.data && !current.journal) return { ...current, journal: ride.journal, how: null };
+  if (!ride.journal && current.journal && !current.data) return { ...ride, journal: current.journal };
+  return null;
 }
 
 async function take(files) {
@@ -98,8 +97,14 @@ async function take(files) {
     const { rides: found, others } = await ridesOf(await files);
     for (const ride of found) await keep(ride);
     if (mine !== turn) return;
-    rides = completed(found);
-    await (rides.length > 1 ? presentAll(others, mine) : choose(rides[0] || null));
+    const whole = completed(found);
+    if (whole) {
+      rides = rides.map(it => it === current ? whole : it);
+      return await choose(whole);
+    }
+    rides = found;
+    byId('listNote').textContent = others ? text(others === 1 ? 'otherFile' : 'otherFiles', { count: others }) : '';
+    await (rides.length > 1 ? presentAll(mine) : choose(rides[0] || null));
   } catch (error) {
     rides = [];
     present(failure('unread'));
@@ -107,7 +112,8 @@ async function take(files) {
   }
 }
 
-async function choose(ride, how = []) {
+// A ride that is shown again is as it was made last.
+async function choose(ride, how = ride && ride.how || []) {
   const mine = ++turn;
   current = ride;
   work(true);
@@ -115,11 +121,21 @@ async function choose(ride, how = []) {
   if (mine !== turn) return;
   if (answer.parts) {
     rides = ridesIn(ride, answer.parts);
-    return presentAll(0, mine);
+    byId('listNote').textContent = '';
+    return presentAll(mine);
   }
-  if (answer.file) name(ride, answer);
+  const isNew = ride && how !== ride.how;
+  if (ride) note(ride, how, answer);
+  if (isNew && rides.length > 1) await list();
+  if (mine !== turn) return;
   present(answer, how);
   work(false);
+}
+
+// What the list says of a ride, and by which offers it was made.
+function note(ride, how, answer) {
+  if (answer.file) name(ride, answer);
+  Object.assign(ride, { how, heading: answer.heading, file: answer.file, numbers: numbersOf(answer) });
 }
 
 // The name of a new file: by the day on which the ride began, where the browser is.
@@ -135,8 +151,7 @@ const startOf = ({ summary, ride }) => summary && summary.start !== null ? summa
 
 // ---- several rides
 
-async function presentAll(others, mine) {
-  const rows = [];
+async function presentAll(mine) {
   current = null;
   for (let i = 0; i < rides.length; i++) {
     const ride = rides[i];
@@ -148,25 +163,30 @@ async function presentAll(others, mine) {
       rides.splice(i--, 1, ...ridesIn(ride, answer.parts));
       continue;
     }
-    if (answer.file) name(ride, answer);
-    rows.push({ ride, heading: answer.heading, file: answer.file, name: answer.name, numbers: numbersOf(answer) });
+    note(ride, [], answer);
   }
-  const saved = rows.filter(it => it.file);
-  byId('listHeading').textContent = text('listTitle', { all: rows.length, saved: saved.length });
-  byId('listNote').textContent = others ? text(others === 1 ? 'otherFile' : 'otherFiles', { count: others }) : '';
-  byId('rides').replaceChildren(make('thead', {}, make('tr', {}, ...['file', 'start', 'duration', 'distance', 'state', 'action'].map(it =>
-    make('th', { scope: 'col' }, text(it))))), make('tbody', {}, ...rows.map(rowOf)));
-  const count = saved.length, [it] = count > 1 ? [{ file: await zipOf(saved), name: 'rides.zip' }] : saved;
+  await list();
   if (mine !== turn) return;
-  if (it) link(byId('saveAll'), it.file, it.name, text(count > 1 ? 'downloadAll' : 'download', { count, name: it.name }));
-  else link(byId('saveAll'), null);
-  byId('list').hidden = false;
   byId('list').focus();
   queue = '';
   work(false);
 }
 
-function rowOf({ ride, heading, numbers }) {
+// Shows what there is of each ride, and the files of all that are saved.
+async function list() {
+  const mine = turn, saved = rides.filter(it => it.file), count = saved.length;
+  const zip = count > 1 ? await zipOf(saved.map(it => ({ name: it.saved, file: it.file }))) : null;
+  if (mine !== turn) return;
+  byId('listHeading').textContent = text('listTitle', { all: rides.length, saved: count });
+  byId('rides').replaceChildren(make('thead', {}, make('tr', {}, ...['file', 'start', 'duration', 'distance', 'state', 'action'].map(it =>
+    make('th', { scope: 'col' }, text(it))))), make('tbody', {}, ...rides.map(rowOf)));
+  const file = zip || (count ? saved[0].file : null), called = zip ? 'rides.zip' : count ? saved[0].saved : '';
+  link(byId('saveAll'), file, called, text(zip ? 'downloadAll' : 'download', { count, name: called }));
+  byId('list').hidden = false;
+}
+
+function rowOf(ride) {
+  const { heading, numbers } = ride;
   const show = make('button', { type: 'button', 'aria-label': text('show') + ' ' + ride.folder + ride.name }, text('show'));
   show.addEventListener('click', () => choose(ride));
   return make('tr', {}, make('th', { scope: 'row' }, ride.folder + ride.name),

@@ -2,6 +2,7 @@
 
 import pathlib
 import shutil
+import zipfile
 
 from tools.checks import differs, unless
 from tools.pages import RIDE, both, copy, recorded
@@ -161,4 +162,46 @@ def of_choosing(fitrec, folder, shots=None):
                   last(NOTHING, None, "activity.fit is empty: it has no bytes."))
     browser.visit("an empty journal", [{"files": [ride, *made("activity.frj", b"")]}],
                   last(NOTHING, None, "activity.frj is empty", offers=["Save what is readable of the ride file alone"]))
+    yield from browser.outcomes()
+
+
+def of_lists(fitrec, folder, shots=None):
+    """What is done with one of several rides is in the list, in their ZIP file, and there when the ride is shown again."""
+    browser, rides = Browser(folder, shots), folder / "rides"
+    rides.mkdir()
+    by = lambda name, *words: (run(fitrec, *words, folder / name), (folder / name).read_bytes())[1]
+    torn = recorded(fitrec, folder / "torn", RIDE)
+    shutil.copytree(torn, rides / "b")
+    (rides / "c").mkdir()
+    shutil.copy(torn / NAMES[0], rides / "c")
+    saved, alone = by("saved.fit", "save", torn), by("alone.fit", "salvage", "--plain", torn / NAMES[0])
+    (rides / "a.fit").write_bytes(alone)
+    finished = by("finished.fit", "salvage", "--finish", "--plain", rides / "a.fit")
+    unfinished, added = "The file is readable, but is not a finished activity", "Laps and totals are added"
+    names = ["rides/a.fit", "rides/b/activity.fit", "rides/c/activity.fit"]
+
+    def judged(at, states, heading, last, content):
+        def judge(shown, made):
+            yield "the list before", differs([(it[0], it[4]) for it in shown[0]["list"]], [*zip(names, [unfinished, SAVED, READABLE])])
+            yield "how many are saved before", differs(shown[0]["listHeading"], "3 rides, 2 of them saved")
+            yield "the list", differs([(it[0], it[4]) for it in shown[at]["list"]], [*zip(names, states)])
+            yield "how many are saved", differs(shown[at]["listHeading"], heading)
+            yield "what is shown", differs((shown[at]["heading"], shown[at]["focus"]), (states[last], "result"))
+            with zipfile.ZipFile(made[at + 1]) as them:
+                yield "all in one file", differs({it: them.read(it) for it in them.namelist()}, content)
+            yield "what is shown again", differs(shown[-1]["heading"], states[last])
+        return judge
+
+    show = lambda row: {"click": "#rides tbody tr:nth-child(%d) button" % row}
+    name = "2021-09-08-ride%s.fit"
+    for window in WINDOWS:
+        start, take = {"files": [rides], "drop": True}, {"download": "#saveAll"}
+        browser.visit("laps and totals for one of three, %s" % window,
+                      [start, show(1), {"click": "#offers button"}, take, show(2), show(1)],
+                      judged(2, [added, SAVED, READABLE], "3 rides, 3 of them saved", 0,
+                             {name % "-3": finished, name % "": saved, name % "-2": alone}), **WINDOWS[window])
+        browser.visit("a journal for one of three, %s" % window,
+                      [start, show(3), {"files": [torn / NAMES[1]]}, take, show(2), show(3)],
+                      judged(2, [unfinished, SAVED, SAVED], "3 rides, 2 of them saved", 2,
+                             {name % "": saved, name % "-2": saved}), **WINDOWS[window])
     yield from browser.outcomes()
