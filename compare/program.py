@@ -7,7 +7,7 @@ import re
 import tempfile
 
 from tools.checks import differs
-from tools.fit_files import framed, long_content, many_messages
+from tools.fit_files import MOST, framed, long_content, many_messages
 from tools.program import may_take, run
 from tools.reader import wanted
 
@@ -73,6 +73,81 @@ def names(fitrec, small):
                       ["record", "--commit", name, "ride"]):
             status, out, fault = fitrec.run(*words)
             yield "a word that is wrong", differs((status, out, shown in fault, name in fault), (2, "", True, name == shown))
+
+
+# Messages without fields after a file_id that says activity: a lap, and a session.
+LAP, SESSION = (bytes([0x40, 0, 0, number, 0, 0, 0]) for number in (19, 18))
+
+# The lines that are wrong in a script, and why.
+WRONG_LINES = {"ride": "UnknownWord", "lap": "MissingWord", "commit now": "ExtraWord", "sample 1 hr": "UnknownKey", "sample 1 hr=1 hr=2": "RepeatedKey",
+               "start 1 2 walking": "UnknownWord", "fail 0": "BadNumber", "sample 1 hr=x": "BadNumber"}
+
+
+def refused_files(small):
+    """Files that are refused, by their line: those of `show`, and then those of `check` alone."""
+    changed = lambda at, byte: small[:at] + bytes([byte]) + small[at + 1:]
+    records = small[14:-2]
+    faults = {"HeaderSize at 0": changed(0, 13), "Protocol at 1": changed(1, 0x30), "Magic at 8": changed(8, 0), "HeaderCrc at 12": changed(12, 0),
+              "UndefinedLocal(5) at 14": framed(b"\5"), "SplitMessage at 14": framed(b"\x40"), "Truncated at 33": small[:-1],
+              "FileCrc at 32": changed(20, 9), "TrailingBytes at 34": small + small}
+    return faults, {"NoFileId": framed(b""), "NotActivity": framed(records[:13] + b"\6" + records[14:]), "NoLap": small,
+                    "NoSession": framed(records + LAP), "NoActivity": framed(records + LAP + SESSION)}
+
+
+def refused_commands(fitrec, small):
+    """Commands that are refused, and the line of each."""
+    files, others = refused_files(small)
+    for line, data in [*files.items(), *others.items()]:
+        name = fitrec.write(line.split("(")[0].split()[0] + ".fit", data)
+        yield ["check", name], line
+        for words in (["show"], ["show", "--json"], ["table"], ["plain"]) if line in files else ():
+            yield [*words, name, *["out"] * (words == ["plain"])], line
+    for line in ("HeaderSize at 0", "Protocol at 1", "Magic at 8"):
+        yield ["salvage", line.split()[0] + ".fit", "out"], line
+    for size in range(14):
+        yield ["salvage", fitrec.write("%d.fit" % size, small[:size]), "out"], "Truncated at %d" % size
+    for wrong, fault in WRONG_LINES.items():
+        script = fitrec.write("script.%s.%d" % (fault, len(wrong)), wrong.encode())
+        yield ["simulate", script], "line 1: " + fault
+        yield ["replay", script, "ride"], "line 1: " + fault
+    yield ["replay", fitrec.write("only", b"power"), "ride"], "line 1: OnlySimulate"
+    yield ["replay", fitrec.write("twice", b"commit\ncommit\n"), "ride"], "2 refused"
+    latin = fitrec.write("latin", b"# \xFC\n")
+    yield ["replay", latin, "ride"], "cannot read latin"
+    yield ["simulate", latin], "cannot read latin"
+    (fitrec.folder / "torn").mkdir()
+    fitrec.write("torn/activity.fit", small)
+    fitrec.write("torn/activity.frj", b"FRJ3" + bytes(20))
+    for words in (["repair"], ["repair", "--verify"]):
+        yield [*words, "torn"], "Damaged"
+        yield [*words, "empty"], "NothingRecorded"
+    for words in (["salvage"], ["salvage", "--all"], ["salvage", "--plain"], ["plain"]):
+        yield [*words, "NoLap.fit", "."], "cannot write ."
+
+
+def refusals(fitrec, small):
+    """Each refusal of a command is one line, whatever the fault, and nothing is printed but the answers of a script."""
+    for name in ("ride", "empty"):
+        (fitrec.folder / name).mkdir()
+    large = fitrec.folder / "large"
+    large.touch()
+    os.truncate(large, MOST + 1)
+    everything = [*refused_commands(fitrec, small)]
+    for words in (["show"], ["check"], ["replay", "ride"], ["simulate"], ["salvage", "out"], ["plain", "out"], ["table"]):
+        for name, line in (("none", "cannot open none"), (".", "cannot read ."), ("large", "TooLarge")):
+            everything.append(([*words[:1], name, *words[1:]], line))
+    everything += [([*words, "none"], "cannot open none") for words in (["repair"], ["repair", "--verify"], ["replay", "twice"])]
+    for words, line in everything:
+        status, out, said = fitrec.run(*words)
+        answers = "1 commit: NoRecorder\n2 commit: NoRecorder\n" * (line == "2 refused")
+        yield "a refusal of " + " ".join(words[:-1]), differs((status, out, said), (1, answers, "fitrec: %s\n" % line), words)
+    # What a salvage left out is said only of one that is done.
+    fitrec.write("start", b"start 1000000000 7 running\nstop 1000000001\n")
+    fitrec.run("replay", "start", "ride")
+    with open("/dev/full", "wb") as full:
+        for words in (["show", "ride/activity.fit"], ["check", "ride/activity.fit"], ["replay", "start", "empty"], ["simulate", "start"], ["repair", "ride"],
+                      ["salvage", "NoLap.fit", "out"], ["salvage", "TrailingBytes.fit", "out"], ["plain", "NoLap.fit", "out"]):
+            yield "output that is full, of " + words[0], differs(fitrec.run(*words, stdout=full), (1, "", "fitrec: cannot write -\n"), words)
 
 
 def beginnings(fitrec, small):
@@ -190,7 +265,7 @@ def memory(fitrec):
 def check(given):
     with tempfile.TemporaryDirectory() as folder:
         fitrec = Program(given.fitrec, folder)
-        for group in (answers, names, beginnings, outputs):
+        for group in (answers, names, refusals, beginnings, outputs):
             yield from given.checks(group, fitrec, given.small)
         for group in (sizes, developer_fields, choices, many, memory):
             yield from given.checks(group, fitrec)

@@ -54,8 +54,6 @@ DATES = {0: {4}, 18: {2}, 19: {2}}
 
 EPOCH = datetime.datetime(1989, 12, 31)
 
-CHAINED = "fitrec: bytes follow the file; split writes each of the files that are chained in it\n"
-
 
 class Refused(Exception):
     """A file that is refused. The text is the kind and the place."""
@@ -63,7 +61,7 @@ class Refused(Exception):
     @property
     def lines(self):
         """What the program reports."""
-        return "fitrec: %s\n" % self + CHAINED * str(self).startswith("TrailingBytes")
+        return "fitrec: %s\n" % self
 
 
 def checksum(data):

@@ -12,8 +12,8 @@ use fit_files::{FrontRead, Salvage, salvage_bytes};
 use std::io::Write;
 
 /// Writes the readable part of the file `name`, or with `plain` the plain form of that, to the file `to`, which may exist. Prints how
-/// many bytes were kept. If more bytes follow those looked at and the two of a checksum, a line on `err` gives their number, and if the
-/// file could not be read to its end, one says where reading ended. Both may be one file.
+/// many bytes were kept. Then, if the file could not be read to its end, a line on `err` says where reading ended, and if more bytes
+/// follow those looked at and the two of a checksum, one gives their number. Both may be one file.
 pub fn salvage_file<'a, O: Write, E: Write>(
     rt: &HostRuntime,
     name: &'a str,
@@ -30,10 +30,12 @@ pub fn salvage_file<'a, O: Write, E: Write>(
     let read = read_file_front(rt, name)?;
     let salvage = salvage_read(name, &read, all)?;
     write_salvage(rt, name, to, plain, &salvage)?;
-    let _ = print_end(name, read.unread_from(), err);
-    let _ = salvage.print_left(err);
     match salvage.print(out) {
-        Ok(()) => Ok(()),
+        Ok(()) => {
+            let _ = print_end(name, read.unread_from(), err);
+            let _ = salvage.print_left(err);
+            Ok(())
+        }
         Err(fault) => Err(fault_of_report(name, fault)),
     }
 }

@@ -16,7 +16,6 @@ use fit_commands::{
     repair_folder, salvage_file, save_folder, show_as_json, show_file, skip_file, split_file,
     table_each, table_file, verify_folder,
 };
-use fit_grammar::FaultKind;
 use fit_scripts::read_choices;
 use fit_words::{
     Names, Request, TableForm, no_choices, no_name, no_seconds, read_words, too_many_fields,
@@ -279,21 +278,7 @@ fn status<E: Write>(done: Result<(), Fault<'_>>, err: &mut E) -> u8
         Ok(()) => 0,
         Err(fault) => {
             let _ = writeln!(err, "fitrec: {fault}");
-            if is_trailing(&fault) {
-                let _ = writeln!(
-                    err,
-                    "fitrec: bytes follow the file; split writes each of the files that are chained in it",
-                );
-            }
             1
         }
-    }
-}
-
-// Whether bytes follow a file. A second line says what can be done.
-fn is_trailing(fault: &Fault<'_>) -> bool {
-    match fault {
-        Fault::File(fault) => fault.kind == FaultKind::TrailingBytes,
-        _ => false,
     }
 }
