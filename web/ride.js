@@ -40,7 +40,7 @@ function rideOf([records, events, found, [start, elapsed, timer, length, ...stat
     for (const { name, parts } of series) lap.series[name] = rangeOf(parts.filter(it => it.first >= lap.first && it.first < lap.last));
   }
   const ride = { time, lat, long, distance, series, pauses, laps, breaks: lat.includes(NaN) ? breaksOf(time, lat, resumed) : breaks };
-  return { ...ride, ...totalsOf(ride), sums: sumsOf({ start, elapsed, timer, distance: length }) };
+  return { ...ride, ...totalsOf(ride, usual), sums: sumsOf({ start, elapsed, timer, distance: length }) };
 }
 
 // The columns in the order of their times, without samples whose time is missing or far from all others.
@@ -85,11 +85,13 @@ function leaveOut(values, { from, to }) {
 
 // The seconds of the timer at each sample.
 function clockOf(time, pauses) {
+  const clock = new Float64Array(time.length);
   let k = 0, paused = 0;
-  return time.map(t => {
-    for (; k < pauses.length && pauses[k][1] <= t; k++) paused += pauses[k][1] - pauses[k][0];
-    return (k < pauses.length ? Math.min(t, pauses[k][0]) : t) - paused;
-  });
+  for (let i = 0; i < time.length; i++) {
+    for (; k < pauses.length && pauses[k][1] <= time[i]; k++) paused += pauses[k][1] - pauses[k][0];
+    clock[i] = (k < pauses.length ? Math.min(time[i], pauses[k][0]) : time[i]) - paused;
+  }
+  return clock;
 }
 
 // For how many seconds of the timer each value counts: half of those since the value before it, and half of those up to the next.
@@ -144,9 +146,9 @@ function rangeOf(parts) {
 // The least and the greatest value, or NaN if there is none.
 function extremesOf(values) {
   let low = Infinity, high = -Infinity;
-  for (const n of values) {
-    if (n < low) low = n;
-    if (n > high) high = n;
+  for (let i = 0; i < values.length; i++) {
+    if (values[i] < low) low = values[i];
+    if (values[i] > high) high = values[i];
   }
   return low <= high ? { low, high } : { low: NaN, high: NaN };
 }
@@ -222,8 +224,8 @@ function breaksOf(time, values, resumed) {
 }
 
 // What the samples add up to: for files without a summary, and what no summary has.
-function totalsOf({ time, distance, series, pauses }) {
-  const farthest = extremesOf(distance).high, start = time.length ? time[0] : null, end = time.length ? time[time.length - 1] : null;
+function totalsOf({ time, series, pauses }, { to: farthest }) {
+  const start = time.length ? time[0] : null, end = time.length ? time[time.length - 1] : null;
   const paused = pauses.reduce((sum, [from, to]) => sum + Math.max(0, Math.min(to, end) - Math.max(from, start)), 0);
   const height = series.find(it => it.name === 'height');
   const added = { records: time.length, start, elapsed: start === null ? null : (end - start) * 1000,
@@ -245,7 +247,8 @@ function sumsOf({ start, ...lengths }) {
 // How many metres are climbed. A rise counts from two metres on, so that the noise of a barometer does not.
 function ascentOf({ values }) {
   let ascent = 0, low = Infinity, high = -Infinity;
-  for (const n of values) {
+  for (let i = 0; i < values.length; i++) {
+    const n = values[i];
     if (n !== n) continue;
     if (n > high) high = n;
     if (n < low || high - n >= 2) {
