@@ -64,6 +64,22 @@ def of_large_files(fitrec, large):
         yield "the last place of the largest file: " + words, differs(run(fitrec, *words.split(), cwd=large.parent), expected)
 
 
+def known_to_be_too_large(traced):
+    """A file whose size says that it is too large is refused before a byte of it is read."""
+    with tempfile.TemporaryDirectory() as folder:
+        large = pathlib.Path(folder, "in.fit")
+        large.touch()
+        os.truncate(large, MOST + 1)
+        for words, _ in [*READERS, ("show --json large", ""), ("split large .", "")]:
+            said, log = traced.run(*words.replace("large", "in.fit").split(), how={"cwd": folder})
+            reads = [line for line in log if line.startswith("read")]
+            yield "a size that is too large: " + words, differs((said, reads), ((1, "", "fitrec: TooLarge\n"), []))
+        for words, out, fault in ("check --each", "in.fit: TooLarge\n", ""), ("table --fields heart_rate --each", "file,heart_rate_bpm\r\n", "fitrec: in.fit: TooLarge\n"):
+            said, log = traced.run(*words.split(), "in.fit", how={"cwd": folder})
+            reads = [line for line in log if line.startswith("read")]
+            yield "a size that is too large: " + words, differs((said, reads), ((1, out, fault + "fitrec: 1 refused\n"), []))
+
+
 def calls_that_go_wrong(traced, small):
     """A read that falls short or is interrupted is continued. One that fails is reported, and nothing is printed or made."""
     with room(START, "stop 1000000001") as (script, new):
@@ -156,6 +172,7 @@ def files_byte_by_byte(traced, seed):
 def check(given):
     yield from given.checks(limits, given.fitrec)
     with tracing(given.fitrec) as traced:
+        yield from given.checks(known_to_be_too_large, traced)
         yield from given.checks(calls_that_go_wrong, traced, given.small)
         yield from given.checks(tails_that_cannot_be_read, traced)
         yield from given.checks(files_byte_by_byte, traced, given.seed)

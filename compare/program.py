@@ -1,6 +1,8 @@
 """Checks the program itself: what it prints on which stream and how it ends, for each kind of answer, at the limits, with
 output that fails and with little memory."""
 
+import csv
+import io
 import os
 import pathlib
 import re
@@ -8,7 +10,7 @@ import tempfile
 
 from tools.checks import differs
 from tools.fit_files import MOST, framed, long_content, many_messages
-from tools.program import may_take, run
+from tools.program import bytes_of, may_not_grow, may_take, run
 from tools.reader import wanted
 
 NEEDS = ("fitrec",)
@@ -214,15 +216,37 @@ def many(fitrec):
     for options in (["--each", "-0"], ["-0", "--each"], ["--each", "--null"]):
         said = fitrec.run("check", *options, "a.fit", "-", input=b"b\n.fit\0a.fit\0")
         yield "names by zero bytes", differs(said, (1, "a.fit: NoFileId\nb\\x0A.fit: NoFileId\na.fit: NoFileId\n", "fitrec: 3 refused\n"))
-    yield "names that are no text", differs(fitrec.run("check", "--each", "-", input=b"a.fit\n\xff\n"), (1, "", "fitrec: cannot read -\n"))
-    yield "no names", differs(fitrec.run("check", "--each", "-", input=b""), (0, "", ""))
-    said = fitrec.run(*words, "--each", "-", input=b"a.fit\nnone\nc\x1b.fit")
+    for count in 128, 129:
+        status, out, said = fitrec.run("table", "--fields", ",".join(["heart_rate"] * count), "a.fit")
+        lines = [",".join([cell] * count) for cell in ("heart_rate_bpm", "100")]
+        wanted = (0, lines, False) if count == 128 else (2, [], True)
+        yield "%d columns" % count, differs((status, out.split(), "at most 128 columns" in said), wanted)
+    yield "a list that is not read", differs(fitrec.run("check", "--each", "-", stdin=os.open(fitrec.folder, os.O_RDONLY)), (1, "", "fitrec: cannot read -\n"))
+    yield "no names", differs(fitrec.run("check", "--each", "-", input=b"\n\n"), (0, "", ""))
+    yield "no names for a table", differs(fitrec.run(*words, "--each", "-", input=b""), (0, "file,heart_rate_bpm\r\n", ""))
+    said = fitrec.run(*words, "--each", "-", input=b"none\na.fit\n.\nc\x1b.fit\ncut.fit")
     lines = 'file,heart_rate_bpm\r\n"a.fit",100\r\n"c\x1b.fit",100\r\n'
-    yield "a table of names by lines", differs(said, (1, lines, "fitrec: none: cannot open none\nfitrec: 1 refused\n"))
-    with open("/dev/full", "wb") as full:
-        for word in ("check", "table"):
-            said = fitrec.run(word, "--each", "a.fit", stdout=full)
-            yield "output that is full, of " + word + " --each", differs(said, (1, "", "fitrec: cannot write -\n"))
+    reasons = "fitrec: none: cannot open none\nfitrec: .: cannot read .\nfitrec: cut.fit: cannot open cut.fit\nfitrec: 3 refused\n"
+    yield "a table of names by lines, and why some are left out, in order", differs(said, (1, lines, reasons))
+    name = fitrec.write('"d",".fit', ride)
+    cells = list(csv.reader(io.StringIO(fitrec.run(*words, "--each", name, "a.fit")[1])))
+    yield "a name with quotation marks", differs(cells, [["file", "heart_rate_bpm"], [name, "100"], ["a.fit", "100"]])
+
+
+def full_outputs(fitrec):
+    """Output that is full at the first byte, or in the lines of a later file: the command ends there, with one line."""
+    ride = framed(bytes.fromhex("40 00 00 14 00 01 03 01 02 00 64"))
+    for name in ("a.fit", "b.fit", "c.fit"):
+        fitrec.write(name, ride)
+    table = "file,heart_rate_bpm\r\n" + "".join('"%s.fit",100\r\n' % name for name in "abc")
+    checked = "".join("%s.fit: NoFileId\n" % name for name in "abc")
+    out = fitrec.folder / "out"
+    for words, text in ((["table", "--fields", "heart_rate"], table), (["check"], checked)):
+        for size in range(len(text)):
+            with open(out, "wb") as file:
+                said = fitrec.run(*words, "--each", "a.fit", "b.fit", "c.fit", stdout=file, preexec_fn=may_not_grow(size))
+            expected = (1, "", "fitrec: cannot write -\n"), text[:size].encode()
+            yield "output that is full, of " + words[0] + " --each", differs((said, bytes_of(out)), expected, (words, size))
 
 
 def outputs(fitrec, small):
@@ -267,5 +291,5 @@ def check(given):
         fitrec = Program(given.fitrec, folder)
         for group in (answers, names, refusals, beginnings, outputs):
             yield from given.checks(group, fitrec, given.small)
-        for group in (sizes, developer_fields, choices, many, memory):
+        for group in (sizes, developer_fields, choices, many, full_outputs, memory):
             yield from given.checks(group, fitrec)
