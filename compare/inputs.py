@@ -143,6 +143,16 @@ def tails_that_cannot_be_read(traced):
                     content = plained(content)[1] if words == ("--plain",) else content
                     expected = (0, kept, UNREAD_FROM % (file, end) + fault), content
                     yield "a tail that cannot be read: salvage", differs((said, bytes_of(out)), expected, end)
+            for words in (["--skip"], ["--finish"], ["--skip", "--finish"]):
+                said, _ = traced.run("salvage", *words, file, out, end=end)
+                if end < 14:
+                    expected = 1, "fitrec: cannot read %s\n" % file
+                elif words != ["--skip"] and end < counts:
+                    # Without a file_id or a sample nothing is finished.
+                    continue
+                else:
+                    expected = 0, UNREAD_FROM % (file, end) + wanted_salvage(data[:end], False)[0][2]
+                yield "a tail that cannot be read: salvage %s" % " ".join(words), differs((said[0], said[2]), expected, end)
             for command in ("show", "check", "plain"):
                 said, _ = traced.run(command, file, *[out] * (command == "plain"), end=end)
                 yield "a tail that cannot be read: " + command, differs((said[0], said[2]), (1, "fitrec: cannot read %s\n" % file), end)

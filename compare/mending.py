@@ -284,10 +284,20 @@ def finishes(given):
         yield "finished", differs((status, more, made and show(made)), wanted)
 
 
+def told(given):
+    """That bytes follow the end that the header gives is said, also of a file that is finished."""
+    data = own_rides(given.fitrec)[0]
+    line = "fitrec: 10 bytes after the end that the header gives were not read; salvage --all reads them\n"
+    for words in ([], ["--finish"], ["--finish", "--plain"]):
+        status, _, err = mended(given.fitrec, data + bytes(10), *words)[0]
+        yield "bytes that are not looked at", differs((status, err), (0, line), words)
+
+
 def check(given):
     yield from given.checks(whole, given)
     yield from given.checks(rhythms, given)
     yield from given.checks(damaged_headers, given)
+    yield from given.checks(told, given)
     yield from given.checks(split, given)
     yield from given.checks(finishes, given)
     yield from given.checks(noise, given)
