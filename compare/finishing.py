@@ -4,6 +4,7 @@ in Debian's source of goldencheetah, which have the totals that their maker stat
 
 import pathlib
 import random
+import re
 
 from tools.checks import Skipped, differs, unless
 from tools.finished import finished
@@ -124,7 +125,7 @@ def of_other_makers(given):
     inputs = []
     for _ in range(given.files // 6):
         data = Maker(pick).activity()
-        inputs += [(data, False), (data[:pick.randrange(14, len(data) + 1)], pick.random() < 0.5)]
+        inputs += [(data, False), (data + bytes(9), False), (data[:pick.randrange(14, len(data) + 1)], pick.random() < 0.5)]
         inputs.append((damaged(pick, data) or data, pick.random() < 0.5))
     with room() as (place, _):
         yield from given.judged(lambda number, row: judge(given.fitrec, place.parent, number, *row), inputs)
@@ -197,6 +198,32 @@ def of_our_own(given):
     yield from given.judged(lambda number, row: judge_ride(given.fitrec, number, *row), [it for it in inputs if len(it[0]) > 1])
 
 
+def shown(file, names):
+    """The lines of these messages of a file, without their numbers."""
+    return [line.partition(" ")[2] for line in show(file).splitlines() if line.split(" ")[1] in names]
+
+
+def zeros(given):
+    """Zeros after a recording, which a salvage reads as samples, are not heard: each is counted, and the summary is that without them."""
+    pick = random.Random(given.seed)
+    for number in range(max(2, given.files // 300)):
+        lines = [it for it in ride(pick) if number % 2 or it[:3] != "lap"]
+        with room() as (script, new):
+            body = (recorded(given.fitrec, script, new, [*lines, "resume %d" % (START + 9000), "sample %d hr=99" % (START + 9001)]) / "activity.fit").read_bytes()
+            made = []
+            for name, data in ("whole", body), ("zeros", body + bytes(4096)):
+                (pathlib.Path(script.parent) / name).write_bytes(data)
+                out = pathlib.Path(script.parent) / (name + ".fit")
+                said = run(given.fitrec, "salvage", "--finish", pathlib.Path(script.parent) / name, out)
+                counts = re.findall(r"heard (\d+) entries, (\d+) left out", said[1])
+                file = bytes_of(out)
+                made.append((said[0], *map(int, counts[0] if counts else (0, 0)), file and shown(file, ("record",)), file and shown(file, ("lap", "session", "activity"))))
+            whole, more = made
+            added = len(more[3] or ()) - len(whole[3] or ())
+            yield "zeros after a recording", differs((more[:2], more[2] - whole[2], more[4]), (whole[:2], added, whole[4]), lines)
+            yield "so many zeros", unless(added > 100, added, "more than 100")
+
+
 def after_last_record(data):
     """The readable part of a file up to its last record, as bytes that are cut off."""
     row = salvaged(data)[3]
@@ -253,4 +280,5 @@ def of_other_makers_files(given):
 def check(given):
     yield from given.checks(of_other_makers, given)
     yield from given.checks(of_our_own, given)
+    yield from given.checks(zeros, given)
     yield from given.checks(of_other_makers_files, given)

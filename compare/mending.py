@@ -270,6 +270,17 @@ def split(given):
             yield name, differs((said, left, len(os.listdir(new))), ((0, lines, ""), chain, len(chain)))
 
 
+def split_refused(given):
+    """A part that is not written has no line, and none after it is made."""
+    with tempfile.TemporaryDirectory() as folder:
+        source, new = pathlib.Path(folder) / "in.fit", pathlib.Path(folder) / "new"
+        (new / "2.fit").mkdir(parents=True)
+        source.write_bytes(3 * given.small)
+        said = run(given.fitrec, "split", source, new)
+        wanted = (1, part_line(1, given.small), "fitrec: cannot write %s\n" % new), {"1.fit", "2.fit"}
+        yield "a part that is not written", differs((said, set(os.listdir(new))), wanted)
+
+
 def finishes(given):
     """With --finish the file has the closing messages that a second reader gives what is kept, and another line says how many entries."""
     pick = random.Random(given.seed)
@@ -299,6 +310,7 @@ def check(given):
     yield from given.checks(damaged_headers, given)
     yield from given.checks(told, given)
     yield from given.checks(split, given)
+    yield from given.checks(split_refused, given)
     yield from given.checks(finishes, given)
     yield from given.checks(noise, given)
     yield from given.checks(own, given)
