@@ -22,7 +22,7 @@ from tools.finished import finished
 from tools.fit_files import framed
 from tools.holes import KINDS, SIZES, hole, items, numbers, older, touches
 from tools.other_makers import rides
-from tools.program import FITREC, bytes_of, run
+from tools.program import FITREC, as_nobody, bytes_of, for_everyone, run
 from tools.reader import Refused, show
 from tools.rides import recording
 
@@ -271,7 +271,7 @@ def split(given):
 
 
 def split_refused(given):
-    """A part that is not written has no line, and none after it is made."""
+    """A part that is not written has no line, and none after it is made. A folder without a name is refused."""
     with tempfile.TemporaryDirectory() as folder:
         source, new = pathlib.Path(folder) / "in.fit", pathlib.Path(folder) / "new"
         (new / "2.fit").mkdir(parents=True)
@@ -279,6 +279,11 @@ def split_refused(given):
         said = run(given.fitrec, "split", source, new)
         wanted = (1, part_line(1, given.small), "fitrec: cannot write %s\n" % new), {"1.fit", "2.fit"}
         yield "a part that is not written", differs((said, set(os.listdir(new))), wanted)
+        # As root it would make the parts in the root folder, so it runs as another user.
+        with for_everyone(given.fitrec) as fitrec:
+            os.chmod(folder, 0o755)
+            said = run(fitrec, "split", source, "", preexec_fn=as_nobody)
+        yield "a folder without a name", differs(said, (1, "", "fitrec: cannot open \n"))
 
 
 def finishes(given):

@@ -182,9 +182,9 @@ IsPartReported folder (faults.Write name) = (name ≡ folder) ⊎ (name.now ≡ 
 IsPartReported folder faults.NoMemory = Unit {0}
 IsPartReported folder _ = ⊥
 
--- of writing the files that are chained in one into a folder
+-- of writing the files that are chained in one into a folder, which has a name
 abbrev pub IsSplitReported : Bor (List ℕ) → Bor (List ℕ) → Fault → Type 0
-IsSplitReported file folder (faults.Open name) = name ≡ file
+IsSplitReported file folder (faults.Open name) = (name ≡ file) ⊎ (name ≡ folder)
 IsSplitReported file folder (faults.Read name) = name ≡ file
 IsSplitReported file folder faults.TooLarge = Unit {0}
 IsSplitReported file folder reported = IsPartReported folder reported

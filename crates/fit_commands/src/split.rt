@@ -1,6 +1,6 @@
 // The subcommand `split`: writes each of the files that are chained in one.
 
-ghost use Rattle.std.specs.Prelude.{map, IfErr};
+ghost use Rattle.std.specs.Prelude.{◌≤◌, length, map, IfErr, OnOk};
 ghost use Rattle.fit_commands.specs.Faults.{IsNotWritten, IsPartReported, IsSplitReported};
 ghost use Rattle.fit_commands.specs.Reported.{PrintsLines, SplitsFile};
 
@@ -14,7 +14,7 @@ use fit_mending::split_files;
 use std::io::Write;
 
 /// Writes each of the files that are chained in the file `name` into the folder `to`, as `1.fit`, `2.fit` and so on, which may exist.
-/// Prints a line for each: how many bytes it has, and why it is no file, if it is none.
+/// Prints a line for each: how many bytes it has, and why it is no file, if it is none. A folder without a name is not opened.
 pub fn split_file<'a, O: Write>(
     rt: &HostRuntime,
     name: &'a str,
@@ -23,8 +23,12 @@ pub fn split_file<'a, O: Write>(
 ) -> Result<(), Fault<'a>>
     ensures reported { IfErr result (IsSplitReported name.entry to.entry) }
     ensures lines { SplitsFile (O.contents out.old) (O.contents out.new) result }
+    ensures named { OnOk result (1 ≤ length to.now) }
 {
     let bytes = read_file(rt, name)?;
+    if to.is_empty() {
+        return Err(Fault::Open(to));
+    }
     let Ok(files) = split_files(rt.alloc(), bytes.as_slice()) else {
         return Err(Fault::NoMemory);
     };

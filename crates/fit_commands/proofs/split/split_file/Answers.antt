@@ -9,6 +9,9 @@ use Rattle.fit_commands.proofs.split.split_file.Goals as goal
 pub returns-in_err-bytes-clause-lines : goal.returns-in_err-bytes-clause-lines
 returns-in_err-bytes-clause-lines g c = none_split _ _ c.from_residual.ensures.0
 
+pub returns-then-is_empty-clause-lines : goal.returns-then-is_empty-clause-lines
+returns-then-is_empty-clause-lines g c = none_split _ (Err (faults.Open c.args.to)) (cc)
+
 pub returns-in_default-clause-lines : goal.returns-in_default-clause-lines
 returns-in_default-clause-lines g c = none_split _ (Err faults.NoMemory) (cc)
 
