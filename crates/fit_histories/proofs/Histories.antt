@@ -4,6 +4,7 @@ pub mod Idle
 pub mod Riding
 pub mod Left
 pub mod NeverFull
+pub mod Begun
 pub mod Runs
 pub mod Plain
 pub mod Replies

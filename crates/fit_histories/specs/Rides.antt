@@ -5,3 +5,4 @@ pub mod Standing
 pub mod NeverFull
 pub mod Left
 pub mod Goes
+pub mod Begun

@@ -1,6 +1,6 @@
 //! Laws of the definitions in `specs/`. Each is the contract of a function that does nothing.
 
-ghost use Rattle.std.specs.Prelude.{List, ℕ};
+ghost use Rattle.std.specs.Prelude.{Bool, List, ℕ};
 ghost use Rattle.fit_scripts.specs.declared.event.Event.{Event};
 ghost use Rattle.fit_histories.specs.Histories.Plain.{RidesGoWell};
 ghost use Rattle.fit_histories.specs.Histories.Runs.{IsHistory};
@@ -15,6 +15,6 @@ pub fn rides_without_failures_go_well()
 
 /// Answers that follow choice bytes are a history.
 pub fn what_follows_choices_is_a_history()
-    ensures { (choices : List ℕ) (events : List Event) (outcomes : List Outcome)
-        → FollowsChoices choices events outcomes → IsHistory events outcomes }
+    ensures { (checked : Bool) (choices : List ℕ) (events : List Event) (outcomes : List Outcome)
+        → FollowsChoices checked choices events outcomes → IsHistory events outcomes }
 {}

@@ -1,6 +1,6 @@
 // A recording over its disk, with a recorder that runs or without one.
 
-ghost use Rattle.std.specs.Prelude.{◌≡◌, ◌≢◌, ◌↔◌, ◌++◌, ◌∷◌, [], true, false, None, IsTrue};
+ghost use Rattle.std.specs.Prelude.{Bool, ◌≡◌, ◌≢◌, ◌↔◌, ◌++◌, ◌∷◌, [], true, false, None, IsTrue};
 ghost use Rattle.fit_scripts.specs.declared.command.Command.TheVariants as commands;
 
 use crate::reply::Reply;
@@ -37,6 +37,7 @@ impl<D: Disk> Ride<D> {
     ghost use Rattle.fit_histories.specs.Rides.Ride.{CanGoOn, Handed, Called, Answered, disk_in, is_riding, encoded_checksum, encoded_len, slots_of};
     ghost use Rattle.fit_histories.specs.Rides.NeverFull.{NeverFull, StaysNeverFull};
     ghost use Rattle.fit_histories.specs.Rides.Goes.{TakesStep};
+    ghost use Rattle.fit_histories.specs.Rides.Begun.{RideBeginsForm};
     ghost use Rattle.fit_histories.specs.Rides.Standing.{StandsIn, TakesStepFrom, LeavesAllowed};
     ghost use Rattle.fit_histories.specs.Rides.Left.{LeftBy};
     ghost use Rattle.fit_recorder.specs.Files.NeverFull.{NeverFills};
@@ -55,6 +56,8 @@ impl<D: Disk> Ride<D> {
         ensures riding { is_riding result.0 ≡ is_ok result.1 }
         ensures goes { IsTrue D.honest
             → TakesStep D.honest D.story (commands.Start start) result.1 self result.0 }
+        ensures form { RideBeginsForm D.honest D.story checked (commands.Start start) result.1 self
+            result.0 }
         ensures never_full { StaysNeverFull D.honest D.story self result.1 result.0 }
         ensures called { Called D.log result.1 self result.0 }
     {
@@ -76,6 +79,8 @@ impl<D: Disk> Ride<D> {
         ensures riding { is_riding self.new ≡ is_riding self.old }
         ensures goes { IsTrue D.honest
             → TakesStep D.honest D.story (commands.Entry entry.now) result self.old self.new }
+        ensures form { (checked : Bool) → RideBeginsForm D.honest D.story checked
+            (commands.Entry entry.now) result self.old self.new }
         ensures never_full { StaysNeverFull D.honest D.story self.old result self.new }
         ensures called { Called D.log result self.old self.new }
     {
@@ -100,6 +105,8 @@ impl<D: Disk> Ride<D> {
         ensures riding { is_riding self.new ≡ is_riding self.old }
         ensures goes { IsTrue D.honest
             → TakesStep D.honest D.story commands.Commit result self.old self.new }
+        ensures form { (checked : Bool) → RideBeginsForm D.honest D.story checked commands.Commit
+            result self.old self.new }
         ensures never_full { StaysNeverFull D.honest D.story self.old result self.new }
         ensures called { Called D.log result self.old self.new }
     {
@@ -120,6 +127,8 @@ impl<D: Disk> Ride<D> {
         ensures riding { is_riding result.0 ≡ outlives_stop (is_riding self) result.1 }
         ensures goes { IsTrue D.honest
             → TakesStep D.honest D.story (commands.Entry (Stop time)) result.1 self result.0 }
+        ensures form { (checked : Bool) → RideBeginsForm D.honest D.story checked
+            (commands.Entry (Stop time)) result.1 self result.0 }
         ensures never_full { StaysNeverFull D.honest D.story self result.1 result.0 }
         ensures called { Called D.log result.1 self result.0 }
     {
@@ -139,6 +148,8 @@ impl<D: Disk> Ride<D> {
         ensures disk { disk_in result.0 ≡ disk_in self }
         ensures step { IsTrue D.honest → (before : History) → StandsIn D.honest D.story self before
             → TakesStepFrom D.honest D.story before commands.Restart result.1 result.0 }
+        ensures form { (checked : Bool) → RideBeginsForm D.honest D.story checked commands.Restart
+            result.1 self result.0 }
         ensures never_full { StaysNeverFull D.honest D.story self result.1 result.0 }
     {
         (Ride::Idle(self.into_disk()), Reply::Done)
@@ -150,6 +161,8 @@ impl<D: Disk> Ride<D> {
         ensures ended { is_riding result.0 ≡ false }
         ensures goes { IsTrue D.honest
             → TakesStep D.honest D.story commands.Recover result.1 self result.0 }
+        ensures form { (checked : Bool) → RideBeginsForm D.honest D.story checked commands.Recover
+            result.1 self result.0 }
         ensures never_full { StaysNeverFull D.honest D.story self result.1 result.0 }
         ensures called { Called D.log result.1 self result.0 }
     {
@@ -168,6 +181,8 @@ impl<D: Disk> Ride<D> {
         ensures riding { is_riding result.0 ≡ is_ok result.1 }
         ensures goes { IsTrue D.honest
             → TakesStep D.honest D.story commands.Reopen result.1 self result.0 }
+        ensures form { (checked : Bool) → RideBeginsForm D.honest D.story checked commands.Reopen
+            result.1 self result.0 }
         ensures never_full { StaysNeverFull D.honest D.story self result.1 result.0 }
         ensures called { Called D.log result.1 self result.0 }
     {

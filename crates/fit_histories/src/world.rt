@@ -1,6 +1,6 @@
 //! A recording over a disk in memory. Commands arrange which calls fail and when the power is cut.
 
-ghost use Rattle.std.specs.Prelude.{◌≡◌, [], List, All, map, IfOk, OnOk};
+ghost use Rattle.std.specs.Prelude.{◌≡◌, [], List, All, map, IfOk, OnOk, false};
 ghost use Rattle.fit_histories.specs.Histories.Runs.{IsHistory, NoneFull, outcome_in};
 ghost use Rattle.fit_scripts.specs.Scripts.Commands.{CanRun};
 ghost use Rattle.fit_histories.specs.Histories.Table.{Outcome};
@@ -26,18 +26,19 @@ use stepping::step;
 pub struct NoMemory;
 
 /// Runs the events over two empty files, and returns the answer to each. The choice bytes decide what a power cut leaves of the
-/// files. Each power cut takes the bytes after those of the one before it. Missing bytes are 0.
+/// files. Each power cut takes the bytes after those of the one before it. Missing bytes are 0. A start begins a journal without
+/// checksums.
 pub fn run(alloc: Global, events: &[Event], choices: &[u8]) -> Result<Vec<Answer>, NoMemory>
     requires { All (λ event. CanRun event.command) events.now }
     ensures history { IfOk result (λ answers. IsHistory events.now (map outcome_in answers.items)) }
     ensures follows { IfOk result (λ answers.
-        FollowsChoices choices.now events.now (map outcome_in answers.items)) }
+        FollowsChoices false choices.now events.now (map outcome_in answers.items)) }
     ensures never_full { IfOk result (λ answers. NoneFull (map outcome_in answers.items)) }
 {
     run_with(alloc, events, choices, false)
 }
 
-/// The same, with a checked journal at each start or another.
+/// The same, but a start begins a journal with checksums if `checked` is true.
 pub fn run_with(
     alloc: Global,
     events: &[Event],
@@ -47,7 +48,7 @@ pub fn run_with(
     requires { All (λ event. CanRun event.command) events.now }
     ensures history { IfOk result (λ answers. IsHistory events.now (map outcome_in answers.items)) }
     ensures follows { IfOk result (λ answers.
-        FollowsChoices choices.now events.now (map outcome_in answers.items)) }
+        FollowsChoices checked choices.now events.now (map outcome_in answers.items)) }
     ensures never_full { IfOk result (λ answers. NoneFull (map outcome_in answers.items)) }
 {
     let kept = Vec::new(alloc);
@@ -56,7 +57,7 @@ pub fn run_with(
     Ok(answers.kept)
 }
 
-/// The same, but returns replies. No copy of a finished file is made.
+/// The same, but returns the replies of the answers. No copy of a finished file is made.
 pub fn run_for_replies(
     alloc: Global,
     events: &[Event],
@@ -64,14 +65,9 @@ pub fn run_for_replies(
     checked: bool,
 ) -> Result<Vec<Reply>, NoMemory>
     requires { All (λ event. CanRun event.command) events.now }
-    ensures history { IfOk result (λ replies. (outcomes : List Outcome)
-        × IsHistory events.now outcomes
-        × (replies.items ≡ map reply_in outcomes)) }
-    ensures follows { IfOk result (λ replies. (outcomes : List Outcome)
-        × FollowsChoices choices.now events.now outcomes
-        × (replies.items ≡ map reply_in outcomes)) }
-    ensures never_full { IfOk result (λ replies. (outcomes : List Outcome) × NoneFull outcomes
-        × (replies.items ≡ map reply_in outcomes)) }
+    ensures { IfOk result (λ replies. (outcomes : List Outcome)
+        × FollowsChoices checked choices.now events.now outcomes
+        × NoneFull outcomes × (replies.items ≡ map reply_in outcomes)) }
 {
     let kept = Vec::new(alloc);
     let mut replies = Replies { kept };
@@ -90,7 +86,7 @@ fn run_for<K: Keeper>(
     requires can { All (λ event. CanRun event.command) events.now }
     requires first { K.WasReported keeper.old [] }
     ensures { OnOk result ((outcomes : List Outcome)
-        × FollowsChoices choices.entry.now events.now outcomes
+        × FollowsChoices checked choices.entry.now events.now outcomes
         × NoneFull outcomes × K.WasReported keeper.new outcomes) }
 {
     let mut ride = Ride::Idle(Memory::new(alloc));

@@ -15,8 +15,8 @@ use fit_text::Pen;
 use std::io::Write;
 
 /// Runs the events over a disk, and prints the reply to each before it runs the next. Returns the disk and the number of replies
-/// that were not ok. If the output fails, the event whose line it refused was run, and none after it. A start makes a checked
-/// journal or another.
+/// that were not ok. If the output fails, the event whose line it refused was run, and none after it. A start begins a journal with
+/// checksums if `checked` is true, else without.
 pub fn play<D: Disk, O: Write>(
     disk: D,
     events: &[Event],
@@ -27,10 +27,10 @@ pub fn play<D: Disk, O: Write>(
     ensures most { IfOk result.1 (λ refused. refused ≤ length events.now) }
     ensures outcome { IfOk result.1 (λ refused.
         AreReported events.now
-        (LeavesAfter D.honest (D.story disk) (D.story result.0) events.now) refused
+        (LeavesAfter checked D.honest (D.story disk) (D.story result.0) events.now) refused
         (O.contents out.old) (O.contents out.new)) }
     ensures broken_off { IfErr result.1 (λ _.
-        BreaksOff D.honest (D.story disk) (D.story result.0) events.now (O.contents out.old)
+        BreaksOff checked D.honest (D.story disk) (D.story result.0) events.now (O.contents out.old)
         (O.contents out.new)) }
     ensures fault { IfErr result.1 IsOutputFault }
 {
@@ -53,10 +53,10 @@ fn play_by<D: Disk, O: Write>(
     ensures same { pen.new.name ≡ pen.old.name }
     ensures outcome { IfOk result.1 (λ refused.
         AreReported events.now
-        (LeavesAfter D.honest (D.story disk) (D.story result.0) events.now) refused
+        (LeavesAfter checked D.honest (D.story disk) (D.story result.0) events.now) refused
         pen.old.held pen.new.held) }
     ensures broken_off { IfErr result.1 (λ _.
-        BreaksOff D.honest (D.story disk) (D.story result.0) events.now pen.old.held pen.new.held) }
+        BreaksOff checked D.honest (D.story disk) (D.story result.0) events.now pen.old.held pen.new.held) }
     ensures fault { IfErr result.1 IsOutputFault }
 {
     let mut ride = Ride::Idle(disk);

@@ -46,8 +46,8 @@ impl SimulateFault {
 }
 
 /// Runs the events of a script over two empty files, and then prints the reply to each. The choice bytes decide what a power cut
-/// leaves of the files. Each power cut takes the bytes after those of the one before it. Missing bytes are 0. A start makes a
-/// checked journal or another.
+/// leaves of the files. Each power cut takes the bytes after those of the one before it. Missing bytes are 0. A start begins a
+/// journal with checksums if `checked` is true, else without.
 pub fn simulate<O: Write>(
     alloc: Global,
     bytes: &[u8],
@@ -55,7 +55,7 @@ pub fn simulate<O: Write>(
     checked: bool,
     out: &mut O,
 ) -> Result<(), SimulateFault>
-    ensures { Simulates choices.now (O.contents out.old) (O.contents out.new) bytes.now result }
+    ensures { Simulates checked choices.now (O.contents out.old) (O.contents out.new) bytes.now result }
 {
     let Ok(text) = str::from_utf8(bytes) else {
         return Err(SimulateFault::NoText);

@@ -1,5 +1,5 @@
 -- What one event leaves of both files and reports of them, and the history of answers that follow choice bytes: for `world::run`.
-use Rattle.std.proofs.Common.{◌≡◌, ℕ, true, false, List, [], ◌∷◌, drop, refl, sym, subst}
+use Rattle.std.proofs.Common.{◌≡◌, ℕ, Bool, true, false, List, [], ◌∷◌, drop, refl, sym, subst}
 use Rattle.fit_activity.specs.declared.activity.Summary.{Summary}
 use Rattle.fit_activity.specs.declared.recording.entry.Entry.TheVariants as entries
 use Rattle.fit_disk.specs.declared.memory.Memory.{Memory}
@@ -97,18 +97,18 @@ reply_of_outcome (replies.Recovered summary) file = refl
 reply_of_outcome (replies.Refused fault) file = refl
 reply_of_outcome replies.NoRecorder file = refl
 
-follows_runs : (before : History) (arranged : Arranged) (disk : Simulated) (choices : List ℕ) (events : List Event) (outcomes : List Outcome) →
-    Follows before arranged disk choices events outcomes → Runs before arranged events outcomes
-follows_runs before arranged disk choices [] [] follows = tt
-follows_runs before arranged disk choices (event ∷ events) (outcome ∷ outcomes) follows = (
+follows_runs : (checked : Bool) (before : History) (arranged : Arranged) (disk : Simulated) (choices : List ℕ) (events : List Event) (outcomes : List Outcome) →
+    Follows checked before arranged disk choices events outcomes → Runs before arranged events outcomes
+follows_runs checked before arranged disk choices [] [] follows = tt
+follows_runs checked before arranged disk choices (event ∷ events) (outcome ∷ outcomes) follows = (
   follows.0,
   follows.2.step,
   follows.2.may_fail,
-  follows_runs follows.0 (arranged_after arranged event.command outcome) follows.1 (drop (takes event.command choices disk.files.now) choices) events outcomes follows.3,
+  follows_runs checked follows.0 (arranged_after arranged event.command outcome) follows.1 (drop (takes event.command choices disk.files.now) choices) events outcomes follows.3,
 )
-follows_runs before arranged disk choices [] (outcome ∷ outcomes) follows = absurd follows
-follows_runs before arranged disk choices (event ∷ events) [] follows = absurd follows
+follows_runs checked before arranged disk choices [] (outcome ∷ outcomes) follows = absurd follows
+follows_runs checked before arranged disk choices (event ∷ events) [] follows = absurd follows
 
 -- answers that follow choice bytes are a history
-pub is_history : (choices : List ℕ) (events : List Event) (outcomes : List Outcome) → FollowsChoices choices events outcomes → IsHistory events outcomes
-is_history choices events outcomes follows = follows_runs at_first nothing_arranged at_start choices events outcomes follows
+pub is_history : (checked : Bool) (choices : List ℕ) (events : List Event) (outcomes : List Outcome) → FollowsChoices checked choices events outcomes → IsHistory events outcomes
+is_history checked choices events outcomes follows = follows_runs checked at_first nothing_arranged at_start choices events outcomes follows

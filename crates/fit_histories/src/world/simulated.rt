@@ -1,6 +1,6 @@
 // A ride over the memory disk. Failures and power cuts can be arranged.
 
-ghost use Rattle.std.specs.Prelude.{◌≡◌, ◌≤◌, true, false, min, length};
+ghost use Rattle.std.specs.Prelude.{Bool, ◌≡◌, ◌≤◌, true, false, min, length};
 ghost use Rattle.fit_scripts.specs.declared.command.Command.TheVariants as commands;
 ghost use Rattle.fit_histories.specs.declared.reply.Reply.TheVariants as replies;
 
@@ -15,6 +15,7 @@ impl Ride<Memory> {
     ghost use Rattle.fit_histories.specs.Rides.Ride.{CanGoOn, disk_in, is_riding};
     ghost use Rattle.fit_histories.specs.Rides.NeverFull.{NeverFull, StaysNeverFull};
     ghost use Rattle.fit_histories.specs.Rides.Standing.{StandsIn, TakesStepFrom, content_of};
+    ghost use Rattle.fit_histories.specs.Rides.Begun.{LeavesForm};
 
     /// Makes the k-th call of the disk from now on fail, counted from 1. The ride stays as it is.
     pub(crate) fn fail_at(&mut self, k: u32)
@@ -59,6 +60,8 @@ impl Ride<Memory> {
         ensures step { (before : History) → StandsIn true memory_story self before
             → TakesStepFrom true memory_story before commands.Power replies.Done result.0 }
         ensures never_full { StaysNeverFull true memory_story self replies.Done result.0 }
+        ensures form { (checked : Bool) → LeavesForm checked (memory_story (disk_in self))
+            → LeavesForm checked (memory_story (disk_in result.0)) }
         ensures left { (memory_story (disk_in result.0)).now
             ≡ cycled choices.now (memory_story (disk_in self)).now }
         ensures taken { result.1

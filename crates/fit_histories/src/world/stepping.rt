@@ -9,6 +9,7 @@ ghost use Rattle.fit_histories.specs.Histories.Table.{History};
 ghost use Rattle.fit_histories.specs.Rides.Ride.{CanGoOn, disk_in};
 ghost use Rattle.fit_histories.specs.Rides.NeverFull.{StaysNeverFull};
 ghost use Rattle.fit_histories.specs.Rides.Standing.{StandsIn, TakesStepFrom};
+ghost use Rattle.fit_histories.specs.Rides.Begun.{RideBeginsForm};
 
 use crate::reply::Reply;
 use crate::ride::Ride;
@@ -28,6 +29,7 @@ pub fn step(
     ensures goes_on { CanGoOn true memory_story result.0 }
     ensures step { (before : History) → StandsIn true memory_story ride before
         → TakesStepFrom true memory_story before command.now result.1 result.0 }
+    ensures form { RideBeginsForm true memory_story checked command.now result.1 ride result.0 }
     ensures never_full { StaysNeverFull true memory_story ride result.1 result.0 }
     ensures moves { Moves command.now result.1 (memory_counts (disk_in ride))
         (memory_schedule (disk_in ride))

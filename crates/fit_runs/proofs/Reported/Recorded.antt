@@ -19,11 +19,13 @@ use Rattle.fit_histories.specs.declared.reply.Reply.{Reply}
 use Rattle.fit_histories.specs.Histories.Table.{History, Idle, Step, ended, Riding}
 use Rattle.fit_runs.specs.Rides.Dues.{Shows, times_on}
 use Rattle.fit_histories.specs.Rides.Replies.{MayReply, MayReplyAll, is_ok, rides_on}
-use Rattle.fit_histories.specs.Rides.Ride.{is_riding, Handed}
+use Rattle.fit_histories.specs.Rides.Begun.{LeavesForm, RideBeginsForm, begun_after, begun_on}
+use Rattle.fit_histories.specs.Rides.Ride.{disk_in, is_riding, Handed}
 use Rattle.fit_histories.specs.Rides.Standing.{StandsIn, TakesStepFrom, LeavesAllowed, content_of, outcome}
 use Rattle.fit_runs.specs.Rides.Turns.{commit_at, Turn, Asked, Faulty, turn_text, turns_text, events_in, replies_in, refused_count, refused_in, rides_after, times_after, AnswersLine, AnswersLines, CommitsIfDue, CommitsUnlessBroken, PrintsPart, Prints, SoFar, EndsAt, GoesByTurns, LeavesByTurns}
 use Rattle.fit_runs.specs.Rides.Heard.{Heard, after_byte, after_bytes, lines_heard_in, line_of}
 use Rattle.fit_histories.specs.declared.ride.Ride.{Ride}
+use Rattle.fit_runs.proofs.Reported.Played.{form_on}
 use Rattle.fit_histories.specs.declared.ride.Ride.TheVariants as rides
 
 -- ---- one turn more
@@ -84,6 +86,13 @@ goes_same before after (Asked event reply last ∷ turns) number fault goes =
     (goes.0, goes.1, goes.2, goes.3, goes_same goes.1 after turns number fault goes.4)
 goes_same before after (Faulty n f ∷ turns) number fault goes = goes_same before after turns number fault goes
 
+begun_more : (begun : Bool) (turns : List Turn) (event : Event) (reply : Reply) (last : ℕ) →
+    begun_after begun (events_in (turns ++ Asked event reply last ∷ [])) (replies_in (turns ++ Asked event reply last ∷ []))
+    ≡ begun_on (begun_after begun (events_in turns) (replies_in turns)) event.command reply
+begun_more begun [] event reply last = refl
+begun_more begun (Asked first stated other ∷ turns) event reply last = begun_more (begun_on begun first.command stated) turns event reply last
+begun_more begun (Faulty number fault ∷ turns) event reply last = begun_more begun turns event reply last
+
 -- the last time of a recorder is that of the list in each state in which it stands
 pub ends_at : {D : Type 0} (honest : Bool) (story : D → Story) (ride : Ride D) (after : History) (last : ℕ) →
     ((list : List Recorded) → Handed ride list → last ≡ end_time list) → StandsIn honest story ride after → EndsAt after last
@@ -100,9 +109,9 @@ module _ {D : Type 0} (honest : Bool) (story : D → Story) (every : Option ℕ)
       is_riding next.ride ≡ rides_on (is_riding session.ride) event.command reply → next.refused ≡ session.refused + refused_count (Asked event reply last) →
       Shows every (times_on (times_after [] turns) event.command (is_ok reply) last) next.clock →
       (IsTrue honest → (before : History) → StandsIn honest story session.ride before → TakesStepFrom honest story before event.command reply next.ride) →
-      ((after : History) → StandsIn honest story next.ride after → EndsAt after last) →
+      ((after : History) → StandsIn honest story next.ride after → EndsAt after last) → RideBeginsForm honest story true event.command reply session.ride next.ride →
       SoFar honest story every old (turns ++ Asked event reply last ∷ []) next
-  so_far_asked old turns session next event reply last known may rides counts shows step ends = record {
+  so_far_asked old turns session next event reply last known may rides counts shows step ends form = record {
     may = may_more false turns event reply last known.may (subst (λ riding. MayReply riding event.command reply) known.riding may);
     riding = rides ∙ ap (λ riding. rides_on riding event.command reply) known.riding ∙ sym (rides_more false turns event reply last);
     counted = omega (arith, counts, known.counted, refused_more turns (Asked event reply last ∷ []));
@@ -110,7 +119,13 @@ module _ {D : Type 0} (honest : Bool) (story : D → Story) (every : Option ℕ)
     stood = λ sound claims begun rests.
         let stood = known.stood sound claims begun rests in
         let by = step sound stood.0 stood.2 in
-        (by.after, goes_more (Idle claims begun) stood.0 by.after turns event reply last (content_of story next.ride) stood.1 by.step (ends by.after by.stands), by.stands);
+        (
+          by.after,
+          goes_more (Idle claims begun) stood.0 by.after turns event reply last (content_of story next.ride) stood.1 by.step (ends by.after by.stands),
+          by.stands,
+          λ begun_now. form_on true (begun_after false (events_in turns) (replies_in turns)) event.command reply (story (disk_in session.ride)) (story (disk_in next.ride)) stood.3
+              (form sound stood.0 stood.2) (sym (begun_more false turns event reply last) ∙ begun_now),
+        );
   }
 
   -- a line could not be done
@@ -127,6 +142,7 @@ module _ {D : Type 0} (honest : Bool) (story : D → Story) (every : Option ℕ)
           stood.0,
           goes_same (Idle claims begun) stood.0 turns number fault stood.1,
           subst (λ ride. StandsIn honest story ride stood.0) (sym same) stood.2,
+          rw (events_same turns number fault, replies_same turns number fault, same) stood.3,
         );
   }
 
@@ -141,16 +157,16 @@ module _ {D : Type 0} (honest : Bool) (story : D → Story) (every : Option ℕ)
         clock = rw clock known.clock;
         stood = λ sound claims begun rests.
             let stood = known.stood sound claims begun rests in
-            (stood.0, stood.1, subst (λ ride. StandsIn honest story ride stood.0) (sym same) stood.2);
+            (stood.0, stood.1, subst (λ ride. StandsIn honest story ride stood.0) (sym same) stood.2, rw same stood.3);
       })
 
   -- what is left if the ride is ended
   pub left_after : (old new : Story) (turns : List Turn) (session : Session D) → SoFar honest story every old turns session →
       (IsTrue honest → (before : History) → StandsIn honest story session.ride before → LeavesAllowed (ended before) new) →
-      LeavesByTurns honest old new turns
-  left_after old new turns session known ends sound claims begun rests =
+      new ≡ story (disk_in session.ride) → LeavesByTurns honest old new turns
+  left_after old new turns session known ends same sound claims begun rests =
       let stood = known.stood sound claims begun rests in
-      record { after = stood.0; goes = stood.1; rests = ends sound stood.0 stood.2 }
+      record { after = stood.0; goes = stood.1; rests = ends sound stood.0 stood.2; form = λ begun_now. subst (LeavesForm true) (sym same) (stood.3 begun_now) }
 
 pub no_commit : (due : Bool) (number : ℕ) → due ≡ false → CommitsIfDue due number []
 no_commit true number none = cc

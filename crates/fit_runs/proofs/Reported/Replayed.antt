@@ -120,13 +120,13 @@ at_the_end events i riding stated refused o n Known past none_before none so_far
     }
 
 -- if the line of an event is cut short
-pub cut_off : (honest : Bool) (old new : Story) (events : List Event) (i : ℕ) (d : Event) (riding : Bool) (stated : List Reply) (reply : Reply)
+pub cut_off : (checked honest : Bool) (old new : Story) (events : List Event) (i : ℕ) (d : Event) (riding : Bool) (stated : List Reply) (reply : Reply)
     (refused : ℕ) (o m : Written) (held : Option (List ℕ)) → i < length events → o.waiting ≡ [] → m.waiting ≡ [] →
     LeadsTo events riding (drop i events) stated refused o m → MayReply riding (get_or events i d).command reply →
     AppendsBeginning m.held held (m.waiting ++ (line_text (get_or events i d) reply ++ codes "\n")) →
-    ((played : List Event) → events ≡ played ++ drop (i + 1) events → LeavesAfter honest old new played (stated ++ reply ∷ [])) →
-    BreaksOff honest old new events o.held held
-cut_off honest old new events i d riding stated reply refused o m held within none_before none known may cut leaves =
+    ((played : List Event) → events ≡ played ++ drop (i + 1) events → LeavesAfter checked honest old new played (stated ++ reply ∷ [])) →
+    BreaksOff checked honest old new events o.held held
+cut_off checked honest old new events i d riding stated reply refused o m held within none_before none known may cut leaves =
     let last = get_or events i d in
     let line : List ℕ = line_text last reply ++ codes "\n" in
     let begins : events ≡ known.played ++ last ∷ drop (i + 1) events =

@@ -19,8 +19,9 @@ use Rattle.fit_histories.specs.Histories.Table.{History, Idle, Riding, Step, end
 use Rattle.fit_runs.specs.Printed.FaultyLines.{faulty_text}
 use Rattle.fit_runs.specs.Printed.ReplyLines.{line_text}
 use Rattle.fit_runs.specs.Rides.Dues.{Shows, times_on, is_due}
+use Rattle.fit_histories.specs.Rides.Begun.{LeavesForm, begun_after}
 use Rattle.fit_histories.specs.Rides.Replies.{MayReplyAll, is_ok, rides_on}
-use Rattle.fit_histories.specs.Rides.Ride.{is_riding}
+use Rattle.fit_histories.specs.Rides.Ride.{disk_in, is_riding}
 use Rattle.fit_histories.specs.Rides.Standing.{StandsIn, LeavesAllowed, outcome}
 use Rattle.fit_scripts.specs.Scripts.Faults.{IsWrong}
 use Rattle.fit_runs.specs.Rides.Heard.{lines_heard_in, lines_in}
@@ -180,11 +181,18 @@ GoesByTurns before (Asked event reply last ∷ turns) after =
     × EndsAt next last × GoesByTurns next turns after
 GoesByTurns before (Faulty number fault ∷ turns) after = GoesByTurns before turns after
 
--- the turns came, and after the end of the recorder that runs the disk is as the history allows
+-- a journal that a start of these turns began has checksums
+abbrev pub ChecksIfBegun : List Turn → Story → Type 0
+ChecksIfBegun turns story =
+    begun_after false (events_in turns) (replies_in turns) ≡ true → LeavesForm true story
+
+-- The turns came, and after the end of the recorder that runs the disk is as the history allows. A journal that a start began has
+-- checksums.
 pub record LeftByTurns (before : History) (story : Story) (turns : List Turn) : Type 0 where
   pub after : History
   pub goes : GoesByTurns before turns after
   pub rests : LeavesAllowed (ended after) story
+  pub form : ChecksIfBegun turns story
 
 -- over an honest disk, from any state without a recorder that allows the disk as it was
 abbrev pub LeavesByTurns : Bool → Story → Story → List Turn → Type 0
@@ -254,3 +262,4 @@ module _ {D : Type 0} where
         → LeavesAllowed (Idle claims begun) old →
         (after : History) × GoesByTurns (Idle claims begun) turns after
         × StandsIn honest story session.ride after
+        × ChecksIfBegun turns (story (disk_in session.ride))

@@ -57,10 +57,10 @@ pub fn replay_files<'a, W: Witness, O: Write>(
     requires { All IsReplayed events.now }
     ensures printed { IfOk result (λ done. IfOk done.1 (λ refused.
         AreReported events.now
-        (LeavesAfter W.honest (W.story witness) (W.story done.0) events.now) refused
+        (LeavesAfter checked W.honest (W.story witness) (W.story done.0) events.now) refused
         (O.contents out.old) (O.contents out.new))) }
     ensures broken_off { IfOk result (λ done. IfErr done.1 (λ _.
-        BreaksOff W.honest (W.story witness) (W.story done.0) events.now (O.contents out.old)
+        BreaksOff checked W.honest (W.story witness) (W.story done.0) events.now (O.contents out.old)
         (O.contents out.new))) }
     ensures fault { IfOk result (λ done. IfErr done.1 IsOutputFault) }
     ensures reported { IfErr result

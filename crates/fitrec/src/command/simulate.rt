@@ -20,7 +20,7 @@ pub fn simulate_script<'a, R: Files + AllocGlobal, O: Write>(
 ) -> Result<(), Fault<'a>>
     ensures { ReportsRun name.entry (O.contents out.old) (O.contents out.new)
         (IsSimulateFault name.entry)
-        (Simulates choices.now (O.contents out.old) (O.contents out.new)) result }
+        (Simulates checked choices.now (O.contents out.old) (O.contents out.new)) result }
 {
     let bytes = read_file(rt, name)?;
     match simulate(rt.alloc(), bytes.as_slice(), choices, checked, out) {

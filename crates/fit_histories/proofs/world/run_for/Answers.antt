@@ -10,7 +10,7 @@ loop-event-init g c =
     record {
       goes_on = tt;
       not_spent = unspent_first c.new.result new.refused new.counts;
-      so_far = ([], c.requires.first, first_leads c.args.choices.now c.args.events.now c.new.result new.story new.counts new.schedule);
+      so_far = ([], c.requires.first, first_leads c.args.checked c.args.choices.now c.args.events.now c.new.result new.story new.counts new.schedule);
     }
 
 pub loop-event-preserved : goal.loop-event-preserved
@@ -25,13 +25,13 @@ loop-event-preserved g c =
       so_far = (
         _,
         c.in_ok-keep.ensures so_far.0 so_far.1,
-        rw (take_rest c.loop-event.choices.now c.step-next.result.2) (leads_on c.args.choices.now c.loop-event.choices.now c.step-next.result.2 c.args.events.now c.loop-event.event-index _ so_far.0 c.loop-event.ride next c.step-next.result.1 c.file.result.now
-            c.loop-event-test.true c.loop-event.invariant.not_spent not_spent so_far.2 step.step step.never_full step.moves c.file.ensures step.taken step.left),
+        rw (take_rest c.loop-event.choices.now c.step-next.result.2) (leads_on c.args.checked c.args.choices.now c.loop-event.choices.now c.step-next.result.2 c.args.events.now c.loop-event.event-index _ so_far.0 c.loop-event.ride next c.step-next.result.1 c.file.result.now
+            c.loop-event-test.true c.loop-event.invariant.not_spent not_spent so_far.2 step.step step.never_full step.form step.moves c.file.ensures step.taken step.left),
       );
     }
 
 pub returns : goal.returns
 returns g c =
     let so_far = c.loop-event.invariant.so_far in
-    let all = at_the_end c.args.choices.now c.loop-event.choices.now c.args.events.now c.loop-event.event-index _ _ c.loop-event-test.false so_far.2 in
+    let all = at_the_end c.args.checked c.args.choices.now c.loop-event.choices.now c.args.events.now c.loop-event.event-index _ _ c.loop-event-test.false so_far.2 in
     (so_far.0, all.0, all.1, so_far.1)

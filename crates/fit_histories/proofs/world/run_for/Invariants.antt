@@ -10,5 +10,5 @@ invariant-loop-event g l =
     record {
       goes_on : CanGoOn true memory_story l.ride;
       not_spent : is_spent (disk_in l.ride) ≡ false;
-      so_far : (outcomes : List Outcome) × g.K.Keeper.WasReported l.keeper outcomes × Leads l.fn.choices l.choices l.events (drop l.event-index l.events) outcomes l.ride;
+      so_far : (outcomes : List Outcome) × g.K.Keeper.WasReported l.keeper outcomes × Leads l.fn.checked l.fn.choices l.choices l.events (drop l.event-index l.events) outcomes l.ride;
     }

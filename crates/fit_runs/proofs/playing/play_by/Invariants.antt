@@ -11,6 +11,6 @@ invariant-loop-event g l =
       goes_on : CanGoOn g.D.Disk.honest g.D.Disk.story l.ride;
       most : l.refused ≤ l.event-index;
       so_far : (stated : List Reply) × LeadsTo l.events (is_riding l.ride) (drop l.event-index l.events) stated l.refused l.initial.pen l.pen
-          × Rode g.D.Disk.honest g.D.Disk.story (g.D.Disk.story l.fn.disk) l.events (drop l.event-index l.events) stated l.ride;
+          × Rode l.fn.checked g.D.Disk.honest g.D.Disk.story (g.D.Disk.story l.fn.disk) l.events (drop l.event-index l.events) stated l.ride;
       waits : l.pen.waiting ≡ [];
     }

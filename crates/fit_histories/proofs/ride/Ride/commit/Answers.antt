@@ -2,12 +2,13 @@ use Rattle.std.proofs.Common.{◌∙◌, ap}
 use Rattle.std.proofs.lemmas.Result.{on_ok_weaker}
 use Rattle.fit_journal.specs.Turn.{slots_left}
 use Rattle.fit_recorder.specs.Calls.Answers.{CommitAnswers}
-use Rattle.fit_recorder.specs.Calls.Recorder.{journal_slots}
+use Rattle.fit_recorder.specs.Calls.Recorder.{disk_of, journal_slots}
 use Rattle.fit_histories.proofs.Histories.Replies.{answered_by, replies_of_call, done_of_call}
 use Rattle.fit_recorder.proofs.Commit.Slots.{committed_turns}
 use Rattle.fit_histories.proofs.Histories.NeverFull.{rides_on}
 use Rattle.fit_histories.proofs.Histories.Riding.{commit_goes, never_full}
 use Rattle.fit_histories.proofs.Histories.Left.{kept_if_refused}
+use Rattle.fit_histories.proofs.Histories.Begun.{called_form}
 use Rattle.fit_histories.proofs.ride.Ride.commit.Goals as goal
 
 pub returns-in-Riding-clause-replies : goal.returns-in-Riding-clause-replies
@@ -52,3 +53,11 @@ returns-in-Riding-clause-never_full g c honest before stands never =
 
 pub returns-in-Riding-clause-answered : goal.returns-in-Riding-clause-answered
 returns-in-Riding-clause-answered g c = rw c.in-Riding.is (answered_by _ _ _ _ c.commit.result c.commit.ensures.after c.into.result c.into.ensures)
+
+pub returns-in-Riding-clause-form : goal.returns-in-Riding-clause-form
+returns-in-Riding-clause-form g c checked honest before stands =
+    let here = rw c.in-Riding.is at stands in
+    let done = c.commit.ensures in
+    rw c.in-Riding.is
+    (called_form g.D.Disk.honest g.D.Disk.story honest checked c.in-Riding.recorder c.commit.new.self c.commit.result done.after (done.head honest) before here
+    (g.met.D.Disk.sound (disk_of c.in-Riding.recorder) honest))

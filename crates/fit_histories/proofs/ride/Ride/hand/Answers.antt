@@ -1,12 +1,13 @@
 use Rattle.std.proofs.Common.{◌∙◌, ap}
 use Rattle.fit_journal.specs.Turn.{slots_left}
 use Rattle.fit_recorder.specs.Calls.Answers.{HandAnswers}
-use Rattle.fit_recorder.specs.Calls.Recorder.{data_len}
+use Rattle.fit_recorder.specs.Calls.Recorder.{data_len, disk_of}
 use Rattle.fit_histories.proofs.Histories.Replies.{answered_by, replies_of_call, done_of_call, counted_by}
 use Rattle.fit_recorder.proofs.Commit.Head.{rest_head, stands_rest}
 use Rattle.fit_histories.proofs.Histories.NeverFull.{on_ok_of, rides_on}
 use Rattle.fit_histories.proofs.Histories.Riding.{hand_goes}
 use Rattle.fit_histories.proofs.Histories.Left.{kept_if_refused}
+use Rattle.fit_histories.proofs.Histories.Begun.{same_form}
 use Rattle.fit_histories.proofs.ride.Ride.hand.Goals as goal
 
 pub returns-in-Riding-clause-replies : goal.returns-in-Riding-clause-replies
@@ -53,3 +54,7 @@ returns-in-Riding-clause-never_full g c honest before stands never =
 
 pub returns-in-Riding-clause-answered : goal.returns-in-Riding-clause-answered
 returns-in-Riding-clause-answered g c = rw c.in-Riding.is (answered_by _ _ _ _ c.hand.result c.hand.ensures.after c.into.result c.into.ensures)
+
+pub returns-in-Riding-clause-form : goal.returns-in-Riding-clause-form
+returns-in-Riding-clause-form g c checked honest before stands =
+    rw c.in-Riding.is (λ form. same_form checked (g.D.Disk.story (disk_of c.in-Riding.recorder)) (g.D.Disk.story (disk_of c.hand.new.self)) (g.met.D.Disk.sound (disk_of c.in-Riding.recorder) honest) form (c.hand.ensures.journal.file honest))

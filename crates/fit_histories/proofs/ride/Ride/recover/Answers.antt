@@ -5,6 +5,7 @@ use Rattle.fit_disk.specs.declared.disk.Which.TheVariants.{Data}
 use Rattle.fit_histories.proofs.Histories.Idle.{recover_goes}
 use Rattle.fit_histories.proofs.Histories.Replies.{replies_recovery}
 use Rattle.fit_histories.proofs.Histories.Riding.{idle_goes}
+use Rattle.fit_histories.proofs.Histories.Begun.{synced_form}
 use Rattle.fit_histories.proofs.ride.Ride.recover.Goals as goal
 
 pub returns-clause-goes : goal.returns-clause-goes
@@ -38,3 +39,8 @@ returns-clause-never_full g c honest before stands never =
       not_full = λ is. recovery_not_full c.recover.result done.known_fault (sym c.into-reply.ensures ∙ is);
       never_full = recovered_fills _ (g.met.D.Disk.sound c.into_disk-disk.result honest) (c.into_disk-disk.ensures.never_fills honest before stands never) _ (done.journal honest) (done.any_moment honest);
     }
+
+pub returns-clause-form : goal.returns-clause-form
+returns-clause-form g c checked honest before stands =
+    rw (← c.into_disk-disk.ensures.disk)
+    (λ form. synced_form checked (g.D.Disk.story c.into_disk-disk.result) (g.D.Disk.story c.recover.new.disk) (g.met.D.Disk.sound c.into_disk-disk.result honest) form (c.recover.ensures.journal honest))

@@ -2,6 +2,8 @@ use Rattle.std.proofs.Common.{◌∙◌, sym, true≢false}
 use Rattle.fit_histories.proofs.Histories.NeverFull.{resumed_turns, resume_not_full, recovered_fills}
 use Rattle.fit_histories.proofs.Histories.Idle.{reopen_goes}
 use Rattle.fit_histories.proofs.Histories.Riding.{idle_goes, reopened_goes}
+use Rattle.fit_recorder.specs.Calls.Recorder.{disk_of}
+use Rattle.fit_histories.proofs.Histories.Begun.{synced_form}
 use Rattle.fit_histories.proofs.ride.Ride.reopen.Goals as goal
 
 pub returns-in-Ok-clause-goes : goal.returns-in-Ok-clause-goes
@@ -54,3 +56,11 @@ returns-in-Err-clause-never_full g c honest before stands never =
       not_full = λ is. resume_not_full (g.D.Disk.story c.into_disk.result) sound fills c.in-Err.fault (refused.decides honest) is;
       never_full = recovered_fills (g.D.Disk.story c.into_disk.result) sound fills _ (refused.journal honest) (refused.any_moment honest);
     }
+
+pub returns-in-Ok-clause-form : goal.returns-in-Ok-clause-form
+returns-in-Ok-clause-form g c checked honest before stands =
+    rw (← c.into_disk.ensures.disk) (λ form. synced_form checked (g.D.Disk.story c.into_disk.result) (g.D.Disk.story (disk_of c.in-Ok.resumed)) (g.met.D.Disk.sound c.into_disk.result honest) form (c.in-Ok.ensures.journal honest))
+
+pub returns-in-Err-clause-form : goal.returns-in-Err-clause-form
+returns-in-Err-clause-form g c checked honest before stands =
+    rw (← c.into_disk.ensures.disk) (λ form. synced_form checked (g.D.Disk.story c.into_disk.result) (g.D.Disk.story c.in-Err.kept) (g.met.D.Disk.sound c.into_disk.result honest) form (c.in-Err.ensures.journal honest))

@@ -5,3 +5,6 @@ returns-clause-never_full g c honest before stands never = record {
   not_full = λ is. absurd cc;
   never_full = c.into_disk.ensures.never_fills honest before stands never;
 }
+
+pub returns-clause-form : goal.returns-clause-form
+returns-clause-form g c checked honest before stands = rw c.into_disk.ensures.disk (λ form. form)

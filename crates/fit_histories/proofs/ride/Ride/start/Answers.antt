@@ -4,6 +4,7 @@ use Rattle.fit_histories.proofs.Histories.NeverFull.{start_not_full}
 use Rattle.fit_histories.proofs.Histories.Idle.{empty_there, start_goes}
 use Rattle.fit_histories.proofs.Histories.Riding.{idle_goes, started_goes}
 use Rattle.fit_histories.proofs.Histories.Left.{start_refused}
+use Rattle.fit_histories.proofs.Histories.Begun.{started_form, refused_form}
 use Rattle.fit_histories.proofs.ride.Ride.start.Goals as goal
 
 pub returns-in-Ok-clause-goes : goal.returns-in-Ok-clause-goes
@@ -41,3 +42,15 @@ returns-in-Err-clause-never_full g c honest before stands never = record {
   not_full = λ is. start_not_full c.args.start c.in-Err.fault c.in-Err.ensures.answers is;
   never_full = c.in-Err.ensures.never_fills honest (c.into_disk.ensures.never_fills honest before stands never);
 }
+
+pub returns-in-Ok-clause-form : goal.returns-in-Ok-clause-form
+returns-in-Ok-clause-form g c honest before stands =
+    let begun = c.in-Ok.ensures in
+    started_form g.D.Disk.honest g.D.Disk.story honest c.args.checked c.in-Ok.recorder _ _ begun.ok.1 begun.begun.turns
+
+pub returns-in-Err-clause-form : goal.returns-in-Err-clause-form
+returns-in-Err-clause-form g c honest before stands =
+    let refused = c.in-Err.ensures in
+    rw (← c.into_disk.ensures.disk)
+    (refused_form c.args.checked c.args.start (g.D.Disk.story c.into_disk.result) (g.D.Disk.story c.in-Err.disk) c.in-Err.fault refused.answers (λ refusal is. ap g.D.Disk.story (refused.handed_back.same refusal is))
+    (λ is. (refused.handed_back.not_empty honest is).0) (refused.any_moment honest))

@@ -5,6 +5,8 @@ use Rattle.fit_histories.specs.Rides.Replies.{reply_of}
 use Rattle.fit_histories.proofs.Histories.NeverFull.{on_err_of, rides_on, stopped_fills}
 use Rattle.fit_histories.proofs.Histories.Riding.{stop_goes, stop_done}
 use Rattle.fit_histories.proofs.Histories.Left.{kept_if_refused}
+use Rattle.fit_recorder.specs.Calls.Recorder.{disk_of}
+use Rattle.fit_histories.proofs.Histories.Begun.{called_form}
 use Rattle.fit_histories.proofs.ride.Ride.stop.Goals as goal
 
 pub returns-in-Ok-clause-replies : goal.returns-in-Ok-clause-replies
@@ -53,3 +55,19 @@ returns-in-Err-clause-never_full g c honest before stands never =
     let done = c.stop.ensures in
     rides_on g.D.Disk.honest g.D.Disk.story honest c.in-Riding.recorder c.stop.new.self c.stop.result done.after (done.head honest) before here full
     (λ list result. StopAnswers list c.args.time result) done.answers (λ _ list none. none) (on_err_of _ c.stop.result c.in-Err.fault c.in-Err.is) (replies.Refused c.in-Err.fault) (sym (ap reply_of c.in-Err.is))
+
+pub returns-in-Ok-clause-form : goal.returns-in-Ok-clause-form
+returns-in-Ok-clause-form g c checked honest before stands =
+    let here = rw c.in-Riding.is at stands in
+    let done = c.stop.ensures in
+    rw (c.in-Riding.is, c.into_disk.ensures.disk)
+    (called_form g.D.Disk.honest g.D.Disk.story honest checked c.in-Riding.recorder c.stop.new.self c.stop.result done.after (done.head honest) before here
+    (g.met.D.Disk.sound (disk_of c.in-Riding.recorder) honest))
+
+pub returns-in-Err-clause-form : goal.returns-in-Err-clause-form
+returns-in-Err-clause-form g c checked honest before stands =
+    let here = rw c.in-Riding.is at stands in
+    let done = c.stop.ensures in
+    rw c.in-Riding.is
+    (called_form g.D.Disk.honest g.D.Disk.story honest checked c.in-Riding.recorder c.stop.new.self c.stop.result done.after (done.head honest) before here
+    (g.met.D.Disk.sound (disk_of c.in-Riding.recorder) honest))

@@ -14,7 +14,7 @@ returns-clause-asked g c = λ every old turns known.
       last,
       so_far_asked g.D.Disk.honest g.D.Disk.story every old turns c.args.self _ c.args.event.now reply last known ran.reply ran.riding
           (omega (arith, c.refusals.ensures.count c.args.event.now last)) (noted.shows every (times_after [] turns) known.clock) (λ honest. (ran.goes honest).step)
-          (λ after. ends_at g.D.Disk.honest g.D.Disk.story c.ask-ride.result.0 after last c.last_time.ensures),
+          (λ after. ends_at g.D.Disk.honest g.D.Disk.story c.ask-ride.result.0 after last c.last_time.ensures) ran.form,
       noted.due every (times_after [] turns) known.clock,
       prints_one _ _ _ (Asked c.args.event.now reply last)
           (puts_written _ _ _ _ c.requires.waits c.print-printed.ensures.none c.print-printed.ensures.line),

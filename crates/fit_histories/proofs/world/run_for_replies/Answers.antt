@@ -1,5 +1,0 @@
-use Rattle.fit_histories.proofs.Simulation.Following.{is_history}
-use Rattle.fit_histories.proofs.world.run_for_replies.Goals as goal
-
-pub returns-clause-history : goal.returns-clause-history
-returns-clause-history c = let all = c.in_ok-run_for.ensures in (all.0, is_history c.args.choices.now c.args.events.now all.0 all.1, all.3)
