@@ -8,7 +8,7 @@ import pathlib
 import re
 import tempfile
 
-from tools.checks import differs
+from tools.checks import differs, unless
 from tools.fit_files import MOST, framed, long_content, many_messages
 from tools.program import bytes_of, may_not_grow, may_take, run
 from tools.reader import wanted
@@ -204,6 +204,10 @@ def many(fitrec):
     table = "heart_rate_bpm\r\n100\r\n"
     words = "table", "--fields", "heart_rate"
     yield "a table of standard input", differs(fitrec.run(*words, "-", input=ride), (0, table, ""))
+    for count, wanted in (128, (0, ",".join(128 * ["heart_rate_bpm"]) + "\r\n" + ",".join(128 * ["100"]) + "\r\n")), (129, (2, "")):
+        said = fitrec.run("table", "--fields", ",".join(count * ["heart_rate"]), "-", input=ride)
+        yield "a table of %d columns" % count, differs(said[:2], wanted)
+    yield "why a table has no more columns", unless("at most 128 columns" in said[2], said[2], "at most 128 columns")
     said = fitrec.run(*words, "-", input=ride[:-1])
     yield "a table of a part of a file", differs(said, (1, "", "fitrec: Truncated at %d\n" % (len(ride) - 1)))
     fitrec.write("-", ride)
