@@ -100,7 +100,7 @@ def by_library(calls, data, message, fields):
 
 # How many decimals a scale of the Profile has, and units that do not end a column's name as they are.
 DECIMALS = {1: 0, 2: 1, 4: 2, 5: 1, 10: 1, 16: 4, 100: 2, 128: 7, 256: 8, 1000: 3, 1024: 8, 5000: 4, 32768: 8, 65535: 8, 65536: 8,
-            0.7111111: 2, 10430.38: 6, 0.01: 0, 0.5: 0}
+            0.7111111: 5, 10430.38: 6, 0.01: 0, 0.5: 0}
 ENDS = {"%": "percent", "m/s^2": "m_s2", "kg/m^3": "kg_m3", "local_date": "s"}
 ROWS, TITLES = profile_table.rows_of(), profile_table.titles_of()
 
@@ -113,8 +113,10 @@ def unit_of(message, field, form):
     _, _, unit, scale, offset = row
     if unit in ("date", "semicircles"):
         return TIME if unit == "date" else DEGREES
+    # 0.7111111 is 32 / 45: 256 parts are 360 degrees
+    parts = fractions.Fraction(32, 45) if scale == 0.7111111 else fractions.Fraction(str(scale))
     end = ENDS.get(unit, unit.lower().replace("/", "_"))
-    return (end, fractions.Fraction(str(scale)), DECIMALS[scale], -int(offset)) if unit or scale != 1 else None
+    return (end, parts, DECIMALS[scale], -int(offset)) if unit or scale != 1 else None
 
 
 def cell_text(message, field, value, form, alone):

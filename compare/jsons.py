@@ -71,7 +71,7 @@ def developer_object(field, said):
     index, number, big, data = field
     key = [("index", index), ("number", number)]
     if said is None:
-        return [*key, ("bytes", hexadecimal(data) if data else "")]
+        return [*key, ("bytes", hexadecimal(data))]
     in_units, value = numbers_of(said.base, big, data)
     if in_units:
         value = one_or_all([None if it is None else read(decimal_text(*said.in_units(it))) for it in value])
@@ -84,8 +84,8 @@ def by_profile(data, utc):
     found = reader.messages(data, False, columns.held_by)[3]
     for line, (message, fields, developer), said in zip(lines[1:], found, descriptions(found)):
         line[2] = "name", columns.TITLES.get(message)
-        line[3] = "fields", [member(message, field, held, form) for field, (held,) in fields]
-        line[4] = "developer", list(map(developer_object, developer, said))
+        line[3] = "fields", [member(message, field, held, form) for field, (held,) in fields if held[2]]
+        line[4] = "developer", [developer_object(field, it) for field, it in zip(developer, said) if field[3]]
     return lines
 
 

@@ -271,12 +271,13 @@ def value_json(base, big, data):
 
 def show_json(data, utc=False):
     """The values of the lines of a file as JSON, each a list of pairs, since a name may be there twice."""
-    header, versions, size, found = messages(data, utc, value_json)
+    left_out = object()  # a field of size 0
+    header, versions, size, found = messages(data, utc, lambda base, big, it: value_json(base, big, it) if it else left_out)
     lines = [[("header", header), ("protocol", "%d.%d" % versions[:2]), ("profile", versions[2]), ("data", size)]]
     for message, shown, developer in found:
         name, names = names_of(message)
-        fields = [(names.get(field, "field_%d" % field), value) for field, value in shown]
-        after = [[("index", index), ("number", field), ("bytes", hexadecimal(it) if it else "")] for index, field, _, it in developer]
+        fields = [(names.get(field, "field_%d" % field), value) for field, value in shown if value is not left_out]
+        after = [[("index", index), ("number", field), ("bytes", hexadecimal(it))] for index, field, _, it in developer if it]
         place = len(lines) - 1
         lines.append([("number", place), ("message", message), ("name", name), ("fields", fields), ("developer", after)])
     return lines + [[("messages", len(lines) - 1)]]

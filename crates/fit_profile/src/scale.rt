@@ -24,7 +24,7 @@ pub enum Scale {
     Part32768,
     Part65535,
     Part65536,
-    /// 0.7111111, of angles in a turn of a crank.
+    /// 0.7111111, of angles in a turn of a crank: 256 are 360 degrees.
     Phase,
     /// 10430.38, of radians.
     Attitude,
@@ -76,7 +76,7 @@ pub fn parts_of(scale: Scale) -> Parts
         Scale::Part32768 => scaled(390_625, 128, 100_000_000, 8),
         Scale::Part65535 => scaled(20_000_000, 13_107, 100_000_000, 8),
         Scale::Part65536 => scaled(390_625, 256, 100_000_000, 8),
-        Scale::Phase => scaled(1_000_000_000, 7_111_111, 100, 2),
+        Scale::Phase => scaled(140_625, 1, 100_000, 5),
         Scale::Attitude => scaled(50_000_000, 521_519, 1_000_000, 6),
         Scale::Semicircles => scaled(1_125_000_000, 134_217_728, 100_000_000, 8),
         Scale::Hundreds => scaled(100, 1, 1, 0),

@@ -2,10 +2,10 @@
 use Rattle.std.proofs.Common.{◌≡◌, ℕ, ◌-◌, ◌^◌, ◌<◌, ◌≤◌, Bool, true, false, List, [], ◌∷◌, ◌++◌, length, get_or, take, drop, sum_by, refl, sym, ap, ◌∙◌, append_assoc, codes, decimal, Option, Some, None, IfSome, arith}
 use Rattle.std.specs.Prelude.{not, option_map}
 use Rattle.std.specs.Borrow.{Bor}
-use Rattle.std.proofs.lemmas.List.{take_all, length-append}
+use Rattle.std.proofs.lemmas.List.{take_all, length-append, length-drop}
 use Rattle.std.proofs.Math.Seq.{take-append_seam}
 use Rattle.std.specs.Int.{to_le_bytes, w32}
-use Rattle.std.specs.List.{join_by}
+use Rattle.std.specs.List.{filter, join_by}
 use Rattle.std.specs.Option.{is_none}
 use Rattle.fit_base.specs.declared.order.Arch.{Arch}
 use Rattle.fit_base.specs.declared.order.Arch.TheVariants.{Little}
@@ -13,16 +13,17 @@ use Rattle.fit_base.specs.Number.{low_first}
 use Rattle.fit_grammar.specs.declared.definition.Definition.{Definition}
 use Rattle.fit_grammar.specs.declared.definition.FieldDefinition.{FieldDefinition}
 use Rattle.fit_grammar.specs.declared.definition.DeveloperFieldDefinition.{DeveloperFieldDefinition}
-use Rattle.fit_grammar.specs.Format.Item.{fields_size}
+use Rattle.fit_grammar.specs.Format.Item.{content_size, developer_size, fields_size}
 use Rattle.fit_grammar.specs.Format.Message.{Message, MessageField, MessageDeveloperField, developer_of, fields_of, time_field, time_fields, message_under}
 use Rattle.fit_text.specs.declared.showing.plan.Column.{Column}
 use Rattle.fit_text.specs.declared.showing.plan.Plan.{Plan}
 use Rattle.fit_text.specs.Date.{dates_of}
-use Rattle.fit_text.specs.Json.{quoted, field_json, developer_key, name_json, line_json}
+use Rattle.fit_text.specs.Json.{quoted, field_json, developer_key, name_json, line_json, has_bytes, has_developer_bytes}
 use Rattle.fit_text.specs.Members.{separator, joined, inner, field_in, column_json, columns_json, time_json, IsNamed, AreNamed}
-use Rattle.fit_text.specs.Plan.{field_at, json_at, time_field_definition, IsColumn, AreColumns, IsPlanOf}
+use Rattle.fit_text.specs.Plan.{field_at, json_at, time_field_definition, IsColumn, AreColumns, IsPlanOf, shown_developer, shown_fields}
 use Rattle.fit_text.specs.Profile.{FieldNames, names_of_fields}
 use Rattle.fit_text.specs.Text.{field_name}
+use Rattle.fit_text.proofs.EmptyLemmas.{developer_shown, shown_size, timed_shown}
 use Rattle.fit_text.proofs.PlanLemmas.{columns_size}
 
 -- ---- members
@@ -105,12 +106,12 @@ columns_named names dates (field ∷ fields) (column ∷ columns) h =
     (column_named names dates field column h.0, columns_named names dates fields columns h.1)
 
 pub plan_named : (d : Definition) (plan : Plan) (columns : List Column) (developer : List DeveloperFieldDefinition) →
-    IsPlanOf d plan columns developer → AreNamed (names_of_fields plan.global) (dates_of plan.utc plan.global) columns
+    IsPlanOf false d plan columns developer → AreNamed (names_of_fields plan.global) (dates_of plan.utc plan.global) columns
 plan_named d plan columns developer h =
-    rw h.global (columns_named (names_of_fields d.global) (dates_of plan.utc d.global) d.fields.items columns h.fields)
+    rw h.global (columns_named (names_of_fields d.global) (dates_of plan.utc d.global) (shown_fields false d.fields.items) columns h.fields)
 
 pub time_named : (d : Definition) (plan : Plan) (columns : List Column) (developer : List DeveloperFieldDefinition) →
-    IsPlanOf d plan columns developer → IsNamed (names_of_fields plan.global) (dates_of plan.utc plan.global) plan.time
+    IsPlanOf false d plan columns developer → IsNamed (names_of_fields plan.global) (dates_of plan.utc plan.global) plan.time
 time_named d plan columns developer h =
     rw h.global (column_named (names_of_fields d.global) (dates_of plan.utc d.global) time_field_definition plan.time h.time)
 
@@ -181,31 +182,39 @@ none_begins o is = rw is refl
 pub plan_json : (name : ℕ → Option (List ℕ)) (member : Bool → ℕ → MessageField → List ℕ) (object : MessageDeveloperField → List ℕ)
     (number : ℕ) (d : Definition) (time : Option ℕ)
     (content : List ℕ) (plan : Plan) (columns : List Column) (developer : List DeveloperFieldDefinition) (first : Bool) →
-    IfSome time (λ time. time < 2 ^ 32) → first ≡ is_none time → IsPlanOf d plan columns developer →
+    IfSome time (λ time. time < 2 ^ 32) → first ≡ is_none time → content_size d ≡ length content → IsPlanOf false d plan columns developer →
     head_json number plan.global (name plan.global)
     ++ (time_json (member plan.utc plan.global) plan.time time
     ++ (columns_json first (member plan.utc plan.global) plan.arch columns content
     ++ (codes "},\"developer\":["
     ++ (join_by object (codes ",") (developer_of plan.arch developer (drop (sum_by (λ c. c.size) columns) content)) ++ codes "]}\n"))))
     ≡ line_json (name d.global) (member plan.utc d.global) object number (message_under d time content)
-plan_json name member object number d time content plan columns developer first fits begins h =
+plan_json name member object number d time content plan columns developer first fits begins whole h =
     let names = names_of_fields d.global in
     let shown = dates_of plan.utc d.global in
     let own = member plan.utc d.global in
-    let size = columns_size names shown d.fields.items columns h.fields in
-    let after = join_by object (codes ",") (developer_of d.arch d.developer.items (drop (fields_size d) content)) in
+    let fields = shown_fields false d.fields.items in
+    let size = columns_size names shown fields columns h.fields ∙ shown_size false d.fields.items in
+    let front : fields_size d ≤ length content = omega (arith, whole) in
+    let back : developer_size d ≤ length (drop (fields_size d) content) = omega (arith, whole, length-drop (fields_size d) content) in
+    let after = join_by object (codes ",") (developer_of d.arch (shown_developer false d.developer.items) (drop (fields_size d) content)) in
     rw (begins, h.global, h.arch, h.developer, size)
     (line_parts (head_json number d.global (name d.global)) (time_json own plan.time time) (columns_json (is_none time) own d.arch columns content) after
     ∙ ap (λ t. head_json number d.global (name d.global) ++ (t ++ (codes "},\"developer\":[" ++ (after ++ codes "]}\n"))))
-    (members_by own names shown d.arch d.fields.items columns content plan.time time fits h.time h.fields)
-    ∙ whole_line number d.global (name d.global) _ after)
+    (members_by own names shown d.arch fields columns content plan.time time fits h.time h.fields)
+    ∙ ap (λ fs. head_json number d.global (name d.global) ++ (join_by own (codes ",") fs ++ (codes "},\"developer\":[" ++ (after ++ codes "]}\n"))))
+    (timed_shown time d.arch d.fields.items content front)
+    ∙ ap (λ ds. head_json number d.global (name d.global) ++ (join_by own (codes ",") (filter has_bytes (message_under d time content).fields)
+    ++ (codes "},\"developer\":[" ++ (join_by object (codes ",") ds ++ codes "]}\n"))))
+    (developer_shown d.arch d.developer.items (drop (fields_size d) content) back)
+    ∙ whole_line number d.global (name d.global) _ _)
 
 -- the line of a message begins so
 pub plan_head : (name : ℕ → Option (List ℕ)) (member : MessageField → List ℕ) (object : MessageDeveloperField → List ℕ)
     (number global : ℕ) (m : Message) → global ≡ m.global →
     head_json number global (name global)
-    ++ (join_by member (codes ",") m.fields
-    ++ (codes "},\"developer\":[" ++ (join_by object (codes ",") m.developer ++ codes "]}\n")))
+    ++ (join_by member (codes ",") (filter has_bytes m.fields)
+    ++ (codes "},\"developer\":[" ++ (join_by object (codes ",") (filter has_developer_bytes m.developer) ++ codes "]}\n")))
     ≡ line_json (name m.global) member object number m
 plan_head name member object number global m is = rw is (whole_line number m.global (name m.global) _ _)
 

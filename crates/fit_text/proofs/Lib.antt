@@ -7,5 +7,6 @@ pub mod TextLemmas
 mod FieldLemmas
 mod DateLemmas
 mod DeveloperLemmas
+mod EmptyLemmas
 mod JsonValueLemmas
 mod JsonLemmas

@@ -35,7 +35,8 @@ use Rattle.fit_text.specs.Date.{dates_of}
 use Rattle.fit_text.specs.Profile.{FieldNames, names_of_fields}
 use Rattle.fit_text.specs.Form.{plain_as, number_as, numbers_as}
 use Rattle.fit_text.specs.Json.{bytes_json, number_json, numbers_json}
-use Rattle.fit_text.specs.Plan.{field_at, shown_at, json_at, whole_of, ShowsWhole, IsKind, IsWholeOf, IsKindOf, time_field_definition, time_text, column_text, columns_text, IsColumn, AreColumns, HaveKinds, IsPlanOf, IsPlanIn, IsPlanAt, ArePlansFor}
+use Rattle.fit_text.specs.Plan.{field_at, shown_at, json_at, whole_of, ShowsWhole, IsKind, IsWholeOf, IsKindOf, time_field_definition, time_text, column_text, columns_text, IsColumn, AreColumns, HaveKinds, shown_fields, IsShown, IsPlanOf, IsPlanIn, IsPlanAt, ArePlansFor}
+use Rattle.fit_text.proofs.EmptyLemmas.{shown_size}
 use Rattle.fit_text.specs.Text.{hex_text, IsNumber, number_text, numbers_text, message_name, field_name, field_text, developer_text, message_text}
 use Rattle.fit_text.proofs.FieldLemmas.{number_values}
 use Rattle.fit_text.proofs.JsonValueLemmas.{number_values as json_values}
@@ -325,7 +326,7 @@ line_parts number name times fields developer = simp append_assoc
 -- the parts of the line, in their order
 pub plan_text : (number : ℕ) (d : Definition) (time : Option ℕ) (content : List ℕ) (plan : Plan) (columns : List Column) →
     (developer : List DeveloperFieldDefinition) (dates : List ℕ) → dates ≡ dates_of plan.utc plan.global → IfSome time (λ time. time < 2 ^ 32) →
-    IsPlanOf d plan columns developer →
+    IsPlanOf true d plan columns developer →
     (decimal number ++ plan.name)
     ++ (time_text dates plan.time time
     ++ (columns_text dates plan.arch columns content
@@ -342,14 +343,38 @@ plan_text number d time content plan columns developer dates is fits h =
     ∙ ap (λ t. decimal number ++ codes " " ++ message_name d.global ++ t ++ in_force_after ++ codes "\n") (sym texts))
 
 pub plan_kinds : (d : Definition) (plan : Plan) (columns : List Column) (developer : List DeveloperFieldDefinition) (dates : List ℕ) →
-    dates ≡ dates_of plan.utc plan.global → IsPlanOf d plan columns developer → HaveKinds dates columns
+    dates ≡ dates_of plan.utc plan.global → IsPlanOf true d plan columns developer → HaveKinds dates columns
 plan_kinds d plan columns developer dates is h =
     rw (is, h.global) (columns_kinds (names_of_fields d.global) (dates_of plan.utc d.global) d.fields.items columns h.fields)
 
-pub plan_size : (d : Definition) (plan : Plan) (columns : List Column) (developer : List DeveloperFieldDefinition) →
-    IsPlanOf d plan columns developer → sum_by (λ c. c.size) columns ≡ fields_size d
-plan_size d plan columns developer h =
-    columns_size (names_of_fields d.global) (dates_of plan.utc d.global) d.fields.items columns h.fields
+pub plan_size : (empty : Bool) (d : Definition) (plan : Plan) (columns : List Column) (developer : List DeveloperFieldDefinition) →
+    IsPlanOf empty d plan columns developer → sum_by (λ c. c.size) columns ≡ fields_size d
+plan_size empty d plan columns developer h =
+    columns_size (names_of_fields d.global) (dates_of plan.utc d.global) (shown_fields empty d.fields.items) columns h.fields
+    ∙ shown_size empty d.fields.items
+
+-- a plan for the definition of the fields that are shown is one for the whole definition
+shown_plan : (empty : Bool) (d shown : Definition) (plan : Plan) (columns : List Column) (developer : List DeveloperFieldDefinition) →
+    IsShown empty d shown → IsPlanOf true shown plan columns developer → IsPlanOf empty d plan columns developer
+shown_plan empty d shown plan columns developer is h = record {
+  arch = h.arch ∙ is.arch;
+  global = h.global ∙ is.global;
+  name = h.name ∙ ap (λ g. codes " " ++ message_name g) is.global;
+  time = rw is.global at h.time;
+  fields = rw (is.global, is.fields) at h.fields;
+  developer = h.developer ∙ is.developer;
+}
+
+pub shown_plan_in : (empty utc : Bool) (d shown : Definition) (plan : Plan) (columns : List Column) (developer : List DeveloperFieldDefinition) →
+    IsShown empty d shown → IsPlanIn columns developer utc true shown plan → IsPlanIn columns developer utc empty d plan
+shown_plan_in empty utc d shown plan columns developer is h = record {
+  dated = h.dated;
+  order = h.order;
+  inside = h.inside;
+  developer_order = h.developer_order;
+  developer_inside = h.developer_inside;
+  is = shown_plan empty d shown plan _ _ is h.is;
+}
 
 -- ---- columns in the shared row
 
@@ -361,9 +386,9 @@ part_in_more row more first end order inside =
     ∙ take-append-le (end - first) (drop first row) more (omega (arith, order, inside, length-drop first row))
 
 -- a plan stays when more columns and developer fields are added after its own
-plan_in_more : (row more : List Column) (developer others : List DeveloperFieldDefinition) (utc : Bool) (d : Definition) (plan : Plan) →
-    IsPlanIn row developer utc d plan → IsPlanIn (row ++ more) (developer ++ others) utc d plan
-plan_in_more row more developer others utc d plan h = record {
+plan_in_more : (row more : List Column) (developer others : List DeveloperFieldDefinition) (utc empty : Bool) (d : Definition) (plan : Plan) →
+    IsPlanIn row developer utc empty d plan → IsPlanIn (row ++ more) (developer ++ others) utc empty d plan
+plan_in_more row more developer others utc empty d plan h = record {
   dated = h.dated;
   order = h.order;
   inside = omega (arith, h.inside, length-append row more);
@@ -422,7 +447,7 @@ plans_forget definition_for d plans k place h local definition plan there has =
 -- a plan that was made, with its columns and developer fields added after the others
 pub plans_set : (definition_for : ℕ → Option Definition) (own : ℕ) (d : Definition) (plans : Plans) (columns : ArrayVec Column)
     (developer : ArrayVec DeveloperFieldDefinition) (plan : Plan) (k : ℕ) (more : List Column) (fields : List DeveloperFieldDefinition) →
-    k ≡ own → definition_for own ≡ Some d → IsPlanIn columns.items developer.items plans.utc d plan →
+    k ≡ own → definition_for own ≡ Some d → IsPlanIn columns.items developer.items plans.utc plans.empty d plan →
     columns.items ≡ plans.columns.items ++ more → developer.items ≡ plans.developer.items ++ fields → ArePlansFor definition_for plans →
     ArePlansFor definition_for (record plans { slots = set plans.slots k (Some plan); columns = columns; developer = developer })
 plans_set definition_for own d plans columns developer plan k more fields place found good row in_force_after h local definition other there has =
@@ -437,7 +462,7 @@ plans_set definition_for own d plans columns developer plan k more fields place 
       | inr apart ↦
           let kept = sym (get_or-set_other plans.slots k local (Some plan) None apart) ∙ there in
           rw (row, in_force_after)
-          (plan_in_more plans.columns.items more plans.developer.items fields plans.utc definition other (h local definition other kept has))
+          (plan_in_more plans.columns.items more plans.developer.items fields plans.utc plans.empty definition other (h local definition other kept has))
     ]
 
 -- the plan of a local number that has one
@@ -454,6 +479,6 @@ pub plan_got : (definition_for : ℕ → Option Definition) (plans : Plans) (loc
     (developer : List DeveloperFieldDefinition) → get_or plans.slots local None ≡ Some plan →
     columns ≡ slice_range plans.columns.items plan.first plan.end →
     developer ≡ slice_range plans.developer.items plan.developer_first plan.developer_end → definition_for local ≡ Some d →
-    ArePlansFor definition_for plans → IsPlanOf d plan columns developer × (plan.utc ≡ plans.utc)
+    ArePlansFor definition_for plans → IsPlanOf plans.empty d plan columns developer × (plan.utc ≡ plans.utc)
 plan_got definition_for plans local d plan columns developer there is also has h =
     let own = h local d plan there has in (rw (is, also) own.is, own.dated)

@@ -1,7 +1,7 @@
 -- A file as JSON: a line for its header, a line for each message, and a line that counts them. Each line is a JSON object (RFC 8259).
 -- The names, the dates and the numbers are those of the shown text.
-use Rattle.std.specs.Prelude.{ℕ, Bool, List, [], ◌∷◌, ◌++◌, codes, decimal, Option, Some, None, ◌==◌, ◌&&◌, ◌||◌, nat_le, if◌then◌else◌}
-use Rattle.std.specs.List.{flat_map, list_all, before_first, join_by}
+use Rattle.std.specs.Prelude.{ℕ, Bool, List, [], ◌∷◌, ◌++◌, codes, decimal, Option, Some, None, true, false, not, length, ◌==◌, ◌&&◌, ◌||◌, nat_le, if◌then◌else◌}
+use Rattle.std.specs.List.{filter, flat_map, list_all, before_first, join_by}
 use Rattle.std.specs.Str.{is_utf8}
 use Rattle.fit_base.specs.declared.base.BaseType.{BaseType}
 use Rattle.fit_base.specs.declared.base.BaseType.TheVariants.{String, Byte}
@@ -60,7 +60,7 @@ some_json (Some String) bytes = string_json bytes
 some_json (Some Byte) bytes = byte_json bytes
 some_json (Some type) numbers = numbers_json type numbers
 
--- the values of a field; a field of size 0 has none
+-- the values of a field; null if it has none
 abbrev pub values_json : Option BaseType → Values → List ℕ
 values_json type (Raw bytes) = bytes_json bytes
 values_json type (Numbers []) = codes "null"
@@ -94,15 +94,28 @@ abbrev pub name_json : Option (List ℕ) → List ℕ
 name_json None = codes "null"
 name_json (Some name) = quoted name
 
--- the line of a message, with its place among the messages, its name if it has one, each field as a member, and its developer fields
+-- whether a field has bytes
+abbrev pub holds : Values → Bool
+holds (Numbers []) = false
+holds (Raw []) = false
+holds values = true
+
+abbrev pub has_bytes : MessageField → Bool
+has_bytes field = holds field.values
+
+abbrev pub has_developer_bytes : MessageDeveloperField → Bool
+has_developer_bytes field = not (length field.bytes == 0)
+
+-- the line of a message, with its place among the messages, its name if it has one, each field as a member, and its developer fields;
+-- fields of size 0 are left out
 abbrev pub line_json : Option (List ℕ) → (MessageField → List ℕ)
     → (MessageDeveloperField → List ℕ) → ℕ → Message → List ℕ
 line_json name member developer number message =
     codes "{\"number\":" ++ decimal number ++ codes ",\"message\":" ++ decimal message.global
     ++ codes ",\"name\":" ++ name_json name
     ++ codes ",\"fields\":{"
-    ++ join_by member (codes ",") message.fields
-    ++ codes "},\"developer\":[" ++ join_by developer (codes ",") message.developer
+    ++ join_by member (codes ",") (filter has_bytes message.fields)
+    ++ codes "},\"developer\":[" ++ join_by developer (codes ",") (filter has_developer_bytes message.developer)
     ++ codes "]}\n"
 
 -- with the names of the shown text

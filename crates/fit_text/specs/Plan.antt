@@ -1,5 +1,6 @@
 -- How the messages of a definition are shown: what is settled when its first message is read.
-use Rattle.std.specs.Prelude.{◌≡◌, ℕ, ◌+◌, ◌-◌, ◌*◌, ◌^◌, ◌<◌, ◌≤◌, Bool, List, [], ◌∷◌, ◌++◌, length, take, drop, slice_index_or as get_or, slice_range, Option, Some, None, codes, decimal, ◌==◌, nat_lt, if◌then◌else◌}
+use Rattle.std.specs.Prelude.{◌≡◌, ℕ, ◌+◌, ◌-◌, ◌*◌, ◌^◌, ◌<◌, ◌≤◌, Bool, List, [], ◌∷◌, ◌++◌, length, take, drop, slice_index_or as get_or, slice_range, Option, Some, None, codes, decimal, true, false, not, ◌==◌, nat_lt, if◌then◌else◌}
+use Rattle.std.specs.List.{filter}
 use Rattle.std.specs.Int.{to_le_bytes, w32}
 use Rattle.fit_base.specs.declared.order.Arch.{Arch}
 use Rattle.fit_base.specs.declared.order.Arch.TheVariants.{Little}
@@ -109,8 +110,24 @@ HaveKinds dates [] = Unit {0}
 HaveKinds dates (column ∷ columns) =
     IsKind dates column.number column.base column.size column.kind × HaveKinds dates columns
 
--- a plan for a definition, with its columns and its developer fields
-pub record IsPlanOf (d : Definition) (plan : Plan) (columns : List Column)
+-- the fields of a definition that are shown: all of them, or those that have bytes
+abbrev pub shown_fields : Bool → List FieldDefinition → List FieldDefinition
+shown_fields true fields = fields
+shown_fields false fields = filter (λ field. not (field.size == 0)) fields
+
+abbrev pub shown_developer : Bool → List DeveloperFieldDefinition → List DeveloperFieldDefinition
+shown_developer true fields = fields
+shown_developer false fields = filter (λ field. not (field.size == 0)) fields
+
+-- a definition of the fields of another that are shown
+pub record IsShown (empty : Bool) (d shown : Definition) : Type 0 where
+  pub arch : shown.arch ≡ d.arch
+  pub global : shown.global ≡ d.global
+  pub fields : shown.fields.items ≡ shown_fields empty d.fields.items
+  pub developer : shown.developer.items ≡ shown_developer empty d.developer.items
+
+-- a plan for a definition, with its columns and its developer fields. Fields without bytes have none unless `empty` is set
+pub record IsPlanOf (empty : Bool) (d : Definition) (plan : Plan) (columns : List Column)
     (last : List DeveloperFieldDefinition) : Type 0 where
   pub arch : plan.arch ≡ d.arch
   pub global : plan.global ≡ d.global
@@ -118,32 +135,32 @@ pub record IsPlanOf (d : Definition) (plan : Plan) (columns : List Column)
   pub time : IsColumn (names_of_fields d.global)
       (dates_of plan.utc d.global) time_field_definition plan.time
   pub fields : AreColumns (names_of_fields d.global)
-      (dates_of plan.utc d.global) d.fields.items columns
-  pub developer : last ≡ d.developer.items
+      (dates_of plan.utc d.global) (shown_fields empty d.fields.items) columns
+  pub developer : last ≡ shown_developer empty d.developer.items
 
 -- the same, with the columns and the developer fields in rows that several plans share
-pub record IsPlanIn (row : List Column) (developer_row : List DeveloperFieldDefinition) (utc : Bool)
+pub record IsPlanIn (row : List Column) (developer_row : List DeveloperFieldDefinition) (utc empty : Bool)
     (d : Definition) (plan : Plan) : Type 0 where
   pub dated : plan.utc ≡ utc
   pub order : plan.first ≤ plan.end
   pub inside : plan.end ≤ length row
   pub developer_order : plan.developer_first ≤ plan.developer_end
   pub developer_inside : plan.developer_end ≤ length developer_row
-  pub is : IsPlanOf d plan (slice_range row plan.first plan.end)
+  pub is : IsPlanOf empty d plan (slice_range row plan.first plan.end)
       (slice_range developer_row plan.developer_first plan.developer_end)
 
 -- the plan of a local number is for this definition
 pub record IsPlanAt (plans : Plans) (local : ℕ) (d : Definition) : Type 0 where
   pub plan : Plan
   pub there : get_or plans.slots local None ≡ Some plan
-  pub is : IsPlanIn plans.columns.items plans.developer.items plans.utc d plan
+  pub is : IsPlanIn plans.columns.items plans.developer.items plans.utc plans.empty d plan
 
 -- each local number's plan, if it has one, is for its definition in force
 abbrev pub ArePlansFor : (ℕ → Option Definition) → Plans → Type 0
 ArePlansFor definition_for plans =
     (local : ℕ) (d : Definition) (plan : Plan) → get_or plans.slots local None ≡ Some plan
     → definition_for local ≡ Some d
-    → IsPlanIn plans.columns.items plans.developer.items plans.utc d plan
+    → IsPlanIn plans.columns.items plans.developer.items plans.utc plans.empty d plan
 
 -- ---- one value of a type
 

@@ -58,10 +58,9 @@ fn check_written(
 }
 
 // A base type, bytes, and their value.
-static VALUES: [(u8, &[u8], &str); 30] = [
+static VALUES: [(u8, &[u8], &str); 29] = [
     (0x00, &[4], "4"),
     (0x00, &[0xFF], "null"),
-    (0x00, &[], "null"),
     (0x01, &[0x80], "-128"),
     (0x01, &[0x7F], "null"),
     (0x01, &[0xFF, 0x80, 0x7F], "[-1,-128,null]"),
@@ -169,15 +168,21 @@ static ITEMS: [Put<'static>; 8] = [
     Put::Definition(0, Arch::Little, 21, &[], &[]),
     Put::Data(0, None, &[]),
     Put::Data(0, Some(4), &[]),
-    Put::Definition(0, Arch::Little, 20, &[(4, 1, 0x02), (4, 1, 0x01)], &[]),
+    Put::Definition(
+        0,
+        Arch::Little,
+        20,
+        &[(4, 1, 0x02), (9, 0, 0x02), (4, 1, 0x01)],
+        &[],
+    ),
     Put::Data(0, None, &[0x50, 0x80]),
 ];
 
-// Definitions of 16, 6 and 12 bytes, and messages of 4, 4, 1, 1 and 3.
+// Fields of size 0 are left out. Definitions of 16, 6 and 15 bytes, and messages of 4, 4, 1, 1 and 3.
 static LINES: [&'static str; 7] = [
-    "{\"header\":14,\"protocol\":\"1.0\",\"profile\":100,\"data\":47}\n",
-    "{\"number\":0,\"message\":20,\"name\":\"record\",\"fields\":{\"heart_rate\":100},\"developer\":[{\"index\":0,\"number\":0,\"bytes\":\"0xAB0C\"},{\"index\":250,\"number\":7,\"bytes\":\"\"}]}\n",
-    "{\"number\":1,\"message\":20,\"name\":\"record\",\"fields\":{\"timestamp\":3,\"heart_rate\":null},\"developer\":[{\"index\":0,\"number\":0,\"bytes\":\"0xFFFF\"},{\"index\":250,\"number\":7,\"bytes\":\"\"}]}\n",
+    "{\"header\":14,\"protocol\":\"1.0\",\"profile\":100,\"data\":50}\n",
+    "{\"number\":0,\"message\":20,\"name\":\"record\",\"fields\":{\"heart_rate\":100},\"developer\":[{\"index\":0,\"number\":0,\"bytes\":\"0xAB0C\"}]}\n",
+    "{\"number\":1,\"message\":20,\"name\":\"record\",\"fields\":{\"timestamp\":3,\"heart_rate\":null},\"developer\":[{\"index\":0,\"number\":0,\"bytes\":\"0xFFFF\"}]}\n",
     "{\"number\":2,\"message\":21,\"name\":\"event\",\"fields\":{},\"developer\":[]}\n",
     "{\"number\":3,\"message\":21,\"name\":\"event\",\"fields\":{\"timestamp\":4},\"developer\":[]}\n",
     "{\"number\":4,\"message\":20,\"name\":\"record\",\"fields\":{\"cadence\":80,\"cadence\":-128},\"developer\":[]}\n",

@@ -1,7 +1,7 @@
 // A whole file.
 
 ghost use Rattle.fit_grammar.specs.Calls.Output.{WritesText};
-ghost use Rattle.std.specs.Prelude.{◌≡◌, option_map};
+ghost use Rattle.std.specs.Prelude.{◌≡◌, false, option_map};
 ghost use Rattle.fit_text.specs.Pen.{Puts};
 ghost use Rattle.fit_table.specs.Json.{profile_json_of};
 
@@ -50,6 +50,14 @@ impl<'a> Form for AsProfile<'a> {
     ghost line = { λ form. message_json form.descriptions.items };
 
     ghost count = { count_json };
+
+    ghost empty = { false };
+
+    fn shows_empty() -> bool
+        ensures { result ≡ false }
+    {
+        false
+    }
 
     fn put_header<S: Sink>(pen: &mut Pen<'_, S>, frame: Frame, size: u32) -> Result<(), S::Fault>
         ensures { Puts pen.old pen.new result (header_json frame size) }

@@ -40,6 +40,12 @@ pub trait Form {
     // The line that says how many messages there are.
     ghost count: { ℕ → List ℕ };
 
+    // Whether fields of size 0 are shown.
+    ghost empty: { Bool };
+
+    fn shows_empty() -> bool
+        ensures { result ≡ empty };
+
     fn put_header<S: Sink>(pen: &mut Pen<'_, S>, frame: Frame, size: u32) -> Result<(), S::Fault>
         ensures { Puts pen.old pen.new result (header frame size) };
 
@@ -53,7 +59,7 @@ pub trait Form {
         message: &DataMessage<'_>,
         time: Option<u32>,
     ) -> Result<(), S::Fault>
-        requires { IsPlanOf message.now.definition plan.now columns.now developer.now }
+        requires { IsPlanOf empty message.now.definition plan.now columns.now developer.now }
         ensures text { Puts pen.old pen.new result
             (line self.old plan.now.utc number
             (message_under message.now.definition time message.now.content.now)) }
@@ -134,7 +140,7 @@ fn put_messages<F: Form, S: Sink>(
         (numbered (F.line form.old utc) (messages_of file.now.items)) }
     ensures count { IfOk result (λ count. count ≡ length (messages_of file.now.items)) }
 {
-    let mut plans = Plans::new(utc);
+    let mut plans = Plans::new(utc, F::shows_empty());
     let mut number = 0;
     for item in file.items() {
         match item {

@@ -1,5 +1,6 @@
 // A whole file as JSON.
 
+ghost use Rattle.std.specs.Prelude.{false};
 ghost use Rattle.fit_grammar.specs.Calls.Output.{WritesText};
 ghost use Rattle.fit_text.specs.Json.{header_json, count_json, json_of};
 ghost use Rattle.fit_text.specs.Pen.{Puts};
@@ -40,6 +41,12 @@ impl Form for AsJson {
     ghost line = { λ _. message_json };
 
     ghost count = { count_json };
+
+    ghost empty = { false };
+
+    fn shows_empty() -> bool {
+        false
+    }
 
     fn put_header<S: Sink>(pen: &mut Pen<'_, S>, frame: Frame, size: u32) -> Result<(), S::Fault> {
         put_json_header(pen, frame, size)

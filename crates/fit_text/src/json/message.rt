@@ -1,6 +1,6 @@
 // The line of a message as JSON.
 
-ghost use Rattle.std.specs.Prelude.{◌≡◌, ◌<◌, ◌++◌, ◌^◌, codes, decimal, option_map, IfSome};
+ghost use Rattle.std.specs.Prelude.{◌≡◌, ◌<◌, ◌++◌, ◌^◌, codes, decimal, false, option_map, IfSome};
 ghost use Rattle.fit_grammar.specs.Format.Message.{message_under};
 ghost use Rattle.fit_text.specs.Date.{dates_of};
 ghost use Rattle.fit_text.specs.Pen.{Puts};
@@ -29,7 +29,7 @@ pub fn put_message<M: Members, S: Sink>(
     message: &DataMessage<'_>,
     time: Option<u32>,
 ) -> Result<(), S::Fault>
-    requires { IsPlanOf message.now.definition plan.now columns.now developer.now }
+    requires { IsPlanOf false message.now.definition plan.now columns.now developer.now }
     ensures text { Puts pen.old pen.new result
         (line_json (M.name message.now.definition.global)
         (M.member plan.now.utc message.now.definition.global) (M.developer members.old number)

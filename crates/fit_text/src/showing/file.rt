@@ -1,6 +1,7 @@
 // The text of a file.
 
 ghost use Rattle.fit_grammar.specs.Calls.Output.{WritesText};
+ghost use Rattle.std.specs.Prelude.{true};
 ghost use Rattle.fit_text.specs.Text.{text_of};
 
 use crate::form::file::{Form, ShowFault, write_file};
@@ -30,6 +31,12 @@ impl Form for AsText {
     ghost line = { λ _. message_text };
 
     ghost count = { count_text };
+
+    ghost empty = { true };
+
+    fn shows_empty() -> bool {
+        true
+    }
 
     fn put_header<S: Sink>(pen: &mut Pen<'_, S>, frame: Frame, size: u32) -> Result<(), S::Fault> {
         let words = HeaderWords {

@@ -1,6 +1,6 @@
 // The line of a message.
 
-ghost use Rattle.std.specs.Prelude.{◌≡◌, ◌<◌, ◌^◌, length, option_map, IfSome};
+ghost use Rattle.std.specs.Prelude.{◌≡◌, ◌<◌, ◌^◌, true, length, option_map, IfSome};
 ghost use Rattle.fit_grammar.specs.Format.Message.{message_under};
 ghost use Rattle.fit_text.specs.Pen.{Puts};
 ghost use Rattle.fit_text.specs.Plan.{IsKind, IsPlanOf, time_text};
@@ -24,7 +24,7 @@ pub fn put_message<S: Sink>(
     message: &DataMessage<'_>,
     time: Option<u32>,
 ) -> Result<(), S::Fault>
-    requires { IsPlanOf message.now.definition plan.now columns.now developer.now }
+    requires { IsPlanOf true message.now.definition plan.now columns.now developer.now }
     ensures { Puts pen.old pen.new result
         (message_text plan.now.utc number
         (message_under message.now.definition time message.now.content.now)) }

@@ -1,6 +1,6 @@
 // How the messages of a definition are shown, settled once for all of them.
 
-ghost use Rattle.std.specs.Prelude.{◌≡◌, ◌+◌, ◌≤◌, ◌++◌, List, length, codes};
+ghost use Rattle.std.specs.Prelude.{◌≡◌, ◌+◌, ◌≤◌, ◌++◌, List, true, length, codes};
 ghost use Rattle.fit_text.specs.declared.showing.plan.Column.{Column as AnyColumn};
 ghost use Rattle.fit_text.specs.declared.showing.plan.TheConstants.{COLUMNS};
 ghost use Rattle.fit_text.specs.Plan.{time_field_definition, IsKind, IsKindOf, IsColumn, AreColumns, IsPlanIn};
@@ -91,7 +91,7 @@ impl Plan {
         requires columns { length columns.old.items + length definition.now.fields.items ≤ COLUMNS }
         requires developer { length developer.old.items
             + length definition.now.developer.items ≤ COLUMNS }
-        ensures plan { IsPlanIn columns.new.items developer.new.items utc definition.now result }
+        ensures plan { IsPlanIn columns.new.items developer.new.items utc true definition.now result }
         ensures after { (own : List AnyColumn) × (columns.new.items ≡ columns.old.items ++ own) }
         ensures developer { developer.new.items
             ≡ developer.old.items ++ definition.now.developer.items }

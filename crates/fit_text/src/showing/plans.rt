@@ -1,15 +1,15 @@
 // The plans of the definitions in force.
 
-ghost use Rattle.std.specs.Prelude.{◌≡◌, ◌+◌, ◌<◌, ◌≤◌, ℕ, Option, None, Some, IsSome, length, slice_index_or, slice_range};
+ghost use Rattle.std.specs.Prelude.{◌≡◌, ◌+◌, ◌<◌, ◌≤◌, ℕ, Option, false, None, Some, IsSome, length, slice_index_or, slice_range};
 ghost use Rattle.fit_grammar.specs.declared.definition.Definition.{Definition as AnyDefinition};
 ghost use Rattle.fit_grammar.specs.Format.Item.{Defines};
 ghost use Rattle.fit_grammar.specs.Calls.Table.{in_force_after};
 ghost use Rattle.fit_text.specs.declared.showing.plan.TheConstants.{COLUMNS};
-ghost use Rattle.fit_text.specs.Plan.{ArePlansFor, IsPlanAt};
+ghost use Rattle.fit_text.specs.Plan.{ArePlansFor, IsPlanAt, IsShown, shown_developer, shown_fields};
 
 use crate::showing::plan::{COLUMNS, Column, Plan};
 use arrayvec::ArrayVec;
-use fit_grammar::{DefinitionMessage, DeveloperFieldDefinition};
+use fit_grammar::{Definition, DefinitionMessage, DeveloperFieldDefinition, FieldDefinition};
 
 /// For each of the sixteen local numbers the plan of its definition, or none. A plan is made when the first
 /// message of its definition is read.
@@ -17,6 +17,8 @@ use fit_grammar::{DefinitionMessage, DeveloperFieldDefinition};
 pub struct Plans {
     /// Whether times are shown as dates.
     pub utc: bool,
+    /// Whether fields of size 0 are shown.
+    pub empty: bool,
     pub slots: [Option<Plan>; 16],
     /// The columns of all plans, one plan after another.
     pub columns: ArrayVec<Column, COLUMNS>,
@@ -26,13 +28,15 @@ pub struct Plans {
 
 impl Plans {
     /// No plans.
-    pub fn new(utc: bool) -> Self
+    pub fn new(utc: bool, empty: bool) -> Self
         ensures utc { result.utc ≡ utc }
+        ensures empty { result.empty ≡ empty }
         ensures plans { (definition_for : ℕ → Option AnyDefinition)
             → ArePlansFor definition_for result }
     {
         Plans {
             utc,
+            empty,
             slots: no_plans(),
             columns: ArrayVec::new(),
             developer: ArrayVec::new(),
@@ -43,6 +47,7 @@ impl Plans {
     pub fn forget(&mut self, local: u8)
         requires { local < 16 }
         ensures utc { self.new.utc ≡ self.old.utc }
+        ensures empty { self.new.empty ≡ self.old.empty }
         ensures plans { (definition_for : ℕ → Option AnyDefinition) (d : AnyDefinition)
             → d.local ≡ local
             → ArePlansFor definition_for self.old
@@ -56,6 +61,7 @@ impl Plans {
     pub fn settle(&mut self, local: u8, definition: &DefinitionMessage<'_>)
         requires { local < 16 }
         ensures utc { self.new.utc ≡ self.old.utc }
+        ensures empty { self.new.empty ≡ self.old.empty }
         ensures some { IsSome (slice_index_or self.new.slots local None) }
         ensures plans { (definition_for : ℕ → Option AnyDefinition)
             → definition_for local ≡ Some definition.now
@@ -72,12 +78,13 @@ impl Plans {
     fn set(&mut self, local: u8, definition: &DefinitionMessage<'_>)
         requires { local < 16 }
         ensures utc { self.new.utc ≡ self.old.utc }
+        ensures empty { self.new.empty ≡ self.old.empty }
         ensures some { IsSome (slice_index_or self.new.slots local None) }
         ensures plans { (definition_for : ℕ → Option AnyDefinition)
             → definition_for local ≡ Some definition.now
             → ArePlansFor definition_for self.old → ArePlansFor definition_for self.new }
     {
-        let definition = definition.read();
+        let definition = shown_in(definition, self.empty);
         self.make_room(definition.fields.len(), definition.developer.len());
         let plan = Plan::new(
             self.utc,
@@ -93,6 +100,7 @@ impl Plans {
         requires columns { columns ≤ 255 }
         requires developer { developer ≤ 255 }
         ensures utc { self.new.utc ≡ self.old.utc }
+        ensures empty { self.new.empty ≡ self.old.empty }
         ensures room { length self.new.columns.items + columns ≤ COLUMNS }
         ensures developer_room { length self.new.developer.items + developer ≤ COLUMNS }
         ensures plans { (definition_for : ℕ → Option AnyDefinition)
@@ -127,6 +135,28 @@ impl Plans {
             _ => unreachable!(),
         }
     }
+}
+
+// The definition, with its fields of size 0 if `empty` is set.
+fn shown_in(definition: &DefinitionMessage<'_>, empty: bool) -> Definition
+    ensures { IsShown empty definition.now result }
+{
+    let mut shown = definition.read();
+    if !empty {
+        leave_out_empty(&mut shown.fields, &mut shown.developer);
+    }
+    shown
+}
+
+fn leave_out_empty(
+    fields: &mut ArrayVec<FieldDefinition, 255>,
+    developer: &mut ArrayVec<DeveloperFieldDefinition, 255>,
+)
+    ensures fields { fields.new.items ≡ shown_fields false fields.old.items }
+    ensures developer { developer.new.items ≡ shown_developer false developer.old.items }
+{
+    fields.retain(|field| field.size != 0);
+    developer.retain(|field| field.size != 0);
 }
 
 // No plan for any local number.

@@ -19,6 +19,7 @@ loop-item-init g c =
         under = rw all c.items-item-items.ensures.under;
         plans = c.new-plans.ensures.plans (in_force []);
         utc = c.new-plans.ensures.utc;
+        empty = c.new-plans.ensures.empty ∙ c.shows_empty.ensures;
         same = refl;
         put = rw stated (leaves_all _ _);
         count = omega (arith, ap length stated);
@@ -43,6 +44,7 @@ loop-item-preserved-in-Definition g c =
         under = under.1;
         plans = c.forget.ensures.plans definition_for d (sym c.local.ensures) kept.plans;
         utc = c.forget.ensures.utc ∙ kept.utc;
+        empty = c.forget.ensures.empty ∙ kept.empty;
         same = kept.same;
         put = rw steps at kept.put;
         count = rw steps at kept.count;
@@ -71,7 +73,8 @@ put_line-requires g c =
     let steps = c.in-Some.ensures.steps ∙ ap (λ item. lent_item item ∷ c.next.new.self) c.in-Data.is in
     let under = rw steps at c.loop-item.invariant.1.under in
     let plans = c.settle.ensures.plans definition_for under.1 c.loop-item.invariant.1.plans in
-    (plan_got definition_for _ message.local message.definition _ _ _ c.get.ensures.plan c.get.ensures.columns c.get.ensures.developer under.1 plans).0
+    let empty = c.settle.ensures.empty ∙ c.loop-item.invariant.1.empty in
+    rw (← empty) (plan_got definition_for _ message.local message.definition _ _ _ c.get.ensures.plan c.get.ensures.columns c.get.ensures.developer under.1 plans).0
 
 pub returns-in_err-put_line-in-Data-clause-text : goal.returns-in_err-put_line-in-Data-clause-text
 returns-in_err-put_line-in-Data-clause-text g c =
@@ -101,6 +104,7 @@ loop-item-preserved g c =
         under = under.2;
         plans = plans;
         utc = c.settle.ensures.utc ∙ kept.utc;
+        empty = c.settle.ensures.empty ∙ kept.empty;
         same = c.in_ok-put_line-in-Data.ensures.same ∙ kept.same;
         put = leaves_less _ kept.put (rw (utc, kept.same) at c.in_ok-put_line-in-Data.ensures.text)
             (ap (λ items. flat_map (λ row. g.F.Form.line c.args.form.now c.args.utc row.0 row.1) (enumerate_from c.loop-item.number (messages_in items))) steps);

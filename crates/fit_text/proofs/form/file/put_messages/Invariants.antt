@@ -14,6 +14,7 @@ invariant-loop-item g l =
       under : AllUnder definition_for l.item-iterator;
       plans : ArePlansFor definition_for l.plans;
       utc : l.plans.utc ≡ l.utc;
+      empty : l.plans.empty ≡ g.F.Form.empty;
       same : g.F.Form.line l.form ≡ g.F.Form.line l.initial.form;
       put : Leaves l.initial.pen l.pen (numbered (g.F.Form.line l.initial.form l.utc) (messages_of l.file.items))
           (flat_map (λ row. g.F.Form.line l.initial.form l.utc row.0 row.1) (enumerate_from l.number (messages_in l.item-iterator)));

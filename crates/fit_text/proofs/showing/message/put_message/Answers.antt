@@ -1,4 +1,4 @@
-use Rattle.std.proofs.Common.{ℕ, ap, length, sum_by, length-append, arith}
+use Rattle.std.proofs.Common.{ℕ, true, ap, length, sum_by, length-append, arith}
 use Rattle.std.proofs.lemmas.List.{length-drop}
 use Rattle.std.proofs.lemmas.Fmt.{length-decimal-le}
 use Rattle.fit_text.proofs.PenLemmas.{puts_then, puts_stop, puts_same, puts_more}
@@ -28,13 +28,13 @@ pub put_columns-requires-clause-within : goal.put_columns-requires-clause-within
 put_columns-requires-clause-within g c =
     omega (
       arith,
-      plan_size c.args.message.now.definition c.args.plan.now c.args.columns.now c.args.developer.now c.requires,
+      plan_size true c.args.message.now.definition c.args.plan.now c.args.columns.now c.args.developer.now c.requires,
       c.args.message.now.whole,
     )
 
 pub put_developer_fields-requires : goal.put_developer_fields-requires
 put_developer_fields-requires g c =
-    let size = plan_size c.args.message.now.definition c.args.plan.now c.args.columns.now c.args.developer.now c.requires in
+    let size = plan_size true c.args.message.now.definition c.args.plan.now c.args.columns.now c.args.developer.now c.requires in
     let content = c.args.message.now.content.now in
     omega (
       arith,
