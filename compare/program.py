@@ -220,11 +220,6 @@ def many(fitrec):
     for options in (["--each", "-0"], ["-0", "--each"], ["--each", "--null"]):
         said = fitrec.run("check", *options, "a.fit", "-", input=b"b\n.fit\0a.fit\0")
         yield "names by zero bytes", differs(said, (1, "a.fit: NoFileId\nb\\x0A.fit: NoFileId\na.fit: NoFileId\n", "fitrec: 3 refused\n"))
-    for count in 128, 129:
-        status, out, said = fitrec.run("table", "--fields", ",".join(["heart_rate"] * count), "a.fit")
-        lines = [",".join([cell] * count) for cell in ("heart_rate_bpm", "100")]
-        wanted = (0, lines, False) if count == 128 else (2, [], True)
-        yield "%d columns" % count, differs((status, out.split(), "at most 128 columns" in said), wanted)
     yield "a list that is not read", differs(fitrec.run("check", "--each", "-", stdin=os.open(fitrec.folder, os.O_RDONLY)), (1, "", "fitrec: cannot read -\n"))
     yield "no names", differs(fitrec.run("check", "--each", "-", input=b"\n\n"), (0, "", ""))
     yield "no names for a table", differs(fitrec.run(*words, "--each", "-", input=b""), (0, "file,heart_rate_bpm\r\n", ""))
