@@ -7,9 +7,14 @@ pub record MakesAll (made : ℕ) (old new : Counts) : Type 0 where
   pub calls : new.calls ≡ old.calls + made
   pub failed : new.failed ≡ old.failed
 
+-- at least so many calls were made
+abbrev pub MakesAtLeast : ℕ → Counts → Counts → Type 0
+MakesAtLeast fewest old new = old.calls + fewest ≤ new.calls
+
 -- What a run of calls did. At most so many were made, and at most so many of them read the data file. If it reports a failure, one
 -- call failed, the last one; else none did. The schedule and the caller's memory are unchanged.
 pub record MakesAtMost (most reads : ℕ) (Failed : Type 0) (old new : Log) : Type 0 where
+  pub no_fewer : old.counts.calls ≤ new.counts.calls
   pub at_most : new.counts.calls ≤ old.counts.calls + most
   pub few_reads : new.counts.data_reads ≤ old.counts.data_reads + reads
   pub cause : Failed → HasFailed old.counts new.counts

@@ -5,6 +5,7 @@ pub mod Riding
 pub mod Left
 pub mod NeverFull
 pub mod Begun
+pub mod Moments
 pub mod Runs
 pub mod Plain
 pub mod Replies

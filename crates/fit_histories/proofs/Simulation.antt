@@ -3,3 +3,4 @@ pub mod Memory
 pub mod Counts
 pub mod Asking
 pub mod Following
+pub mod Failing

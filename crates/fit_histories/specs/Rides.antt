@@ -6,3 +6,4 @@ pub mod NeverFull
 pub mod Left
 pub mod Goes
 pub mod Begun
+pub mod Moments

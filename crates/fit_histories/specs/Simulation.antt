@@ -2,3 +2,4 @@
 pub mod Arranging
 pub mod Choices
 pub mod Following
+pub mod Failing

@@ -28,7 +28,7 @@ impl<D: Disk> Ride<D> {
             → TakesStep D.honest D.story command.now result.1 self result.0 }
         ensures form { RideBeginsForm D.honest D.story checked command.now result.1 self result.0 }
         ensures never_full { StaysNeverFull D.honest D.story self result.1 result.0 }
-        ensures called { Called D.log result.1 self result.0 }
+        ensures called { Called D.log command.now result.1 self result.0 }
     {
         match command {
             Command::Start(start) => self.start(*start, checked),

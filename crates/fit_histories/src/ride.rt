@@ -38,6 +38,7 @@ impl<D: Disk> Ride<D> {
     ghost use Rattle.fit_histories.specs.Rides.NeverFull.{NeverFull, StaysNeverFull};
     ghost use Rattle.fit_histories.specs.Rides.Goes.{TakesStep};
     ghost use Rattle.fit_histories.specs.Rides.Begun.{RideBeginsForm};
+    ghost use Rattle.fit_histories.specs.Rides.Moments.{LeavesAtMoments};
     ghost use Rattle.fit_histories.specs.Rides.Standing.{StandsIn, TakesStepFrom, LeavesAllowed};
     ghost use Rattle.fit_histories.specs.Rides.Left.{LeftBy};
     ghost use Rattle.fit_recorder.specs.Files.NeverFull.{NeverFills};
@@ -59,7 +60,7 @@ impl<D: Disk> Ride<D> {
         ensures form { RideBeginsForm D.honest D.story checked (commands.Start start) result.1 self
             result.0 }
         ensures never_full { StaysNeverFull D.honest D.story self result.1 result.0 }
-        ensures called { Called D.log result.1 self result.0 }
+        ensures called { Called D.log (commands.Start start) result.1 self result.0 }
     {
         match Recorder::start_with(self.into_disk(), start, checked) {
             Ok(recorder) => (Ride::Riding(recorder), Reply::Done),
@@ -79,10 +80,13 @@ impl<D: Disk> Ride<D> {
         ensures riding { is_riding self.new ≡ is_riding self.old }
         ensures goes { IsTrue D.honest
             → TakesStep D.honest D.story (commands.Entry entry.now) result self.old self.new }
+        // A crash at any moment leaves what was committed.
+        ensures any_moment { LeavesAtMoments D.honest D.story (commands.Entry entry.now) self.old
+            self.new }
         ensures form { (checked : Bool) → RideBeginsForm D.honest D.story checked
             (commands.Entry entry.now) result self.old self.new }
         ensures never_full { StaysNeverFull D.honest D.story self.old result self.new }
-        ensures called { Called D.log result self.old self.new }
+        ensures called { Called D.log (commands.Entry entry.now) result self.old self.new }
     {
         match self {
             Ride::Idle(_) => Reply::NoRecorder,
@@ -105,10 +109,12 @@ impl<D: Disk> Ride<D> {
         ensures riding { is_riding self.new ≡ is_riding self.old }
         ensures goes { IsTrue D.honest
             → TakesStep D.honest D.story commands.Commit result self.old self.new }
+        // A crash at any moment leaves what was committed before, or all entries.
+        ensures any_moment { LeavesAtMoments D.honest D.story commands.Commit self.old self.new }
         ensures form { (checked : Bool) → RideBeginsForm D.honest D.story checked commands.Commit
             result self.old self.new }
         ensures never_full { StaysNeverFull D.honest D.story self.old result self.new }
-        ensures called { Called D.log result self.old self.new }
+        ensures called { Called D.log commands.Commit result self.old self.new }
     {
         match self {
             Ride::Idle(_) => Reply::NoRecorder,
@@ -127,10 +133,13 @@ impl<D: Disk> Ride<D> {
         ensures riding { is_riding result.0 ≡ outlives_stop (is_riding self) result.1 }
         ensures goes { IsTrue D.honest
             → TakesStep D.honest D.story (commands.Entry (Stop time)) result.1 self result.0 }
+        // A crash at any moment leaves what was committed before, or all entries with the stop.
+        ensures any_moment { LeavesAtMoments D.honest D.story (commands.Entry (Stop time)) self
+            result.0 }
         ensures form { (checked : Bool) → RideBeginsForm D.honest D.story checked
             (commands.Entry (Stop time)) result.1 self result.0 }
         ensures never_full { StaysNeverFull D.honest D.story self result.1 result.0 }
-        ensures called { Called D.log result.1 self result.0 }
+        ensures called { Called D.log (commands.Entry (Stop time)) result.1 self result.0 }
     {
         match self {
             Ride::Idle(disk) => (Ride::Idle(disk), Reply::NoRecorder),
@@ -164,7 +173,7 @@ impl<D: Disk> Ride<D> {
         ensures form { (checked : Bool) → RideBeginsForm D.honest D.story checked commands.Recover
             result.1 self result.0 }
         ensures never_full { StaysNeverFull D.honest D.story self result.1 result.0 }
-        ensures called { Called D.log result.1 self result.0 }
+        ensures called { Called D.log commands.Recover result.1 self result.0 }
     {
         let mut disk = self.into_disk();
         let reply = recover(&mut disk).into();
@@ -184,7 +193,7 @@ impl<D: Disk> Ride<D> {
         ensures form { (checked : Bool) → RideBeginsForm D.honest D.story checked commands.Reopen
             result.1 self result.0 }
         ensures never_full { StaysNeverFull D.honest D.story self result.1 result.0 }
-        ensures called { Called D.log result.1 self result.0 }
+        ensures called { Called D.log commands.Reopen result.1 self result.0 }
     {
         match resume(self.into_disk()) {
             Ok(resumed) => (Ride::Riding(resumed), Reply::Done),
@@ -199,7 +208,7 @@ impl<D: Disk> Ride<D> {
         ensures goes { IsTrue D.honest
             → TakesStep D.honest D.story commands.Erase result.1 self result.0 }
         ensures never_full { StaysNeverFull D.honest D.story self result.1 result.0 }
-        ensures called { Called D.log result.1 self result.0 }
+        ensures called { Called D.log commands.Erase result.1 self result.0 }
     {
         let mut disk = self.into_disk();
         let reply = erase(&mut disk).into();

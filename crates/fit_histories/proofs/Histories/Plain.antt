@@ -69,7 +69,7 @@ module _ (list : List Recorded) (promise : ℕ) where
       refusal_of list (entries.Stop time) ≡ None → rest ≡ [] → MayFail nothing_arranged outcome →
       Reports after (arranged_after nothing_arranged (commands.Entry (entries.Stop time)) outcome) rest outcomes →
       RodeWell list (commands.Entry (entries.Stop time) ∷ rest) (outcome ∷ outcomes)
-  stop_done time (Stopped file) after [] [] step allowed last may reports = (step.1, refl)
+  stop_done time (Stopped file) after [] [] step allowed last may reports = (step.1, step.2, refl)
   stop_done time (Stopped file) after [] (other ∷ outcomes) step allowed last may reports = absurd reports
   stop_done time (Stopped file) after (other ∷ rest) outcomes step allowed last may reports = absurd cc
   stop_done time (Fault (faults.Refused refusal)) after rest outcomes step allowed last may reports = not_refused (sym allowed ∙ step.0)

@@ -20,7 +20,8 @@ use Rattle.fit_recorder.specs.declared.fault.RecFault.TheVariants.{NotEmpty, Ref
 use Rattle.fit_recorder.specs.declared.recorder.Recorder.{Recorder}
 use Rattle.fit_recorder.specs.Calls.Answers.{HandAnswers, CommitAnswers, IsLastSlot, StopAnswers}
 use Rattle.fit_recorder.specs.Files.Body.{StandsFor}
-use Rattle.fit_recorder.specs.Files.Finished.{IsFinished}
+use Rattle.fit_recorder.specs.Files.Finished.{HasAtMost, IsFinished}
+use Rattle.fit_recorder.specs.Files.Limits.{most_records}
 use Rattle.fit_recorder.specs.Calls.Resume.{IsResumed}
 use Rattle.fit_recorder.specs.Calls.After.{CommitsAll, AddsEntry}
 use Rattle.fit_recorder.specs.Calls.Recorder.{StandsAt, WasHanded, HasEnded, disk_of, has_failed, data_len, journal_slots}
@@ -281,16 +282,17 @@ module _ {D : Type 0} (honest : Bool) (story : D → Story) where
           rw is at still_failed list promise reopened (commands.Entry (Stop time)) broken (λ after same. same)
 
       -- and none runs if it was done
-      pub stop_done : (before : History) (disk : D) (done : Unit {0}) → result ≡ Ok done → disk ≡ disk_of new → StandsIn honest story (rides.Riding old) before
+      pub stop_done : ((list committed : List Recorded) → StandsAt honest story old list committed → OnOk result (HasAtMost most_records (story (disk_of new)))) → (before : History) (disk : D) (done : Unit {0}) → result ≡ Ok done → disk ≡ disk_of new → StandsIn honest story (rides.Riding old) before
           → TakesStepFrom honest story before (commands.Entry (Stop time)) replies.Stopped (rides.Idle disk)
-      stop_done (Idle claims begun) disk done is same none = absurd none
-      stop_done (Riding list promise reopened true) disk done is same broken = let clash : Ok done ≡ Err Failed = sym is ∙ failed broken.0 in absurd cc
-      stop_done (Riding list promise reopened false) disk done is same on =
+      stop_done within (Idle claims begun) disk done is same none = absurd none
+      stop_done within (Riding list promise reopened true) disk done is same broken = let clash : Ok done ≡ Err Failed = sym is ∙ failed broken.0 in absurd cc
+      stop_done within (Riding list promise reopened false) disk done is same on =
           let more : List Recorded = list ++ Added (Stop time) ∷ [] in
           let file : IsFinished more (story disk) = subst (λ disk. IsFinished more (story disk)) (sym same) (rw is at finished list on.committed on.stands) in
+          let few : HasAtMost most_records (story disk) = subst (λ disk. HasAtMost most_records (story disk)) (sym same) (rw is at within list on.committed on.stands) in
           let ended = rw is at ok list on.stands.totals in
           record {
             after = Idle (whole more ∷ []) true;
-            step = (ended.1.0.allowed, file_seen more (story disk) file, refl);
+            step = (ended.1.0.allowed, file_seen more (story disk) file, few, refl);
             stands = finished_rests more (story disk) true (λ unbegun. true≢false unbegun) file;
           }

@@ -10,17 +10,17 @@ use Rattle.fit_histories.specs.Simulation.Choices.{takes, IsLeftBy}
 use Rattle.fit_histories.specs.Rides.Left.{LeftBy}
 use Rattle.fit_histories.specs.Rides.Standing.{IsCounted}
 
-module _ (reply : Reply) (old new : Counts) (schedule new_schedule : Schedule) (choices : List ℕ) (files later : Story) (counted : IsCounted reply old new) (planned : new_schedule ≡ schedule) where
-  pub asks : (command : Command) → ((k : ℕ) → command ≡ commands.Fail k → ⊥) → ((k : ℕ) → command ≡ commands.Cut k → ⊥) → (command ≡ commands.Power → ⊥)
+module _ (reply : Reply) (old new : Counts) (schedule new_schedule : Schedule) (choices : List ℕ) (files later : Story) (planned : new_schedule ≡ schedule) where
+  pub asks : (command : Command) → IsCounted command reply old new → ((k : ℕ) → command ≡ commands.Fail k → ⊥) → ((k : ℕ) → command ≡ commands.Cut k → ⊥) → (command ≡ commands.Power → ⊥)
       → LeftBy command reply files later
       → Moves command reply old schedule new new_schedule × (0 ≡ takes command choices files.now) × IsLeftBy command choices reply files later
-  asks (commands.Start start) fail cut power left = ((counted, planned), refl, left)
-  asks (commands.Entry entry) fail cut power left = ((counted, planned), refl, left)
-  asks commands.Commit fail cut power left = ((counted, planned), refl, left)
-  asks commands.Restart fail cut power left = ((counted, planned), refl, left)
-  asks commands.Recover fail cut power left = ((counted, planned), refl, left)
-  asks commands.Reopen fail cut power left = ((counted, planned), refl, left)
-  asks commands.Erase fail cut power left = ((counted, planned), refl, left)
-  asks (commands.Fail k) fail cut power left = absurd (fail k refl)
-  asks (commands.Cut k) fail cut power left = absurd (cut k refl)
-  asks commands.Power fail cut power left = absurd (power refl)
+  asks (commands.Start start) counted fail cut power left = ((counted, planned), refl, left)
+  asks (commands.Entry entry) counted fail cut power left = ((counted, planned), refl, left)
+  asks commands.Commit counted fail cut power left = ((counted, planned), refl, left)
+  asks commands.Restart counted fail cut power left = ((counted, planned), refl, left)
+  asks commands.Recover counted fail cut power left = ((counted, planned), refl, left)
+  asks commands.Reopen counted fail cut power left = ((counted, planned), refl, left)
+  asks commands.Erase counted fail cut power left = ((counted, planned), refl, left)
+  asks (commands.Fail k) counted fail cut power left = absurd (fail k refl)
+  asks (commands.Cut k) counted fail cut power left = absurd (cut k refl)
+  asks commands.Power counted fail cut power left = absurd (power refl)

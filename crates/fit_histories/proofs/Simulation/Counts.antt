@@ -19,13 +19,13 @@ failures_more : (schedule : Schedule) (n k : ℕ) → failures schedule n ≤ fa
 failures_more schedule n zero = rw (add-zero n) (omega arith)
 failures_more schedule n (suc k) = rw (add-suc n k) (omega (arith, failures_more schedule n k))
 
-failures_ordered : (schedule : Schedule) (m n : ℕ) → m ≤ n → failures schedule m ≤ failures schedule n
+pub failures_ordered : (schedule : Schedule) (m n : ℕ) → m ≤ n → failures schedule m ≤ failures schedule n
 failures_ordered schedule m n order =
     let same : m + (n - m) ≡ n = omega arith in
     rw same at (failures_more schedule m (n - m))
 
 -- a schedule with at most one call that is planned to fail, and no power cut
-abbrev without_cut : Option ℕ → Counts → Schedule
+abbrev pub without_cut : Option ℕ → Counts → Schedule
 without_cut fail since = record { fail = fail; cut = None; since = since }
 
 not_at : (fail : Option ℕ) (calls number : ℕ) → IsPast fail calls → calls < number → is_at fail number ≡ false
@@ -45,7 +45,7 @@ none_before planned since zero before = refl
 none_before planned since (suc n) before =
     rw (ne_eqb (suc n) planned (λ same. omega arith)) (omega (arith, none_before planned since n (omega arith)))
 
-one_there : (planned : ℕ) (since : Counts) → 0 < planned → 1 ≤ failures (without_cut (Some planned) since) planned
+pub one_there : (planned : ℕ) (since : Counts) → 0 < planned → 1 ≤ failures (without_cut (Some planned) since) planned
 one_there zero since there = absurd (omega arith)
 one_there (suc number) since there = rw (eq-eqb (suc number) (suc number) refl) (omega arith)
 
@@ -125,13 +125,13 @@ module _ (arranged : Arranged) (schedule : Schedule) (old new : Counts) (is_arra
         grown_past schedule.fail schedule.since old.calls new.calls (omega (arith, old_plain, new_plain));
   }
 
-  kept : (reply : Reply) (file : List ℕ) → new.calls < last_count → IsCounted reply old new →
+  kept : (command : Command) (reply : Reply) (file : List ℕ) → new.calls < last_count → IsCounted command reply old new →
       MayFail arranged (outcome reply file) × IsArranged (broken_off arranged (outcome reply file)) new schedule
-  kept (replies.Refused Device) file within counted =
+  kept command (replies.Refused Device) file within counted =
       let one = (counted.cause refl).one within in
       let grown : old.failed < new.failed = omega (arith, one) in
       (λ broken. device_fails arranged.cut arranged.fail refl refl grown, after_broken grown)
-  kept reply file within counted = (λ broken. absurd (true≢false (sym broken)), after_went (counted.went (λ same. cc)))
+  kept command reply file within counted = (λ broken. absurd (true≢false (sym broken)), after_went (counted.went (λ same. cc)))
 
 -- while nothing is spent, the calls have failed as planned
 pub unspent : (disk : Memory) → is_spent disk ≡ false →
@@ -175,7 +175,7 @@ moved arranged command reply file old new old_unspent new_unspent moves is_arran
     let old_known = unspent old old_unspent in
     let new_known = unspent new new_unspent in
     let new_as = subst (λ s. FailedAsPlanned (memory_counts new) s) moves.1 new_known.0 in
-    let known = kept arranged (memory_schedule old) (memory_counts old) (memory_counts new) is_arranged old_known.0 new_as reply file new_known.1 moves.0 in
+    let known = kept arranged (memory_schedule old) (memory_counts old) (memory_counts new) is_arranged old_known.0 new_as command reply file new_known.1 moves.0 in
     (known.0, subst (λ s. IsArranged (broken_off arranged (outcome reply file)) (memory_counts new) s) (sym moves.1) known.1)
 
 -- before the first call nothing is spent

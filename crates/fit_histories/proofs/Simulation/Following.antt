@@ -31,7 +31,7 @@ IsIdle (Riding list promise reopened failed) = ⊥
 
 stopped_idle : (before : History) (command : Command) (file : List ℕ) (after : History) → Step before command (Stopped file) after → IsIdle after
 stopped_idle before (commands.Start start) file after step = absurd step
-stopped_idle (Riding list promise reopened false) (commands.Entry (entries.Stop time)) file after step = subst IsIdle (sym step.2) tt
+stopped_idle (Riding list promise reopened false) (commands.Entry (entries.Stop time)) file after step = subst IsIdle (sym step.3) tt
 stopped_idle (Riding list promise reopened true) (commands.Entry (entries.Stop time)) file after step = absurd step
 stopped_idle (Idle claims begun) (commands.Entry (entries.Stop time)) file after step = absurd step
 stopped_idle (Riding list promise reopened false) (commands.Entry entry) file after step = absurd step

@@ -10,7 +10,7 @@ use Rattle.fit_scripts.specs.declared.command.Command.{Command}
 use Rattle.fit_scripts.specs.declared.command.Command.TheVariants as commands
 use Rattle.fit_scripts.specs.declared.event.Event.{Event}
 use Rattle.fit_histories.specs.Histories.Runs.{IsHistory}
-use Rattle.fit_histories.specs.Histories.Table.{Outcome, Done, Stopped, Fault, IsFileOf}
+use Rattle.fit_histories.specs.Histories.Table.{Outcome, Done, Stopped, Fault, HasFewRecords, IsFileOf}
 
 -- after the list, these commands hand in entries that are not refused, commit, and stop at the end
 abbrev pub IsRide : List Recorded → List Command → Type 0
@@ -21,11 +21,11 @@ IsRide list (commands.Entry entry ∷ rest) =
     (refusal_of list entry ≡ None) × IsRide (list ++ Added entry ∷ []) rest
 IsRide list (command ∷ rest) = ⊥
 
--- each of them was done, and the stop reports a valid file of the whole list and the messages that close it
+-- each of them was done, and the stop reports a valid file of the whole list and the messages that close it, of no more bytes than fit
 abbrev pub RodeWell : List Recorded → List Command → List Outcome → Type 0
 RodeWell list (commands.Commit ∷ rest) (Done ∷ outcomes) = RodeWell list rest outcomes
 RodeWell list (commands.Entry (Stop time) ∷ rest) (Stopped file ∷ outcomes) =
-    IsFileOf file (list ++ Added (Stop time) ∷ []) × (outcomes ≡ [])
+    IsFileOf file (list ++ Added (Stop time) ∷ []) × HasFewRecords file × (outcomes ≡ [])
 RodeWell list (commands.Entry entry ∷ rest) (Done ∷ outcomes) =
     RodeWell (list ++ Added entry ∷ []) rest outcomes
 RodeWell list _ _ = ⊥

@@ -1,5 +1,5 @@
 -- The table of histories: the states of a recording, and what may be answered to each command in each state.
-use Rattle.std.specs.Prelude.{◌≡◌, ◌≢◌, ℕ, Bool, true, false, IsTrue, List, [], ◌∷◌, ◌++◌, length, Some, None}
+use Rattle.std.specs.Prelude.{◌≡◌, ◌≢◌, ◌≤◌, ◌+◌, ℕ, Bool, true, false, IsTrue, List, [], ◌∷◌, ◌++◌, length, Some, None}
 use Rattle.fit_grammar.specs.Format.File.{File}
 use Rattle.fit_activity.specs.declared.activity.Summary.{Summary}
 use Rattle.fit_activity.specs.declared.recording.entry.Entry.{Entry}
@@ -12,6 +12,7 @@ use Rattle.fit_activity.specs.Rides.Refusal.{Allowed, refusal_of, start_refusal,
 use Rattle.fit_activity.specs.Messages.RideMessages.{spoken, closing}
 use Rattle.fit_recorder.specs.declared.fault.RecFault.{RecFault}
 use Rattle.fit_recorder.specs.declared.fault.RecFault.TheVariants.{NotEmpty, Refused, Full, JournalFull, Device, Failed, NothingRecorded}
+use Rattle.fit_recorder.specs.Files.Limits.{header_length, most_records}
 use Rattle.fit_scripts.specs.declared.command.Command.{Command}
 use Rattle.fit_scripts.specs.declared.command.Command.TheVariants as commands
 use Rattle.fit_histories.specs.Histories.Claims.{Claim, claim_of, no_claim, whole, has_none, MayBe, with_start}
@@ -50,6 +51,10 @@ ended history = Idle (claims_of history) (was_begun history)
 -- these bytes are a valid file of the messages of the list and those that close it
 abbrev pub IsFileOf : List ℕ → List Recorded → Type 0
 IsFileOf file list = File file (spoken list ++ closing list)
+
+-- its records have at most 16,777,216 bytes
+abbrev pub HasFewRecords : List ℕ → Type 0
+HasFewRecords file = length file ≤ header_length + most_records + 2
 
 -- ---- the steps: from `before` this may be answered, and `after` is the state then
 
@@ -98,7 +103,7 @@ abbrev pub StopStep : History → ℕ → Outcome → History → Type 0
 StopStep (Idle claims begun) time NoRecorder after = after ≡ Idle claims begun
 StopStep (Riding list promise reopened false) time (Stopped file) after =
     Allowed (list ++ Added (Stop time) ∷ []) × IsFileOf file (list ++ Added (Stop time) ∷ [])
-    × (after ≡ Idle (whole (list ++ Added (Stop time) ∷ []) ∷ []) true)
+    × HasFewRecords file × (after ≡ Idle (whole (list ++ Added (Stop time) ∷ []) ∷ []) true)
 StopStep (Riding list promise reopened false) time (Fault (Refused refusal)) after =
     (refusal_of list (Stop time) ≡ Some refusal) × (after ≡ Riding list promise reopened false)
 StopStep (Riding list promise reopened false) time (Fault Device) after =

@@ -35,9 +35,10 @@ module _ {D : Type 0} where
   is_broken (Idle disk) = false
   is_broken (Riding recorder) = has_failed recorder
 
-  -- what a call of a ride did to its disk: `Device` is replied if and only if a device call failed, and the schedule is unchanged
-  pub record Called (log : D → Log) (reply : Reply) (old new : Ride D) : Type 0 where
-    pub counted : IsCounted reply (log (disk_in old)).counts (log (disk_in new)).counts
+  -- what a call of a ride did to its disk: so many calls were made, and the schedule is unchanged
+  pub record Called (log : D → Log) (command : Command) (reply : Reply)
+      (old new : Ride D) : Type 0 where
+    pub counted : IsCounted command reply (log (disk_in old)).counts (log (disk_in new)).counts
     pub planned : (log (disk_in new)).schedule ≡ (log (disk_in old)).schedule
 
   -- every call of the recorder that runs may be made

@@ -1,8 +1,9 @@
 -- The state of a ride in a history: what its disk may hold, and what a power cut may leave of it.
-use Rattle.std.specs.Prelude.{◌≡◌, ◌⊎◌, ℕ, Bool, true, false, IsTrue, List, [], ◌++◌, length, None}
-use Rattle.fit_activity.specs.Rides.Recording.{Recorded}
+use Rattle.std.specs.Prelude.{◌≡◌, ◌⊎◌, ℕ, ◌+◌, ◌≤◌, if◌then◌else◌, Bool, true, false, IsTrue, List, [], ◌++◌, length, None}
+use Rattle.fit_activity.specs.Rides.Recording.{Recorded, Added, is_stop}
 use Rattle.fit_activity.specs.Rides.Refusal.{has_stopped}
 use Rattle.fit_disk.specs.Counts.{Counts, HasFailed}
+use Rattle.fit_disk.specs.Runs.{MakesAtLeast}
 use Rattle.fit_disk.specs.State.{Contents, LeavesOnly}
 use Rattle.fit_disk.specs.Story.{Story, seen_of}
 use Rattle.fit_disk.specs.declared.disk.Which.TheVariants.{Data}
@@ -11,8 +12,10 @@ use Rattle.fit_recorder.specs.declared.fault.RecFault.TheVariants.{Device}
 use Rattle.fit_recorder.specs.declared.recorder.Recorder.{Recorder}
 use Rattle.fit_recorder.specs.Files.NothingRecorded.{IsNothing}
 use Rattle.fit_recorder.specs.Files.Body.{StandsFor}
+use Rattle.fit_recorder.specs.Calls.Counts.{empty_calls, entry_calls, erase_calls, fewest_commit_calls, fewest_recovery_calls, fewest_resume_calls, fewest_stop_calls, most_body_reads, most_commit_calls, recovery_calls, resume_calls, start_calls, stop_calls}
 use Rattle.fit_recorder.specs.Calls.Recorder.{StandsAt, disk_of, has_failed, journal_slots}
 use Rattle.fit_scripts.specs.declared.command.Command.{Command}
+use Rattle.fit_scripts.specs.declared.command.Command.TheVariants as commands
 use Rattle.fit_histories.specs.declared.reply.Reply.{Reply}
 use Rattle.fit_histories.specs.declared.reply.Reply.TheVariants as replies
 use Rattle.fit_histories.specs.declared.ride.Ride.{Ride}
@@ -52,10 +55,32 @@ pub record Fits (history : History) (contents : Contents) : Type 0 where
 abbrev pub LeavesAllowed : History → Story → Type 0
 LeavesAllowed history story = LeavesOnly (Fits history) story.now
 
--- `Device` is replied if and only if a call of the device failed in this command, and that call was the last
-pub record IsCounted (reply : Reply) (old new : Counts) : Type 0 where
+-- the fewest calls of the device in a command that is done: an entry may wait in the page
+abbrev pub fewest_calls : Command → Reply → ℕ
+fewest_calls (commands.Start start) replies.Done = start_calls
+fewest_calls (commands.Entry entry) replies.Stopped = fewest_stop_calls
+fewest_calls commands.Commit replies.Done = fewest_commit_calls
+fewest_calls commands.Recover (replies.Recovered summary) = fewest_recovery_calls
+fewest_calls commands.Reopen replies.Done = fewest_resume_calls
+fewest_calls commands.Erase replies.Done = empty_calls
+fewest_calls command reply = 0
+
+-- and the most, whatever the reply is
+abbrev pub most_calls : Command → ℕ
+most_calls (commands.Start start) = start_calls
+most_calls (commands.Entry entry) = if is_stop (Added entry) then stop_calls else entry_calls
+most_calls commands.Commit = most_commit_calls
+most_calls commands.Recover = recovery_calls + most_body_reads
+most_calls commands.Reopen = resume_calls + most_body_reads
+most_calls commands.Erase = erase_calls
+most_calls command = 0
+
+-- So many calls of the device were made in this command. `Device` is replied if and only if one of them failed, and that was the last.
+pub record IsCounted (command : Command) (reply : Reply) (old new : Counts) : Type 0 where
   pub cause : reply ≡ replies.Refused Device → HasFailed old new
   pub went : (reply ≡ replies.Refused Device → ⊥) → new.failed ≡ old.failed
+  pub fewest : MakesAtLeast (fewest_calls command reply) old new
+  pub most : new.calls ≤ old.calls + most_calls command
 
 module _ {D : Type 0} where
   -- what reads give of the data file if no recorder runs, and otherwise nothing

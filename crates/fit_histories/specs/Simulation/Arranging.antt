@@ -26,5 +26,5 @@ Moves (commands.Cut k) reply counts schedule new_counts new_schedule =
     (reply ≡ replies.Done) × (new_counts ≡ counts) × (new_schedule ≡ cut_off_at k counts schedule)
 Moves commands.Power reply counts schedule new_counts new_schedule =
     (reply ≡ replies.Done) × (new_counts ≡ counts) × (new_schedule ≡ unplanned counts)
-Moves _ reply counts schedule new_counts new_schedule =
-    IsCounted reply counts new_counts × (new_schedule ≡ schedule)
+Moves command reply counts schedule new_counts new_schedule =
+    IsCounted command reply counts new_counts × (new_schedule ≡ schedule)

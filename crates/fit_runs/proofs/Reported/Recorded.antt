@@ -118,8 +118,7 @@ module _ {D : Type 0} (honest : Bool) (story : D → Story) (every : Option ℕ)
     clock = subst (λ times. Shows every times next.clock) (sym (times_more [] turns (Asked event reply last ∷ []))) shows;
     stood = λ sound claims begun rests.
         let stood = known.stood sound claims begun rests in
-        let by = step sound stood.0 stood.2 in
-        (
+        let by = step sound stood.0 stood.2 in (
           by.after,
           goes_more (Idle claims begun) stood.0 by.after turns event reply last (content_of story next.ride) stood.1 by.step (ends by.after by.stands),
           by.stands,

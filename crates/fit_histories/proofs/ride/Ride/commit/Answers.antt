@@ -1,14 +1,16 @@
-use Rattle.std.proofs.Common.{◌∙◌, ap}
+use Rattle.std.proofs.Common.{◌∙◌, ap, refl}
 use Rattle.std.proofs.lemmas.Result.{on_ok_weaker}
 use Rattle.fit_journal.specs.Turn.{slots_left}
 use Rattle.fit_recorder.specs.Calls.Answers.{CommitAnswers}
 use Rattle.fit_recorder.specs.Calls.Recorder.{disk_of, journal_slots}
-use Rattle.fit_histories.proofs.Histories.Replies.{answered_by, replies_of_call, done_of_call}
+use Rattle.fit_histories.proofs.Histories.Replies.{answered_by, replies_of_call, done_of_call, counted_by}
 use Rattle.fit_recorder.proofs.Commit.Slots.{committed_turns}
 use Rattle.fit_histories.proofs.Histories.NeverFull.{rides_on}
 use Rattle.fit_histories.proofs.Histories.Riding.{commit_goes, never_full}
 use Rattle.fit_histories.proofs.Histories.Left.{kept_if_refused}
 use Rattle.fit_histories.proofs.Histories.Begun.{called_form}
+use Rattle.fit_scripts.specs.declared.command.Command.TheVariants as commands
+use Rattle.fit_histories.proofs.Histories.Moments.{commit_moments, idle_moments}
 use Rattle.fit_histories.proofs.ride.Ride.commit.Goals as goal
 
 pub returns-in-Riding-clause-replies : goal.returns-in-Riding-clause-replies
@@ -61,3 +63,19 @@ returns-in-Riding-clause-form g c checked honest before stands =
     rw c.in-Riding.is
     (called_form g.D.Disk.honest g.D.Disk.story honest checked c.in-Riding.recorder c.commit.new.self c.commit.result done.after (done.head honest) before here
     (g.met.D.Disk.sound (disk_of c.in-Riding.recorder) honest))
+
+pub returns-in-Riding-clause-called : goal.returns-in-Riding-clause-called
+returns-in-Riding-clause-called g c =
+    let done = c.commit.ensures in
+    rw c.in-Riding.is (record { counted = counted_by commands.Commit c.commit.result c.into.result _ _ c.into.ensures done.ran.ran (λ fault. refl) done.fewest; planned = done.ran.ran.planned })
+
+pub returns-in-Idle-clause-any_moment : goal.returns-in-Idle-clause-any_moment
+returns-in-Idle-clause-any_moment g c honest before stands =
+    let here = rw c.in-Idle.is at stands in
+    rw c.in-Idle.is (idle_moments g.D.Disk.honest g.D.Disk.story commands.Commit _ before here)
+
+pub returns-in-Riding-clause-any_moment : goal.returns-in-Riding-clause-any_moment
+returns-in-Riding-clause-any_moment g c honest before stands =
+    let here = rw c.in-Riding.is at stands in
+    let done = c.commit.ensures in
+    rw c.in-Riding.is (commit_moments g.D.Disk.honest g.D.Disk.story c.in-Riding.recorder c.commit.new.self c.commit.result done.after (done.any_moment honest) before here)

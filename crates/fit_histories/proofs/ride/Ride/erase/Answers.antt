@@ -1,10 +1,12 @@
-use Rattle.std.proofs.Common.{◌∙◌, sym}
+use Rattle.std.proofs.Common.{◌∙◌, ap, refl, subst, sym}
 use Rattle.fit_histories.proofs.Histories.NeverFull.{erasing_not_full, erased_fills}
 use Rattle.fit_disk.specs.Story.{seen_of}
 use Rattle.fit_disk.specs.declared.disk.Which.TheVariants.{Data}
 use Rattle.fit_histories.proofs.Histories.Idle.{erase_goes}
 use Rattle.fit_histories.proofs.Histories.Riding.{idle_goes}
-use Rattle.fit_histories.proofs.Histories.Replies.{done_of_call}
+use Rattle.fit_histories.proofs.Histories.Replies.{counted_by, done_of_call, erase_ran}
+use Rattle.fit_scripts.specs.declared.command.Command.TheVariants as commands
+use Rattle.fit_histories.specs.Rides.Standing.{IsCounted}
 use Rattle.fit_histories.proofs.ride.Ride.erase.Goals as goal
 
 pub returns-clause-goes : goal.returns-clause-goes
@@ -30,4 +32,14 @@ returns-clause-never_full g c honest before stands never =
     record {
       not_full = λ is. erasing_not_full c.erase.result done.fault (sym c.into-reply.ensures ∙ is);
       never_full = erased_fills _ (g.met.D.Disk.sound c.into_disk-disk.result honest) (c.into_disk-disk.ensures.never_fills honest before stands never) _ (done.any_moment honest);
+    }
+
+pub returns-clause-called : goal.returns-clause-called
+returns-clause-called g c =
+    let done = c.erase.ensures in
+    record {
+      counted = subst (λ disk. IsCounted commands.Erase c.into-reply.result (g.D.Disk.log disk).counts (g.D.Disk.log c.erase.new.disk).counts) c.into_disk-disk.ensures.disk
+          (counted_by commands.Erase c.erase.result c.into-reply.result (g.D.Disk.log c.into_disk-disk.result) (g.D.Disk.log c.erase.new.disk) c.into-reply.ensures
+          (erase_ran c.erase.result _ _ done.fault done.ran) (λ fault. refl) done.fewest);
+      planned = done.ran.planned ∙ ap (λ disk. (g.D.Disk.log disk).schedule) c.into_disk-disk.ensures.disk;
     }

@@ -1,11 +1,13 @@
-use Rattle.std.proofs.Common.{◌∙◌, refl, sym}
+use Rattle.std.proofs.Common.{◌∙◌, ap, refl, subst, sym}
 use Rattle.fit_histories.proofs.Histories.NeverFull.{recovery_not_full, recovered_fills}
 use Rattle.fit_disk.specs.Story.{seen_of}
 use Rattle.fit_disk.specs.declared.disk.Which.TheVariants.{Data}
 use Rattle.fit_histories.proofs.Histories.Idle.{recover_goes}
-use Rattle.fit_histories.proofs.Histories.Replies.{replies_recovery}
+use Rattle.fit_histories.proofs.Histories.Replies.{recovery_counted, replies_recovery}
 use Rattle.fit_histories.proofs.Histories.Riding.{idle_goes}
 use Rattle.fit_histories.proofs.Histories.Begun.{synced_form}
+use Rattle.fit_scripts.specs.declared.command.Command.TheVariants as commands
+use Rattle.fit_histories.specs.Rides.Standing.{IsCounted}
 use Rattle.fit_histories.proofs.ride.Ride.recover.Goals as goal
 
 pub returns-clause-goes : goal.returns-clause-goes
@@ -44,3 +46,12 @@ pub returns-clause-form : goal.returns-clause-form
 returns-clause-form g c checked honest before stands =
     rw (← c.into_disk-disk.ensures.disk)
     (λ form. synced_form checked (g.D.Disk.story c.into_disk-disk.result) (g.D.Disk.story c.recover.new.disk) (g.met.D.Disk.sound c.into_disk-disk.result honest) form (c.recover.ensures.journal honest))
+
+pub returns-clause-called : goal.returns-clause-called
+returns-clause-called g c =
+    let done = c.recover.ensures in
+    record {
+      counted = subst (λ disk. IsCounted commands.Recover c.into-reply.result (g.D.Disk.log disk).counts (g.D.Disk.log c.recover.new.disk).counts) c.into_disk-disk.ensures.disk
+          (recovery_counted c.recover.result c.into-reply.result (g.D.Disk.log c.into_disk-disk.result) (g.D.Disk.log c.recover.new.disk) c.into-reply.ensures done.ran done.fewest);
+      planned = done.ran.planned ∙ ap (λ disk. (g.D.Disk.log disk).schedule) c.into_disk-disk.ensures.disk;
+    }

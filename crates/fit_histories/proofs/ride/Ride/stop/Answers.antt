@@ -7,6 +7,9 @@ use Rattle.fit_histories.proofs.Histories.Riding.{stop_goes, stop_done}
 use Rattle.fit_histories.proofs.Histories.Left.{kept_if_refused}
 use Rattle.fit_recorder.specs.Calls.Recorder.{disk_of}
 use Rattle.fit_histories.proofs.Histories.Begun.{called_form}
+use Rattle.fit_histories.proofs.Histories.Moments.{idle_moments, stop_moments}
+use Rattle.fit_activity.specs.declared.recording.entry.Entry.TheVariants.{Stop}
+use Rattle.fit_scripts.specs.declared.command.Command.TheVariants as commands
 use Rattle.fit_histories.proofs.ride.Ride.stop.Goals as goal
 
 pub returns-in-Ok-clause-replies : goal.returns-in-Ok-clause-replies
@@ -20,7 +23,7 @@ returns-in-Ok-clause-goes g c honest = record {
       let here = rw c.in-Riding.is at stands in
       let stop = c.stop.ensures in
       stop_done g.D.Disk.honest g.D.Disk.story c.in-Riding.recorder c.stop.new.self c.stop.result stop.after.same stop.after.failed stop.after.gone c.args.time stop.answers stop.ok (stop.finished honest) (stop.any_moment honest)
-      before c.into_disk.result tt c.in-Ok.is c.into_disk.ensures.disk here;
+      (stop.within honest) before c.into_disk.result tt c.in-Ok.is c.into_disk.ensures.disk here;
   left =
       search rules;
 }
@@ -71,3 +74,22 @@ returns-in-Err-clause-form g c checked honest before stands =
     rw c.in-Riding.is
     (called_form g.D.Disk.honest g.D.Disk.story honest checked c.in-Riding.recorder c.stop.new.self c.stop.result done.after (done.head honest) before here
     (g.met.D.Disk.sound (disk_of c.in-Riding.recorder) honest))
+
+pub returns-in-Idle-clause-any_moment : goal.returns-in-Idle-clause-any_moment
+returns-in-Idle-clause-any_moment g c honest before stands =
+    let here = rw c.in-Idle.is at stands in
+    rw c.in-Idle.is (idle_moments g.D.Disk.honest g.D.Disk.story (commands.Entry (Stop c.args.time)) _ before here)
+
+pub returns-in-Ok-clause-any_moment : goal.returns-in-Ok-clause-any_moment
+returns-in-Ok-clause-any_moment g c honest before stands =
+    let here = rw c.in-Riding.is at stands in
+    let done = c.stop.ensures in
+    rw (c.in-Riding.is, c.into_disk.ensures.disk)
+    (stop_moments g.D.Disk.honest g.D.Disk.story c.in-Riding.recorder c.stop.new.self c.stop.result done.after c.args.time (done.any_moment honest) before here)
+
+pub returns-in-Err-clause-any_moment : goal.returns-in-Err-clause-any_moment
+returns-in-Err-clause-any_moment g c honest before stands =
+    let here = rw c.in-Riding.is at stands in
+    let done = c.stop.ensures in
+    rw c.in-Riding.is
+    (stop_moments g.D.Disk.honest g.D.Disk.story c.in-Riding.recorder c.stop.new.self c.stop.result done.after c.args.time (done.any_moment honest) before here)
