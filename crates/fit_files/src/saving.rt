@@ -14,7 +14,7 @@ ghost use Rattle.fit_recorder.specs.Files.Limits.{longest_end};
 ghost use Rattle.fit_recorder.specs.Files.NothingRecorded.{IsNothing};
 ghost use Rattle.fit_recorder.specs.Files.Settled.{IsDamaged, IsSettled};
 ghost use Rattle.fit_recorder.specs.declared.fault.RecFault.TheVariants as recording;
-ghost use Rattle.fit_files.specs.Printed.Saved.{FinishesRide, SavesRide};
+ghost use Rattle.fit_files.specs.Printed.Saved.{FinishesRide, SavesRide, fault_of_plain};
 
 use crate::decoding::decode_whole;
 use fit_activity::Summary;
@@ -65,10 +65,17 @@ pub fn save_ride(
             file: plain,
             summary,
         }),
-        Err(fault) => match fault.kind {
-            PlainFaultKind::TooLong => Err(SaveFault::TooLarge),
-            PlainFaultKind::Memory => Err(SaveFault::NoMemory),
-        },
+        Err(fault) => Err(fault_of_plain(fault.kind)),
+    }
+}
+
+// The fault of a ride whose plain form was not made.
+fn fault_of_plain(kind: PlainFaultKind) -> SaveFault
+    ensures { result ≡ fault_of_plain kind }
+{
+    match kind {
+        PlainFaultKind::TooLong => SaveFault::TooLarge,
+        PlainFaultKind::Memory => SaveFault::NoMemory,
     }
 }
 

@@ -3,8 +3,9 @@
 use crate::equality::equal;
 use crate::failing::Failing;
 use crate::replays::stopped_ride;
+use fit_activity::Summary;
 use fit_base::Crc;
-use fit_files::{ReportFault, check_bytes, show_bytes};
+use fit_files::{ReportFault, check_bytes, print_summary, show_bytes};
 use fit_grammar::{FaultKind, FileFault};
 use std::alloc::{AllocError, Global};
 use std::process::Abort;
@@ -163,6 +164,52 @@ fn a_check_states_where_its_output_fails(rt: HostRuntime) -> Result<(), Fail> {
     let mut kept = Failing::new(rt.alloc(), usize::MAX, usize::MAX);
     kept.flushes = 0;
     check_to(&rt, rt.alloc(), bytes.as_slice(), &mut kept);
+    Ok(())
+}
+
+// The greatest number of a place in a summary line of this length: together the seven numbers have as many digits as that takes.
+fn number_at(place: usize, length: usize) -> u32 {
+    match length.wrapping_add(place).wrapping_sub(70) / 7 {
+        1 => 9,
+        2 => 99,
+        3 => 999,
+        4 => 9_999,
+        5 => 99_999,
+        6 => 999_999,
+        7 => 9_999_999,
+        8 => 99_999_999,
+        9 => 999_999_999,
+        _ => 4_294_967_295,
+    }
+}
+
+// With all its numbers, a summary line has from 77 to 140 bytes, its end among them. Each of these lengths is printed whole.
+#[test]
+fn a_summary_line_of_any_length_is_printed(rt: HostRuntime) -> Result<(), Fail> {
+    for length in 77..141 {
+        let records = number_at(0, length);
+        let laps = number_at(1, length);
+        let sessions = number_at(2, length);
+        let start = number_at(3, length);
+        let elapsed_ms = number_at(4, length);
+        let timer_ms = number_at(5, length);
+        let distance_cm = number_at(6, length);
+        let summary = Summary {
+            records,
+            laps,
+            sessions,
+            start: Some(start),
+            elapsed_ms: Some(elapsed_ms),
+            timer_ms: Some(timer_ms),
+            distance_cm: Some(distance_cm),
+        };
+        let line = format!(in rt.alloc(); "ok records={records} laps={laps} sessions={sessions} start={start} elapsed_ms={elapsed_ms} timer_ms={timer_ms} distance_cm={distance_cm}\n")?;
+        assert_eq!(rt; line.len(), length);
+        let mut out = Vec::new(rt.alloc());
+        let printed = print_summary(summary, &mut out);
+        assert_eq!(rt; printed, Ok(()), "{length}");
+        assert!(rt; out.as_slice() == line.as_bytes(), "{length}");
+    }
     Ok(())
 }
 

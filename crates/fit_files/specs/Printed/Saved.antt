@@ -6,6 +6,8 @@ use Rattle.fit_activity.specs.declared.activity.Summary.{Summary}
 use Rattle.fit_disk.specs.State.{Contents}
 use Rattle.fit_grammar.specs.Calls.PlainForm.{too_long_at}
 use Rattle.fit_grammar.specs.Format.File.{FileValue, FileOf}
+use Rattle.fit_grammar.specs.declared.plain.fault.PlainFaultKind.{PlainFaultKind}
+use Rattle.fit_grammar.specs.declared.plain.fault.PlainFaultKind.TheVariants as plain
 use Rattle.fit_recorder.specs.Files.Body.{StandsFor}
 use Rattle.fit_recorder.specs.Files.Changed.{HasChanged}
 use Rattle.fit_recorder.specs.Files.Finished.{finished}
@@ -34,6 +36,11 @@ FinishesRide contents (Err faults.Changed) = IsDamaged contents × HasChanged co
 FinishesRide contents (Err (faults.Recorder fault)) = ⊥
 FinishesRide contents (Err faults.TooLarge) = ⊥
 FinishesRide contents (Err faults.NoMemory) = Unit {0}
+
+-- the fault of a ride whose plain form is not made: it would be too long, or memory was refused
+abbrev pub fault_of_plain : PlainFaultKind → SaveFault
+fault_of_plain plain.TooLong = faults.TooLarge
+fault_of_plain plain.Memory = faults.NoMemory
 
 -- What is saved is the plain form of that file, unless it would be too long.
 abbrev pub SavesRide : Contents → Result SavedRide SaveFault → Type 0
