@@ -1,5 +1,5 @@
 -- The form of the journal that a start begins stays until an erasing: the calls of a ride keep its head.
-use Rattle.std.proofs.Common.{◌≡◌, ⊎_elim, ℕ, Bool, true, false, List, [], take, None, Result, Ok, Err, refl, sym, ◌∙◌, ap, subst}
+use Rattle.std.proofs.Common.{◌≡◌, ⊎_elim, ℕ, Bool, true, false, List, [], take, None, Result, refl, sym, ◌∙◌, ap, subst}
 use Rattle.std.specs.Prelude.{IsTrue, ◌≢◌}
 use Rattle.fit_activity.specs.declared.recording.refusal.Refusal.{Refusal}
 use Rattle.fit_activity.specs.declared.recording.start.Start.{Start}
@@ -29,7 +29,7 @@ use Rattle.fit_scripts.specs.declared.command.Command.TheVariants as commands
 use Rattle.fit_histories.specs.declared.reply.Reply.TheVariants as replies
 use Rattle.fit_histories.specs.declared.ride.Ride.TheVariants as rides
 use Rattle.fit_histories.specs.Histories.Table.{History, Idle, Riding}
-use Rattle.fit_histories.specs.Rides.Begun.{BeginsForm, HasForm, LeavesForm}
+use Rattle.fit_histories.specs.Rides.Begun.{BeginsForm, LeavesForm}
 use Rattle.fit_histories.specs.Rides.Standing.{StandsIn}
 
 module _ (checked : Bool) (old new : Story) (sound : IsSound old.now) (before : LeavesForm checked old) where

@@ -1,5 +1,5 @@
 -- What a power cut may leave at each moment of a call of a recorder that runs.
-use Rattle.std.proofs.Common.{◌≡◌, ⊎_elim, ℕ, Bool, true, false, true≢false, List, [], ◌∷◌, ◌++◌, take, length, Result, Err, refl, sym, ◌∙◌, ap, subst}
+use Rattle.std.proofs.Common.{◌≡◌, ⊎_elim, ℕ, Bool, true, false, true≢false, List, [], ◌∷◌, ◌++◌, take, Result, sym, ◌∙◌, ap, subst}
 use Rattle.std.proofs.lemmas.List.{take_at}
 use Rattle.fit_activity.specs.declared.recording.entry.Entry.{Entry}
 use Rattle.fit_activity.specs.declared.recording.entry.Entry.TheVariants.{Sample, Lap, Pause, Resume, Stop}
@@ -8,7 +8,6 @@ use Rattle.fit_disk.specs.State.{Contents}
 use Rattle.fit_disk.specs.Story.{Story, Throughout}
 use Rattle.fit_disk.proofs.Moments.{begins}
 use Rattle.fit_recorder.specs.declared.fault.RecFault.{RecFault}
-use Rattle.fit_recorder.specs.declared.fault.RecFault.TheVariants.{Failed}
 use Rattle.fit_recorder.specs.declared.recorder.Recorder.{Recorder}
 use Rattle.fit_recorder.specs.Calls.After.{AfterCall}
 use Rattle.fit_recorder.specs.Calls.Recorder.{StandsAt, disk_of}

@@ -1,5 +1,5 @@
 -- A start is not done if one of its calls is arranged to fail: for the law.
-use Rattle.std.proofs.Common.{◌≡◌, ◌+◌, ◌<◌, ◌≤◌, ◌^◌, ℕ, true, false, nat_lt, None, Some, Option, refl, sym, ap, subst, ◌∙◌, true≢false, arith}
+use Rattle.std.proofs.Common.{◌≡◌, ◌+◌, ◌≤◌, ◌^◌, ℕ, true, nat_lt, Bool, if◌then◌else◌, None, Some, Option, refl, sym, ap, subst, ◌∙◌, true≢false, arith}
 use Rattle.std.proofs.lemmas.Bool.{lt-ltb}
 use Rattle.fit_activity.specs.declared.recording.start.Start.{Start}
 use Rattle.fit_activity.specs.Rides.Refusal.{start_refusal}
@@ -26,7 +26,10 @@ not_all k counts first within made none planned_so =
     omega (arith, one, more, none, planned_so)
 
 small : (k : ℕ) → k ≤ 11 → call_number 0 k ≡ Some k
-small k within = let low : nat_lt k (2 ^ 64) ≡ true = lt-ltb k (2 ^ 64) (omega arith) in rw low refl
+small k within =
+    let low : nat_lt (0 + k) (2 ^ 64) ≡ true = lt-ltb (0 + k) (2 ^ 64) (omega arith) in
+    let same : 0 + k ≡ k = omega arith in
+    ap (λ (b : Bool). if b then Some (0 + k) else None) low ∙ ap Some same
 
 module _ (k : ℕ) (start : Start) (old new : Counts) (schedule new_schedule : Schedule) where
   not_done : 1 ≤ k → k ≤ 11 → old ≡ no_calls → schedule ≡ failing_at k no_calls (unplanned no_calls) → IsCounted (commands.Start start) replies.Done old new → new_schedule ≡ schedule

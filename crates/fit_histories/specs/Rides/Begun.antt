@@ -1,5 +1,5 @@
 -- The form of the journal that a start begins, without checksums or with them, and which commands keep it.
-use Rattle.std.specs.Prelude.{◌≡◌, Bool, true, false, List, [], ◌∷◌, take, IsTrue}
+use Rattle.std.specs.Prelude.{◌≡◌, Bool, true, false, List, ◌∷◌, take, IsTrue}
 use Rattle.fit_disk.specs.State.{Contents, LeavesOnly}
 use Rattle.fit_disk.specs.Story.{Story}
 use Rattle.fit_journal.specs.Form.{form_of}

@@ -1,5 +1,5 @@
 -- What a power cut may leave at each moment of a call of a ride.
-use Rattle.std.specs.Prelude.{false, Bool, IsTrue, List, [], ◌∷◌, ◌++◌, take}
+use Rattle.std.specs.Prelude.{false, Bool, IsTrue, [], ◌∷◌, ◌++◌, take}
 use Rattle.fit_activity.specs.declared.recording.entry.Entry.TheVariants.{Stop}
 use Rattle.fit_activity.specs.Rides.Recording.{Added}
 use Rattle.fit_disk.specs.State.{Contents}
