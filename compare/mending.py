@@ -20,7 +20,7 @@ from typing import NamedTuple
 from tools.checks import Skipped, differs, unless
 from tools.finished import finished
 from tools.fit_files import framed
-from tools.holes import KINDS, SIZES, hole, items, numbers, older, touches
+from tools.holes import CLUSTERS, CONTENTS, KINDS, SIZES, TAIL, hole, items, numbers, older, other_cluster, touches
 from tools.other_makers import rides
 from tools.program import FITREC, as_nobody, bytes_of, for_everyone, run
 from tools.reader import Refused, show
@@ -31,6 +31,8 @@ NEEDS = ("fitrec",)
 # Of the records outside a hole of so many bytes, how many are kept at least, and of those that are kept, how many may be made up.
 KEPT = {1: 0.99, 16: 0.99, 512: 0.99, 4096: 0.97}
 MADE_UP = 1 / 1000
+# Beside a cluster that has another content, or before the end of an older ride.
+KEPT_BESIDE = 0.99
 # How many may be of bytes of other moments, in a ride of heart rates alone: nearly all that stand in a hole of 512 bytes.
 MADE_UP_WITHOUT = 72 / 1000
 # One ride of another maker has so many records whose times are two years later.
@@ -123,6 +125,45 @@ def judged(fitrec, seed, rides, kind, size, rounds, holes=1):
     """The sums over all rides of which no hole touches a definition."""
     found = [by_salvage(fitrec, ride) for data, ride in damaged_rides(seed, rides, kind, size, rounds, holes) if not ride.is_undefined]
     return None if None in found else [sum(each) for each in zip((0, 0, 0), *found)]
+
+
+@functools.cache
+def items_of(data):
+    """The definitions and the records of a file, and how often each record is there."""
+    there = list(items(numbers(data)[1]))
+    return there, collections.Counter(it.what for it in there if it.what is not None)
+
+
+def clustered(pick, rides, content, size):
+    """A ride with a cluster of another content, or with the end of an older ride, of which no definition is lost in it."""
+    while True:
+        data = pick.choice(rides)
+        made = other_cluster(pick, data, [it for it in rides if it is not data], content, size)
+        if made is None:
+            continue
+        file, start, end = made
+        front, (there, whole) = data[0], items_of(data)
+        touched = [it for it in there if front + it.start < end and start < front + it.end]
+        if content != TAIL and any(it.what is None for it in touched):
+            continue
+        outside = whole - collections.Counter(it.what for it in touched if it.what is not None)
+        return Damaged(file + bytes(2), 1, whole, outside, False)
+
+
+def clusters(given):
+    """Content of another ride, or of another place of the same ride, is left out, and the rest is kept. A thousand rides of a kind are made
+    with --files 60000."""
+    found = of_other_makers()
+    if isinstance(found, Skipped):
+        yield "clusters", found
+        return
+    for content, size in [(content, size) for content in CONTENTS for size in CLUSTERS] + [(TAIL, 0)]:
+        pick = random.Random("%d %s %d" % (given.seed, content, size))
+        made = [by_salvage(given.fitrec, clustered(pick, found, content, size)) for _ in range(max(1, given.files // 60))]
+        sums = [sum(each) for each in zip((0, 0, 0), *[it or (1, 0, 0) for it in made])]
+        well = sums[1] >= KEPT_BESIDE * sums[0] and sums[2] <= MADE_UP * sums[1]
+        wanted = "%.2f kept, %.3f made up" % (KEPT_BESIDE, MADE_UP)
+        yield "%s, %d bytes" % (content, size), unless(well, described(sums), wanted)
 
 
 def described(sums):
@@ -231,6 +272,46 @@ def damaged_headers(given):
     yield "no header", differs((status, file is not None and len(records(file))), (0, full))
 
 
+def begins_with_file_id(file):
+    """Whether the first item of a file is a definition of global number 0."""
+    return file is not None and file[14] & 0xF0 == 0x40 and file[17:19] == bytes(2)
+
+
+def lost_beginnings(given):
+    """Of rides of other makers, whose header is damaged or missing, or behind other bytes, all is kept, as its file_id. Where the first 512
+    bytes are lost, what is under the definitions after them is."""
+    found = of_other_makers()
+    if isinstance(found, Skipped):
+        yield "lost beginnings", found
+        return
+    noise = random.Random(given.seed).randbytes(3000)
+    for number, data in enumerate(found):
+        full, (head, row) = len(records(data)), numbers(data)
+        for name, bad in (("byte 0", bytes([data[0] ^ 0x5A]) + data[1:]), ("bytes 8 to 11", data[:8] + b"\xff" * 4 + data[12:]),
+                          ("no header", data[len(head):]), ("3000 other bytes before it", noise + data)):
+            file = mended(given.fitrec, bad, "--all")[1]
+            kept = file and len(records(file))
+            is_right = begins_with_file_id(file) and kept >= full - STRANGE
+            yield name, unless(is_right, (kept, file and file[14:24]), (full, "a file_id"))
+        lost = data[512:]
+        under = defined_after(row, 512 - len(head))
+        file = mended(given.fitrec, lost, "--all")[1]
+        kept = len(records(file)) if file else 0
+        yield "the first 512 bytes lost", unless(kept >= 0.99 * under, kept, under)
+
+
+def defined_after(row, at):
+    """How many records have their definition, and all of it, after a place."""
+    defined, count = {}, 0
+    for it in items(row):
+        if it.what is None:
+            defined[row[it.start] & 15] = it.start >= at
+        else:
+            first = it.what[0][0]
+            count += bool(defined.get(first >> 5 & 3 if first & 128 else first & 15)) and it.start >= at
+    return count
+
+
 def noise(given):
     """Ten million bytes without a file in them take less than a second, and not more than in proportion."""
     data = random.Random(given.seed).randbytes(10_000_000)
@@ -313,7 +394,9 @@ def check(given):
     yield from given.checks(whole, given)
     yield from given.checks(rhythms, given)
     yield from given.checks(damaged_headers, given)
+    yield from given.checks(lost_beginnings, given)
     yield from given.checks(told, given)
+    yield from given.checks(clusters, given)
     yield from given.checks(split, given)
     yield from given.checks(split_refused, given)
     yield from given.checks(finishes, given)

@@ -1,11 +1,16 @@
 """Rides with a hole: what is damaged, and which of its records stand outside."""
 
+import functools
 from typing import NamedTuple
 
 # The number of the record messages.
 RECORD = 20
 KINDS = "zeros", "FF", "noise", "older content", "lost", "doubled"
 SIZES = 1, 16, 512, 4096
+# What stands in a cluster of a card, and how many bytes clusters have; and what stands after a ride.
+CONTENTS = "an older ride", "another cluster of it", "a ride of another file"
+CLUSTERS = 4096, 16384, 32768
+TAIL = "the end of an older ride"
 
 
 class Found(NamedTuple):
@@ -24,6 +29,17 @@ def numbers(data):
 
 def items(row):
     """The definitions and the records of a row of items, up to the first fault."""
+    for it in messages(row):
+        if it.what is None:
+            yield it
+            continue
+        definition = it.what[1]
+        if int.from_bytes(definition[3:5], "big" if definition[2] & 1 else "little") == RECORD:
+            yield it
+
+
+def messages(row):
+    """The definitions and all messages of a row of items, up to the first fault."""
     under, at = {}, 0
     while at < len(row):
         first, start = row[at], at
@@ -44,14 +60,13 @@ def items(row):
             return
         definition, size = under[local]
         at += size
-        if int.from_bytes(definition[3:5], "big" if definition[2] & 1 else "little") == RECORD:
-            yield Found((bytes(row[start:at]), bytes(definition)), start, at)
+        yield Found((bytes(row[start:at]), bytes(definition)), start, at)
 
 
 def older(row):
     """The same row, with every time five days earlier."""
     out = bytearray(row)
-    for it in items(row):
+    for it in messages(row):
         if it.what is None:
             continue
         (content, definition), at = it.what, it.start + 1
@@ -82,6 +97,30 @@ def hole(pick, row, old, kind, size, at):
             return row[:at] + after
         case "doubled":
             return row[:at + size] + row[at:]
+
+
+@functools.cache
+def both(data):
+    """A file without its checksum, and the same as an older ride."""
+    head, row = numbers(data)
+    return head + row, head + older(row)
+
+
+def other_cluster(pick, data, others, content, size):
+    """A file one of whose clusters has another content, or the rest of which is that of an older ride. Returns it, and the first and last
+    place of that; or None where the file has too few clusters."""
+    file, before = both(data)
+    if content == TAIL:
+        at = pick.randrange(len(file) // 4, len(file) - 100)
+        return file[:at] + before[at:], at, len(file)
+    source = {CONTENTS[0]: before, CONTENTS[1]: file}.get(content) or both(pick.choice(others))[0]
+    count, counted = len(file) // size, len(source) // size
+    if count < 2 or not counted:
+        return None
+    at, start = pick.randrange(1, count) * size, pick.randrange(counted) * size
+    if source == file and start == at:
+        return None
+    return file[:at] + source[start:start + size] + file[at + size:], at, at + size
 
 
 def touches(it, kind, size, at):

@@ -39,6 +39,8 @@ pub(crate) struct Clock {
     latest: Option<u32>,
     // By how many seconds the last compressed timestamp was later that was.
     step: u32,
+    // Whether the next time that is stated may be later by any number of seconds.
+    may_leap: bool,
 }
 
 impl Clock {
@@ -49,7 +51,20 @@ impl Clock {
             record: None,
             latest: None,
             step: 0,
+            may_leap: false,
         }
+    }
+
+    // The same, if times leap here.
+    pub(crate) fn leapt(&self) -> Clock {
+        let mut clock = *self;
+        clock.may_leap = true;
+        clock
+    }
+
+    // By how many seconds the last time is later than that of another clock.
+    pub(crate) fn seconds_after(&self, other: &Clock) -> u32 {
+        self.last.saturating_sub(other.last)
     }
 
     // Whether a message stated a time.
@@ -66,7 +81,9 @@ impl Clock {
         let is_record = message.global() == RECORD;
         if !is_compressed {
             let worth = self.stated_worth(time, is_record);
-            return self.set(time, is_record, worth);
+            let done = self.set(time, is_record, worth);
+            self.may_leap = false;
+            return done;
         }
         if has_time_twice(message) {
             return None;
@@ -106,7 +123,11 @@ impl Clock {
         match self.latest {
             None => STATED,
             Some(latest) => {
-                if time > latest.saturating_add(LEAP) {
+                let before = match self.record {
+                    Some(record) if is_record => record,
+                    _ => latest,
+                };
+                if !self.may_leap && time > before.saturating_add(LEAP) {
                     if is_record { DOUBTFUL } else { LATER }
                 } else if time > self.last {
                     STATED
@@ -133,7 +154,7 @@ impl Clock {
 
     // Whether a message may have this time: a record's does not fall, and no time leaps.
     fn may_follow(&self, time: u32, is_record: bool, latest: u32) -> bool {
-        if time > latest.saturating_add(DAY) {
+        if !self.may_leap && time > latest.saturating_add(DAY) {
             return false;
         }
         match self.record {

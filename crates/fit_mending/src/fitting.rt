@@ -1,5 +1,6 @@
 // Whether the item at a place fits what was before it and what follows it.
 
+use crate::form::is_definition;
 use crate::progress::Progress;
 use crate::stray::after_stray;
 use crate::trial::{Need, follows};
@@ -11,6 +12,7 @@ const IN_ROW: Need = Need {
     at_end: 0,
     at_fault: 0,
     idle: 64,
+    gap: 0,
 };
 
 // What has to follow with an item that leaps.
@@ -19,6 +21,7 @@ const AT_LEAP: Need = Need {
     at_end: 0,
     at_fault: i32::MAX,
     idle: 64,
+    gap: 0,
 };
 
 // What has to follow after a fault.
@@ -26,7 +29,26 @@ pub(crate) const AFTER_FAULT: Need = Need {
     worth: 12,
     at_end: 3,
     at_fault: i32::MAX,
-    idle: 16,
+    idle: 32,
+    gap: 64,
+};
+
+// What has to follow such an item that is of the same ride, whatever comes then.
+const OF_SAME: Need = Need {
+    worth: 3,
+    at_end: 0,
+    at_fault: i32::MAX,
+    idle: 64,
+    gap: 0,
+};
+
+// What has to follow such an item that is of another ride.
+const OF_OTHER: Need = Need {
+    worth: 24,
+    at_end: 24,
+    at_fault: i32::MAX,
+    idle: 64,
+    gap: 0,
 };
 
 // How many items are compared with and without the one before them.
@@ -43,7 +65,8 @@ pub(crate) fn fits_in_row<'a>(bytes: &'a [u8], latest: &Latest<'a>, progress: &P
     if worth > 0 {
         true
     } else if worth == 0 {
-        follows(bytes, latest, progress, &IN_ROW)
+        !begins_other(bytes, latest, progress)
+            && (is_definition(bytes) || follows(bytes, latest, progress, &IN_ROW))
     } else {
         follows(bytes, latest, progress, &AT_LEAP) && after_stray(bytes, latest, progress).is_none()
     }
@@ -56,6 +79,12 @@ pub(crate) fn fits_after_fault<'a>(
     progress: &Progress,
 ) -> bool {
     follows(bytes, latest, progress, &AFTER_FAULT) && !is_contradicted(bytes, latest, progress)
+}
+
+// Whether a row of another ride begins here, such as by its definitions: what follows fits after no other items, and not after those.
+fn begins_other<'a>(bytes: &'a [u8], latest: &Latest<'a>, progress: &Progress) -> bool {
+    !follows(bytes, latest, progress, &OF_SAME)
+        && follows(bytes, latest, &Progress::new(), &OF_OTHER)
 }
 
 // What the item at the front is worth, if it is no fault.

@@ -11,6 +11,14 @@ pub(crate) fn may_begin(bytes: &[u8]) -> bool {
     }
 }
 
+// Whether the first byte is that of a definition.
+pub(crate) fn is_definition(bytes: &[u8]) -> bool {
+    match bytes {
+        [first, ..] => *first >= 64 && *first < 128,
+        [] => false,
+    }
+}
+
 // Whether the first byte of a data message announces a compressed timestamp.
 pub(crate) fn is_compressed(bytes: &[u8]) -> bool {
     match bytes {

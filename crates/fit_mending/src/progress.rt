@@ -6,11 +6,16 @@ use crate::layout::is_plausible;
 use crate::values::{Change, Values};
 use fit_grammar::{Item, message_of};
 
+// Before so many records times may fall, and the ride is what follows.
+const FEW: u32 = 64;
+
 /// How far the items so far have come: their times, and the distances and positions of the records.
 #[derive(Clone, Copy)]
 pub(crate) struct Progress {
     clock: Clock,
     values: Values,
+    // How many records there were.
+    records: u32,
 }
 
 impl Progress {
@@ -19,15 +24,31 @@ impl Progress {
         Progress {
             clock: Clock::new(),
             values: Values::new(),
+            records: 0,
         }
     }
 
-    // Whether no time is known that an item could contradict: before the first time, and for a definition.
-    pub(crate) fn takes(&self, item: &Item<'_>) -> bool {
-        match item {
-            Item::Definition(_) => true,
-            Item::Data(_) => !self.clock.is_set(),
+    // What is left of it where a ride begins anew: distances and positions do, and times leap. They fall only after few records, as where
+    // a clock was set, or else it is another ride.
+    pub(crate) fn anew(&self) -> Progress {
+        if self.records < FEW {
+            return Progress::new();
         }
+        Progress {
+            clock: self.clock.leapt(),
+            values: Values::new(),
+            records: self.records,
+        }
+    }
+
+    // By how many seconds the last time is later than that after other items.
+    pub(crate) fn seconds_after(&self, other: &Progress) -> u32 {
+        self.clock.seconds_after(&other.clock)
+    }
+
+    // Whether a time is known that an item could contradict.
+    pub(crate) fn is_timed(&self) -> bool {
+        self.clock.is_set()
     }
 
     // Whether the last time is the same.
@@ -49,6 +70,7 @@ impl Progress {
         if message.global() != RECORD {
             return Some(worth);
         }
+        self.records = self.records.saturating_add(1);
         worth_by(self.values.follow(&message, self.clock.last), worth)
     }
 }

@@ -25,15 +25,16 @@ const ANEW: Need = Need {
     at_end: 768,
     at_fault: i32::MAX,
     idle: 64,
+    gap: 0,
 };
 
-// In how many bytes items that fit what was before have priority over those that begin anew.
-const SOON: usize = 16_384;
+// In how many bytes items that fit what was before have priority over those that begin anew: more than a cluster of a card.
+const SOON: usize = 65_536;
 
 /// Cuts the bytes from `front` on into pieces, one after another. Some are kept: together they are a row of whole items. After a fault
 /// the next piece is kept from the first place on from which items follow that fit. A fault is where no whole item is, or one that no
-/// device writes, or a time, a distance or a position that falls or leaps. If the bytes are `trusted`, since their checksum is right,
-/// and are a row of whole items, all are kept.
+/// device writes, or a time, a distance or a position that falls or leaps. Where times fall after more than a few records, another ride
+/// follows, which is left out. If the bytes are `trusted`, since their checksum is right, and are a row of whole items, all are kept.
 pub fn skip_faults(
     alloc: Global,
     bytes: &[u8],
@@ -172,11 +173,11 @@ fn fitting_item<'a>(
     let Step::Item(item, used) = step_after(bytes, latest) else {
         return None;
     };
-    if !progress.takes(&item) && !fits_in_row(bytes, latest, progress) {
+    if progress.is_timed() && !fits_in_row(bytes, latest, progress) {
         if !begins_anew(bytes, latest, progress) {
             return None;
         }
-        *progress = Progress::new();
+        *progress = progress.anew();
     }
     match progress.judge(&item, &bytes[..used]) {
         Some(_) => Some((item, used)),
@@ -187,7 +188,7 @@ fn fitting_item<'a>(
 // Whether times, distances or positions begin anew: so many items follow that fit if those before are forgotten, and soon none that
 // fit after them.
 fn begins_anew<'a>(bytes: &'a [u8], latest: &Latest<'a>, progress: &Progress) -> bool {
-    follows(bytes, latest, &Progress::new(), &ANEW)
+    follows(bytes, latest, &progress.anew(), &ANEW)
         && next_fitting(bytes, 1, SOON, latest, progress).is_none()
 }
 
@@ -200,8 +201,8 @@ fn count_faulty<'a>(bytes: &'a [u8], latest: &Latest<'a>, progress: &mut Progres
     if let Some(count) = next_fitting(bytes, 1, SOON, latest, progress) {
         return count;
     }
-    if let Some(count) = next_anew(bytes, latest) {
-        *progress = Progress::new();
+    if let Some(count) = next_anew(bytes, latest, progress) {
+        *progress = progress.anew();
         return count;
     }
     match next_fitting(bytes, SOON, bytes.len(), latest, progress) {
@@ -231,12 +232,12 @@ fn next_fitting<'a>(
 }
 
 // The first place soon after the front from which so many items follow that fit if those before are forgotten.
-fn next_anew<'a>(bytes: &'a [u8], latest: &Latest<'a>) -> Option<usize>
+fn next_anew<'a>(bytes: &'a [u8], latest: &Latest<'a>, progress: &Progress) -> Option<usize>
     ensures some { IfSome result (λ count. 1 ≤ count) }
     ensures within { IfSome result (λ count. count ≤ length bytes.now) }
 {
     for count in 1..SOON.min(bytes.len()) {
-        if follows(&bytes[count..], latest, &Progress::new(), &ANEW) {
+        if follows(&bytes[count..], latest, &progress.anew(), &ANEW) {
             return Some(count);
         }
     }

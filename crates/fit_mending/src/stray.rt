@@ -11,16 +11,17 @@ const AFTER_STRAY: Need = Need {
     at_end: 24,
     at_fault: i32::MAX,
     idle: 16,
+    gap: 0,
 };
 
-// A row of so many bytes is not stray.
+// A row of so many bytes is not stray, unless times leap where it begins, by at least half of the time that it takes.
 const LONG: usize = 4_608;
 
 // In how many bytes after a row something has to follow.
 const SOON: usize = 512;
 
 // How many rows are stray together at most, since one may be broken off where a definition is missing.
-const MOST_ROWS: usize = 3;
+const MOST_ROWS: usize = 16;
 
 // What follows a row soon.
 enum Sequel<'a> {
@@ -42,7 +43,7 @@ pub(crate) fn after_stray<'a>(
     let mut later = *progress;
     let mut rest = bytes;
     for _ in 0..MOST_ROWS {
-        let others = after_row(rest, &mut own, &mut later)?;
+        let others = after_row(rest, progress, &mut own, &mut later)?;
         match look_after(others, latest, progress, &own, &later) {
             Sequel::OfRow(next) => rest = next,
             Sequel::OfBefore(next) => return Some(next),
@@ -52,14 +53,17 @@ pub(crate) fn after_stray<'a>(
     None
 }
 
-// The bytes after the row of items that fit, if it is not long. The definitions and the progress are then those after it.
+// The bytes after the row of items that fit, if it is not long, where this was before it. The definitions and the progress are then those
+// after it.
 fn after_row<'a>(
     bytes: &'a [u8],
+    before: &Progress,
     latest: &mut Latest<'a>,
     progress: &mut Progress,
 ) -> Option<&'a [u8]> {
     let mut rest = bytes;
-    for _ in 0..LONG {
+    let mut leap = 0;
+    for _ in 0..bytes.len() {
         let Step::Item(item, used) = step_after(rest, latest) else {
             return Some(rest);
         };
@@ -71,7 +75,11 @@ fn after_row<'a>(
         *progress = later;
         take_over(latest, &item);
         rest = others;
-        if bytes.len().saturating_sub(rest.len()) >= LONG {
+        let seconds = progress.seconds_after(before);
+        if leap == 0 {
+            leap = seconds;
+        }
+        if bytes.len().saturating_sub(rest.len()) >= LONG && seconds / 3 >= leap {
             return None;
         }
     }

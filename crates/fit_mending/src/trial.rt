@@ -1,6 +1,7 @@
 // Looks ahead: whether whole items follow that fit.
 
-use crate::form::may_begin;
+use crate::clock::STATED;
+use crate::form::{is_definition, may_begin};
 use crate::progress::Progress;
 use fit_grammar::{Latest, Step, step_after, take_over};
 
@@ -16,8 +17,10 @@ pub(crate) struct Need {
     pub(crate) at_end: i32,
     // Their worth where a fault comes.
     pub(crate) at_fault: i32,
-    // How many in a row may be worth nothing.
+    // How many data messages in a row may be worth nothing.
     pub(crate) idle: u32,
+    // How many bytes messages may have whose definition is not known, between those that are a sign.
+    pub(crate) gap: usize,
 }
 
 /// Whether the items that follow, under these definitions and after this progress, are worth so much, before a fault or before the
@@ -35,12 +38,20 @@ pub(crate) fn follows<'a>(
     let mut later = *progress;
     let mut worth: i32 = 0;
     let mut idle: u32 = 0;
+    // No gap comes before the first sign or definition.
+    let mut gap = 0;
     let mut rest = bytes;
     for _ in 0..MOST_ITEMS {
         let (item, used) = match step_after(rest, &own) {
             Step::Item(item, used) => (item, used),
             Step::NeedMore => return worth >= need.at_end,
-            Step::Refused(_) => return worth >= need.at_fault,
+            Step::Refused(_) => match after_gap(rest, gap, &own, &later) {
+                Some(next) => {
+                    rest = next;
+                    continue;
+                }
+                None => return worth >= need.at_fault,
+            },
         };
         let (own_bytes, others) = rest.split_at(used);
         let Some(more) = later.judge(&item, own_bytes) else {
@@ -50,7 +61,12 @@ pub(crate) fn follows<'a>(
         if worth >= need.worth {
             return true;
         }
-        idle = if more <= 0 { idle.saturating_add(1) } else { 0 };
+        if more > 0 || is_definition(rest) {
+            idle = 0;
+            gap = need.gap;
+        } else {
+            idle = idle.saturating_add(1);
+        }
         if idle > need.idle {
             return false;
         }
@@ -58,6 +74,31 @@ pub(crate) fn follows<'a>(
         rest = others;
     }
     false
+}
+
+// The bytes from the next message on that is a sign on its own, after so many bytes at most.
+fn after_gap<'a>(
+    bytes: &'a [u8],
+    gap: usize,
+    latest: &Latest<'a>,
+    progress: &Progress,
+) -> Option<&'a [u8]> {
+    for count in 1..gap.min(bytes.len()) {
+        let rest = &bytes[count..];
+        if is_sign(rest, latest, progress) {
+            return Some(rest);
+        }
+    }
+    None
+}
+
+// Whether the item at the front states a time soon after the last one.
+fn is_sign<'a>(bytes: &'a [u8], latest: &Latest<'a>, progress: &Progress) -> bool {
+    let Step::Item(item, used) = step_after(bytes, latest) else {
+        return false;
+    };
+    let mut later = *progress;
+    later.judge(&item, &bytes[..used]) == Some(STATED)
 }
 
 // Whether the first byte is that of a data message without a definition.
