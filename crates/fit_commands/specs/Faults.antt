@@ -176,6 +176,11 @@ abbrev pub IsNothingKept : Bor (List ℕ) → Fault → Type 0
 IsNothingKept file faults.NoMemory = Unit {0}
 IsNothingKept file reported = IsNoSalvage file reported
 
+-- what was not read to its end is not refused as a file
+abbrev pub IsOfWhole : Bool → Fault → Type 0
+IsOfWhole whole (faults.File fault) = whole ≡ true
+IsOfWhole whole _ = Unit {0}
+
 -- of writing a file into a folder of this name, and printing its line
 abbrev pub IsPartReported : Bor (List ℕ) → Fault → Type 0
 IsPartReported folder (faults.Write name) = (name ≡ folder) ⊎ (name.now ≡ codes "-")

@@ -2,7 +2,7 @@
 
 ghost use Rattle.std.specs.Prelude.{◌≤◌, IfErr, IfOk, OnOk, vec_len};
 ghost use Rattle.fit_files.specs.Printed.Mended.{IsMended};
-ghost use Rattle.fit_commands.specs.Faults.{IsFinishReported, IsNothingKept, IsSalvageReported};
+ghost use Rattle.fit_commands.specs.Faults.{IsFinishReported, IsNothingKept, IsOfWhole, IsSalvageReported};
 ghost use Rattle.fit_commands.specs.Reported.{FinishesMended, SavesMended, PrintsNothing};
 
 use crate::beside::write_whole;
@@ -81,6 +81,7 @@ fn skip_read<'a>(
     requires { vec_len read.now.bytes ≤ 268435456 }
     ensures found { IfOk result (IsMended all read.now.bytes.items) }
     ensures reported { IfErr result (IsNothingKept name.entry) }
+    ensures whole { IfErr result (IsOfWhole read.now.is_whole) }
 {
     let Ok(mended) = skip_bytes(alloc, read.bytes.as_slice(), all) else {
         return Err(Fault::NoMemory);
