@@ -3,9 +3,11 @@ output that fails and with little memory."""
 
 import csv
 import io
+import json
 import os
 import pathlib
 import re
+import socket
 import tempfile
 
 from tools.checks import differs, unless
@@ -39,7 +41,7 @@ def answers(fitrec, small):
     yield "no name", differs(fitrec.run("show", ""), (1, "", "fitrec: cannot open \n"))
     yield "a folder", differs(fitrec.run("show", "."), (1, "", "fitrec: cannot read .\n"))
     yield "a file that is named -", differs(fitrec.run("show", "-"), (1, "", "fitrec: cannot open -\n"))
-    yield "words that are no text", differs(fitrec.run("show", b"\xff"), (1, "", "fitrec: the command line is not UTF-8\n"))
+    yield "words that are no text", differs(fitrec.run("show", b"a\xff"), (1, "", "fitrec: cannot open a\\xFF\n"))
     yield "a file that is no activity", differs(fitrec.run("check", name), (1, "", "fitrec: NoLap\n"))
     yield "a refused file is no activity either", differs(fitrec.run("check", "cut.fit"), wanted(small[:-1]))
 
@@ -221,6 +223,8 @@ def many(fitrec):
         said = fitrec.run("check", *options, "a.fit", "-", input=b"b\n.fit\0a.fit\0")
         yield "names by zero bytes", differs(said, (1, "a.fit: NoFileId\nb\\x0A.fit: NoFileId\na.fit: NoFileId\n", "fitrec: 3 refused\n"))
     yield "a list that is not read", differs(fitrec.run("check", "--each", "-", stdin=os.open(fitrec.folder, os.O_RDONLY)), (1, "", "fitrec: cannot read -\n"))
+    yield "a list that is named twice", differs(
+        fitrec.run("check", "--each", "-", "none", "-", input=b"a.fit\n"), (1, "a.fit: NoFileId\nnone: cannot open none\n", "fitrec: 2 refused\n"))
     yield "no names", differs(fitrec.run("check", "--each", "-", input=b"\n\n"), (0, "", ""))
     yield "no names for a table", differs(fitrec.run(*words, "--each", "-", input=b""), (0, "file,heart_rate_bpm\r\n", ""))
     said = fitrec.run(*words, "--each", "-", input=b"none\na.fit\n.\nc\x1b.fit\ncut.fit")
@@ -232,6 +236,76 @@ def many(fitrec):
     yield "a name with quotation marks", differs(cells, [["file", "heart_rate_bpm"], [name, "100"], ["a.fit", "100"]])
 
 
+def names_without_text(fitrec):
+    """A name that is not UTF-8 is refused alone, from the command line and from a list. Nothing else is opened for it."""
+    ride = framed(bytes.fromhex("40 00 00 14 00 01 03 01 02 00 64"))
+    shown = {b"\xff.fit": r"\xFF.fit", b"Gr\xf6\xc3\x9fe\xe6": "Gr\\xF6ße\\xE6", b"\xf0\x9f\x9a": r"\xF0\x9F\x9A", b"\x1b\x80": r"\x1B\x80"}
+    for name, text in [*shown.items(), (b"a.fit", "a.fit")]:
+        for it in (name, text.encode()):
+            (fitrec.folder / os.fsdecode(it)).write_bytes(ride)
+    names = [*shown, b"a.fit"]
+    checked = "".join("%s: cannot open %s\n" % (text, text) for text in shown.values()) + "a.fit: NoFileId\n"
+    left_out = "".join("fitrec: %s: cannot open %s\n" % (text, text) for text in shown.values())
+    for how in ({"words": names}, {"input": b"\n".join(names)}, {"words": ["-0"], "input": b"\0".join(names)}):
+        more = how.pop("words", []) + ["-"] * ("input" in how)
+        yield "names that are no text", differs(fitrec.run("check", "--each", *more, **how), (1, checked, "fitrec: 5 refused\n"))
+        said = fitrec.run("table", "--fields", "heart_rate", "--each", *more, **how)
+        yield "a table of names that are no text", differs(said, (1, 'file,heart_rate_bpm\r\n"a.fit",100\r\n', left_out + "fitrec: 4 refused\n"))
+    said = fitrec.run("check", "--each", "-", input=b"a\0b\n\0\n")
+    yield "names with zero bytes", differs(said, (1, "a\\x00b: cannot open a\\x00b\n\\x00: cannot open \\x00\n", "fitrec: 2 refused\n"))
+    yield "a word as long as may be", differs(fitrec.run("show", b"\xff" * 131071)[::2], (1, "fitrec: cannot open %s\n" % (r"\xFF" * 131071)))
+    for words, fault in ((["plain", "a.fit", b"\xff"], "write"), (["repair", b"\xff"], "open"), (["record", b"\xff"], "open"), (["split", "a.fit", b"\xff"], "write"),
+                         (["simulate", b"\xff"], "open"), (["save", b"\xff", "out"], "open"), (["replay", b"\xff", "."], "open")):
+        yield "a word that is no text", differs(fitrec.run(*words), (1, "", "fitrec: cannot %s \\xFF\n" % fault), words)
+    for words in ([b"\xff"], ["show", b"--\xff"], ["record", "--commit", b"1\xff", "."], ["table", "--message", b"\xff", "a.fit"]):
+        status, out, said = fitrec.run(*words)
+        yield "a word that is no text and wrong", differs((status, out, r"\xFF" in said), (2, "", True), words)
+
+
+def other_kinds(fitrec):
+    """Of several names only regular files are opened, also by a link. A named pipe, a folder or a device is a line, and nothing is waited for."""
+    fitrec.write("a.fit", framed(b""))
+    os.mkfifo(fitrec.folder / "pipe")
+    for name, to in (("link", "a.fit"), ("to_pipe", "pipe"), ("lost", "none")):
+        os.symlink(to, fitrec.folder / name)
+    with socket.socket(socket.AF_UNIX) as bound:
+        bound.bind(bytes(fitrec.folder / "socket"))
+        names = {"pipe": "cannot read pipe", ".": "cannot read .", "/dev/zero": "cannot read /dev/zero", "to_pipe": "cannot read to_pipe",
+                 "socket": "cannot read socket", "lost": "cannot open lost", "a.fit/": "cannot open a.fit/"}
+        said = fitrec.run("check", "--each", *names, "link", timeout=10)
+        lines = "".join("%s: %s\n" % it for it in names.items())
+        yield "names of other kinds", differs(said, (1, lines + "link: NoFileId\n", "fitrec: 8 refused\n"))
+        said = fitrec.run("table", "--fields", "heart_rate", "--each", *names, "link", timeout=10)
+        lines = "".join("fitrec: %s: %s\n" % it for it in names.items())
+        yield "a table of names of other kinds", differs(said, (1, "file,heart_rate_bpm\r\n", lines + "fitrec: 7 refused\n"))
+
+
+def in_json(fitrec):
+    """With --json each file is one object on a line, whatever its name is, with the values of its line."""
+    fitrec.write("script", b"start 1000000000 7 running\nsample 1000000001 dist=310\nlap 1000000002\nstop 1000000003\n")
+    (fitrec.folder / "ride").mkdir()
+    fitrec.run("replay", "script", "ride")
+    ride = (fitrec.folder / "ride/activity.fit").read_bytes()
+    wanted, names = [], ['a\nb.fit: ok records=9', '{"file":"x"}', "\\u0041", "Größe \U0001f6b4", "\x01\x7f\t'\"", "\u2028\u202e"]
+    for name in names:
+        fitrec.write(name, ride)
+        wanted.append({"file": name, "records": 1, "laps": 2, "sessions": 1, "start": 1000000000, "elapsed_ms": 3000, "timer_ms": 3000, "distance_cm": 310})
+    bare = bytes.fromhex("40 00 00 00 00 01 00 01 00 00 04 41 00 00 13 00 00 01 42 00 00 12 00 00 02 43 00 00 22 00 00 03")
+    empty = dict.fromkeys(("start", "elapsed_ms", "timer_ms", "distance_cm"))
+    wanted.append({"file": fitrec.write("bare", framed(bare)), "records": 0, "laps": 1, "sessions": 1} | empty)
+    wanted.append({"file": fitrec.write("cut", ride[:9]), "fault": "Truncated at 9"})
+    wanted += [{"file": "no\nne", "fault": r"cannot open no\x0Ane"}, {"file": r"\xFF", "fault": r"cannot open \xFF"}, {"file": ".", "fault": "cannot read ."}]
+    given = [os.fsencode(it["file"].replace(r"\xFF", "\udcff")) for it in wanted]
+    for how in ({"words": given}, {"words": ["-0", "-"], "input": b"\0".join(given)}):
+        status, out, said = fitrec.run("check", "--json", "--each", *how.pop("words"), **how)
+        lines = out.split("\n")
+        found = [json.loads(line, object_pairs_hook=lambda pairs: pairs) for line in lines[:-1]]
+        yield "objects of several files", differs((status, found, lines[-1], said), (1, [[*it.items()] for it in wanted], "", "fitrec: 4 refused\n"))
+    yield "an object of one file", differs(fitrec.run("check", "--each", "--json", "cut"), (1, '{"file":"cut","fault":"Truncated at 9"}\n', "fitrec: 1 refused\n"))
+    status, out, said = fitrec.run("check", "--json", "cut")
+    yield "--json without --each", differs((status, out, "--each" in said), (2, "", True))
+
+
 def full_outputs(fitrec):
     """Output that is full at the first byte, or in the lines of a later file: the command ends there, with one line."""
     ride = framed(bytes.fromhex("40 00 00 14 00 01 03 01 02 00 64"))
@@ -239,8 +313,9 @@ def full_outputs(fitrec):
         fitrec.write(name, ride)
     table = "file,heart_rate_bpm\r\n" + "".join('"%s.fit",100\r\n' % name for name in "abc")
     checked = "".join("%s.fit: NoFileId\n" % name for name in "abc")
+    objects = "".join('{"file":"%s.fit","fault":"NoFileId"}\n' % name for name in "abc")
     out = fitrec.folder / "out"
-    for words, text in ((["table", "--fields", "heart_rate"], table), (["check"], checked)):
+    for words, text in ((["table", "--fields", "heart_rate"], table), (["check"], checked), (["check", "--json"], objects)):
         for size in range(len(text)):
             with open(out, "wb") as file:
                 said = fitrec.run(*words, "--each", "a.fit", "b.fit", "c.fit", stdout=file, preexec_fn=may_not_grow(size))
@@ -290,5 +365,5 @@ def check(given):
         fitrec = Program(given.fitrec, folder)
         for group in (answers, names, refusals, beginnings, outputs):
             yield from given.checks(group, fitrec, given.small)
-        for group in (sizes, developer_fields, choices, many, full_outputs, memory):
+        for group in (sizes, developer_fields, choices, many, names_without_text, other_kinds, in_json, full_outputs, memory):
             yield from given.checks(group, fitrec)

@@ -1,6 +1,6 @@
 // The subcommand `table`: prints the values of a file as a table.
 
-ghost use Rattle.std.specs.Prelude.{◌≤◌, length, None, option_map};
+ghost use Rattle.std.specs.Prelude.{◌≤◌, length, None};
 ghost use Rattle.fit_exports.specs.Tabled.{ShowsTable};
 ghost use Rattle.fit_commands.specs.Faults.{IsReportFault};
 ghost use Rattle.fit_commands.specs.Reported.{ReportsRun};
@@ -26,27 +26,10 @@ pub fn table_file<'a, O: Write>(
 {
     if name == "-" {
         let mut from = rt.stdin();
-        return table_from(rt.alloc(), name, &mut from, layout, None, out);
+        return table_from(rt.alloc(), name, &mut from, layout, out);
     }
-    table_named(rt, name, layout, None, out)
-}
-
-/// Prints the table of the file of this name. With a `front`, with which each line begins, the first line is left out.
-pub fn table_named<'a, O: Write>(
-    rt: &HostRuntime,
-    name: &'a str,
-    layout: &Layout<'_>,
-    front: Option<&[u8]>,
-    out: &mut O,
-) -> Result<(), Fault<'a>>
-    requires { length layout.now.fields.now ≤ 128 }
-    ensures { ReportsRun name.entry (O.contents out.old) (O.contents out.new)
-        (IsReportFault name.entry)
-        (ShowsTable layout.now (option_map (λ text. text.now) front.entry)
-        (O.contents out.old) (O.contents out.new)) result }
-{
     let mut file = open_file(rt, name)?;
-    table_from(rt.alloc(), name, &mut file, layout, front, out)
+    table_from(rt.alloc(), name, &mut file, layout, out)
 }
 
 // Prints the table of the input of this name.
@@ -55,16 +38,14 @@ fn table_from<'a, T: Read, O: Write>(
     name: &'a str,
     from: &mut T,
     layout: &Layout<'_>,
-    front: Option<&[u8]>,
     out: &mut O,
 ) -> Result<(), Fault<'a>>
     requires { length layout.now.fields.now ≤ 128 }
     ensures { ReportsRun name.entry (O.contents out.old) (O.contents out.new)
         (IsReportFault name.entry)
-        (ShowsTable layout.now (option_map (λ text. text.now) front.entry)
-        (O.contents out.old) (O.contents out.new)) result }
+        (ShowsTable layout.now None (O.contents out.old) (O.contents out.new)) result }
 {
-    match table_input(alloc, from, MOST_BYTES, layout, front, out) {
+    match table_input(alloc, from, MOST_BYTES, layout, None, out) {
         Ok(()) => Ok(()),
         Err(fault) => Err(fault_of_report(name, fault)),
     }

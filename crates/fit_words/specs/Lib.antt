@@ -1,2 +1,3 @@
 pub mod Requests
 pub mod Shown
+pub mod Text

@@ -43,7 +43,8 @@ pub record AreNames (found : Found) (names : Names) : Type 0 where
 
 -- the subcommand of this name makes this request over several files
 abbrev pub IsEachAskedBy : List ℕ → Found → Request → Type 0
-IsEachAskedBy name found (CheckEach names) = (name ≡ codes "check") × AreNames found names
+IsEachAskedBy name found (CheckEach names json) =
+    (name ≡ codes "check") × AreNames found names × IsFlag found (codes "json") json
 IsEachAskedBy name found (TableEach names form) =
     (name ≡ codes "table") × AreNames found names × IsForm found form
 IsEachAskedBy name found _ = ⊥
@@ -54,7 +55,7 @@ IsAskedBy name found (Show file utc json profile) =
     (name ≡ codes "show") × IsWord found (codes "FILE") file × IsFlag found (codes "utc") utc
     × IsFlag found (codes "json") json × IsFlag found (codes "profile") profile
 IsAskedBy name found (Check file) = (name ≡ codes "check") × IsWord found (codes "FILE") file
-IsAskedBy name found (CheckEach names) = ⊥
+IsAskedBy name found (CheckEach names json) = ⊥
 IsAskedBy name found (Table file form) =
     (name ≡ codes "table") × IsWord found (codes "FILE") file × IsForm found form
 IsAskedBy name found (TableEach names form) = ⊥

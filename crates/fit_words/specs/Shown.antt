@@ -20,9 +20,11 @@ is_shown c = not (is_control c || is_format c)
 abbrev pub byte_text : ℕ → List ℕ
 byte_text byte = codes "\\x" ++ digit_glyph true (byte / 16) ∷ digit_glyph true (byte % 16) ∷ []
 
--- a character, or each of its bytes by its number
+-- a character, or each of its bytes by its number; nothing for a zero byte, which marks the text of a word that is no UTF-8
 unfoldable pub character_text : ℕ → List ℕ
-character_text c = if is_shown c then encode_utf8 c else flat_map byte_text (encode_utf8 c)
+character_text c =
+    if c == 0 then [] else
+    if is_shown c then encode_utf8 c else flat_map byte_text (encode_utf8 c)
 
 -- a word as it is shown
 unfoldable pub shown_text : List ℕ → List ℕ

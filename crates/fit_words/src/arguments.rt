@@ -113,6 +113,13 @@ pub(crate) const NULL: Argument = Argument::FlagWith(
     Some('0'),
 );
 
+pub(crate) const EACH_JSON: Argument = Argument::FlagWith(
+    "json",
+    "Writes a JSON object for each file, with --each",
+    "each",
+    None,
+);
+
 pub(crate) const MORE: Argument = Argument::MoreWith("MORE", "More files, with --each", "each");
 
 pub(crate) const FILE: Argument = Argument::Required("FILE", "The path of a FIT file");

@@ -2,7 +2,7 @@
 //!
 //! `read_words` reads the words after the program's name. `request` turns the words of a subcommand into a request, `subcommands`
 //! has the help line and the words of each subcommand, and `arguments` has the help of each word. `ShownWord` is a word as a message
-//! shows it. This crate depends on `clap` alone.
+//! shows it, and `text` has what stands for a word that is not UTF-8. This crate depends on `clap` alone.
 //!
 //! The contracts use the definitions of `specs/`.
 #![tactic(auto)]
@@ -11,6 +11,7 @@ mod arguments;
 mod request;
 mod shown;
 mod subcommands;
+mod text;
 
 use clap::error::ErrorKind;
 use clap::{ArgMatches, Command, Error};
@@ -20,6 +21,7 @@ pub use shown::ShownWord;
 use std::alloc::{AllocError, Global};
 use std::convert::AsStr;
 use subcommands::fitrec_command;
+pub use text::text_of_word;
 
 /// Reads the words after the program's name. An `Error` carries the text to print: help, or what is wrong. It has each word as
 /// `ShownWord` shows it.

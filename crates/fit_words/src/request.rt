@@ -22,6 +22,7 @@ pub enum Request<'a> {
     },
     CheckEach {
         names: Names<'a>,
+        json: bool,
     },
     Table {
         file: &'a str,
@@ -123,7 +124,10 @@ fn each_of<'a>(
         null: matches.get_flag("null"),
     };
     match name {
-        "check" => Ok(Some(Request::CheckEach { names })),
+        "check" => {
+            let json = matches.get_flag("json");
+            Ok(Some(Request::CheckEach { names, json }))
+        }
         "table" => Ok(Some(Request::TableEach {
             names,
             form: form_of(matches),

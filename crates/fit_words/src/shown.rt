@@ -7,7 +7,7 @@ ghost use Rattle.fit_words.specs.Shown.{is_shown, byte_text, character_text, sho
 use std::fmt::{self, Display, Formatter, Write};
 
 /// A word, such as the name of a file, as a message shows it: what does not print comes as its bytes, such as `\x1B`, so the word
-/// can neither move the cursor nor begin a line.
+/// can neither move the cursor nor begin a line. A zero byte is left out: it stands in no word, but in what `text_of_word` gives.
 #[derive(Clone, Copy, Drop)]
 pub struct ShownWord<'a>(pub &'a str);
 
@@ -27,6 +27,9 @@ impl Display for ShownWord<'_> {
 fn write_character<W: Write>(f: &mut Formatter<W>, character: char) -> fmt::Result
     ensures { WritesOnOk W.write_str_gives f.old result (character_text character) f.new }
 {
+    if character == '\0' {
+        return Ok(());
+    }
     if is_shown(character) {
         return f.write_char(character);
     }
@@ -45,8 +48,8 @@ fn write_byte<W: Write>(f: &mut Formatter<W>, byte: u8) -> fmt::Result
     f.write_char(digit(byte % 16))
 }
 
-// A hexadecimal digit.
-fn digit(value: u8) -> char
+/// A hexadecimal digit.
+pub(crate) fn digit(value: u8) -> char
     requires { value < 16 }
     ensures { result ≡ digit_glyph true value }
 {

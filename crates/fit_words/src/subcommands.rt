@@ -1,9 +1,9 @@
 // The subcommands, and the words that each takes.
 
 use crate::arguments::{
-    ALL, Argument, CHAINED, CHECKED, CHOICES, COMMIT, DAMAGED, EACH, EARLIER, FIELDS, FILE, FINISH,
-    FOLDER, IN, INTO, JSON, JSON_PROFILE, MESSAGE, MORE, NULL, OUT, PLAIN, PROFILE, RAW, SCRIPT,
-    SKIP, TABLE_FILE, UTC, VERIFY, arg_of,
+    ALL, Argument, CHAINED, CHECKED, CHOICES, COMMIT, DAMAGED, EACH, EACH_JSON, EARLIER, FIELDS,
+    FILE, FINISH, FOLDER, IN, INTO, JSON, JSON_PROFILE, MESSAGE, MORE, NULL, OUT, PLAIN, PROFILE,
+    RAW, SCRIPT, SKIP, TABLE_FILE, UTC, VERIFY, arg_of,
 };
 use clap::{Command, Error};
 use std::alloc::Global;
@@ -25,7 +25,7 @@ const SUBCOMMANDS: [(&'static str, &'static str, &'static [Argument]); 12] = [
     (
         "check",
         "Says whether a FIT file is an activity, and sums it up in one line",
-        &[EACH, NULL, FILE, MORE],
+        &[EACH, NULL, EACH_JSON, FILE, MORE],
     ),
     (
         "replay",

@@ -55,7 +55,7 @@ pub fn command<S: AsStr, O: Write, E: Write>(
             },
         ) => status(show_as_json(rt, file, profile, utc, out), err),
         Ok(Request::Check { file }) => status(check_file(rt, file, out), err),
-        Ok(Request::CheckEach { names }) => status(check_each(rt, &names, out), err),
+        Ok(Request::CheckEach { names, json }) => status(check_each(rt, &names, json, out), err),
         Ok(Request::Table { file, form }) => table_chosen(rt, file, &form, out, err),
         Ok(Request::TableEach { names, form }) => table_each_chosen(rt, &names, &form, out, err),
         Ok(

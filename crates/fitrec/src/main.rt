@@ -17,21 +17,21 @@
 
 mod command;
 
-use std::io::{ErrorKind, Write};
+use fit_words::text_of_word;
+use std::env::{Env, FillError};
+use std::io::{self, ErrorKind, Write};
 use std::process::ExitCode;
-use std::{env, io};
+
+// The most bytes of a word, with its end: Linux takes no longer one.
+const MOST_BYTES: usize = 131_072;
 
 fn main(rt: HostRuntime) -> io::Result<ExitCode> {
     let mut out = rt.stdout();
     let mut err = rt.stderr();
     let status = match words_of(&rt) {
         Ok(words) => command::command(&rt, words.as_slice(), &mut out, &mut err),
-        Err(fault) => {
-            let line = match fault.kind() {
-                ErrorKind::InvalidData => "the command line is not UTF-8",
-                _ => "NoMemory",
-            };
-            let _ = writeln!(err, "fitrec: {line}");
+        Err(_) => {
+            let _ = writeln!(err, "fitrec: NoMemory");
             1
         }
     };
@@ -40,6 +40,15 @@ fn main(rt: HostRuntime) -> io::Result<ExitCode> {
 
 // The words after the program's name.
 fn words_of(rt: &HostRuntime) -> io::Result<Vec<String>> {
-    let words = env::args(rt)?.skip(1).collect(rt.alloc())?;
+    let mut room = Vec::new(rt.alloc());
+    room.resize(MOST_BYTES, 0)?;
+    let mut words = Vec::new(rt.alloc());
+    for number in 1..usize::MAX {
+        match rt.arg(number, room.as_mut_slice()) {
+            Ok(size) => words.push(text_of_word(rt.alloc(), &room[..size])?)?,
+            Err(FillError::NotPresent) => break,
+            Err(FillError::TooLong) => return Err(ErrorKind::OutOfMemory.into()),
+        }
+    }
     Ok(words)
 }
