@@ -1,7 +1,8 @@
 """Checks the table of the public FIT Profile (python/fitrec/profile.txt): it has the names and units of the texts, the program's table is
 made of it, and it states what the Perl module in Debian's package pytrainer states, as perl reads that. The module is the one that is
 installed, or else the one that `apt-get download` fetches. Debian 12 has an older one with fewer fields. And compares the cells of
-`table --profile` with the second reader, struct and csv: fields of every type, developer fields, and the rides of other makers."""
+`table --profile` with the second reader, struct and csv: fields of every type, developer fields, all fields of a file, and the rides
+of other makers."""
 
 import collections
 import pathlib
@@ -146,6 +147,12 @@ def kinds(given):
         yield from given.judged(judge, inputs)
 
 
+def held_fields(found, message):
+    """The fields of size 1 or more that the messages of this number have: the time first, and then by their numbers. The time, if none."""
+    held = {field for number, fields, _ in found if number == message for field, ((_, _, content),) in fields if content}
+    return [253] * (253 in held or not held) + sorted(held - {253})
+
+
 def described_cell(developer, said, name, form):
     """The cell of the first developer field of a message that has this name."""
     found = [(it, big, data) for (_, _, big, data), it in zip(developer, said) if it and it.name == name]
@@ -159,7 +166,7 @@ def described_table(fitrec, source, message, form):
     """What differs between the table by the program, with a column for each name of a developer field, and the one by the second reader."""
     data = source.read_bytes()
     found = reader.messages(data, False, columns.held_by)[3]
-    fields = [253, *(field for number, field in columns.ROWS if number == message and field != 253)][:128]
+    fields = held_fields(found, message)[:128]
     names, table = described.names(found), []
     for (number, held, developer), said in zip(found, described.descriptions(found)):
         if number == message:
@@ -184,6 +191,41 @@ def described_fields(given):
             source = pathlib.Path(folder, "%d.fit" % number)
             source.write_bytes(data)
             return "a table of developer fields", described_table(given.fitrec, source, message, form)
+
+        yield from given.judged(judge, inputs)
+
+
+def file_of_fields(pick, count):
+    """A file of sessions with so many fields, in definitions of some of them each, and more that are of size 0."""
+    numbers, records = pick.sample(range(256), count), b""
+    for at in range(0, count, 100):
+        own = numbers[at:at + 100]
+        empty = pick.sample(range(256), 20)
+        head = bytes([0x40 | at // 100, 0, 0, 18, 0, len(own) + len(empty)])
+        records += head + b"".join(bytes([it, 0, 2]) for it in empty) + b"".join(bytes([it, 1, 2]) for it in own)
+        records += bytes([at // 100]) + bytes(pick.randrange(256) for _ in own)
+    return framed(records)
+
+
+def all_fields(given):
+    """Without names of fields the columns are those that the messages have, and what is past 128 is reported."""
+    pick, inputs = random.Random(given.seed), []
+    for count in (0, 1, 5, 127, 128, 129, 200, 256):
+        inputs.append((file_of_fields(pick, count), 18))
+    inputs += [file_of_kinds(pick)[:2] for _ in range(given.files // 10)]
+    with tempfile.TemporaryDirectory() as folder:
+        def judge(number, row):
+            data, message = row
+            source = pathlib.Path(folder, "%d.fit" % number)
+            source.write_bytes(data)
+            found = reader.messages(data, False, columns.held_by)[3]
+            fields = held_fields(found, message)
+            heads = [columns.name_of(message, field, ["--profile"])[1] for field in fields[:128]]
+            title = columns.TITLES.get(message) or "message_%d" % message
+            said = run(given.fitrec, "table", "--profile", "--message", title, source)
+            line = "fitrec: %d columns past the first 128 are left out; --fields chooses them\n" % (len(fields) - 128)
+            wanted = 0, ",".join(heads), line if len(fields) > 128 else ""
+            return "a table of all fields", differs((said[0], said[1].split("\r\n")[0], said[2]), wanted, data)
 
         yield from given.judged(judge, inputs)
 
@@ -224,5 +266,5 @@ def other_makers_rides(given):
 def check(given):
     for group in of_the_texts, of_the_rows, of_what_is_made, of_the_module:
         yield from given.checks(group)
-    for group in kinds, described_fields, other_makers_rides:
+    for group in kinds, described_fields, all_fields, other_makers_rides:
         yield from given.checks(group, given)

@@ -36,7 +36,7 @@ pub enum NotChosen<'a> {
 
 impl Chosen {
     /// The messages and fields that the words name: records, and the fields that have a name, if there are no words. With
-    /// `--profile` these are the first 127 of the Profile, after the time, and developer fields follow.
+    /// `--profile` these are the first 127 of the Profile, after the time.
     pub fn of<'a>(form: &TableForm<'a>) -> Result<Chosen, NotChosen<'a>> {
         let message = message_in(form.profile, form.message)?;
         let fields = match form.fields {

@@ -42,4 +42,4 @@ pub use save::save_folder;
 pub use show::show_file;
 pub use skip::{finish_skipped_file, skip_file};
 pub use split::split_file;
-pub use table::table_file;
+pub use table::{table_file, table_of_all};

@@ -1,16 +1,16 @@
 // The subcommand `table`: prints the values of a file as a table.
 
-ghost use Rattle.std.specs.Prelude.{◌≤◌, length, None};
-ghost use Rattle.fit_exports.specs.Tabled.{ShowsTable};
+ghost use Rattle.std.specs.Prelude.{◌≤◌, length, None, option_map};
+ghost use Rattle.fit_exports.specs.Tabled.{ShowsHeld, ShowsTable};
 ghost use Rattle.fit_commands.specs.Faults.{IsReportFault};
 ghost use Rattle.fit_commands.specs.Reported.{ReportsRun};
 
 use crate::fault::Fault;
 use crate::input::{MOST_BYTES, fault_of_report, open_file};
-use fit_exports::table_input;
+use fit_exports::{Held, table_held_input, table_input};
 use fit_table::Layout;
 use std::alloc::Global;
-use std::io::{Read, Write};
+use std::io::{self, Read, Write};
 
 /// Prints the table of the file of this name, or of standard input if the name is `-`.
 pub fn table_file<'a, O: Write>(
@@ -49,4 +49,73 @@ fn table_from<'a, T: Read, O: Write>(
         Ok(()) => Ok(()),
         Err(fault) => Err(fault_of_report(name, fault)),
     }
+}
+
+/// Prints the table of the file of this name, or of standard input if the name is `-`, with a column for each field that the messages of
+/// the layout have in it, in place of the layout's fields. Reports how many there are past 128.
+pub fn table_of_all<'a, O: Write, E: Write>(
+    rt: &HostRuntime,
+    name: &'a str,
+    layout: &Layout<'_>,
+    out: &mut O,
+    err: &mut E,
+) -> Result<(), Fault<'a>>
+    ensures { ReportsRun name.entry (O.contents out.old) (O.contents out.new)
+        (IsReportFault name.entry)
+        (ShowsHeld layout.now (O.contents out.old) (O.contents out.new)) result }
+{
+    let mut held = Held::new();
+    let done = table_held(rt, name, layout, &mut held, out);
+    let _ = report_left_out(rt.alloc(), held.left_out, err);
+    done
+}
+
+fn table_held<'a, O: Write>(
+    rt: &HostRuntime,
+    name: &'a str,
+    layout: &Layout<'_>,
+    held: &mut Held,
+    out: &mut O,
+) -> Result<(), Fault<'a>>
+    ensures { ReportsRun name.entry (O.contents out.old) (O.contents out.new)
+        (IsReportFault name.entry)
+        (ShowsHeld layout.now (O.contents out.old) (O.contents out.new)) result }
+{
+    if name == "-" {
+        let mut from = rt.stdin();
+        return table_held_from(rt.alloc(), name, &mut from, layout, held, out);
+    }
+    let mut file = open_file(rt, name)?;
+    table_held_from(rt.alloc(), name, &mut file, layout, held, out)
+}
+
+fn table_held_from<'a, T: Read, O: Write>(
+    alloc: Global,
+    name: &'a str,
+    from: &mut T,
+    layout: &Layout<'_>,
+    held: &mut Held,
+    out: &mut O,
+) -> Result<(), Fault<'a>>
+    ensures { ReportsRun name.entry (O.contents out.old) (O.contents out.new)
+        (IsReportFault name.entry)
+        (ShowsHeld layout.now (O.contents out.old) (O.contents out.new)) result }
+{
+    match table_held_input(alloc, from, MOST_BYTES, layout, held, out) {
+        Ok(()) => Ok(()),
+        Err(fault) => Err(fault_of_report(name, fault)),
+    }
+}
+
+// Reports how many columns are left out, if any are.
+fn report_left_out<E: Write>(alloc: Global, count: usize, err: &mut E) -> io::Result<()> {
+    if count == 0 {
+        return Ok(());
+    }
+    let Ok(text) = format!(in alloc;
+        "fitrec: {count} columns past the first 128 are left out; --fields chooses them\n"
+    ) else {
+        return Ok(());
+    };
+    err.write_all(text.as_bytes())
 }

@@ -1,5 +1,6 @@
 -- The result of printing bytes as a table.
 use Rattle.std.specs.Prelude.{◌≡◌, ℕ, List, Option, Some, None, Result, Ok, Err}
+use Rattle.std.specs.Borrow.{Bor}
 use Rattle.fit_grammar.specs.Format.File.{FileValue, FileOf}
 use Rattle.fit_grammar.specs.Format.Message.{messages_of}
 use Rattle.fit_grammar.specs.Format.Refusal.{IsFaultOf}
@@ -28,3 +29,9 @@ ShowsTable {T} layout front old new bytes (Err fault) =
     ((v : FileValue) × FileOf bytes v
     × WritesTokens {T = T} {E = ReportFault} old new (Err fault) (tabled layout front v))
     × IsOutputFault fault
+
+-- the same with some fields in place of the layout's
+abbrev pub ShowsHeld : {T : Type 0} → Layout → Option (List ℕ) → Option (List ℕ) → List ℕ
+    → Result T ReportFault → Type 0
+ShowsHeld layout old new bytes result =
+    (fields : Bor (List ℕ)) × ShowsTable (record layout { fields = fields }) None old new bytes result

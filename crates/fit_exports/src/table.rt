@@ -9,8 +9,9 @@ ghost use Rattle.fit_files.specs.declared.fault.ReportFault.TheVariants.{Input};
 ghost use Rattle.fit_files.specs.declared.reading.ReadFault.{ReadFault};
 ghost use Rattle.fit_files.specs.Calls.Reading.{ReportsInput};
 ghost use Rattle.fit_files.specs.Printed.Shown.{IsOutputFault};
-ghost use Rattle.fit_exports.specs.Tabled.{tabled, ShowsTable};
+ghost use Rattle.fit_exports.specs.Tabled.{tabled, ShowsHeld, ShowsTable};
 
+use crate::held::Held;
 use fit_files::{ReportFault, decode_input};
 use fit_grammar::{File, LentFile, WriteFailed};
 use fit_table::{Layout, write_head, write_lines, write_table};
@@ -35,7 +36,39 @@ pub fn table_input<T: Read, O: Write>(
         → O.contents out.new ≡ O.contents out.old }
 {
     match decode_input(alloc, from, most) {
-        Ok(file) => table_flushed(&file, layout, front, out),
+        Ok(file) => table_decoded(&file, layout, front, out),
+        Err(fault) => Err(fault),
+    }
+}
+
+/// Reads a file in the same way, and writes its table with a column for each field that the messages of the layout have in it, up to 128,
+/// in place of the layout's fields. They are left in `held`.
+pub fn table_held_input<T: Read, O: Write>(
+    alloc: Global,
+    from: &mut T,
+    most: usize,
+    layout: &Layout<'_>,
+    held: &mut Held,
+    out: &mut O,
+) -> Result<(), ReportFault>
+    ensures shown { ReportsInput most (T.remaining from.old) (T.remaining from.new)
+        (ShowsHeld layout.now (O.contents out.old) (O.contents out.new)) result }
+    ensures quiet { (why : ReadFault) → result ≡ Err (Input why)
+        → O.contents out.new ≡ O.contents out.old }
+{
+    match decode_input(alloc, from, most) {
+        Ok(file) => {
+            held.find(&file.lend(), layout.message);
+            let own = Layout {
+                message: layout.message,
+                fields: held.fields.as_slice(),
+                raw: layout.raw,
+                utc: layout.utc,
+                profile: layout.profile,
+                developer: layout.developer,
+            };
+            table_decoded(&file, &own, None, out)
+        }
         Err(fault) => Err(fault),
     }
 }
@@ -56,8 +89,8 @@ pub fn table_head<O: Write>(
     }
 }
 
-// Writes the table of a file, and flushes the output.
-fn table_flushed<O: Write>(
+// Writes the table of a file that was read, and flushes the output.
+fn table_decoded<O: Write>(
     file: &File,
     layout: &Layout<'_>,
     front: Option<&[u8]>,

@@ -14,7 +14,7 @@ use clap::error::ErrorKind;
 use fit_commands::{
     Chosen, Fault, NotChosen, check_each, check_file, finish_file, finish_skipped_file, make_plain,
     repair_folder, salvage_file, save_folder, show_as_json, show_file, skip_file, split_file,
-    table_each, table_file, verify_folder,
+    table_each, table_file, table_of_all, verify_folder,
 };
 use fit_scripts::read_choices;
 use fit_words::{
@@ -194,6 +194,10 @@ fn table_chosen<O: Write, E: Write>(
     ensures { result ≤ 2 }
 {
     match Chosen::of(form) {
+        Ok(chosen) if form.profile && form.fields.is_none() => {
+            let done = table_of_all(rt, file, &chosen.layout(form), out, err);
+            status(done, err)
+        }
         Ok(chosen) => status(table_file(rt, file, &chosen.layout(form), out), err),
         Err(why) => not_chosen(rt, why, err),
     }
