@@ -1,0 +1,130 @@
+"""Checks what hostile files cost, by counts that do not depend on the machine: instructions, by valgrind, and bytes that are written.
+Each family of files is made in three sizes. What is added from one size to the next costs so many instructions and bytes of JSON for each
+byte that is read, at most, and not more for the second half than for the first."""
+
+import math
+import pathlib
+import re
+import tempfile
+from typing import NamedTuple
+
+from tools.checks import Difference
+from tools.fit_files import framed
+from tools.program import run
+
+NEEDS = ("fitrec", "valgrind")
+
+# The most instructions for each byte that a command reads. The most bytes of JSON: for each byte, and for the line of each message.
+INSTRUCTIONS = {"check": 3000, "show --json": 10000, "show --json --profile": 10000, "table": 5000, "table --profile": 6000}
+WRITTEN, LINE = 60, 110
+RECORD, DESCRIPTION = 20, 206
+UINT8, STRING = 2, 7
+
+
+def definition(local, message, fields, developer=()):
+    """Fields are numbers, sizes and types; developer fields numbers, sizes and indices."""
+    head = bytes([(0x60 if developer else 0x40) | local, 0, 0]) + message.to_bytes(2, "little")
+    return head + b"".join(bytes([len(it)]) + b"".join(map(bytes, it)) for it in ([fields, developer] if developer else [fields]))
+
+
+def descriptions(count, name, units):
+    """Descriptions of the developer fields 0, 1 and so on of the index 0: each a uint8 with its own name and its own units."""
+    fields = [(0, 1, UINT8), (1, 1, UINT8), (2, 1, UINT8), (3, name, STRING), (8, units, STRING)]
+    told = [bytes([2, 0, at, UINT8]) + (b"%03d" % at).ljust(name, b"n") + b"u" * units for at in range(count)]
+    return definition(2, DESCRIPTION, fields) + b"".join(told)
+
+
+def numbers(size):
+    """255 fields of this size, each with its own number; and as many developer fields."""
+    return [(at, size, UINT8) for at in range(255)], [(at, size, 0) for at in range(255)]
+
+
+class Family(NamedTuple):
+    """What stands first in a file, what is there many times, and how many messages that has. The commands that it is left out for cost
+    more, as SECURITY.md says."""
+
+    first: bytes
+    many: bytes
+    messages: int
+    without: tuple = ()
+
+
+FEW, LONG = descriptions(255, 4, 1), descriptions(255, 250, 250)
+BY_NAMES = "show --json --profile", "table --profile"
+FAMILIES = {
+    "255 fields of size 0": Family(definition(0, RECORD, numbers(0)[0]), b"\0", 1),
+    "255 fields of size 0 of a message without a name": Family(definition(0, 0xFF00, numbers(0)[0]), b"\0", 1),
+    "255 fields of size 0 with a compressed timestamp": Family(definition(0, RECORD, numbers(0)[0]), b"\x80", 1),
+    "one field 255 times": Family(definition(0, RECORD, [(3, 1, UINT8)] * 255), b"\0" + bytes(range(255)), 1),
+    "255 fields of size 1": Family(definition(0, RECORD, numbers(1)[0]), b"\0" + bytes(range(255)), 1),
+    "three definitions by turns": Family(
+        definition(0, RECORD, numbers(0)[0]) + definition(1, 18, numbers(0)[0]) + definition(3, 19, [(at, 1, UINT8) for at in range(200)]),
+        b"\0\1" * 50 + b"\3" + bytes(200), 101),
+    "two definitions of 129 fields by turns": Family(
+        definition(0, RECORD, numbers(1)[0][:129]) + definition(1, 18, numbers(1)[0][:129]), b"\0" + bytes(129) + b"\1" + bytes(129), 2),
+    "255 developer fields of size 0": Family(FEW + definition(0, RECORD, [], numbers(0)[1]), b"\0", 1, ("table --profile",)),
+    "255 developer fields of size 0 with long names": Family(
+        LONG + definition(0, RECORD, [], numbers(0)[1]), b"\0", 1, ("table --profile",)),
+    "255 developer fields with long names": Family(LONG + definition(0, RECORD, [], numbers(1)[1]), b"\0" + bytes(range(255)), 1, BY_NAMES),
+    "developer fields by turns": Family(
+        FEW + definition(0, RECORD, [], numbers(1)[1]) + definition(1, RECORD, [], numbers(1)[1][::-1]),
+        b"\0" + bytes(range(255)) + b"\1" + bytes(range(255)), 2, BY_NAMES),
+    "definitions alone": Family(b"", definition(0, RECORD, *numbers(0)), 0),
+    "definitions with one message each": Family(b"", definition(0, RECORD, [], [(0, 1, 0)]) + b"\0\0", 1),
+    "descriptions": Family(b"", LONG, 255),
+}
+# How often what is there many times is there: at least so many bytes of it, once, twice and four times.
+SIZE, STEPS = 2048, (1, 2, 4)
+
+
+def files(family):
+    """The files of a family, by their sizes."""
+    count = -(-SIZE // len(family.many))
+    return [framed(family.first + family.many * (count * step)) for step in STEPS]
+
+
+def cost(*words):
+    """The instructions of a run, the bytes that it writes, and its status. A run that does not end has no number of instructions."""
+    with tempfile.NamedTemporaryFile("r") as log, tempfile.TemporaryFile() as out:
+        counting = ["--tool=cachegrind", "--cache-sim=no", "--cachegrind-out-file=/dev/null", "--log-file=" + log.name]
+        status = run("valgrind", *counting, *words, stdout=out)[0]
+        found = re.search(r"I +refs: +([\d,]+)", log.read())
+        return int(found[1].replace(",", "")) if found else math.inf, out.seek(0, 2), status
+
+
+def over(command, family, sizes, came):
+    """What is over the bounds of a command: None, or a difference."""
+    if {status for _, _, status in came} - {0, 1}:
+        return Difference("it ends", came)
+    steps = [after - before for before, after in zip(sizes, sizes[1:])]
+    taken, wrote = ([after[at] - before[at] for before, after in zip(came, came[1:])] for at in (0, 1))
+    each = [count / step for count, step in zip(taken, steps)]
+    if max(each) > INSTRUCTIONS[command]:
+        return Difference("%d instructions a byte at most" % INSTRUCTIONS[command], each)
+    if each[1] > 1.1 * each[0] + 20:
+        return Difference("no more for the second half than for the first", each)
+    messages = [step // len(family.many) * family.messages for step in steps]
+    most = [WRITTEN * step + LINE * count for step, count in zip(steps, messages)]
+    if "--json" in command and any(count > limit for count, limit in zip(wrote, most)):
+        return Difference("%s bytes at most" % most, wrote)
+    return None
+
+
+def of_the_program(given):
+    """Each command over each family."""
+    rows = [(name, command) for name, family in FAMILIES.items() for command in INSTRUCTIONS if command not in family.without]
+    with tempfile.TemporaryDirectory() as folder:
+        def judge(number, row):
+            name, command = row
+            sources, made = [], files(FAMILIES[name])
+            for at, data in enumerate(made):
+                sources.append(pathlib.Path(folder, "%d-%d.fit" % (number, at)))
+                sources[-1].write_bytes(data)
+            came = [cost(given.fitrec, *command.split(), it) for it in sources]
+            return "%s: %s" % (command, name), over(command, FAMILIES[name], list(map(len, made)), came)
+
+        yield from given.judged(judge, rows)
+
+
+def check(given):
+    yield from given.checks(of_the_program, given)
