@@ -203,7 +203,9 @@ fn a_summary_line_of_any_length_is_printed(rt: HostRuntime) -> Result<(), Fail> 
             timer_ms: Some(timer_ms),
             distance_cm: Some(distance_cm),
         };
-        let line = format!(in rt.alloc(); "ok records={records} laps={laps} sessions={sessions} start={start} elapsed_ms={elapsed_ms} timer_ms={timer_ms} distance_cm={distance_cm}\n")?;
+        let line = format!(in rt.alloc();
+            "ok records={records} laps={laps} sessions={sessions} start={start} elapsed_ms={elapsed_ms} timer_ms={timer_ms} distance_cm={distance_cm}\n"
+        )?;
         assert_eq!(rt; line.len(), length);
         let mut out = Vec::new(rt.alloc());
         let printed = print_summary(summary, &mut out);
