@@ -113,11 +113,11 @@ def refused_commands(fitrec, small):
     for wrong, fault in WRONG_LINES.items():
         script = fitrec.write("script.%s.%d" % (fault, len(wrong)), wrong.encode())
         yield ["simulate", script], "line 1: " + fault
-        yield ["replay", script, "ride"], "line 1: " + fault
-    yield ["replay", fitrec.write("only", b"power"), "ride"], "line 1: OnlySimulate"
-    yield ["replay", fitrec.write("twice", b"commit\ncommit\n"), "ride"], "2 refused"
+        yield ["replay", script, "refused"], "line 1: " + fault
+    yield ["replay", fitrec.write("only", b"power"), "refused"], "line 1: OnlySimulate"
+    yield ["replay", fitrec.write("twice", b"commit\ncommit\n"), "refused"], "2 refused"
     latin = fitrec.write("latin", b"# \xFC\n")
-    yield ["replay", latin, "ride"], "cannot read latin"
+    yield ["replay", latin, "refused"], "cannot read latin"
     yield ["simulate", latin], "cannot read latin"
     (fitrec.folder / "torn").mkdir()
     fitrec.write("torn/activity.fit", small)
@@ -131,13 +131,13 @@ def refused_commands(fitrec, small):
 
 def refusals(fitrec, small):
     """Each refusal of a command is one line, whatever the fault, and nothing is printed but the answers of a script."""
-    for name in ("ride", "empty"):
+    for name in ("refused", "empty"):
         (fitrec.folder / name).mkdir()
     large = fitrec.folder / "large"
     large.touch()
     os.truncate(large, MOST + 1)
     everything = [*refused_commands(fitrec, small)]
-    for words in (["show"], ["check"], ["replay", "ride"], ["simulate"], ["salvage", "out"], ["plain", "out"], ["table"]):
+    for words in (["show"], ["check"], ["replay", "refused"], ["simulate"], ["salvage", "out"], ["plain", "out"], ["table"]):
         for name, line in (("none", "cannot open none"), (".", "cannot read ."), ("large", "TooLarge")):
             everything.append(([*words[:1], name, *words[1:]], line))
     everything += [([*words, "none"], "cannot open none") for words in (["repair"], ["repair", "--verify"], ["replay", "twice"])]
@@ -147,9 +147,9 @@ def refusals(fitrec, small):
         yield "a refusal of " + " ".join(words[:-1]), differs((status, out, said), (1, answers, "fitrec: %s\n" % line), words)
     # What a salvage left out is said only of one that is done.
     fitrec.write("start", b"start 1000000000 7 running\nstop 1000000001\n")
-    fitrec.run("replay", "start", "ride")
+    fitrec.run("replay", "start", "refused")
     with open("/dev/full", "wb") as full:
-        for words in (["show", "ride/activity.fit"], ["check", "ride/activity.fit"], ["replay", "start", "empty"], ["simulate", "start"], ["repair", "ride"],
+        for words in (["show", "refused/activity.fit"], ["check", "refused/activity.fit"], ["replay", "start", "empty"], ["simulate", "start"], ["repair", "refused"],
                       ["salvage", "NoLap.fit", "out"], ["salvage", "TrailingBytes.fit", "out"], ["plain", "NoLap.fit", "out"]):
             yield "output that is full, of " + words[0], differs(fitrec.run(*words, stdout=full), (1, "", "fitrec: cannot write -\n"), words)
 
@@ -227,9 +227,9 @@ def many(fitrec):
         fitrec.run("check", "--each", "-", "none", "-", input=b"a.fit\n"), (1, "a.fit: NoFileId\nnone: cannot open none\n", "fitrec: 2 refused\n"))
     yield "no names", differs(fitrec.run("check", "--each", "-", input=b"\n\n"), (0, "", ""))
     yield "no names for a table", differs(fitrec.run(*words, "--each", "-", input=b""), (0, "file,heart_rate_bpm\r\n", ""))
-    said = fitrec.run(*words, "--each", "-", input=b"none\na.fit\n.\nc\x1b.fit\ncut.fit")
+    said = fitrec.run(*words, "--each", "-", input=b"none\na.fit\n.\nc\x1b.fit\ngone.fit")
     lines = 'file,heart_rate_bpm\r\n"a.fit",100\r\n"c\x1b.fit",100\r\n'
-    reasons = "fitrec: none: cannot open none\nfitrec: .: cannot read .\nfitrec: cut.fit: cannot open cut.fit\nfitrec: 3 refused\n"
+    reasons = "fitrec: none: cannot open none\nfitrec: .: cannot read .\nfitrec: gone.fit: cannot open gone.fit\nfitrec: 3 refused\n"
     yield "a table of names by lines, and why some are left out, in order", differs(said, (1, lines, reasons))
     name = fitrec.write('"d",".fit', ride)
     cells = list(csv.reader(io.StringIO(fitrec.run(*words, "--each", name, "a.fit")[1])))
@@ -283,9 +283,9 @@ def other_kinds(fitrec):
 def in_json(fitrec):
     """With --json each file is one object on a line, whatever its name is, with the values of its line."""
     fitrec.write("script", b"start 1000000000 7 running\nsample 1000000001 dist=310\nlap 1000000002\nstop 1000000003\n")
-    (fitrec.folder / "ride").mkdir()
-    fitrec.run("replay", "script", "ride")
-    ride = (fitrec.folder / "ride/activity.fit").read_bytes()
+    (fitrec.folder / "stated").mkdir()
+    fitrec.run("replay", "script", "stated")
+    ride = (fitrec.folder / "stated/activity.fit").read_bytes()
     wanted, names = [], ['a\nb.fit: ok records=9', '{"file":"x"}', "\\u0041", "Größe \U0001f6b4", "\x01\x7f\t'\"", "\u2028\u202e"]
     for name in names:
         fitrec.write(name, ride)
