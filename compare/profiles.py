@@ -175,7 +175,7 @@ def described_table(fitrec, source, message, form):
                          + [described_cell(developer, said, name, form) for name in names])
     heads = [columns.name_of(message, field, form)[1] for field in fields] + list(map(reader.text_of, names))
     said = run(fitrec, "table", *form, "--message", columns.TITLES[message], source)
-    return differs(said[::2], (0, ""), data) or cells.table_differs(said[1], heads, table, data)
+    return differs(said[::2], (0, ""), data) or cells.table_differs(said[1], heads, table, data, len(names))
 
 
 def described_fields(given):

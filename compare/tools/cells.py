@@ -84,8 +84,9 @@ def spelled(text, alone):
     return '"%s"' % text.replace('"', '""') if any(it in text for it in ',"\r\n') else text
 
 
-def table_differs(came, heads, rows, about):
-    """What differs between a table that came and one of these names and rows, by csv and then byte by byte."""
+def table_differs(came, heads, rows, about, developer=0):
+    """What differs between a table that came and one of these names and rows, by csv and then byte by byte. The last columns are those of so
+    many developer fields."""
     try:
         parsed = list(csv.reader(io.StringIO(came, newline=""), strict=True))
     except csv.Error as error:
@@ -96,5 +97,6 @@ def table_differs(came, heads, rows, about):
         for head, cell, text in zip(heads, row, texts):
             if not is_cell(cell, text):
                 return differs(text, cell, (place, head, about))
-    lines = [",".join(spelled(text, len(heads) == 1) for text in row) + "\r\n" for row in parsed]
+    own = len(heads) - developer
+    lines = [",".join(spelled(text, own == 1 and at == 0) for at, text in enumerate(row)) + "\r\n" for row in parsed]
     return differs(came, "".join(lines), about)
