@@ -10,7 +10,7 @@ _fitrec() {
         help) COMPREPLY=($(compgen -W 'show table check replay record save repair salvage split plain simulate version' -- "$word")); return ;;
         show) options='--utc --json --profile --help' ;;
         table) options='--utc --raw --profile --message --fields --each --null --help' ;;
-        check) options='--each --null --help' ;;
+        check) options='--each --null --json --help' ;;
         replay) options='--checked --help' ;;
         record) options='--commit --help' ;;
         save) options='--earlier --help' ;;

@@ -24,6 +24,7 @@ complete -c fitrec -n '__fish_seen_subcommand_from table' -l each -d 'Takes seve
 complete -c fitrec -n '__fish_seen_subcommand_from table' -l null -d 'The names on standard input end with zero bytes, as find -print0 writes them'
 complete -c fitrec -n '__fish_seen_subcommand_from check' -l each -d 'Takes several files, and goes on after one that is refused; the name - stands for names on standard input, a line each'
 complete -c fitrec -n '__fish_seen_subcommand_from check' -l null -d 'The names on standard input end with zero bytes, as find -print0 writes them'
+complete -c fitrec -n '__fish_seen_subcommand_from check' -l json -d 'Writes a JSON object for each file, with --each'
 complete -c fitrec -n '__fish_seen_subcommand_from replay' -l checked -d 'Stores a checksum with each commit, so that changed bytes are noticed'
 complete -c fitrec -n '__fish_seen_subcommand_from record' -l commit -x -d 'Commits after an entry that comes so many seconds of the ride after the last commit (10); 0 commits at the end alone'
 complete -c fitrec -n '__fish_seen_subcommand_from save' -l earlier -d 'Takes the commit before, if the bytes that the last one counts have changed'
