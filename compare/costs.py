@@ -15,15 +15,15 @@ from tools.traced import Traced, requests, tracing
 
 NEEDS = ("fitrec", "cc", "valgrind")
 
-# What the program holds beyond its input, in bytes.
-SMALL = 1 << 16
+# What the program holds beyond its input, and its room for the longest word of a command line, in bytes.
+SMALL, WORD = 1 << 16, 1 << 17
 # How many bytes are read at once.
 CHUNK = 65536
 
 # The fields of a record: number, size, base type.
 FIELDS = [(0, 4, 0x85), (1, 4, 0x85), (2, 2, 0x84), (3, 1, 2), (4, 1, 2), (5, 4, 0x86), (6, 2, 0x84), (7, 2, 0x84), (13, 1, 1)]
 # Instructions for each byte of a file of records, and for each sample of a script. Who changes one by more than a fiftieth states it here.
-INSTRUCTIONS = {"show": 45.9, "show --json": 57.3, "check": 12.1, "plain": 21.8, "replay": 8420}
+INSTRUCTIONS = {"show": 45.9, "show --json": 57.3, "check": 12.1, "plain": 21.8, "replay": 8620}
 
 
 def peak(traced, *words, **how):
@@ -55,7 +55,7 @@ def a_file_byte_by_byte(traced):
                 yield "shown by %d bytes" % most, differs(said, wanted(data))
                 yield "held by %d bytes" % most, unless(held <= 4 * size + SMALL, held, "%d bytes at most" % (4 * size + SMALL))
                 asked = requests(traced, "show", source, most=most)
-                yield "asked by %d bytes" % most, unless(sum(asked) <= 6 * size + SMALL, asked, "%d bytes at most" % (6 * size + SMALL))
+                yield "asked by %d bytes" % most, unless(sum(asked) <= 6 * size + SMALL + WORD, asked, "%d bytes at most" % (6 * size + SMALL + WORD))
             taken.append(instructions(traced, "show", source, call="read", number=0, most=1))
         yield "instructions by 1 byte", unless(taken[1] <= 2.2 * taken[0], taken, "2.2 times as many at most")
 

@@ -23,9 +23,9 @@ FAULTS = {"fit_grammar/src/file/fault.rt": "FaultKind", "fit_grammar/src/plain/f
           "fit_activity/src/activity.rt": "ActivityFault", "fit_activity/src/recording/refusal.rt": "Refusal",
           "fit_recorder/src/fault.rt": "RecFault", "fit_scripts/src/script/fault.rt": "ScriptFaultKind"}
 # What else it reports: for the command line, for a replay, and for a script that can only be simulated.
-OTHERS = {"the command line is not UTF-8", "NoRecorder", "OnlySimulate"}
+OTHERS = {"NoRecorder", "OnlySimulate"}
 # Lines on standard error with status 0.
-LINES = "fit_files/src/salvage.rt", "fit_commands/src/save.rt", "fit_commands/src/input.rt"
+LINES = "fit_files/src/salvage.rt", "fit_commands/src/save.rt", "fit_commands/src/input.rt", "fit_commands/src/table.rt"
 # Constants, and the pages that give their values.
 SIZES = {("fit_recorder/src/limits.rt", "MOST_RECORDS"): ["RECORDING", "JOURNAL-FORMAT"],
          ("fit_recorder/src/limits.rt", "MOST_BEFORE_STOP"): ["RECORDING", "JOURNAL-FORMAT"],
@@ -212,7 +212,7 @@ def messages():
     texts = [it.replace("{}", "NAME").replace("{0}", "N") for it in texts]
     wanted = {it for it in texts if "{" not in it and "line" not in it} | {"cannot write -", "cannot read -"} | OTHERS
     for file in LINES:
-        wanted |= {re.sub(r"\{\w+\}", "N", it.replace("{}", "NAME")) for it in re.findall(r'"fitrec: (\{.*?)"', page("crates/" + file))}
+        wanted |= {re.sub(r"\{\w+\}", "N", it.replace("{}", "NAME")) for it in re.findall(r'"fitrec: (\{.*?)(?:\\n)?"', page("crates/" + file))}
     for file, enum in FAULTS.items():
         names = names_of(file, enum)
         wanted |= {"Refused(%s)" % it for it in names} if enum == "Refusal" else set(names) - {"Refused"}
