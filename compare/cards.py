@@ -1,6 +1,6 @@
 """Rides on a card that changes, mixes up or forgets bytes. A recovery may refuse such a ride, or find an earlier commit of it, but never
-makes a ride that nobody recorded, since the journal states the checksum of what it counts. By chance one of 65,536 changed bodies has it.
-compare/cards.c makes the rides and judges them, for the libraries of release/. Here the same is seen of the program, for each changed bit."""
+makes a ride that nobody recorded, since the journal states the checksum of what it counts, which one of 4,294,967,296 changed bodies has by
+chance. compare/cards.c makes the rides and judges them, for the libraries of release/. Here the same is seen of the program, for each changed bit."""
 
 import pathlib
 import re
@@ -14,8 +14,6 @@ NEEDS = ("fitrec", "cc")
 LIBRARIES = [ROOT / "release" / it for it in ("libfit_device.a", "libfit_c.a")]
 # What a card does, and how many states, pairs or rides of that are made.
 KINDS = {"flips": 6, "mixes": 1000, "forgets": 6000, "rots": 6000}
-# How many of them may have the right checksum by chance: three times as many as are to be expected, and one.
-BY_CHANCE = 3 / 65536
 CHANGED = ("fitrec: Damaged\nfitrec: bytes of the recording have changed since they were committed; salvage copies what is readable of "
            "activity.fit, and save --earlier what the commit before counts\n")
 RIDE = """start 1000000000 7 running
@@ -36,15 +34,15 @@ def counts_of(program, *words):
 
 
 def of_states(seed):
-    """With checksums no state becomes a ride that nobody recorded, but by chance. Without them some do, so the states are hard ones."""
+    """With checksums no state becomes a ride that nobody recorded. Without them some do, so the states are hard ones."""
     with tempfile.TemporaryDirectory() as folder:
         program = folder + "/cards"
         cc = ["cc", "-std=gnu11", "-O2", "-Wall", "-Wextra", "-Werror", "-I", ROOT / "include"]
         subprocess.run([*cc, ROOT / "compare/cards.c", *LIBRARIES, "-o", program], check=True)
         for kind, many in KINDS.items():
             found = counts_of(program, kind, str(seed), str(many))
-            is_right = len(found) == 5 and found[0] >= many and found[-1] <= 1 + BY_CHANCE * found[0] and found[2] + found[3] > 0
-            yield "a card that " + kind, unless(is_right, found, "no wrong ones but by chance")
+            is_right = len(found) == 5 and found[0] >= many and found[-1] == 0 and found[2] + found[3] > 0
+            yield "a card that " + kind, unless(is_right, found, "no wrong ones")
             found = counts_of(program, kind, str(seed), str(many), "unchecked")
             yield "a card that %s, without checksums" % kind, unless(len(found) == 5 and found[-1] > 0, found, "some wrong ones")
 
@@ -92,7 +90,7 @@ def with_the_commit_before(fitrec):
         whole = saved(last)
         yield "a whole ride by --earlier", differs((whole[0][0], saved(last, "--earlier")), (0, whole))
         data, journal = holds(last)
-        counted = sorted(int.from_bytes(journal[at:at + 4], "little") for at in (9, 17))
+        counted = sorted(int.from_bytes(journal[at + 1:at + 5], "little") for at in (8, 24, 40) if journal[at] == 0xA5)
         refused = ((1, "", CHANGED), None)
         (said, made), left_out = saved(before), counted[1] - counted[0]
         earlier = (said[0], said[1], "fitrec: %d bytes of the last commit are left out, since what it counts has changed\n" % left_out), made

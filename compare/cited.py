@@ -10,7 +10,7 @@ NEEDS = ()
 PATH = re.compile(r"[\w.*-]+(?:/[\w.*-]+)+/?|[\w-]+\.(?:rt|antt|py|sh|md|edit|txt|c|h|fit|frj)")
 NAME = re.compile(r"\w+(?:(?:::|\.)\w+)*")
 # Names of other programs, of a user's files, names with a part to fill in, and what is built.
-OTHERS = {"activity.fit", "activity.frj", "ride.fit", "message_N", "field_N", "developer_INDEX_NUMBER", "FRJ2", "FRJC", "Xvfb", "out/libfit_c.a", "out/libfit_device.a",
+OTHERS = {"activity.fit", "activity.frj", "ride.fit", "message_N", "field_N", "developer_INDEX_NUMBER", "FRJ2", "FRJC", "FRJD", "Xvfb", "out/libfit_c.a", "out/libfit_device.a",
           "fitrec_module.c", "fitrec_module.h",
           "web/out/", "web/out/fitrec.html", "web/out/fit_c.wasm"}
 

@@ -164,7 +164,7 @@ def spelled(fitrec):
 
 def torn_slots(text):
     """The slots of a table of torn ones, with several values for the torn bytes, and the length that counts then."""
-    for slot, length, with_gate in re.findall(r"(?m)^\|[^|]*\| `([0-9A-F? ]{23})` \| (\d+)(?:, but (\d+) if the gate is A5)?", text):
+    for slot, length, with_gate in re.findall(r"(?m)^\|[^|]*\| `([0-9A-F? ]{26})` \| (\d+)(?:, but (\d+) if the gate is A5)?", text):
         for byte in ("00", "25", "A5", "FF"):
             torn = bytes.fromhex(slot.replace("??", byte))
             yield torn, int(with_gate if with_gate and torn[0] == 0xA5 else length)
@@ -174,17 +174,16 @@ def torn_pair(fitrec):
     """The pair of docs/JOURNAL-FORMAT.md: it is what a recorder leaves, with and without checksums, and each torn journal gives the length
     that the page states."""
     text = page("docs/JOURNAL-FORMAT.md")
-    data = bytes_in(section(text, "A torn pair, worked by hand")[0])
+    data = bytes_in(section(text, "A torn commit, worked by hand")[0])
     torn, finished, nothing = section(text, "The length is torn")
     whole, all_of_it = section(text, "The gate is written")
     ride = "start 1000000000 7 running\nsample 1000000000 hr=100\nsample 1000000001 hr=101\n"
     ride += "lap 1000000002\nsample 1000000002 hr=110\ncommit\n"
     said, left = scratch(fitrec, lambda here: here.replayed(ride, "--checked"))
     yield "the torn pair: recorded", differs((said[0], *left), (0, data, bytes_in(whole)))
-    unchecked = bytearray(bytes_in(whole))
-    unchecked[3], unchecked[13:15], unchecked[21:23] = 0x32, bytes(2), bytes(2)
+    unchecked = b"FRJ2" + bytes(4) + b"".join(bytes_in(whole)[at:at + 5] + bytes(3) for at in (8, 24))
     said, left = scratch(fitrec, lambda here: here.replayed(ride))
-    yield "the torn pair: without checksums", differs((said[0], *left), (0, data, bytes(unchecked)))
+    yield "the torn pair: without checksums", differs((said[0], *left), (0, data, unchecked))
     finished = bytes_in(finished)
     finished = finished[:14] + data[14:86] + finished[14:]
     journal = bytes_in(whole)
@@ -192,7 +191,7 @@ def torn_pair(fitrec):
     yield "the torn pair: its length", differs(said, ((0, nothing[0] + "\n", ""), finished, True))
     wants = {72: (nothing[0] + "\n", len(finished)), 174: (all_of_it[0] + "\n", 442)}
     for slot, length in torn_slots(text):
-        said, file, is_saved = scratch(fitrec, lambda here: here.recovered(data, journal[:16] + slot))
+        said, file, is_saved = scratch(fitrec, lambda here: here.recovered(data, journal[:24] + slot + journal[33:]))
         yield "the torn pair: a slot", differs((said, len(file), is_saved), ((0, wants[length][0], ""), wants[length][1], True))
 
 

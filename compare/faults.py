@@ -26,6 +26,15 @@ def journal_commit(slot, is_open=False):
     return gate * is_open + ["write journal %d 4" % (9 + 8 * slot), "sync journal"] + gate
 
 
+def checked_commit(slot, closes=None):
+    """The same of three slots, with the sync of the data file: length and checksum are written, and another gate is closed. Both files are
+    synced, one behind the other, and then the gate is opened and synced."""
+    content, gate = "write journal %d 8" % (9 + 16 * slot), ["write journal %d 1" % (8 + 16 * slot), "sync journal"]
+    if closes is None:
+        return ["sync data", content, "sync journal", *gate]
+    return [content, "write journal %d 1" % (8 + 16 * closes), "sync data", "sync journal", *gate]
+
+
 STARTING = ["sync data", "size data", "cut journal 0", "write journal 0 24", "sync journal", "write data 0 86", "sync data"]
 STARTING += journal_commit(0)
 # A definition of one field and its message, and the commit that writes them.
@@ -33,8 +42,12 @@ RIDING = ["write data 86 11", "sync data", *journal_commit(1)]
 # A message alone and the stop. The closing messages have at most 252 bytes, 22 of which are the stop and its definition. The
 # checksum has two.
 STOPPING = ["write data 97 9", "sync data", *journal_commit(0, True), "write data 106 232", "write data 0 14", "sync data"]
-# The journal has 24 bytes, which are read at once.
-FINDING = ["sync data", "sync journal", "size data", "read journal 0 24", "read data"]
+# A ride with checksums: the start, a commit with one open slot, and one in the stop that closes the lesser of two.
+CHECKED = [it.replace("write journal 0 24", "write journal 0 56") for it in STARTING[:7]]
+CHECKED += checked_commit(0)[1:] + ["write data 86 11", *checked_commit(1), "write data 97 9", *checked_commit(2, 0)]
+CHECKED += STOPPING[-3:]
+# The journal may have 56 bytes, which are read at once; this one has 24, and the read of the rest finds its end.
+FINDING = ["sync data", "sync journal", "size data", "read journal 0 56", "read journal 24 32", "read data"]
 RECOVERING = [*FINDING, "write data 97 254", "cut data 351", "write data 0 14", "sync data"]
 RESUMING = [*FINDING, "cut data 97", "sync data"]
 # The next sample has its definition again, and so has the stop.
@@ -60,6 +73,8 @@ def the_calls(traced):
     with room(*STOPPED) as (script, new):
         said, log = traced.run("replay", script, new())
         yield "a ride to its stop", differs((said[0], calls_of(log)), (0, OPENING + STARTING + RIDING + STOPPING))
+        said, log = traced.run("replay", "--checked", script, new())
+        yield "a ride with checksums", differs((said[0], calls_of(log)), (0, OPENING + CHECKED))
     with room(*CUT_OFF) as (script, new):
         folder = new()
         run(traced.fitrec, "replay", script, folder)
@@ -259,7 +274,7 @@ class Verified:
 DEVICE = 1, "", "fitrec: Device\n"
 # The calls of a verified repair after those of opening, and whether a silent fault of each has to be found. Each byte is read with one bit
 # changed. Only the last sync of the data file has something to lose. The cut is to the length that the file already has.
-SILENT_FAULTS = [("sync data", False), ("sync journal", False), ("size data", True), ("read journal 0 24", True),
+SILENT_FAULTS = [("sync data", False), ("sync journal", False), ("size data", True), ("read journal 0 56", True), ("read journal 24 32", False),
         ("read data 14 83", True), ("write data 97 254", True), ("cut data 351", False), ("write data 0 14", True), ("sync data", True),
         ("read data 0 4096", True), ("read data 351 3745", False), ("read journal 0 4096", True), ("read journal 24 4072", False)]
 

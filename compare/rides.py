@@ -8,6 +8,7 @@ import random
 import re
 import subprocess
 import tempfile
+import zlib
 
 from tools import reader
 from tools.checks import Skipped, differs, unless
@@ -312,6 +313,31 @@ def of_compressed_times(fitrec):
             [(int(row["Heartrate"]), int(row["Cadence"]), float(row["Power"])) for row in rows_of(file)], samples)
 
 
+def of_stated_checksums(fitrec, seed, count):
+    """What each open slot of a journal states is what zlib computes of so many bytes after the header. `count` rides of random samples."""
+    chance = random.Random(seed)
+    with tempfile.TemporaryDirectory() as folder, tempfile.NamedTemporaryFile("w") as script:
+        for at in range(count):
+            lines, second = ["start 1000000000 %d running" % chance.randrange(1 << 32)], 1000000000
+            for _ in range(chance.randrange(1, 40)):
+                second += chance.choice((0, 1, 1, 40))
+                lines.append(chance.choice(("commit", "sample %d hr=%d" % (second, chance.randrange(255)),
+                                            "sample %d hr=%d power=%d temp=%d" % (second, *map(chance.randrange, (255, 65535, 127))))))
+            script.seek(0)
+            script.truncate()
+            script.write("\n".join([*lines, "commit"]))
+            script.flush()
+            ride = pathlib.Path(folder) / str(at)
+            ride.mkdir()
+            yield "stated checksums: recorded", differs(run(fitrec, "replay", "--checked", script.name, ride)[::2], (0, ""))
+            data, journal = (ride / "activity.fit").read_bytes(), (ride / "activity.frj").read_bytes()
+            slots = [journal[place:place + 9] for place in (8, 24, 40) if journal[place] == 0xA5]
+            lengths = [int.from_bytes(slot[1:5], "little") for slot in slots]
+            yield "stated checksums: all bytes count", differs(14 + max(lengths), len(data))
+            yield "stated checksums", differs([int.from_bytes(slot[5:], "little") for slot in slots],
+                                              [zlib.crc32(data[14:14 + length]) for length in lengths])
+
+
 def of_the_example(fitrec):
     script = EXAMPLE.read_text()
     commands = [(number, line.split()[0]) for number, line in enumerate(script.splitlines(), 1) if line[0] != "#"]
@@ -339,3 +365,4 @@ def check(given):
     for group in (of_the_example, of_rides_that_go_on, of_greatest_speeds, of_longer_fields, of_compressed_times, of_room_and_commits, on_a_full_disk,
                   with_files_that_may_not_grow, with_full_output, with_closed_output, with_little_memory, with_little_memory_simulated):
         yield from given.checks(group, given.fitrec)
+    yield from given.checks(of_stated_checksums, given.fitrec, given.seed, given.files // 30)

@@ -363,7 +363,7 @@ struct fitrec_plan {
 /* A recorder. Before fitrec_start the host sets data_size to the length of activity.fit. The other numbers are the library's. */
 struct fitrec_recorder {
     uint64_t data_size;
-    uint64_t numbers[188];
+    uint64_t numbers[190];
 };
 
 /* A recovery, a reopening or an erasing that reads the files by windows. */
@@ -376,7 +376,7 @@ struct fitrec_recovery {
     uint16_t count;
     uint16_t filled;       /* how many bytes you read into the window */
     uint8_t window[512];
-    uint64_t numbers[224]; /* the library's own */
+    uint64_t numbers[226]; /* the library's own */
 };
 
 /* The values of the sensors at one time. A sensor without a value has the greatest number of its type, such as UINT16_MAX. A device gives

@@ -54,7 +54,7 @@ def inputs(fitrec, folder):
     yield "no FIT file", made("notes.fit", b"notes of a ride"), NOTHING, "notes.fit is not a FIT file", None, []
     yield "an empty file", made("empty.fit", b""), NOTHING, "empty.fit is empty", None, []
     yield "files of two rides", [ride, longer / NAMES[1]], NOTHING, "do not fit together", None, alone
-    yield "a journal of nothing", [ride, *made("activity.frj", b"FRJC" + bytes(20))], NOTHING, "not confirmed anything", None, alone
+    yield "a journal of nothing", [ride, *made("activity.frj", b"FRJD" + bytes(52))], NOTHING, "not confirmed anything", None, alone
     yield "a journal alone", [journal], "One more file is needed", "no ride in it", None, []
 
 

@@ -3,18 +3,23 @@ use Rattle.std.proofs.Common.{◌≡◌, [], ◌∷◌, pos, negsuc, true, Some,
 use Rattle.fit_base.specs.declared.order.Arch.TheVariants.{Little, Big}
 use Rattle.fit_base.specs.declared.base.BaseType.TheVariants.{Uint32, Sint64}
 use Rattle.fit_base.specs.Number.{number, twos_complement, as_unsigned}
-use Rattle.fit_base.specs.Checksum.{crc, crc_from}
+use Rattle.fit_base.specs.Checksum.{crc, crc32, crc32_from, crc_from, register_after}
 use Rattle.fit_base.specs.Base.{base_type}
 use Rattle.fit_base.specs.Value.{is_raw, count_of, signed_at}
 
 -- "123456789", whose checksum is listed for CRC-16/ARC
 digits : crc (0x31 ∷ 0x32 ∷ 0x33 ∷ 0x34 ∷ 0x35 ∷ 0x36 ∷ 0x37 ∷ 0x38 ∷ 0x39 ∷ []) ≡ 0xBB3D
-unfolding crc_from
+unfolding crc_from register_after
 digits = refl
+
+-- the same, listed for CRC-32/ISO-HDLC
+digits32 : crc32 (0x31 ∷ 0x32 ∷ 0x33 ∷ 0x34 ∷ 0x35 ∷ 0x36 ∷ 0x37 ∷ 0x38 ∷ 0x39 ∷ []) ≡ 0xCBF43926
+unfolding crc32_from register_after
+digits32 = refl
 
 -- the first twelve bytes of a header that holds their checksum
 header : crc (0x0E ∷ 0x10 ∷ 0x64 ∷ 0x00 ∷ 0x12 ∷ 0x00 ∷ 0x00 ∷ 0x00 ∷ 0x2E ∷ 0x46 ∷ 0x49 ∷ 0x54 ∷ []) ≡ 0x3BA1
-unfolding crc_from
+unfolding crc_from register_after
 header = refl
 
 low_byte_first : number Little (0x78 ∷ 0x56 ∷ 0x34 ∷ 0x12 ∷ []) ≡ 0x12345678

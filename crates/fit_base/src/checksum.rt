@@ -6,7 +6,7 @@ ghost use Rattle.fit_base.specs.Checksum.{crc_from, crc};
 mod choice;
 mod tables;
 
-use choice::HAS_ALL_TABLES;
+pub(crate) use choice::HAS_ALL_TABLES;
 use std::marker::Model;
 use tables::{FIRST, LATER};
 

@@ -1,9 +1,10 @@
-//! The parts that every FIT file is built on: base types, the numbers of fields, and the checksum.
+//! The parts that every FIT file is built on: base types, the numbers of fields, and the checksums.
 //!
 //! A field of a data message is some bytes under a base type byte and an architecture. `FieldValue` borrows these bytes:
 //! it counts the values, reads them by index, and reports which are invalid. `BaseType` is a row of the protocol's table
 //! of types, `Arch` is the byte order, and `number_of` reads the number of some bytes. `put` writes a value that
-//! `FieldValue` reads back. `Crc` is the checksum of a file, over bytes that may come in pieces.
+//! `FieldValue` reads back. `Crc` is the checksum of a file, and `Crc32` that of zlib, over bytes that may come in
+//! pieces.
 //!
 //!     let field = FieldValue::new(0x84, Arch::Little, &[0xC8, 0x00, 0xFF, 0xFF]);
 //!     assert_eq!(rt; field.count(), 2);
@@ -18,6 +19,7 @@
 
 mod base;
 mod checksum;
+mod checksum32;
 mod number;
 mod order;
 mod putting;
@@ -25,6 +27,7 @@ mod value;
 
 pub use base::BaseType;
 pub use checksum::Crc;
+pub use checksum32::Crc32;
 pub use number::number_of;
 pub use order::Arch;
 pub use putting::put;

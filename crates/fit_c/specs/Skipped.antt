@@ -1,8 +1,10 @@
 -- What is kept of a damaged file in memory by going on after its faults, and what is returned of it.
-use Rattle.std.specs.Prelude.{◌≡◌, ℕ, ◌+◌, ◌-◌, ◌<◌, ◌≤◌, ◌==◌, Bool, true, false, List, [], ◌∷◌, length, take, map}
+use Rattle.std.specs.Prelude.{◌≡◌, ◌⊎◌, ℕ, ◌+◌, ◌-◌, ◌<◌, ◌≤◌, ◌==◌, Bool, true, false, List, [], ◌∷◌, length, take, map}
 use Rattle.std.specs.Io.Iter.{u64_saturate}
 use Rattle.fit_grammar.specs.Calls.FaultCode.{kind_code}
+use Rattle.fit_grammar.specs.Calls.BeginningHeader.{BeginsWithHeader}
 use Rattle.fit_grammar.specs.Calls.Framed.{framed}
+use Rattle.fit_grammar.specs.declared.file.frame.Frame.{Frame}
 use Rattle.fit_grammar.specs.declared.file.fault.FileFault.{FileFault}
 use Rattle.fit_mending.specs.declared.pieces.Piece.{Piece}
 use Rattle.fit_mending.specs.Pieces.{CutsFaults, kept_row}
@@ -88,6 +90,10 @@ pub record NeedsPieces (all : Bool) (bytes : List ℕ) (room count : ℕ) : Type
   pub it : Mending all bytes
   pub count_is : count ≡ length it.pieces
   pub short : room < count
+
+-- there is something to write: so many bytes are kept, or the bytes begin with a header
+abbrev pub HasContent : List ℕ → ℕ → Type 0
+HasContent bytes kept = (1 ≤ kept) ⊎ ((frame : Frame) × (size : ℕ) × BeginsWithHeader bytes frame size)
 
 -- the bytes begin with no header, nothing is kept of them, and the code is that of their refusal as a file
 pub record IsNotSkipped (all : Bool) (bytes : List ℕ) (code : ℕ) : Type 0 where

@@ -1,18 +1,19 @@
 // Goes on after the faults of a damaged file, and finds where chained files end.
 
-ghost use Rattle.std.specs.Prelude.{◌≡◌, ◌<◌, ◌≤◌, ◌^◌, ◌⊎◌, ◌++◌, [], List, ℕ, length, take};
+ghost use Rattle.std.specs.Prelude.{◌≡◌, ◌<◌, ◌≤◌, ◌^◌, ◌⊎◌, ◌++◌, [], List, ℕ, length, take, IfErr, OnOk};
 ghost use Rattle.fit_mending.specs.Chained.{EndsFirst};
 ghost use Rattle.fit_mending.specs.Pieces.{CutsFaults};
 ghost use Rattle.fit_mending.specs.declared.pieces.Piece.{Piece};
 ghost use Rattle.fit_grammar.specs.Format.File.{FileValue, FileOf};
-ghost use Rattle.fit_c.specs.Skipped.{AreTaken, HoldsPieces, IsSkipped, IsNotSkipped, NeedsPieces, NeedsRoomToSkip};
+ghost use Rattle.fit_files.specs.Printed.Salvaged.{IsNotSalvaged};
+ghost use Rattle.fit_c.specs.Skipped.{AreTaken, HasContent, HoldsPieces, IsSkipped, IsNotSkipped, NeedsPieces, NeedsRoomToSkip};
 
 use crate::framing::{FRAME_ROOM, write_pieces};
 use crate::pieces::{FilePiece, PieceRoom};
 use crate::room::NO_ROOM;
 use crate::salvaging::{SalvageCounts, TOO_LARGE};
 use fit_files::{Looked, look_at};
-use fit_grammar::read_header_front;
+use fit_grammar::{FileFault, read_header_front};
 use fit_mending::{cut_faults, first_file};
 
 // There are more pieces than there is room for.
@@ -41,6 +42,7 @@ pub extern "C" fn fitrec_skip(
     ensures refused { 1 ≤ result → result ≤ 10 → IsNotSkipped all bytes.now result }
     ensures no_room { result ≡ 20 → NeedsRoomToSkip all bytes.now (length out.old) out_len.new
         (take piece_count.new pieces.new) counts.new }
+    ensures content { (result ≡ 0) ⊎ (result ≡ 20) → HasContent bytes.now counts.new.kept }
     ensures more_pieces { result ≡ 25
         → NeedsPieces all bytes.now (length pieces.old) piece_count.new }
     ensures too_large { result ≡ 22 → 2 ^ 32 ≤ length bytes.now }
@@ -56,9 +58,7 @@ pub extern "C" fn fitrec_skip(
     let looked = look_at(bytes, all);
     let seen = &bytes[..looked.front + looked.looked_at];
     let Taken { count, kept } = take_pieces(seen, &looked, pieces);
-    if kept == 0
-        && let Err(fault) = read_header_front(bytes)
-    {
+    if let Err(fault) = refuse_nothing(bytes, kept) {
         return fault.kind.code();
     }
     *piece_count = count as u64;
@@ -76,6 +76,20 @@ pub extern "C" fn fitrec_skip(
     }
     write_pieces(looked.frame, seen, &pieces[..count], kept, out);
     0
+}
+
+// Refuses the bytes as a file if none of them are kept and they begin with no header.
+fn refuse_nothing(bytes: &[u8], kept: usize) -> Result<(), FileFault>
+    ensures content { OnOk result (HasContent bytes.now kept) }
+    ensures nothing { IfErr result (λ fault. (kept ≡ 0) × IsNotSalvaged bytes.now fault) }
+{
+    if kept > 0 {
+        return Ok(());
+    }
+    match read_header_front(bytes) {
+        Ok(_header) => Ok(()),
+        Err(fault) => Err(fault),
+    }
 }
 
 // How many pieces were taken, and how many bytes the kept ones have.

@@ -36,16 +36,18 @@ totals_numbers t =
 -- the other numbers of a recorder, but for its page and its definitions
 abbrev pub recorder_numbers : FrozenRecorder → List ℕ
 recorder_numbers f =
-    f.journal.first ∷ f.journal.second ∷ f.journal.first_checksum ∷ f.journal.second_checksum
-    ∷ f.journal.form ∷ f.journal.has_first ∷ f.journal.has_second
-    ∷ f.len ∷ f.checksum ∷ f.page_len ∷ f.turn ∷ f.failed ∷ []
+    f.journal.first ∷ f.journal.second ∷ f.journal.third
+    ∷ f.journal.first_checksum ∷ f.journal.second_checksum ∷ f.journal.third_checksum
+    ∷ f.journal.form ∷ f.journal.has_first ∷ f.journal.has_second ∷ f.journal.has_third
+    ∷ f.len ∷ f.crc32 ∷ f.checksum ∷ f.page_len ∷ f.turn ∷ f.failed ∷ []
 
 -- the other numbers of a recovery, but for its definitions
 abbrev pub reading_numbers : FrozenRecovery → List ℕ
 reading_numbers f =
-    f.journal.first ∷ f.journal.second ∷ f.journal.first_checksum ∷ f.journal.second_checksum
-    ∷ f.journal.form ∷ f.journal.has_first ∷ f.journal.has_second
-    ∷ f.heard.records ∷ f.heard.kind ∷ f.time ∷ f.at ∷ f.len ∷ f.checksum ∷ []
+    f.journal.first ∷ f.journal.second ∷ f.journal.third
+    ∷ f.journal.first_checksum ∷ f.journal.second_checksum ∷ f.journal.third_checksum
+    ∷ f.journal.form ∷ f.journal.has_first ∷ f.journal.has_second ∷ f.journal.has_third
+    ∷ f.heard.records ∷ f.heard.kind ∷ f.time ∷ f.at ∷ f.len ∷ f.crc32 ∷ f.checksum ∷ []
 
 -- the check code of some numbers, the totals, and other numbers
 abbrev pub with_totals : List ℕ → FrozenTotals → List ℕ → ℕ

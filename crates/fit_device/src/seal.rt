@@ -114,19 +114,23 @@ fn sums_numbers(sums: &FrozenSums) -> [u64; 11]
 }
 
 // The numbers of a recorder besides its totals, page and definitions.
-fn recorder_numbers(recorder: &FrozenRecorder) -> [u64; 12]
+fn recorder_numbers(recorder: &FrozenRecorder) -> [u64; 16]
     ensures { result ≡ recorder_numbers recorder.now }
 {
     let journal = &recorder.journal;
     [
         u64::from(journal.first),
         u64::from(journal.second),
+        u64::from(journal.third),
         u64::from(journal.first_checksum),
         u64::from(journal.second_checksum),
+        u64::from(journal.third_checksum),
         u64::from(journal.form),
         u64::from(journal.has_first),
         u64::from(journal.has_second),
+        u64::from(journal.has_third),
         u64::from(recorder.len),
+        u64::from(recorder.crc32),
         u64::from(recorder.checksum),
         u64::from(recorder.page_len),
         u64::from(recorder.turn),
@@ -135,23 +139,27 @@ fn recorder_numbers(recorder: &FrozenRecorder) -> [u64; 12]
 }
 
 // The numbers of a recovery besides its totals and definitions.
-fn reading_numbers(recovery: &FrozenRecovery) -> [u64; 13]
+fn reading_numbers(recovery: &FrozenRecovery) -> [u64; 17]
     ensures { result ≡ reading_numbers recovery.now }
 {
     let journal = &recovery.journal;
     [
         u64::from(journal.first),
         u64::from(journal.second),
+        u64::from(journal.third),
         u64::from(journal.first_checksum),
         u64::from(journal.second_checksum),
+        u64::from(journal.third_checksum),
         u64::from(journal.form),
         u64::from(journal.has_first),
         u64::from(journal.has_second),
+        u64::from(journal.has_third),
         u64::from(recovery.heard.records),
         u64::from(recovery.heard.kind),
         u64::from(recovery.time),
         u64::from(recovery.at),
         u64::from(recovery.len),
+        u64::from(recovery.crc32),
         u64::from(recovery.checksum),
     ]
 }

@@ -1,7 +1,7 @@
-// The base types and the checksum. The checksums are known ones, and the rows are those of the protocol's table.
+// The base types and the checksums. They are known ones, and the rows are those of the protocol's table.
 
 use crate::equality::equal;
-use fit_base::{Arch, BaseType, Crc, FieldValue, put};
+use fit_base::{Arch, BaseType, Crc, Crc32, FieldValue, put};
 use std::process::Abort;
 
 // Three values of one type, in both byte orders.
@@ -36,6 +36,29 @@ fn checksums(rt: HostRuntime) {
     equal(&rt, pieces.value(), 0x3BA1);
     pieces.add(&[0xA1, 0x3B]);
     equal(&rt, pieces.value(), 0);
+}
+
+// CRC-32 of these bytes in one piece, and in two that meet at each place.
+fn in_pieces(rt: &impl Abort, bytes: &[u8], checksum: u32) {
+    equal(rt, Crc32::of(bytes), checksum);
+    for end in 0..=bytes.len() {
+        let mut pieces = Crc32::new();
+        pieces.add(&bytes[..end]);
+        let mut rest = Crc32::with_value(pieces.value());
+        rest.add(&bytes[end..]);
+        equal(rt, rest.value(), checksum);
+    }
+}
+
+// The checksums are those that zlib computes.
+#[test]
+fn checksums_of_32_bits(rt: HostRuntime) {
+    in_pieces(&rt, &[], 0);
+    in_pieces(&rt, b"123456789", 0xCBF43926);
+    in_pieces(&rt, &[0; 16], 0xECBB4B55);
+    in_pieces(&rt, &[0xFF; 33], 0x682DB523);
+    let text = b"The quick brown fox jumps over the lazy dog";
+    in_pieces(&rt, text, 0x414FA339);
 }
 
 #[test]

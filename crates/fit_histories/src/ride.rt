@@ -27,8 +27,7 @@ impl<D: Disk> Ride<D> {
     ghost use Rattle.fit_disk.specs.Story.{seen_of};
     ghost use Rattle.fit_disk.specs.declared.disk.Which.TheVariants.{Data};
     ghost use Rattle.fit_recorder.specs.declared.fault.RecFault.TheVariants.{NotEmpty, JournalFull};
-    ghost use Rattle.fit_journal.specs.declared.slots.Slots.TheVariants.{InTurns};
-    ghost use Rattle.fit_journal.specs.Turn.{committed_slots};
+    ghost use Rattle.fit_journal.specs.Turn.{committed_slots, fresh_slots};
     ghost use Rattle.fit_recorder.specs.Calls.Answers.{HandAnswers, CommitAnswers, StopAnswers};
     ghost use Rattle.fit_recorder.specs.Calls.Resume.{HasNoRoom};
     ghost use Rattle.fit_histories.specs.declared.reply.Reply.TheVariants.{Done, Refused};
@@ -50,7 +49,7 @@ impl<D: Disk> Ride<D> {
         ensures replies { RepliesStart start result.1 }
         ensures handed { result.1 ≡ Done → Handed result.0 (Started start ∷ []) }
         ensures made { result.1 ≡ Done → slots_of result.0
-            ≡ committed_slots (InTurns checked None None)
+            ≡ committed_slots (fresh_slots checked)
             (encoded_len result.0) (encoded_checksum result.0) }
         ensures not_empty { IsTrue D.honest → result.1 ≡ Refused NotEmpty
             → seen_of Data (D.story (disk_in self)) ≢ [] }

@@ -1,5 +1,7 @@
 -- A folder for each theorem. The public lemmas are those that proofs of other crates cite.
 pub mod Commit
+mod BodyChecksums
+mod SameBytes
 mod Start
 pub mod FinishedFile
 pub mod RecoveredList

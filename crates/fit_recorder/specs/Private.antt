@@ -6,6 +6,7 @@ pub mod State
 pub mod RecordingFiles
 pub mod ItemRead
 pub mod BodyRead
+pub mod Checksums
 pub mod Begun
 pub mod BodyHeard
 pub mod Length

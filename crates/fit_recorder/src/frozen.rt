@@ -5,13 +5,14 @@ ghost use Rattle.arrayvec.specs.ArrayVec.{ArrayVec as AnyArrayVec};
 ghost use Rattle.fit_recorder.specs.Calls.Recorder.{IsIdle, state_of, has_failed, disk_of};
 ghost use Rattle.fit_recorder.specs.Calls.Frozen.{definition_bytes_in, definitions_in, state_in, has_failed_in, IsPossibleRecorder};
 
+use crate::checksums::Checksums;
 use crate::limits::{LONGEST_ITEM, PAGE};
 use crate::recorder::Recorder;
 use crate::recording_files::RecordingFiles;
 use crate::spelling::Spelling;
 use arrayvec::ArrayVec;
 use fit_activity::{FrozenTotals, Sport, Start, Totals};
-use fit_base::Crc;
+use fit_base::{Crc, Crc32};
 use fit_disk::Disk;
 use fit_journal::{FrozenJournal, Journal};
 use std::mem;
@@ -24,13 +25,15 @@ pub struct FrozenDefinition {
     pub bytes: [u8; LONGEST_ITEM],
 }
 
-/// A recorder without its disk, as plain numbers. A flag is 1 if it is set. The first `page_len` bytes of `page` wait there.
+/// A recorder without its disk, as plain numbers. A flag is 1 if it is set. The first `page_len` bytes of `page` wait there. Of the body
+/// so far `checksum` is that of a FIT file, and `crc32` the one that a commit states.
 #[repr(C)]
 #[derive(Clone, Copy)]
 pub struct FrozenRecorder {
     pub totals: FrozenTotals,
     pub journal: FrozenJournal,
     pub len: u32,
+    pub crc32: u32,
     pub checksum: u16,
     pub page_len: u16,
     pub turn: u8,
@@ -52,7 +55,7 @@ impl<D: Disk> Recorder<D> {
                 journal: Journal::unused(),
                 page: ArrayVec::new(),
                 len: 0,
-                checksum: Crc::new(),
+                checksums: Checksums::new(),
             },
             totals: Totals::start(&NO_RIDE),
             spelling: Spelling::new(),
@@ -86,7 +89,8 @@ impl<D: Disk> Recorder<D> {
         numbers.totals = self.totals.freeze();
         numbers.journal = self.files.journal.freeze();
         numbers.len = self.files.len;
-        numbers.checksum = self.files.checksum.value();
+        numbers.checksum = self.files.checksums.file.value();
+        numbers.crc32 = self.files.checksums.stated.value();
         numbers.turn = self.spelling.turn;
         numbers.failed = u8::from(self.failed);
         numbers.page_len = freeze_page(&self.files.page, &mut numbers.page);
@@ -111,7 +115,10 @@ impl<D: Disk> Recorder<D> {
         self.totals = totals;
         self.files.journal = journal;
         self.files.len = numbers.len;
-        self.files.checksum = Crc::with_value(numbers.checksum);
+        self.files.checksums = Checksums {
+            file: Crc::with_value(numbers.checksum),
+            stated: Crc32::with_value(numbers.crc32),
+        };
         self.spelling.turn = numbers.turn;
         self.failed = numbers.failed == 1;
         thaw_page(&numbers.page, numbers.page_len, &mut self.files.page);

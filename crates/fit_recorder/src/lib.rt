@@ -20,6 +20,7 @@
 
 mod body;
 mod changed;
+mod checksums;
 mod closing;
 mod erasing;
 mod fault;

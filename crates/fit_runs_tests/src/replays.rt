@@ -52,9 +52,11 @@ fn the_example_of_the_crate(rt: HostRuntime) -> Result<(), Fail> {
     Ok(())
 }
 
-// The journal of a start alone; its 72 bytes have the checksum 9D80.
-static CHECKED_START: [u8; 24] = [
-    0x46, 0x52, 0x4A, 0x43, 0, 0, 0, 0, 0xA5, 0x48, 0, 0, 0, 0x80, 0x9D, 0, 0, 0, 0, 0, 0, 0, 0, 0,
+// The journal of a start alone; its 72 bytes have the checksum D7860579.
+static CHECKED_START: [u8; 56] = [
+    0x46, 0x52, 0x4A, 0x44, 0, 0, 0, 0, 0xA5, 0x48, 0, 0, 0, 0x79, 0x05, 0x86, 0xD7, 0, 0, 0, 0, 0,
+    0, 0, 0, 0, 0, 0, 0, 0, 0, 0, 0, 0, 0, 0, 0, 0, 0, 0, 0, 0, 0, 0, 0, 0, 0, 0, 0, 0, 0, 0, 0, 0,
+    0, 0,
 ];
 
 static PLAIN_START: [u8; 24] = [

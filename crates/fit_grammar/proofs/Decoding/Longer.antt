@@ -4,7 +4,7 @@ use Rattle.std.proofs.lemmas.Bool.{cases_lt}
 use Rattle.std.proofs.lemmas.List.{length-append, take-append-le, drop-append-le, take_all, take_min}
 use Rattle.std.proofs.Math.Seq.{take-append-add}
 use Rattle.fit_base.specs.Checksum.{crc, crc_from}
-use Rattle.fit_base.proofs.Register.{crc_from-append}
+use Rattle.fit_base.proofs.Register.{crc_from-append, crc_from-nil}
 use Rattle.fit_grammar.specs.declared.file.fault.FaultKind.{FaultKind}
 use Rattle.fit_grammar.specs.declared.file.fault.FaultKind.TheVariants.{Truncated}
 use Rattle.fit_grammar.specs.declared.file.fault.FileFault.{FileFault}
@@ -93,10 +93,6 @@ reached_within b v at end r =
 pub window_longer : (b x : List ℕ) (v : FileValue) (at end : ℕ) → Reached b v at end → drop at (b ++ x) ≡ drop at b ++ x
 window_longer b x v at end r = drop-append-le at b x ((reached_within b v at end r).0)
 
-crc_from-nil : (register : ℕ) (x : List ℕ) → crc_from register (take 0 x) ≡ register
-unfolding crc_from
-crc_from-nil register x = refl
-
 -- the checksum continues over those of the bytes that are before the end
 pub checked_longer : (b x : List ℕ) (end left checksum : ℕ) → checksum ≡ crc (take end b) → left ≡ end - length b
     → crc_from checksum (take (min left (length x)) x) ≡ crc (take end (b ++ x))
@@ -112,5 +108,5 @@ checked_longer b x end left checksum c e =
       | inr more ↦
           let none : left ≡ 0 = omega arith in
           ap (λ (l : List ℕ). crc_from checksum l) (take_min left x ∙ ap (λ (n : ℕ). take n x) none)
-          ∙ crc_from-nil checksum x ∙ c ∙ ap crc (sym (take-append-le end b x more))
+          ∙ crc_from-nil checksum ∙ c ∙ ap crc (sym (take-append-le end b x more))
     ]

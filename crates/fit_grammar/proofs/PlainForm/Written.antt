@@ -4,7 +4,7 @@ use Rattle.std.proofs.lemmas.Grind.{flat_map-append}
 use Rattle.std.proofs.lemmas.List.Folds.{list_any-append}
 use Rattle.std.specs.List.{list_any}
 use Rattle.std.specs.Result.{IsErr, IsErrAnd}
-use Rattle.fit_base.specs.Checksum as sums
+use Rattle.fit_base.proofs.Register.{crc_from-nil}
 use Rattle.fit_grammar.specs.declared.definition.Definition.{Definition}
 use Rattle.fit_grammar.specs.Format.Item.{Item, Defines}
 use Rattle.fit_grammar.specs.Format.Records.{in_force}
@@ -33,8 +33,7 @@ checked_ok h = record { writes = text_ok h.writes; checksum = h.checksum }
 
 -- at first nothing was written
 pub checked_none : {T E : Type 0} (o : Option (List ℕ)) (before : ℕ) (x : T) → WritesChecked {T = T} {E = E} o o before before (Ok x) []
-unfolding sums.crc_from
-checked_none o before x = record { writes = writes_none o x; checksum = refl }
+checked_none o before x = record { writes = writes_none o x; checksum = sym (crc_from-nil before) }
 
 -- before the first item
 pub written_first : (o : Option (List ℕ)) (before : ℕ) (items : List Item) (left : List LentItem) (timed : List Bool)

@@ -1,5 +1,5 @@
 -- The form of the journal that a start begins stays until an erasing: the calls of a ride keep its head.
-use Rattle.std.proofs.Common.{◌≡◌, ⊎_elim, ℕ, Bool, true, false, List, [], take, None, Result, refl, sym, ◌∙◌, ap, subst}
+use Rattle.std.proofs.Common.{◌≡◌, ⊎_elim, ℕ, Bool, true, false, List, [], take, Result, refl, sym, ◌∙◌, ap, subst}
 use Rattle.std.specs.Prelude.{IsTrue, ◌≢◌}
 use Rattle.fit_activity.specs.declared.recording.refusal.Refusal.{Refusal}
 use Rattle.fit_activity.specs.declared.recording.start.Start.{Start}
@@ -12,11 +12,10 @@ use Rattle.fit_disk.specs.declared.disk.Which.TheVariants.{Data}
 use Rattle.fit_disk.proofs.Leaving.{rest_left}
 use Rattle.fit_disk.proofs.Moments.{at_end}
 use Rattle.fit_journal.specs.declared.slots.Slots.{Slots}
-use Rattle.fit_journal.specs.declared.slots.Slots.TheVariants.{InTurns}
 use Rattle.fit_journal.specs.Form.{form_of}
 use Rattle.fit_journal.specs.Moments.{KeepsHead}
-use Rattle.fit_journal.specs.Standing.{Paired, Ready, Stands, fresh_pair}
-use Rattle.fit_journal.specs.Turn.{committed_slots}
+use Rattle.fit_journal.specs.Standing.{Ready, Stands, fresh_journal}
+use Rattle.fit_journal.specs.Turn.{committed_slots, fresh_slots}
 use Rattle.fit_recorder.specs.declared.fault.RecFault.{RecFault}
 use Rattle.fit_recorder.specs.declared.fault.RecFault.TheVariants.{NotEmpty, Refused, Full, JournalFull, Device, Failed, NothingRecorded, Damaged}
 use Rattle.fit_recorder.specs.declared.recorder.Recorder.{Recorder}
@@ -49,18 +48,17 @@ module _ (checked : Bool) (old new : Story) (sound : IsSound old.now) (before : 
   pub headed_form : KeepsHead old new → LeavesForm checked new
   headed_form keeps c left = ap form_of (keeps.same c.in_journal left.journal_left) ∙ before (seen_in old.now) sound
 
--- two slots that take turns have the form of a new journal
-fresh_form : (checked : Bool) (journal : List ℕ) → Paired checked journal → form_of (take 8 journal) ≡ form_of (take 8 (fresh_pair checked))
+-- the start is in the first slot of a new journal, whose head states its form
+fresh_form : (checked : Bool) (len checksum : ℕ) (journal : List ℕ) → Ready (committed_slots (fresh_slots checked) len checksum) journal → form_of (take 8 journal) ≡ form_of (take 8 (fresh_journal checked))
 unfolding form_of
-fresh_form true journal paired = paired.form
-fresh_form false journal paired = paired.form
+fresh_form true len checksum journal ready = ready.triple.form
+fresh_form false len checksum journal ready = ready.pair.form
 
--- the start is in the first slot of a new journal
-begun_form : (checked : Bool) (slots : Slots) (len checksum : ℕ) (story : Story) → Stands slots story.now.journal_file → slots ≡ committed_slots (InTurns checked None None) len checksum
+begun_form : (checked : Bool) (slots : Slots) (len checksum : ℕ) (story : Story) → Stands slots story.now.journal_file → slots ≡ committed_slots (fresh_slots checked) len checksum
     → LeavesForm checked story
 begun_form checked slots len checksum story stands is c left =
     let ready = subst (λ slots. Ready slots story.now.journal_file.seen) is stands.ready in
-    ap (λ (journal : List ℕ). form_of (take 8 journal)) (rest_left story.now.journal_file story.now.journal_file.seen c.in_journal stands.rest left.journal_left) ∙ fresh_form checked story.now.journal_file.seen ready.pair
+    ap (λ (journal : List ℕ). form_of (take 8 journal)) (rest_left story.now.journal_file story.now.journal_file.seen c.in_journal stands.rest left.journal_left) ∙ fresh_form checked len checksum story.now.journal_file.seen ready
 
 -- a start that was refused
 pub refused_form : (checked : Bool) (start : Start) (old new : Story) (fault : RecFault) → StartAnswers start fault → ((refusal : Refusal) → fault ≡ Refused refusal → new ≡ old)
@@ -79,7 +77,7 @@ refused_form checked start old new Damaged answers same not_empty run = absurd a
 module _ {D : Type 0} (honest : Bool) (story : D → Story) (so : IsTrue honest) (checked : Bool) where
   -- a recorder has begun
   pub started_form : (recorder : Recorder D) (list committed : List Recorded) → StandsAt honest story recorder list committed
-      → journal_slots recorder ≡ committed_slots (InTurns checked None None) (data_len recorder) (data_checksum recorder) → LeavesForm checked (story (disk_of recorder))
+      → journal_slots recorder ≡ committed_slots (fresh_slots checked) (data_len recorder) (data_checksum recorder) → LeavesForm checked (story (disk_of recorder))
   started_form recorder list committed at is =
       begun_form checked (journal_slots recorder) (data_len recorder) (data_checksum recorder) (story (disk_of recorder)) (at.holds so).stored.stored.journal is
 

@@ -13,7 +13,7 @@ use Rattle.fit_disk.specs.State.{LeavesOnly, seen_in}
 use Rattle.fit_disk.specs.Story.{Story, Throughout, seen_of}
 use Rattle.fit_disk.proofs.Moments.{at_end}
 use Rattle.fit_journal.specs.declared.slots.Slots.{Slots}
-use Rattle.fit_journal.specs.declared.slots.Slots.TheVariants.{InRow, HalfOpen, InTurns}
+use Rattle.fit_journal.specs.declared.slots.Slots.TheVariants.{InRow, HalfOpen, InTurns, InThree}
 use Rattle.fit_journal.specs.Turn.{slots_left}
 use Rattle.fit_recorder.specs.declared.fault.RecFault.{RecFault}
 use Rattle.fit_recorder.specs.declared.fault.RecFault.TheVariants.{NotEmpty, Refused, Full, JournalFull, Device, Failed, NothingRecorded, Damaged}
@@ -68,7 +68,8 @@ entry_step before after (Stop time) answer other step = absurd (true≢false oth
 pub never_full : {A : Type 0} (slots : Slots) → slots_left slots ≡ None → IsLastSlot slots → A
 never_full (InRow slots) turns last = absurd cc
 never_full (HalfOpen slots) turns last = absurd cc
-never_full (InTurns checked first second) turns last = absurd last
+never_full (InTurns first second) turns last = absurd last
+never_full (InThree first second third) turns last = absurd last
 
 module _ {D : Type 0} (honest : Bool) (story : D → Story) where
   -- no recorder runs after the command

@@ -3,7 +3,7 @@ use Rattle.std.specs.Prelude.{◌≡◌, Bool, true, false, List, ◌∷◌, tak
 use Rattle.fit_disk.specs.State.{Contents, LeavesOnly}
 use Rattle.fit_disk.specs.Story.{Story}
 use Rattle.fit_journal.specs.Form.{form_of}
-use Rattle.fit_journal.specs.Standing.{fresh_pair}
+use Rattle.fit_journal.specs.Standing.{fresh_journal}
 use Rattle.fit_recorder.specs.declared.fault.RecFault.TheVariants.{Device}
 use Rattle.fit_scripts.specs.declared.command.Command.{Command}
 use Rattle.fit_scripts.specs.declared.command.Command.TheVariants as commands
@@ -18,7 +18,7 @@ use Rattle.fit_histories.specs.Rides.Standing.{StandsIn}
 -- the head of the journal states the form of a new one, without checksums or with them
 abbrev pub HasForm : Bool → Contents → Type 0
 HasForm checked contents =
-    form_of (take 8 contents.in_journal) ≡ form_of (take 8 (fresh_pair checked))
+    form_of (take 8 contents.in_journal) ≡ form_of (take 8 (fresh_journal checked))
 
 -- and so it does in whatever a power cut leaves
 abbrev pub LeavesForm : Bool → Story → Type 0

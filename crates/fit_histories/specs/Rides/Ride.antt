@@ -5,8 +5,7 @@ use Rattle.fit_activity.specs.Rides.Recording.{Recorded, Started, Added, is_stop
 use Rattle.fit_disk.specs.Counts.{Log}
 use Rattle.fit_disk.specs.Story.{Story}
 use Rattle.fit_journal.specs.declared.slots.Slots.{Slots}
-use Rattle.fit_journal.specs.declared.slots.Slots.TheVariants.{InTurns}
-use Rattle.fit_journal.specs.Turn.{committed_slots}
+use Rattle.fit_journal.specs.Turn.{committed_slots, fresh_slots}
 use Rattle.fit_recorder.specs.Calls.Answers.{HandAnswers, CommitAnswers, StopAnswers}
 use Rattle.fit_recorder.specs.Calls.Recorder.{GoesOn, WasHanded, disk_of, has_failed, data_checksum, data_len, journal_slots}
 use Rattle.fit_recorder.specs.declared.fault.RecFault.TheVariants.{Device, Failed}
@@ -72,7 +71,7 @@ module _ {D : Type 0} where
 
   -- the slots of its journal; if no recorder runs, empty ones
   abbrev pub slots_of : Ride D → Slots
-  slots_of (Idle disk) = InTurns false None None
+  slots_of (Idle disk) = fresh_slots false
   slots_of (Riding recorder) = journal_slots recorder
 
   -- what may be replied to a command after this list was handed in
@@ -92,13 +91,13 @@ module _ {D : Type 0} where
       × (slots_of next ≡ committed_slots (slots_of ride) (encoded_len ride) (encoded_checksum ride))
   RidesOnWith ride list _ next = Unit {0}
 
-  -- After a start that is ok the recorder was handed the start alone, in the first of two slots that take turns, with its checksum if the
+  -- After a start that is ok the recorder was handed the start alone, in the first slot of a new journal, with its checksum if the
   -- journal is checked. After a reopening that is ok it was handed some list.
   abbrev pub HasBegun : Bool → Command → Ride D → Type 0
   HasBegun checked (commands.Start start) next =
       Handed next (Started start ∷ [])
       × (slots_of next
-      ≡ committed_slots (InTurns checked None None) (encoded_len next) (encoded_checksum next))
+      ≡ committed_slots (fresh_slots checked) (encoded_len next) (encoded_checksum next))
   HasBegun checked commands.Reopen next = (list : List Recorded) × Handed next list
   HasBegun checked _ next = Unit {0}
 

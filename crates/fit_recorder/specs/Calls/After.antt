@@ -7,9 +7,8 @@ use Rattle.fit_disk.specs.Counts.{Log}
 use Rattle.fit_disk.specs.Runs.{MakesAll, MakesWithin}
 use Rattle.fit_disk.specs.State.{Contents}
 use Rattle.fit_disk.specs.Story.{Story, Throughout, seen_of}
-use Rattle.fit_journal.specs.declared.slots.Slots.TheVariants.{InTurns}
 use Rattle.fit_journal.specs.Moments.{KeepsHead}
-use Rattle.fit_journal.specs.Turn.{committed_slots}
+use Rattle.fit_journal.specs.Turn.{committed_slots, fresh_slots}
 use Rattle.fit_recorder.specs.Calls.Recorder.{StandsAt, AtEach, WasHanded, GoesOn, disk_of, has_failed, data_len, data_checksum, waiting, journal_slots}
 use Rattle.fit_recorder.specs.Files.Header.{recorded_header}
 use Rattle.fit_recorder.specs.Files.Limits.{header_length, page_size}
@@ -28,15 +27,14 @@ module _ {D : Type 0} where
     pub gone : IsErrOf result Device → has_failed new ≡ true
     pub same : IfErr result (λ fault. (fault ≡ Device) ⊎ (new ≡ old))
 
-  -- a new recorder: the header states no records, nothing waits in the page, and the start is in the first of two slots that take turns,
-  -- with its checksum if the journal is checked
+  -- a new recorder: the header states no records, nothing waits in the page, and the start is in the first slot of a new journal
   pub record IsNew (checked honest : Bool) (story : D → Story)
       (recorder : Recorder D) : Type 0 where
     pub header : IsTrue honest
         → take header_length (seen_of Data (story (disk_of recorder))) ≡ recorded_header 0
     pub waits : waiting recorder ≡ 0
     pub turns : journal_slots recorder
-        ≡ committed_slots (InTurns checked None None) (data_len recorder) (data_checksum recorder)
+        ≡ committed_slots (fresh_slots checked) (data_len recorder) (data_checksum recorder)
 
   -- it was handed this entry after its list, and the same prefix is committed
   pub record AddsEntry (honest : Bool) (story : D → Story) (e : Entry)

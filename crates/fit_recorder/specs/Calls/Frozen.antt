@@ -28,7 +28,7 @@ state_in f = record {
   journal_slots = slots_in f.journal;
   page = take f.page_len f.page;
   len = f.len;
-  checksum = f.checksum;
+  checksums = record { file = f.checksum; stated = f.crc32 };
 }
 
 abbrev pub has_failed_in : FrozenRecorder → Bool

@@ -26,7 +26,7 @@ reading_in f =
     record {
       table = table_in f.definitions;
       time = f.time;
-      checksum = f.checksum;
+      checksums = record { file = f.checksum; stated = f.crc32 };
       at = f.at;
       len = f.len;
     }

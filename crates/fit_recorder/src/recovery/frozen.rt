@@ -3,13 +3,14 @@
 ghost use Rattle.std.specs.Prelude.{◌≡◌, true};
 ghost use Rattle.fit_recorder.specs.Private.BodyRead.{reading_of};
 
+use crate::checksums::Checksums;
 use crate::recovery::windows::Recovery;
 use fit_activity::FrozenReplay;
-use fit_base::Crc;
+use fit_base::{Crc, Crc32};
 use fit_grammar::FrozenShort;
 use fit_journal::{FrozenJournal, Journal};
 
-/// A recovery by windows as plain numbers.
+/// A recovery by windows as plain numbers. Of what was read `checksum` is that of a FIT file, and `crc32` the one that a commit states.
 #[repr(C)]
 #[derive(Clone, Copy)]
 pub struct FrozenRecovery {
@@ -18,6 +19,7 @@ pub struct FrozenRecovery {
     pub time: u32,
     pub at: u32,
     pub len: u32,
+    pub crc32: u32,
     pub checksum: u16,
     pub definitions: [FrozenShort; 16],
 }
@@ -35,7 +37,8 @@ impl Recovery {
         numbers.time = self.reader.time;
         numbers.at = self.reader.at;
         numbers.len = self.reader.len;
-        numbers.checksum = self.reader.checksum.value();
+        numbers.checksum = self.reader.checksums.file.value();
+        numbers.crc32 = self.reader.checksums.stated.value();
         self.reader.table.freeze(&mut numbers.definitions);
         self.replay.freeze(&mut numbers.heard);
         numbers.journal = self.journal.freeze();
@@ -59,7 +62,10 @@ impl Recovery {
         self.reader.at = 0; // At each moment the place is within the body.
         self.reader.len = numbers.len;
         self.reader.at = numbers.at;
-        self.reader.checksum = Crc::with_value(numbers.checksum);
+        self.reader.checksums = Checksums {
+            file: Crc::with_value(numbers.checksum),
+            stated: Crc32::with_value(numbers.crc32),
+        };
         self.reader.table.thaw(&numbers.definitions) && self.replay.thaw(&numbers.heard)
     }
 }

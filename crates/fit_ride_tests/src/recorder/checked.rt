@@ -1,5 +1,5 @@
-// Rides whose journal states the checksum of what is committed. The checksums are those of the bytes of the description, worked
-// out by FIT's table of sixteen numbers.
+// Rides whose journal states the checksum of what is committed. The checksums are those that zlib computes of the bytes of the
+// description.
 
 ghost use Rattle.std.specs.Prelude.{true, IfOk};
 ghost use Rattle.fit_disk.specs.Memory.{memory_story};
@@ -36,8 +36,10 @@ fn committed(alloc: Global, entries: &[Entry]) -> Result<Memory, RecFault> {
 }
 
 // The journal of a start.
-static CHECKED_JOURNAL: [u8; 24] = [
-    0x46, 0x52, 0x4A, 0x43, 0, 0, 0, 0, 0xA5, 0x48, 0, 0, 0, 0x80, 0x9D, 0, 0, 0, 0, 0, 0, 0, 0, 0,
+static CHECKED_JOURNAL: [u8; 56] = [
+    0x46, 0x52, 0x4A, 0x44, 0, 0, 0, 0, 0xA5, 0x48, 0, 0, 0, 0x79, 0x05, 0x86, 0xD7, 0, 0, 0, 0, 0,
+    0, 0, 0, 0, 0, 0, 0, 0, 0, 0, 0, 0, 0, 0, 0, 0, 0, 0, 0, 0, 0, 0, 0, 0, 0, 0, 0, 0, 0, 0, 0, 0,
+    0, 0,
 ];
 
 #[test]
@@ -49,8 +51,9 @@ fn a_checked_start_is_committed(rt: HostRuntime) -> Result<(), RecFault> {
 }
 
 // The slots of the short ride.
-static SLOTS: [u8; 16] = [
-    0xA5, 0x48, 0, 0, 0, 0x80, 0x9D, 0, 0xA5, 0xAE, 0, 0, 0, 0xE3, 0x89, 0,
+static SLOTS: [u8; 48] = [
+    0xA5, 0x48, 0, 0, 0, 0x79, 0x05, 0x86, 0xD7, 0, 0, 0, 0, 0, 0, 0, 0xA5, 0xAE, 0, 0, 0, 0xAC,
+    0x2D, 0xD0, 0xFE, 0, 0, 0, 0, 0, 0, 0, 0, 0, 0, 0, 0, 0, 0, 0, 0, 0, 0, 0, 0, 0, 0, 0,
 ];
 
 #[test]
@@ -100,35 +103,47 @@ fn a_changed_bit_of_the_body_is_damaged(rt: HostRuntime) -> Result<(), Fail> {
     Ok(())
 }
 
-// The journal of the short ride with this last byte of its mark and this checksum. The checksum of the earlier commit is another one,
-// and so are the bytes after the checksums: they do not count.
-fn journal_with(mark: u8, low: u8, high: u8) -> [u8; 24] {
+// The journal of the short ride with this checksum. The checksum of the earlier commit is another one, and the bytes after the
+// checksums are not zeros: they do not count.
+fn journal_with(checksum: [u8; 4]) -> [u8; 56] {
+    let [first, second, third, fourth] = checksum;
     [
-        0x46, 0x52, 0x4A, mark, 0, 0, 0, 0, 0xA5, 0x48, 0, 0, 0, 0x7F, 0x62, 0xFF, 0xA5, 0xAE, 0,
-        0, 0, low, high, 0xFF,
+        0x46, 0x52, 0x4A, 0x44, 0, 0, 0, 0, 0xA5, 0x48, 0, 0, 0, 0x7F, 0x62, 0xFF, 0xFF, 0xFF, 0,
+        0, 0, 0, 0, 0, 0xA5, 0xAE, 0, 0, 0, first, second, third, fourth, 0xFF, 0, 0, 0, 0, 0, 0,
+        0, 0, 0, 0, 0, 0, 0, 0, 0, 0, 0, 0, 0, 0, 0, 0,
     ]
 }
 
-// Marks and checksums, and whether they are damaged. Zero states a checksum too, but with the mark of a journal without checksums
-// nothing is compared.
-static CHECKSUMS: [(u8, u8, u8, bool); 4] = [
-    (0x43, 0xE3, 0x89, false),
-    (0x43, 0x00, 0x89, true),
-    (0x43, 0xE3, 0x00, true),
-    (0x32, 0x00, 0x89, false),
+// Checksums, and whether they are damaged.
+static CHECKSUMS: [([u8; 4], bool); 7] = [
+    ([0xAC, 0x2D, 0xD0, 0xFE], false),
+    ([0x00, 0x2D, 0xD0, 0xFE], true),
+    ([0xAC, 0x00, 0xD0, 0xFE], true),
+    ([0xAC, 0x2D, 0x00, 0xFE], true),
+    ([0xAC, 0x2D, 0xD0, 0x00], true),
+    ([0xFE, 0xD0, 0x2D, 0xAC], true), // The high byte first.
+    ([0xE3, 0x89, 0x00, 0x00], true), // The checksum of a FIT file.
 ];
 
 #[test]
 fn a_changed_checksum_is_damaged(rt: HostRuntime) -> Result<(), Fail> {
     let disk = committed(rt.alloc(), &SHORT)?;
     let data = disk.content(Which::Data);
-    for (mark, low, high, is_wrong) in CHECKSUMS {
-        let answer = is_damaged(rt.alloc(), data, &journal_with(mark, low, high))?;
-        assert_eq!(rt; answer, is_wrong, "mark {mark}, checksum {low} {high}");
+    for (checksum, is_wrong) in CHECKSUMS {
+        let answer = is_damaged(rt.alloc(), data, &journal_with(checksum))?;
+        assert_eq!(rt; answer, is_wrong, "checksum {checksum:?}");
     }
     for bit in BITS {
-        let low = is_damaged(rt.alloc(), data, &journal_with(0x43, 0xE3 ^ bit, 0x89))?;
-        let high = is_damaged(rt.alloc(), data, &journal_with(0x43, 0xE3, 0x89 ^ bit))?;
+        let low = is_damaged(
+            rt.alloc(),
+            data,
+            &journal_with([0xAC ^ bit, 0x2D, 0xD0, 0xFE]),
+        )?;
+        let high = is_damaged(
+            rt.alloc(),
+            data,
+            &journal_with([0xAC, 0x2D, 0xD0, 0xFE ^ bit]),
+        )?;
         assert_eq!(rt; (low, high), (true, true), "bit {bit}");
     }
     Ok(())
@@ -150,9 +165,10 @@ fn files_of_two_rides_are_damaged(rt: HostRuntime) -> Result<(), Fail> {
 
 static RESUMED_STEPS: [Step; 2] = [Step::Hand(rate!(2, 110), Ok(())), Step::Commit(Ok(()))];
 
-static RESUMED_JOURNAL: [u8; 24] = [
-    0x46, 0x52, 0x4A, 0x43, 0, 0, 0, 0, 0xA5, 0x5E, 0, 0, 0, 0xA4, 0x59, 0, 0xA5, 0x53, 0, 0, 0,
-    0xEE, 0xBD, 0,
+static RESUMED_JOURNAL: [u8; 56] = [
+    0x46, 0x52, 0x4A, 0x44, 0, 0, 0, 0, 0, 0x48, 0, 0, 0, 0x79, 0x05, 0x86, 0xD7, 0, 0, 0, 0, 0, 0,
+    0, 0xA5, 0x53, 0, 0, 0, 0x54, 0x11, 0x77, 0x79, 0, 0, 0, 0, 0, 0, 0, 0xA5, 0x5E, 0, 0, 0, 0xED,
+    0x5B, 0x93, 0xF6, 0, 0, 0, 0, 0, 0, 0,
 ];
 
 // A heart rate after the resume has its definition again, so the body has 94 bytes.

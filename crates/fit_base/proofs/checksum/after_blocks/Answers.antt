@@ -1,10 +1,10 @@
 use Rattle.std.proofs.Common.{ℕ, ◌≡◌, ◌+◌, ◌-◌, ◌*◌, ◌/◌, ◌≤◌, take, drop, length, length-drop, take_all, refl, ap, ◌∙◌, arith}
-use Rattle.fit_base.specs.Checksum.{crc_from}
+use Rattle.fit_base.specs.Checksum.{crc_from, register_after}
 use Rattle.fit_base.proofs.Register.{crc_from-take, crc_from-drop}
 use Rattle.fit_base.proofs.checksum.after_blocks.Goals as goal
 
 pub loop-k-init : goal.loop-k-init
-unfolding crc_from
+unfolding crc_from register_after
 loop-k-init c = refl
 
 pub loop-k-preserved : goal.loop-k-preserved

@@ -1,10 +1,10 @@
 use Rattle.std.proofs.Common.{ℕ, [], ◌∷◌, get_or, refl, ap, ◌∙◌}
-use Rattle.fit_base.specs.Checksum.{crc_from}
+use Rattle.fit_base.specs.Checksum.{crc_from, register_after}
 use Rattle.fit_base.proofs.Register.{crc_from-next}
 use Rattle.fit_base.proofs.checksum.after_few.Goals as goal
 
 pub loop-byte-init : goal.loop-byte-init
-unfolding crc_from
+unfolding crc_from register_after
 loop-byte-init c = refl
 
 pub loop-byte-preserved : goal.loop-byte-preserved

@@ -1,4 +1,4 @@
-use Rattle.std.proofs.Common.{ℕ, ◌+◌, ◌∙◌, List, ap, sym, arith}
+use Rattle.std.proofs.Common.{ℕ, ◌+◌, ◌∙◌, List, ap, sym, inl, inr, arith}
 use Rattle.fit_mending.specs.Pieces.{kept_row}
 use Rattle.fit_mending.specs.declared.pieces.Piece.{Piece}
 use Rattle.fit_files.specs.declared.looking.Looked.{Looked}
@@ -11,25 +11,32 @@ use Rattle.fit_c.proofs.skipping.fitrec_skip.Goals as goal
 abbrev counts_of : Looked → ℕ → SalvageCounts
 counts_of looked kept = record { kept = kept; looked_at = looked.looked_at; not_looked_at = looked.not_looked_at }
 
-pub returns-clause-ok : goal.returns-clause-ok
-returns-clause-ok c = λ none. absurd (omega (arith, none, c.code.ensures, (code_within c.in-Err.fault.kind).0))
+pub returns-in-Err-clause-ok : goal.returns-in-Err-clause-ok
+returns-in-Err-clause-ok c = λ none. absurd (omega (arith, none, c.code.ensures, (code_within c.in-Err.fault.kind).0))
 
-pub returns-clause-within : goal.returns-clause-within
-returns-clause-within c = λ none. absurd (omega (arith, none, c.code.ensures, (code_within c.in-Err.fault.kind).0))
+pub returns-in-Err-clause-within : goal.returns-in-Err-clause-within
+returns-in-Err-clause-within c = λ none. absurd (omega (arith, none, c.code.ensures, (code_within c.in-Err.fault.kind).0))
 
-pub returns-clause-no_room : goal.returns-clause-no_room
-returns-clause-no_room c = λ none. absurd (omega (arith, none, c.code.ensures, (code_within c.in-Err.fault.kind).1))
+pub returns-in-Err-clause-no_room : goal.returns-in-Err-clause-no_room
+returns-in-Err-clause-no_room c = λ none. absurd (omega (arith, none, c.code.ensures, (code_within c.in-Err.fault.kind).1))
 
-pub returns-clause-more_pieces : goal.returns-clause-more_pieces
-returns-clause-more_pieces c = λ none. absurd (omega (arith, none, c.code.ensures, (code_within c.in-Err.fault.kind).1))
+pub returns-in-Err-clause-content : goal.returns-in-Err-clause-content
+returns-in-Err-clause-content c = λ done.
+    elim done [
+      | inl none ↦ absurd (omega (arith, none, c.code.ensures, (code_within c.in-Err.fault.kind).0))
+      | inr none ↦ absurd (omega (arith, none, c.code.ensures, (code_within c.in-Err.fault.kind).1))
+    ]
 
-pub returns-clause-refused : goal.returns-clause-refused
-returns-clause-refused c = λ least most. record {
+pub returns-in-Err-clause-more_pieces : goal.returns-in-Err-clause-more_pieces
+returns-in-Err-clause-more_pieces c = λ none. absurd (omega (arith, none, c.code.ensures, (code_within c.in-Err.fault.kind).1))
+
+pub returns-in-Err-clause-refused : goal.returns-in-Err-clause-refused
+returns-in-Err-clause-refused c = λ least most. record {
   it = mending_of c.args.all c.args.bytes.now c.look_at-looked.result c.take_pieces-count.result _ c.look_at-looked.ensures
       c.take_pieces-count.ensures;
-  nothing = omega (arith, c.take_pieces-count.ensures.kept_is, c.if-kept-eq0.true);
+  nothing = omega (arith, c.take_pieces-count.ensures.kept_is, c.in-Err.ensures.nothing.0);
   fault = c.in-Err.fault;
-  refused = record { none = c.in-Err.ensures.none; refusal = c.in-Err.ensures.refused.1 };
+  refused = c.in-Err.ensures.nothing.1;
   code_is = c.code.ensures;
 }
 
@@ -85,8 +92,8 @@ write_pieces-requires-clause-small c =
     kept_small c.args.bytes.now c.look_at-looked.result c.take_pieces-count.result _ c.take_pieces-count.ensures
     (omega (arith, c.if-bytes.false))
 
-pub returns-2-clause-ok : goal.returns-2-clause-ok
-returns-2-clause-ok c = λ _.
+pub returns-clause-ok : goal.returns-clause-ok
+returns-clause-ok c = λ _.
     let looked = c.look_at-looked.result in
     let seen = seen_of c.args.bytes.now looked in
     let taken = c.take_pieces-count.ensures in

@@ -1,7 +1,7 @@
 use Rattle.std.proofs.Common.{◌≡◌, ℕ, ◌+◌, ◌*◌, ◌^◌, ◌<◌, ◌≤◌, min, List, length, take, refl, sym, ap, ◌∙◌, arith, rules, IsTrue}
 use Rattle.std.proofs.lemmas.List.{take_all}
 use Rattle.fit_base.specs.Checksum.{crc, crc_from}
-use Rattle.fit_base.proofs.Register.{crc_from-take}
+use Rattle.fit_base.proofs.Register.{crc_from-nil, crc_from-take}
 use Rattle.fit_disk.specs.Calls.{ReadsAt}
 use Rattle.fit_disk.specs.Story.{seen_of}
 use Rattle.fit_files.proofs.repairing.read_through.Goals as goal
@@ -23,14 +23,13 @@ further : (seen buffer : List ℕ) (at count : ℕ) → ReadsAt seen at 4096 buf
 further seen buffer at count reads full = (omega (arith, reads.all), omega (arith, reads.all))
 
 pub loop-init : goal.loop-init
-unfolding crc_from
 loop-init g c = record {
   long = search rules;
   same = λ honest. refl;
   failed = refl;
   place = λ honest few. refl;
   within = λ honest few. omega arith;
-  sum = λ honest few. c.new-checksum.ensures;
+  sum = λ honest few. c.new-checksum.ensures ∙ sym (crc_from-nil 0);
 }
 
 module _ (seen : List ℕ) (at counter count sum : ℕ) (buffer : List ℕ) (few : length seen < 2 ^ 64) where

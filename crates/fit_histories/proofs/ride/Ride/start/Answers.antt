@@ -1,5 +1,6 @@
 use Rattle.std.proofs.Common.{◌∙◌, ap, sym, true≢false}
-use Rattle.fit_journal.specs.Turn.{slots_left}
+use Rattle.fit_journal.specs.Turn.{fresh_slots, slots_left}
+use Rattle.fit_recorder.proofs.Commit.Slots.{committed_turns, fresh_left}
 use Rattle.fit_histories.proofs.Histories.NeverFull.{start_not_full}
 use Rattle.fit_histories.proofs.Histories.Idle.{empty_there, start_goes}
 use Rattle.fit_histories.proofs.Histories.Riding.{idle_goes, started_goes}
@@ -12,7 +13,7 @@ returns-in-Ok-clause-goes g c honest = record {
   step = λ before stands.
       let begun = c.in-Ok.ensures in
       started_goes g.D.Disk.honest g.D.Disk.story before c.args.start c.in-Ok.recorder
-      (empty_there before (g.D.Disk.story c.into_disk.result) (c.into_disk.ensures.rests honest before stands) (g.met.D.Disk.sound c.into_disk.result honest) (begun.empty honest)) begun.answers begun.ok.1 begun.ok.0 (ap slots_left begun.begun.turns);
+      (empty_there before (g.D.Disk.story c.into_disk.result) (c.into_disk.ensures.rests honest before stands) (g.met.D.Disk.sound c.into_disk.result honest) (begun.empty honest)) begun.answers begun.ok.1 begun.ok.0 (ap slots_left begun.begun.turns ∙ committed_turns (fresh_slots c.args.checked) _ _ (fresh_left c.args.checked));
   left =
       let begun = c.in-Ok.ensures in rw (← c.into_disk.ensures.disk) (begun.empty honest, begun.any_moment honest);
 }
@@ -34,7 +35,7 @@ returns-in-Err-clause-goes g c honest = record {
 pub returns-in-Ok-clause-never_full : goal.returns-in-Ok-clause-never_full
 returns-in-Ok-clause-never_full g c honest before stands never = record {
   not_full = λ is. absurd cc;
-  never_full = (λ _. ap slots_left c.in-Ok.ensures.begun.turns, λ broken. absurd (true≢false (sym broken ∙ c.in-Ok.ensures.ok.0)));
+  never_full = (λ _. ap slots_left c.in-Ok.ensures.begun.turns ∙ committed_turns (fresh_slots c.args.checked) _ _ (fresh_left c.args.checked), λ broken. absurd (true≢false (sym broken ∙ c.in-Ok.ensures.ok.0)));
 }
 
 pub returns-in-Err-clause-never_full : goal.returns-in-Err-clause-never_full
