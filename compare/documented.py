@@ -208,7 +208,7 @@ def messages():
     texts = re.findall(r'#\[error\("(.*?)"', page("crates/fit_commands/src/fault.rt"))
     # A text that is a fault of a library alone, as {0} or {} at {}, is among those of FAULTS.
     texts = [it for it in texts if "fitrec: " not in it and not re.fullmatch(r"\{0?\}( at \{\})?", it)]
-    texts = [it.replace("{}", "NAME").replace("{0}", "N") for it in texts]
+    texts = [re.sub(r"\(N\)", "", it.replace("{}", "NAME").replace("{0}", "N")) for it in texts]
     wanted = {it for it in texts if "{" not in it and "line" not in it} | {"cannot write -", "cannot read -"} | OTHERS
     for file in LINES:
         wanted |= {re.sub(r"\{\w+\}", "N", it.replace("{}", "NAME")) for it in re.findall(r'"fitrec: (\{.*?)(?:\\n)?"', page("crates/" + file))}

@@ -1,6 +1,6 @@
 #!/usr/bin/env -S python3 -B
 """`fitrec salvage --skip` over rides with a hole: how many of the records outside are kept, and how many are made up. The rides are our own
-and those of other makers in Debian's source of goldencheetah. Chained files are split.
+and those of other makers in Debian's source of goldencheetah. Chained files are split, and the files in the image of a card are found.
 
     compare/mending.py SEED..
 
@@ -23,7 +23,7 @@ from tools.fit_files import framed
 from tools.holes import CLUSTERS, CONTENTS, KINDS, SIZES, TAIL, hole, items, numbers, older, other_cluster, touches
 from tools.other_makers import rides
 from tools.program import FITREC, as_nobody, bytes_of, for_everyone, run
-from tools.reader import Refused, show
+from tools.reader import Refused, checksum, show
 from tools.rides import recording
 
 NEEDS = ("fitrec",)
@@ -352,7 +352,8 @@ def split(given):
 
 
 def split_refused(given):
-    """A part that is not written has no line, and none after it is made. A folder without a name is refused."""
+    """A part that is not written has no line, and none after it is made. A folder has a name. Without --all so many files are refused before
+    one is made; with it all are written."""
     with tempfile.TemporaryDirectory() as folder:
         source, new = pathlib.Path(folder) / "in.fit", pathlib.Path(folder) / "new"
         (new / "2.fit").mkdir(parents=True)
@@ -360,11 +361,79 @@ def split_refused(given):
         said = run(given.fitrec, "split", source, new)
         wanted = (1, part_line(1, given.small), "fitrec: cannot write %s\n" % new), {"1.fit", "2.fit"}
         yield "a part that is not written", differs((said, set(os.listdir(new))), wanted)
-        # As root it would make the parts in the root folder, so it runs as another user.
-        with for_everyone(given.fitrec) as fitrec:
-            os.chmod(folder, 0o755)
-            said = run(fitrec, "split", source, "", preexec_fn=as_nobody)
-        yield "a folder without a name", differs(said, (1, "", "fitrec: cannot open \n"))
+        for words in (), ("--all",):
+            # As root it would make the files in the root folder, so it runs as another user.
+            with for_everyone(given.fitrec) as fitrec:
+                os.chmod(folder, 0o755)
+                said = run(fitrec, "split", *words, source, "", preexec_fn=as_nobody)
+            yield "a folder without a name", differs(said, (1, "", "fitrec: cannot open \n"))
+            for count in 1000, 1001:
+                source.write_bytes(count * framed(b""))
+                made = pathlib.Path(folder) / ("made%d%s" % (count, len(words)))
+                made.mkdir()
+                said, left = run(given.fitrec, "split", *words, source, made), len(os.listdir(made))
+                is_right = (said[0], said[1].count("\n"), said[2], left) == (0, count, "", count)
+                if count == 1001 and not words:
+                    is_right = (said, left) == ((1, "", "fitrec: TooManyFiles(1001)\n"), 0)
+                yield "%d files" % count, unless(is_right, (said[0], said[2], left), "at most 1000 without --all")
+            source.write_bytes(3 * given.small)
+
+
+def short(data):
+    """A file of the same records with a header of 12 bytes."""
+    start = b"\x0c" + data[1:12] + data[14:-2]
+    return start + checksum(start).to_bytes(2, "little")
+
+
+def image(pick, files):
+    """An image of a card that has these files in clusters of 4,096 bytes with noise between them, and their places."""
+    bytes_so_far, places = b"", []
+    for file in files:
+        bytes_so_far += pick.randbytes(4096 * pick.randrange(1, 5))
+        places.append(len(bytes_so_far))
+        bytes_so_far += file + pick.randbytes(-len(file) % 4096)
+    return bytes_so_far + pick.randbytes(4096), places
+
+
+def split_images(given):
+    """Every whole file of an image is written as it is, and named by its place. The places of whole files are those where they were put."""
+    pick, rides = random.Random(given.seed), own_rides(given.fitrec)
+    small = framed(b"\x40\0\0\0\0\1\0\1\0\0\4")
+    inside = framed(b"\x40\0\0\xff\0\1\0" + bytes([len(small)]) + b"\x0d\0" + small)
+    stale = rides[0][:300]
+    torn = rides[1][:-1] + bytes([rides[1][-1] ^ 1])
+    nothing = pick.randbytes(20000)
+    for name, files, whole in (
+            ("three rides", [rides[0], rides[1], given.small], (0, 1, 2)), ("torn rides between", [torn, rides[0], torn, small], (1, 3)),
+            ("a beginning alone before one", [stale, small, rides[1]], (1, 2)), ("one file inside another", [inside, small], (0, 1)),
+            ("no ride", [nothing], ()), ("short headers", [short(rides[0]), short(small)], (0, 1))):
+        data, places = image(pick, files)
+        with tempfile.TemporaryDirectory() as folder:
+            source, new = pathlib.Path(folder) / "card.img", pathlib.Path(folder) / "new"
+            source.write_bytes(data)
+            new.mkdir()
+            said = run(given.fitrec, "split", "--all", source, new)
+            wanted = {"%d.fit" % places[at]: files[at] for at in whole}
+            lines = "".join("%d.fit: %d bytes\n" % (places[at], len(files[at])) for at in whole)
+            left = {path.name: path.read_bytes() for path in new.iterdir()}
+            yield name, unless((said, left) == ((0, lines, ""), wanted), (said, sorted(left)), (lines, sorted(wanted)))
+
+
+def split_hostile(given):
+    """Work is in proportion to the bytes, also where every 21 bytes are the beginning of a file of all that follows. Each header is the
+    data message of the definition before it, so each of these files is wrong in its checksum alone."""
+    definition = b"\x4c\0\0\0\0\1\0\x14\x0d"
+    for size in 210_000, 2_100_000:
+        data = b"".join(b"\x0c\x10\x64\0" + max(0, size - at - 12).to_bytes(4, "little") + b".FIT" + definition for at in range(0, size, 21))
+        with tempfile.TemporaryDirectory() as folder:
+            source, new = pathlib.Path(folder) / "card.img", pathlib.Path(folder) / "new"
+            source.write_bytes(data + b"\1\1")
+            new.mkdir()
+            began = time.monotonic()
+            said = run(given.fitrec, "split", "--all", source, new)
+            took = time.monotonic() - began
+            yield "%d bytes of headers" % size, differs((said, os.listdir(new)), ((1, "", "fitrec: TooManyHeaders\n"), []))
+        yield "%d bytes of headers take little time" % size, unless(took < 2, took, "less than 2 s")
 
 
 def finishes(given):
@@ -399,6 +468,8 @@ def check(given):
     yield from given.checks(clusters, given)
     yield from given.checks(split, given)
     yield from given.checks(split_refused, given)
+    yield from given.checks(split_images, given)
+    yield from given.checks(split_hostile, given)
     yield from given.checks(finishes, given)
     yield from given.checks(noise, given)
     yield from given.checks(own, given)

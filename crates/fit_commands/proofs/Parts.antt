@@ -1,42 +1,35 @@
--- One more of the lines of chained files: for `split`.
-use Rattle.std.proofs.Common.{◌≡◌, ℕ, ◌+◌, ◌-◌, ◌≤◌, List, [], ◌∷◌, ◌++◌, length, get_or, take, drop, Bor, Option, Result, Ok, Err, refl, sym, ap, ◌∙◌, append_assoc, append-nil, codes, arith}
-use Rattle.std.proofs.KnownBytes.{Appends-nil, Appends-trans}
-use Rattle.std.specs.Prelude.{map}
+-- One more of the lines of several files: for `split`.
+use Rattle.std.proofs.Common.{◌≡◌, ℕ, ◌-◌, ◌≤◌, List, [], ◌∷◌, ◌++◌, length, get_or, take, drop, Option, Result, Ok, Err, refl, sym, ap, ◌∙◌, append_assoc, append-nil, codes, arith}
+use Rattle.std.proofs.KnownBytes.{Appends-trans}
 use Rattle.std.proofs.lemmas.List.{take_all}
 use Rattle.std.specs.Result.{IsErr}
 use Rattle.std.specs.Io.KnownBytes.{Appends}
 use Rattle.fit_grammar.specs.Calls.Output.{AppendsBeginning}
 use Rattle.fit_grammar.specs.declared.file.fault.FileFault.{FileFault}
 use Rattle.fit_files.specs.Printed.Parts.{AreLines, IsReadAs, part_line}
-use Rattle.fit_commands.specs.Reported.{PrintsLines, SplitsFile}
+use Rattle.fit_mending.specs.declared.chained.Part.{Part}
+use Rattle.fit_commands.specs.Reported.{PrintsLines}
 use Rattle.fit_commands.specs.declared.fault.Fault.{Fault}
 
-abbrev pub line_of : ℕ → List ℕ → Option FileFault → List ℕ
-line_of number file fault = part_line number (length file) fault ++ codes "\n"
+abbrev pub line_of : Part → Option FileFault → List ℕ
+line_of part fault = part_line part.number (length part.bytes.now) fault ++ codes "\n"
 
-lines_after : (before number : ℕ) (files : List (List ℕ)) (text file : List ℕ) (fault : Option FileFault) → AreLines before files text
-    → IsReadAs file fault → number ≡ before + length files + 1
-    → AreLines before (files ++ file ∷ []) (text ++ line_of number file fault)
-lines_after before number [] text file fault none is here = (
+pub lines_more : (parts : List Part) (text : List ℕ) (part : Part) (fault : Option FileFault) → AreLines parts text
+    → IsReadAs part.bytes.now fault → AreLines (parts ++ part ∷ []) (text ++ line_of part fault)
+lines_more [] text part fault none is = (
   fault,
   [],
   is,
-  ap (λ (l : List ℕ). l ++ line_of number file fault) none
-      ∙ ap (λ (n : ℕ). line_of n file fault) (omega (arith, here)) ∙ sym (append-nil (line_of (before + 1) file fault)),
+  ap (λ (l : List ℕ). l ++ line_of part fault) none ∙ sym (append-nil (line_of part fault)),
   refl,
 )
-lines_after before number (first ∷ files) text file fault are is here = (
+lines_more (first ∷ parts) text part fault are is = (
   are.0,
-  are.1 ++ line_of number file fault,
+  are.1 ++ line_of part fault,
   are.2,
-  ap (λ (l : List ℕ). l ++ line_of number file fault) are.3
-      ∙ append_assoc (line_of (before + 1) first are.0) are.1 (line_of number file fault),
-  lines_after (before + 1) number files are.1 file fault are.4 is (omega (arith, here)),
+  ap (λ (l : List ℕ). l ++ line_of part fault) are.3 ∙ append_assoc (line_of first are.0) are.1 (line_of part fault),
+  lines_more parts are.1 part fault are.4 is,
 )
-
-pub lines_more : (number : ℕ) (files : List (List ℕ)) (text file : List ℕ) (fault : Option FileFault) → AreLines 0 files text
-    → IsReadAs file fault → number ≡ length files + 1 → AreLines 0 (files ++ file ∷ []) (text ++ line_of number file fault)
-lines_more number files text file fault are is here = lines_after 0 number files text file fault are is (omega (arith, here))
 
 -- what was appended is a beginning of it
 pub begins_all : (old new : Option (List ℕ)) (text : List ℕ) → Appends old new text → AppendsBeginning old new text
@@ -53,25 +46,19 @@ begins_then old mid new text more all begins = record {
 }
 
 -- the first of some files, and those after it
-pub first_of : (rest : List (Bor (List ℕ))) (d : Bor (List ℕ)) → 1 ≤ length rest
-    → map (λ file. file.now) rest ≡ (get_or rest 0 d).now ∷ map (λ file. file.now) (take (length rest - 1) (drop 1 rest))
+pub first_of : (rest : List Part) (d : Part) → 1 ≤ length rest
+    → rest ≡ get_or rest 0 d ∷ take (length rest - 1) (drop 1 rest)
 first_of [] d some = absurd (omega arith)
-first_of (file ∷ rest) d some =
-    ap (λ (l : List (Bor (List ℕ))). file.now ∷ map (λ file. file.now) l) (sym (take_all (length (file ∷ rest) - 1) rest (omega arith)))
+first_of (part ∷ rest) d some = ap (λ (l : List Part). part ∷ l) (sym (take_all (length (part ∷ rest) - 1) rest (omega arith)))
 
 -- what was printed, one line after others
-pub split_more : (files done rest others : List (List ℕ)) (file : List ℕ) → files ≡ done ++ rest → rest ≡ file ∷ others
-    → files ≡ (done ++ file ∷ []) ++ others
-split_more files done rest others file split first =
-    split ∙ ap (λ (l : List (List ℕ)). done ++ l) first ∙ sym (append_assoc done (file ∷ []) others)
+pub split_more : (parts done rest others : List Part) (part : Part) → parts ≡ done ++ rest → rest ≡ part ∷ others
+    → parts ≡ (done ++ part ∷ []) ++ others
+split_more parts done rest others part split first =
+    split ∙ ap (λ (l : List Part). done ++ l) first ∙ sym (append_assoc done (part ∷ []) others)
 
 -- a call that stops has printed the lines of the first files
-pub lines_stop : (files some others : List (List ℕ)) (old new : Option (List ℕ)) (text : List ℕ) (r : Result (Unit {0}) Fault) → IsErr r
-    → files ≡ some ++ others → AreLines 0 some text → AppendsBeginning old new text → PrintsLines files old new r
-lines_stop files some others old new text (Ok x) bad split are begins = absurd (cc)
-lines_stop files some others old new text (Err e) bad split are begins = (some, others, split, text, are, begins)
-
--- nothing is printed of files that were not read
-pub none_split : (old : Option (List ℕ)) (r : Result (Unit {0}) Fault) → IsErr r → SplitsFile old old r
-none_split old r bad =
-    ([], omega arith, [], refl, lines_stop [] [] [] old old [] r bad refl refl (begins_all old old [] (Appends-nil old)))
+pub lines_stop : (parts some others : List Part) (old new : Option (List ℕ)) (text : List ℕ) (r : Result (Unit {0}) Fault) → IsErr r
+    → parts ≡ some ++ others → AreLines some text → AppendsBeginning old new text → PrintsLines parts old new r
+lines_stop parts some others old new text (Ok x) bad split are begins = absurd (cc)
+lines_stop parts some others old new text (Err e) bad split are begins = (some, others, split, text, are, begins)

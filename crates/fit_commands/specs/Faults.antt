@@ -1,5 +1,5 @@
 -- The program's faults for the faults of the libraries below it, and which faults each subcommand may report.
-use Rattle.std.specs.Prelude.{◌≡◌, ◌⊎◌, ℕ, Bool, true, List, Result, Ok, Err, codes}
+use Rattle.std.specs.Prelude.{◌≡◌, ◌<◌, ◌⊎◌, ℕ, Bool, true, false, List, Result, Ok, Err, codes}
 use Rattle.std.specs.Borrow.{Bor}
 use Rattle.fit_disk.specs.declared.files.OpenFault.{OpenFault}
 use Rattle.fit_disk.specs.declared.files.OpenFault.TheVariants.{Open, Memory}
@@ -187,9 +187,18 @@ IsPartReported folder (faults.Write name) = (name ≡ folder) ⊎ (name.now ≡ 
 IsPartReported folder faults.NoMemory = Unit {0}
 IsPartReported folder _ = ⊥
 
--- of writing the files that are chained in one into a folder, which has a name
-abbrev pub IsSplitReported : Bor (List ℕ) → Bor (List ℕ) → Fault → Type 0
-IsSplitReported file folder (faults.Open name) = (name ≡ file) ⊎ (name ≡ folder)
-IsSplitReported file folder (faults.Read name) = name ≡ file
-IsSplitReported file folder faults.TooLarge = Unit {0}
-IsSplitReported file folder reported = IsPartReported folder reported
+-- of finding the files of some bytes, with `all` or without: there are too many, or with it too much looks like one
+abbrev pub IsNotFound : Bool → Fault → Type 0
+IsNotFound all (faults.TooManyFiles count) = (all ≡ false) × (1000 < count)
+IsNotFound all faults.TooManyHeaders = all ≡ true
+IsNotFound all faults.NoMemory = Unit {0}
+IsNotFound all _ = ⊥
+
+-- of writing the files of one into a folder, which has a name
+abbrev pub IsSplitReported : Bor (List ℕ) → Bor (List ℕ) → Bool → Fault → Type 0
+IsSplitReported file folder all (faults.Open name) = (name ≡ file) ⊎ (name ≡ folder)
+IsSplitReported file folder all (faults.Read name) = name ≡ file
+IsSplitReported file folder all faults.TooLarge = Unit {0}
+IsSplitReported file folder all (faults.TooManyFiles count) = (all ≡ false) × (1000 < count)
+IsSplitReported file folder all faults.TooManyHeaders = all ≡ true
+IsSplitReported file folder all reported = IsPartReported folder reported

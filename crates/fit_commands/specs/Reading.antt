@@ -42,4 +42,6 @@ IsFileFault name (faults.Recorder fault) = ⊥
 IsFileFault name (faults.NothingSaved lack) = ⊥
 IsFileFault name faults.Changed = ⊥
 IsFileFault name (faults.BodyNotRead at) = ⊥
+IsFileFault name (faults.TooManyFiles count) = ⊥
+IsFileFault name faults.TooManyHeaders = ⊥
 IsFileFault name (faults.Refused count) = ⊥

@@ -1,5 +1,5 @@
 -- What a whole subcommand did: what it printed, and which fault it reports if it failed.
-use Rattle.std.specs.Prelude.{◌≡◌, ◌⊎◌, ◌≤◌, ℕ, Bool, true, false, List, ◌++◌, length, Option, Result, Ok, Err, codes}
+use Rattle.std.specs.Prelude.{◌≡◌, ◌⊎◌, ◌≤◌, ℕ, Bool, true, false, List, ◌++◌, length, map, Option, Result, Ok, Err, codes}
 use Rattle.std.specs.Borrow.{Bor}
 use Rattle.std.specs.Io.KnownBytes.{Appends}
 use Rattle.fit_activity.specs.declared.activity.Summary.{Summary}
@@ -8,7 +8,10 @@ use Rattle.fit_disk.specs.Story.{Story}
 use Rattle.fit_grammar.specs.Calls.Output.{AppendsBeginning}
 use Rattle.fit_grammar.specs.Format.File.{FileValue, FileOf}
 use Rattle.fit_grammar.specs.Format.Message.{messages_of}
-use Rattle.fit_mending.specs.Chained.{AreChained}
+use Rattle.std.specs.Result.{IsErr}
+use Rattle.fit_mending.specs.declared.chained.Part.{Part}
+use Rattle.fit_mending.specs.Chained.{AreChained, AreNumbered}
+use Rattle.fit_mending.specs.Found.{AreFound}
 use Rattle.fit_files.specs.declared.mended.Mended.{Mended}
 use Rattle.fit_files.specs.declared.salvage.Salvage.{Salvage}
 use Rattle.fit_files.specs.declared.saving.SavedRide.{SavedRide}
@@ -118,18 +121,29 @@ FinishesMended all plain old new =
     × Appends old new (finished_mended_lines mended finished.taken finished.left_out)
 
 -- a line was printed for each of these files; after an Err, for the first of them, of which the last line may be cut off
-abbrev pub PrintsLines : List (List ℕ) → Option (List ℕ) → Option (List ℕ)
+abbrev pub PrintsLines : List Part → Option (List ℕ) → Option (List ℕ)
     → Result (Unit {0}) Fault → Type 0
-PrintsLines files old new (Ok done) = (text : List ℕ) × AreLines 0 files text × Appends old new text
-PrintsLines files old new (Err fault) =
-    (some : List (List ℕ)) × (others : List (List ℕ)) × (files ≡ some ++ others)
-    × (text : List ℕ) × AreLines 0 some text × AppendsBeginning old new text
+PrintsLines parts old new (Ok done) = (text : List ℕ) × AreLines parts text × Appends old new text
+PrintsLines parts old new (Err fault) =
+    (some : List Part) × (others : List Part) × (parts ≡ some ++ others)
+    × (text : List ℕ) × AreLines some text × AppendsBeginning old new text
 
--- the same of the files that are chained in some bytes
-abbrev pub SplitsFile : Option (List ℕ) → Option (List ℕ) → Result (Unit {0}) Fault → Type 0
-SplitsFile old new result =
-    (bytes : List ℕ) × (length bytes ≤ 268435456) × (files : List (List ℕ)) × AreChained bytes files
-    × PrintsLines files old new result
+-- the files of some bytes: those that are chained in them, or with `all` those that stand in them
+abbrev pub AreParts : Bool → List ℕ → List Part → Type 0
+AreParts false bytes parts = AreChained bytes (map (λ part. part.bytes.now) parts) × AreNumbered 0 parts
+AreParts true bytes parts = AreFound bytes 0 parts
+
+-- without `all` they are at most 1,000
+abbrev pub AreNotTooMany : Bool → List Part → Type 0
+AreNotTooMany false parts = length parts ≤ 1000
+AreNotTooMany true parts = Unit {0}
+
+-- The files of some bytes were found, and a line printed for each that was written. Else nothing is printed.
+abbrev pub SplitsFile : Bool → Option (List ℕ) → Option (List ℕ) → Result (Unit {0}) Fault → Type 0
+SplitsFile all old new result =
+    ((bytes : List ℕ) × (length bytes ≤ 268435456) × (parts : List Part) × AreParts all bytes parts
+    × AreNotTooMany all parts × PrintsLines parts old new result)
+    ⊎ (IsErr result × (new ≡ old))
 
 -- it is the plain form of a file of some bytes
 abbrev pub IsFormOfFile : FileValue → Type 0

@@ -57,6 +57,12 @@ pub enum Fault<'a> {
     /// can be done.
     #[error("cannot read activity.fit\nfitrec: activity.fit could not be read from byte {0} on, and the journal counts bytes after that; repair the file system, such as by fsck.vfat -a, or let salvage copy what is readable of activity.fit")]
     BodyNotRead(usize),
+    /// More files are chained in a file than are written: their number.
+    #[error("TooManyFiles({0})")]
+    TooManyFiles(usize),
+    /// So much of the image of a card looks like the beginning of a file that it would take too long to read it all.
+    #[error("TooManyHeaders")]
+    TooManyHeaders,
     /// The number of replies to a script that were not ok.
     #[error("{0} refused")]
     Refused(usize),

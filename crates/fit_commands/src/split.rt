@@ -1,8 +1,8 @@
-// The subcommand `split`: writes each of the files that are chained in one.
+// The subcommand `split`: writes each of the files that are chained in one, or stand in the image of a card.
 
-ghost use Rattle.std.specs.Prelude.{◌≤◌, length, map, IfErr, OnOk};
-ghost use Rattle.fit_commands.specs.Faults.{IsNotWritten, IsPartReported, IsSplitReported};
-ghost use Rattle.fit_commands.specs.Reported.{PrintsLines, SplitsFile};
+ghost use Rattle.std.specs.Prelude.{◌≤◌, length, IfOk, IfErr, OnOk};
+ghost use Rattle.fit_commands.specs.Faults.{IsNotFound, IsNotWritten, IsPartReported, IsSplitReported};
+ghost use Rattle.fit_commands.specs.Reported.{AreNotTooMany, AreParts, PrintsLines, SplitsFile};
 
 use crate::beside::write_whole;
 use crate::content::Content;
@@ -10,48 +10,71 @@ use crate::fault::Fault;
 use crate::input::{fault_of_report, read_file};
 use fit_files::print_part;
 use fit_grammar::{EncodeFault, Sink};
-use fit_mending::split_files;
+use fit_mending::{FindFault, Part, find_files, split_files};
+use std::alloc::Global;
 use std::io::Write;
 
-/// Writes each of the files that are chained in the file `name` into the folder `to`, as `1.fit`, `2.fit` and so on, which may exist.
-/// Prints a line for each: how many bytes it has, and why it is no file, if it is none. A folder without a name is not opened.
+// The most files that are written without `all`.
+const MOST_FILES: usize = 1000;
+
+/// Writes each of the files that are chained in the file `name` into the folder `to`, as `1.fit`, `2.fit` and so on, which may exist. With
+/// `all` writes each whole file that stands somewhere in it, named by the place where it begins. Prints a line for each: how many bytes it
+/// has, and why it is no file, if it is none. A folder without a name is refused, and so are more than 1,000 files without `all`.
 pub fn split_file<'a, O: Write>(
     rt: &HostRuntime,
     name: &'a str,
     to: &'a str,
+    all: bool,
     out: &mut O,
 ) -> Result<(), Fault<'a>>
-    ensures reported { IfErr result (IsSplitReported name.entry to.entry) }
-    ensures lines { SplitsFile (O.contents out.old) (O.contents out.new) result }
+    ensures reported { IfErr result (IsSplitReported name.entry to.entry all) }
+    ensures lines { SplitsFile all (O.contents out.old) (O.contents out.new) result }
     ensures named { OnOk result (1 ≤ length to.now) }
 {
     let bytes = read_file(rt, name)?;
     if to.is_empty() {
         return Err(Fault::Open(to));
     }
-    let Ok(files) = split_files(rt.alloc(), bytes.as_slice()) else {
+    let parts = parts_of(rt.alloc(), bytes.as_slice(), all)?;
+    write_parts(rt, to, parts.as_slice(), out)
+}
+
+// The files of these bytes.
+fn parts_of(alloc: Global, bytes: &[u8], all: bool) -> Result<Vec<Part<'_>>, Fault<'static>>
+    ensures parts { IfOk result (λ parts. AreParts all bytes.now parts.items) }
+    ensures most { IfOk result (λ parts. AreNotTooMany all parts.items) }
+    ensures reported { IfErr result (IsNotFound all) }
+{
+    if all {
+        return match find_files(alloc, bytes) {
+            Ok(parts) => Ok(parts),
+            Err(FindFault::TooManyHeaders) => Err(Fault::TooManyHeaders),
+            Err(FindFault::Memory) => Err(Fault::NoMemory),
+        };
+    }
+    let Ok(parts) = split_files(alloc, bytes) else {
         return Err(Fault::NoMemory);
     };
-    write_parts(rt, to, files.as_slice(), out)
+    if parts.len() > MOST_FILES {
+        return Err(Fault::TooManyFiles(parts.len()));
+    }
+    Ok(parts)
 }
 
 // Writes each of these files into the folder, and prints its line after it.
 fn write_parts<'a, O: Write>(
     rt: &HostRuntime,
     folder: &'a str,
-    files: &[&[u8]],
+    parts: &[Part<'_>],
     out: &mut O,
 ) -> Result<(), Fault<'a>>
     ensures reported { IfErr result (IsPartReported folder.entry) }
-    ensures lines { PrintsLines (map (λ file. file.now) files.now)
-        (O.contents out.old) (O.contents out.new) result }
+    ensures lines { PrintsLines parts.now (O.contents out.old) (O.contents out.new) result }
 {
-    let mut number: usize = 0;
-    let mut rest = files;
-    while let [file, others @ ..] = rest {
-        number += 1;
-        write_part(rt, folder, number, file)?;
-        match print_part(number, file, out) {
+    let mut rest = parts;
+    while let [part, others @ ..] = rest {
+        write_part(rt, folder, *part)?;
+        match print_part(*part, out) {
             Ok(()) => rest = others,
             Err(fault) => return Err(fault_of_report(folder, fault)),
         }
@@ -74,19 +97,14 @@ impl Content for Raw<'_> {
     }
 }
 
-// Writes the bytes to the file of this number in the folder.
-fn write_part<'a>(
-    rt: &HostRuntime,
-    folder: &'a str,
-    number: usize,
-    bytes: &[u8],
-) -> Result<(), Fault<'a>>
+// Writes a file into the folder, under its number.
+fn write_part<'a>(rt: &HostRuntime, folder: &'a str, part: Part<'_>) -> Result<(), Fault<'a>>
     ensures { IfErr result (IsNotWritten folder.entry) }
 {
-    let Ok(name) = format!(in rt.alloc(); "{folder}/{number}.fit") else {
+    let Ok(name) = format!(in rt.alloc(); "{folder}/{}.fit", part.number) else {
         return Err(Fault::NoMemory);
     };
-    match write_whole(rt, name.as_str(), &Raw(bytes)) {
+    match write_whole(rt, name.as_str(), &Raw(part.bytes)) {
         Ok(()) => Ok(()),
         Err(Fault::NoMemory) => Err(Fault::NoMemory),
         Err(_) => Err(Fault::Write(folder)),

@@ -1,4 +1,4 @@
-// The line of one of several files that are chained.
+// The line of one of several files that are chained, or stand in the image of a card.
 
 ghost use Rattle.std.specs.Prelude.{◌++◌, codes, length, IfErr, Option};
 ghost use Rattle.fit_grammar.specs.declared.file.fault.FileFault.{FileFault as AnyFault};
@@ -9,24 +9,25 @@ ghost use Rattle.fit_files.specs.Printed.Shown.{IsOutputFault};
 use crate::fault::ReportFault;
 use crate::printing::print_line;
 use fit_grammar::{FileFault, LentFile};
+use fit_mending::Part;
 use std::fmt::{self, Formatter};
 use std::io::Write;
 
-/// Prints the line of one of several chained files: its number, how many bytes it has, and why it is no file, if it is none. If the
+/// Prints the line of one of several files: its number or place, how many bytes it has, and why it is no file, if it is none. If the
 /// output fails, a prefix of the line is written.
-pub fn print_part<O: Write>(number: usize, bytes: &[u8], out: &mut O) -> Result<(), ReportFault>
+pub fn print_part<O: Write>(part: Part<'_>, out: &mut O) -> Result<(), ReportFault>
     ensures fault { IfErr result IsOutputFault }
-    ensures line { (fault : Option AnyFault) × IsReadAs bytes.now fault
+    ensures line { (fault : Option AnyFault) × IsReadAs part.entry.bytes.now fault
         × WritesText (O.contents out.old) (O.contents out.new) result
-        (part_line number (length bytes.now) fault ++ codes "\n") }
+        (part_line part.entry.number (length part.entry.bytes.now) fault ++ codes "\n") }
 {
-    let fault = match LentFile::read(bytes) {
+    let fault = match LentFile::read(part.bytes) {
         Ok(_) => None,
         Err(fault) => Some(fault),
     };
     let line = PartLine {
-        number,
-        size: bytes.len(),
+        number: part.number,
+        size: part.bytes.len(),
         fault,
     };
     print_line(&line, out)

@@ -1,5 +1,5 @@
 -- The files that are chained in bytes, one after another.
-use Rattle.std.proofs.Common.{◌≡◌, ℕ, ◌+◌, List, [], ◌∷◌, ◌++◌, length, refl, sym, ap, subst, ◌∙◌, append_assoc, arith, Bor}
+use Rattle.std.proofs.Common.{◌≡◌, ℕ, ◌+◌, List, [], ◌∷◌, ◌++◌, length, ◌≤◌, refl, sym, ap, subst, ◌∙◌, append_assoc, arith}
 use Rattle.std.specs.Prelude.{flat_map, map, slice_index, slice_range}
 use Rattle.std.proofs.Math.Seq.{take-append_seam}
 use Rattle.std.proofs.lemmas.List.{length-append}
@@ -9,7 +9,8 @@ use Rattle.fit_grammar.specs.Format.File.{FileValue, FileOf, IsHeader}
 use Rattle.fit_grammar.specs.Calls.BeginningHeader.{BeginsWithHeader}
 use Rattle.fit_grammar.proofs.Decoding.Headers.{header_at_least, header_first}
 use Rattle.fit_grammar.proofs.Decoding.HeaderRead.{header_byte, header_range}
-use Rattle.fit_mending.specs.Chained.{EndsFirst, AreChained}
+use Rattle.fit_mending.specs.declared.chained.Part.{Part}
+use Rattle.fit_mending.specs.Chained.{EndsFirst, AreChained, AreNumbered}
 
 -- a header at the front of bytes
 pub begins : (h z : List ℕ) (frame : Frame) (size : ℕ) → IsHeader h frame size → BeginsWithHeader (h ++ z) frame size
@@ -53,25 +54,33 @@ file_length file v f =
 abbrev pub EndsWith : List ℕ → List (List ℕ) → List ℕ → Type 0
 EndsWith bytes [] rest = bytes ≡ rest
 EndsWith bytes (file ∷ files) rest =
-    (after : List ℕ) × (bytes ≡ file ++ after) × EndsFirst bytes (length file) × EndsWith after files rest
+    (after : List ℕ) × (bytes ≡ file ++ after) × (1 ≤ length file) × EndsFirst bytes (length file)
+    × EndsWith after files rest
 
 pub ends_more : (bytes : List ℕ) (files : List (List ℕ)) (rest file others : List ℕ) → EndsWith bytes files rest
-    → rest ≡ file ++ others → EndsFirst rest (length file) → EndsWith bytes (files ++ file ∷ []) others
-ends_more bytes [] rest file others e joined ends = (
+    → rest ≡ file ++ others → 1 ≤ length file → EndsFirst rest (length file) → EndsWith bytes (files ++ file ∷ []) others
+ends_more bytes [] rest file others e joined some ends = (
   others,
   e ∙ joined,
+  some,
   subst (λ (b : List ℕ). EndsFirst b (length file)) (sym e) ends,
   refl,
 )
-ends_more bytes (first ∷ files) rest file others e joined ends =
-    (e.0, e.1, e.2, ends_more e.0 files rest file others e.3 joined ends)
+ends_more bytes (first ∷ files) rest file others e joined some ends =
+    (e.0, e.1, e.2, e.3, ends_more e.0 files rest file others e.4 joined some ends)
 
 pub chained : (bytes : List ℕ) (files : List (List ℕ)) (rest : List ℕ) → EndsWith bytes files rest → rest ≡ [] → AreChained bytes files
 chained bytes [] rest e none = e ∙ none
-chained bytes (file ∷ files) rest e none = (e.0, e.1, e.2, chained e.0 files rest e.3 none)
+chained bytes (file ∷ files) rest e none = (e.0, e.1, e.2, e.3, chained e.0 files rest e.4 none)
 
 -- so joined they are the bytes
-pub joined : (bytes : List ℕ) (files : List (Bor (List ℕ))) → AreChained bytes (map (λ file. file.now) files)
-    → flat_map (λ file. file.now) files ≡ bytes
+pub joined : (bytes : List ℕ) (parts : List Part) → AreChained bytes (map (λ part. part.bytes.now) parts)
+    → flat_map (λ part. part.bytes.now) parts ≡ bytes
 joined bytes [] e = sym e
-joined bytes (file ∷ files) e = ap (λ (l : List ℕ). file.now ++ l) (joined e.0 files e.3) ∙ sym e.1
+joined bytes (part ∷ parts) e = ap (λ (l : List ℕ). part.bytes.now ++ l) (joined e.0 parts e.4) ∙ sym e.1
+
+-- one more, with the next number
+pub numbered_more : (before : ℕ) (parts : List Part) (part : Part) → AreNumbered before parts → part.number ≡ before + length parts + 1
+    → AreNumbered before (parts ++ part ∷ [])
+numbered_more before [] part are is = (omega (arith, is), tt)
+numbered_more before (first ∷ parts) part are is = (are.0, numbered_more (before + 1) parts part are.1 (omega (arith, is)))

@@ -2,3 +2,4 @@
 pub mod Rows
 pub mod Cut
 pub mod Files
+mod Found

@@ -2,10 +2,17 @@
 
 ghost use Rattle.std.specs.Prelude.{◌≡◌, ◌≤◌, ◌++◌, List, ℕ, length, flat_map, map, IfOk};
 ghost use Rattle.fit_grammar.specs.Format.File.{FileValue, FileOf};
-ghost use Rattle.fit_mending.specs.Chained.{EndsFirst, AreChained};
+ghost use Rattle.fit_mending.specs.Chained.{EndsFirst, AreChained, AreNumbered};
 
 use fit_grammar::read_header_front;
 use std::alloc::{AllocError, Global};
+
+/// One of several files, by its number or the place where it begins.
+#[derive(Clone, Copy)]
+pub struct Part<'a> {
+    pub number: usize,
+    pub bytes: &'a [u8],
+}
 
 /// Where the first file of these bytes ends: after the records that its header gives and the two bytes of a checksum, or where the bytes
 /// end, if they end before that or begin with no header. What the file has after its header is not looked at.
@@ -25,20 +32,25 @@ pub fn first_file(bytes: &[u8]) -> usize
     }
 }
 
-/// The files that are chained in these bytes, in order. What begins with no header comes last.
-pub fn split_files(alloc: Global, bytes: &[u8]) -> Result<Vec<&[u8]>, AllocError>
+/// The files that are chained in these bytes, in order, with their numbers from 1 on. What begins with no header comes last.
+pub fn split_files(alloc: Global, bytes: &[u8]) -> Result<Vec<Part<'_>>, AllocError>
     ensures chained { IfOk result
-        (λ files. AreChained bytes.now (map (λ file. file.now) files.items)) }
+        (λ parts. AreChained bytes.now (map (λ part. part.bytes.now) parts.items)) }
     // One after another, they are the bytes.
     ensures joined { IfOk result
-        (λ files. flat_map (λ file. file.now) files.items ≡ bytes.now) }
+        (λ parts. flat_map (λ part. part.bytes.now) parts.items ≡ bytes.now) }
+    ensures numbered { IfOk result (λ parts. AreNumbered 0 parts.items) }
 {
-    let mut files = Vec::new(alloc);
+    let mut parts: Vec<Part<'_>> = Vec::new(alloc);
     let mut rest = bytes;
     while !rest.is_empty() {
         let (file, others) = rest.split_at(first_file(rest));
-        files.push(file)?;
+        let number = parts.len() + 1;
+        parts.push(Part {
+            number,
+            bytes: file,
+        })?;
         rest = others;
     }
-    Ok(files)
+    Ok(parts)
 }

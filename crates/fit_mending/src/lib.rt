@@ -5,13 +5,16 @@
 //! before it and its own. The others are left out. Which bytes are kept is a judgement: `Progress` judges items by their forms,
 //! times and values, `follows` looks ahead, and `after_stray` finds older content. No proof says that a kept piece is no noise.
 //!
-//! `split_files` cuts bytes into the files that are chained in them, each of which begins with its header.
+//! `split_files` cuts bytes into the files that are chained in them, each of which begins with its header. `find_files` finds the whole
+//! files that stand somewhere in them, as in the image of a card.
 //!
-//! Contracts use the definitions of `specs/`: `Pieces` has what is kept and left out, `Chained` where files end.
+//! Contracts use the definitions of `specs/`: `Pieces` has what is kept and left out, `Chained` where files end, `Found`
+//! which files stand in bytes.
 #![tactic(auto)]
 
 mod chained;
 mod clock;
+mod finding;
 mod fitting;
 mod form;
 mod layout;
@@ -24,7 +27,8 @@ mod taking;
 mod trial;
 mod values;
 
-pub use chained::{first_file, split_files};
+pub use chained::{Part, first_file, split_files};
+pub use finding::{FindFault, find_files};
 pub use pieces::{Piece, Skipped};
 pub use skipping::{cut_faults, skip_faults};
 pub use taking::TakesPieces;

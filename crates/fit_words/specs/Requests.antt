@@ -76,8 +76,9 @@ IsAskedBy name found (Salvage file to all plain skip finish) =
     (name ≡ codes "salvage") × IsWord found (codes "IN") file × IsWord found (codes "OUT") to
     × IsFlag found (codes "all") all × IsFlag found (codes "plain") plain
     × IsFlag found (codes "skip") skip × IsFlag found (codes "finish") finish
-IsAskedBy name found (Split file folder) =
+IsAskedBy name found (Split file folder all) =
     (name ≡ codes "split") × IsWord found (codes "IN") file × IsWord found (codes "FOLDER") folder
+    × IsFlag found (codes "all") all
 IsAskedBy name found (Plain file to) =
     (name ≡ codes "plain") × IsWord found (codes "IN") file × IsWord found (codes "OUT") to
 IsAskedBy name found (Simulate script choices checked) =

@@ -30,6 +30,11 @@ pub(crate) const ALL: Argument = Argument::Flag(
     "Looks at every byte after the header, whatever size the header gives",
 );
 
+pub(crate) const ALL_FILES: Argument = Argument::Flag(
+    "all",
+    "Searches every byte for whole files, as in the image of a card, and writes each, named by its place",
+);
+
 pub(crate) const SKIP: Argument = Argument::Flag(
     "skip",
     "Goes on after a fault, and says which bytes are left out",
@@ -143,7 +148,10 @@ pub(crate) const INTO: Argument = Argument::Required(
 
 pub(crate) const DAMAGED: Argument = Argument::Required("IN", "The path of the damaged file");
 
-pub(crate) const CHAINED: Argument = Argument::Required("IN", "The path of the chained files");
+pub(crate) const CHAINED: Argument = Argument::Required(
+    "IN",
+    "The path of the chained files, or of the image",
+);
 
 pub(crate) const IN: Argument = Argument::Required("IN", "The path of a FIT file");
 

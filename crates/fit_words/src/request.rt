@@ -62,6 +62,7 @@ pub enum Request<'a> {
     Split {
         file: &'a str,
         folder: &'a str,
+        all: bool,
     },
     Plain {
         file: &'a str,
@@ -269,9 +270,11 @@ fn salvage_of<'a>(matches: &ArgMatches<'a>) -> Option<Request<'a>>
 fn split_of<'a>(matches: &ArgMatches<'a>) -> Option<Request<'a>>
     ensures { IfSome result (IsAskedBy (codes "split") (found_of matches.now)) }
 {
+    let all = matches.get_flag("all");
     Some(Request::Split {
         file: matches.get_str("IN")?,
         folder: matches.get_str("FOLDER")?,
+        all,
     })
 }
 

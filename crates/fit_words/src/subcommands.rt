@@ -1,9 +1,9 @@
 // The subcommands, and the words that each takes.
 
 use crate::arguments::{
-    ALL, Argument, CHAINED, CHECKED, CHOICES, COMMIT, DAMAGED, EACH, EACH_JSON, EARLIER, FIELDS,
-    FILE, FINISH, FOLDER, IN, INTO, JSON, JSON_PROFILE, MESSAGE, MORE, NULL, OUT, PLAIN, PROFILE,
-    RAW, SCRIPT, SKIP, TABLE_FILE, UTC, VERIFY, arg_of,
+    ALL, ALL_FILES, Argument, CHAINED, CHECKED, CHOICES, COMMIT, DAMAGED, EACH, EACH_JSON, EARLIER,
+    FIELDS, FILE, FINISH, FOLDER, IN, INTO, JSON, JSON_PROFILE, MESSAGE, MORE, NULL, OUT, PLAIN,
+    PROFILE, RAW, SCRIPT, SKIP, TABLE_FILE, UTC, VERIFY, arg_of,
 };
 use clap::{Command, Error};
 use std::alloc::Global;
@@ -54,8 +54,8 @@ const SUBCOMMANDS: [(&'static str, &'static str, &'static [Argument]); 12] = [
     ),
     (
         "split",
-        "Writes each of the FIT files that are chained in one, as 1.fit, 2.fit and so on",
-        &[CHAINED, INTO],
+        "Writes each of the FIT files that are chained in one, at most 1,000, as 1.fit, 2.fit and so on",
+        &[ALL_FILES, CHAINED, INTO],
     ),
     (
         "plain",

@@ -106,7 +106,9 @@ pub fn command<S: AsStr, O: Write, E: Write>(
             };
             salvage_chosen(rt, file, to, kept, out, err)
         }
-        Ok(Request::Split { file, folder }) => status(split_file(rt, file, folder, out), err),
+        Ok(Request::Split { file, folder, all }) => {
+            status(split_file(rt, file, folder, all, out), err)
+        }
         Ok(Request::Plain { file, to }) => status(make_plain(rt, file, to, out), err),
         Ok(
             Request::Simulate {

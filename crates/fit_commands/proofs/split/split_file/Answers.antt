@@ -1,29 +1,24 @@
-use Rattle.std.proofs.Common.{List, ℕ, Bor, Err, subst, arith}
-use Rattle.std.specs.Prelude.{map}
-use Rattle.fit_mending.specs.Chained.{AreChained}
-use Rattle.fit_commands.specs.Reported.{PrintsLines}
-use Rattle.fit_commands.specs.declared.fault.Fault.TheVariants as faults
-use Rattle.fit_commands.proofs.Parts.{none_split}
+use Rattle.std.proofs.Common.{List, ℕ, inl, inr, refl, subst, arith}
+use Rattle.fit_mending.specs.declared.chained.Part.{Part}
+use Rattle.fit_commands.specs.Reported.{AreParts, PrintsLines}
 use Rattle.fit_commands.proofs.split.split_file.Goals as goal
 
 pub returns-in_err-bytes-clause-lines : goal.returns-in_err-bytes-clause-lines
-returns-in_err-bytes-clause-lines g c = none_split _ _ c.from_residual.ensures.0
+returns-in_err-bytes-clause-lines g c = inr (c.from_residual.ensures.0, refl)
 
 pub returns-then-is_empty-clause-lines : goal.returns-then-is_empty-clause-lines
-returns-then-is_empty-clause-lines g c = none_split _ (Err (faults.Open c.args.to)) (cc)
+returns-then-is_empty-clause-lines g c = inr (refl, refl)
 
-pub returns-in_default-clause-lines : goal.returns-in_default-clause-lines
-returns-in_default-clause-lines g c = none_split _ (Err faults.NoMemory) (cc)
+pub returns-in_err-parts-clause-lines : goal.returns-in_err-parts-clause-lines
+returns-in_err-parts-clause-lines g c = inr (c.from_residual-in_err-parts.ensures.0, refl)
 
 pub returns-clause-lines : goal.returns-clause-lines
-returns-clause-lines g c =
-    let files = map (λ file. file.now) c.in-Ok.files.items in (
-      c.in_ok-bytes.bytes.items,
-      omega (arith, c.in_ok-bytes.ensures.most, c.in_ok-bytes.bytes.ok.0),
-      files,
-      subst (λ (bytes : List ℕ). AreChained bytes files) c.as_slice.ensures.value c.in-Ok.ensures.chained,
-      subst
-          (λ (parts : List (Bor (List ℕ))). PrintsLines (map (λ file. file.now) parts) (g.O.Write.contents c.args.out.now)
-          (g.O.Write.contents c.write_parts.new.out) c.write_parts.result)
-          c.as_slice-2.ensures.value c.write_parts.ensures.lines,
-    )
+returns-clause-lines g c = inl (
+  c.in_ok-bytes.bytes.items,
+  omega (arith, c.in_ok-bytes.ensures.most, c.in_ok-bytes.bytes.ok.0),
+  c.in_ok-parts.parts.items,
+  subst (λ (bytes : List ℕ). AreParts c.args.all bytes c.in_ok-parts.parts.items) c.as_slice.ensures.value c.in_ok-parts.ensures.parts,
+  c.in_ok-parts.ensures.most,
+  subst (λ (parts : List Part). PrintsLines parts (g.O.Write.contents c.args.out.now) (g.O.Write.contents c.write_parts.new.out) c.write_parts.result)
+      c.as_slice-2.ensures.value c.write_parts.ensures.lines,
+)

@@ -1,0 +1,26 @@
+-- The files that stand somewhere in bytes.
+use Rattle.std.specs.Prelude.{◌≡◌, ℕ, ◌+◌, ◌<◌, ◌≤◌, List, [], ◌∷◌, ◌++◌, length, drop}
+use Rattle.fit_grammar.specs.Format.File.{FileValue, FileOf}
+use Rattle.fit_mending.specs.declared.chained.Part.{Part}
+
+-- these bytes begin with this file
+abbrev pub BeginsWithFile : List ℕ → List ℕ → Type 0
+BeginsWithFile bytes file =
+    (v : FileValue) × FileOf file v × (rest : List ℕ) × (bytes ≡ file ++ rest)
+
+-- they begin with some file
+abbrev pub BeginsFile : List ℕ → Type 0
+BeginsFile bytes = (file : List ℕ) × BeginsWithFile bytes file
+
+-- no file begins in the bytes from one place to before another
+abbrev pub HasNoFile : List ℕ → ℕ → ℕ → Type 0
+HasNoFile bytes from to = (at : ℕ) → from ≤ at → at < to → BeginsFile (drop at bytes) → ⊥
+
+-- These are the files of the bytes from a place on: the first of them begins where the first file does, and those after it are the files
+-- of the bytes behind its end.
+abbrev pub AreFound : List ℕ → ℕ → List Part → Type 0
+AreFound bytes from [] = HasNoFile bytes from (length bytes)
+AreFound bytes from (part ∷ parts) =
+    (from ≤ part.number) × HasNoFile bytes from part.number
+    × BeginsWithFile (drop part.number bytes) part.bytes.now
+    × AreFound bytes (part.number + length part.bytes.now) parts
