@@ -16,7 +16,6 @@ from tools.reader import BASE_TYPES, Refused, item_size, salvaged, show, wanted_
 NEEDS = ("fitrec",)
 
 START = 1000000000
-LINE = "heard %d entries, %d left out\n"
 
 
 def wanted_finish(data, everything=False, plain=False):
@@ -25,10 +24,10 @@ def wanted_finish(data, everything=False, plain=False):
     if status:
         return (status, line, fault), None
     try:
-        text, taken, left_out = finished(file)
+        text, heard = finished(file)
     except Refused as refused:
         return (1, "", refused.lines), None
-    return (0, line + LINE % (taken, left_out), fault), text
+    return (0, line + heard, fault), text
 
 
 class Maker:
@@ -224,6 +223,65 @@ def zeros(given):
             yield "so many zeros", unless(added > 100, added, "more than 100")
 
 
+def begun(pick, *fields):
+    """The beginning of a file with a file_id, if it has these fields, and records of 99 seconds."""
+    maker = Maker(pick)
+    if fields:
+        maker.message(0, dict(fields))
+    for second in range(1, 100):
+        maker.message(20, {(253, 0x86): START + second, (3, 2): 99})
+    return maker
+
+
+def finished_file(given, maker):
+    """What the program says of the file that was made, and the file that it finishes it as."""
+    with room() as (script, _):
+        source, out = script.parent / "in.fit", script.parent / "out.fit"
+        source.write_bytes(framed(maker.bytes))
+        said = run(given.fitrec, "salvage", "--finish", source, out)
+        return said, bytes_of(out), run(given.fitrec, "check", out)[0]
+
+
+def laps_afterwards(given):
+    """Where the laps stand after the records, an added session has the number of all laps: those whose time falls, which are left out, and
+    the one after the last entry too. One is added only where an entry follows the last lap, and none was left out."""
+    pick = random.Random(given.seed)
+    for laps in 1, 2, 7:
+        for is_followed in False, True:
+            maker = begun(pick, ((0, 0), 4), ((1, 0x84), 1), ((4, 0x86), START))
+            for lap in range(1, laps + 1):
+                maker.message(19, {(253, 0x86): START + 99 * lap // laps, (2, 0x86): START, (254, 0x84): lap - 1})
+            if is_followed:
+                # Behind a message that no profile names.
+                maker.message(0xFF00, {(0, 2): 1})
+                maker.message(20, {(253, 0x86): START + 120, (3, 2): 99})
+            said, file, judged = finished_file(given, maker)
+            lines, wanted = file and shown(file, ("lap", "session")), laps + (laps == 1 and is_followed)
+            found = said[0], judged, lines and len(lines) - 1, lines and re.findall(r"num_laps=(\d+)", lines[-1])
+            yield "laps after the records", differs(found, (0, 0, wanted, [str(wanted)]), lines)
+
+
+def lost_file_ids(given):
+    """A file that does not begin with a file_id gets one, and a line says so. One of another type, or without a record, is refused."""
+    pick = random.Random(given.seed)
+    own = {"type": "4", "manufacturer": "1", "time_created": str(START)}
+    added = {"type": "4", "manufacturer": "255", "product": "1", "time_created": str(START + 1)}
+    activity, course = ((((0, 0), kind), ((1, 0x84), 1), ((4, 0x86), START)) for kind in (4, 6))
+    for name, maker, wanted, line in ("a file_id", begun(pick, *activity), own, ""), ("no file_id", begun(pick), added, ", file_id added"):
+        said, file, judged = finished_file(given, maker)
+        lines = file and show(file).splitlines()[1:]
+        first = lines and dict(it.partition("=")[::2] for it in lines[0].split(" ")[2:])
+        found = said[0], said[1].splitlines()[-1:], judged, lines and lines[0].split(" ")[1], first and {it: first.get(it) for it in wanted}
+        yield name, differs(found, (0, ["heard 99 entries, 0 left out" + line], 0, "file_id", wanted), lines)
+        yield name + ", alone", differs(len(lines and shown(file, ("file_id",)) or ()), 1, lines)
+    unknown = Maker(pick)
+    for _ in range(9):
+        unknown.message(0xFF00, {(0, 2): 1})
+    for name, maker, fault in ("a course", begun(pick, *course), "NotActivity"), ("messages that no profile names", unknown, "NoSample"):
+        said, file, _ = finished_file(given, maker)
+        yield name, differs((said, file), ((1, "", "fitrec: %s\n" % fault), None))
+
+
 def after_last_record(data):
     """The readable part of a file up to its last record, as bytes that are cut off."""
     row = salvaged(data)[3]
@@ -281,4 +339,6 @@ def check(given):
     yield from given.checks(of_other_makers, given)
     yield from given.checks(of_our_own, given)
     yield from given.checks(zeros, given)
+    yield from given.checks(laps_afterwards, given)
+    yield from given.checks(lost_file_ids, given)
     yield from given.checks(of_other_makers_files, given)

@@ -255,7 +255,7 @@ static void finish(char **words) {
     check_guards(out);
     if (answer == FITREC_FINISH_NO_ROOM) {
         uint64_t needed = out.len;
-        if (needed > in.size + FITREC_CLOSING_ROOM)
+        if (needed > in.size + FITREC_FINISH_ROOM)
             fail("a file that is longer than documented");
         if (finish_in(in, needed - 1, &out, &counts, &place) != FITREC_FINISH_NO_ROOM || out.len != needed)
             fail("another answer to a buffer that lacks one byte");

@@ -444,9 +444,9 @@ def finishes(given):
         at = pick.randrange(len(row) // 3, len(row) // 2)
         damaged = head + hole(pick, row, older(row), "noise", 512, at)[:-400]
         (status, out, err), file = mended(given.fitrec, damaged, "--all")
-        text, taken, left_out = finished(file)
+        text, heard = finished(file)
         (status, more, err), made = mended(given.fitrec, damaged, "--all", "--finish")
-        wanted = 0, out + "heard %d entries, %d left out\n" % (taken, left_out), text
+        wanted = 0, out + heard, text
         yield "finished", differs((status, more, made and show(made)), wanted)
 
 

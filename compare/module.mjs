@@ -4,7 +4,7 @@
 
 import { readFileSync, writeFileSync } from 'node:fs';
 
-const GUARD = 4096, FILLED = 0xA5, ABSENT = 0xFFFFFFFF, CLOSING_ROOM = 254;
+const GUARD = 4096, FILLED = 0xA5, ABSENT = 0xFFFFFFFF, CLOSING_ROOM = 254, FINISH_ROOM = 287;
 const [word, ...words] = process.argv.slice(2);
 const module = new WebAssembly.Module(readFileSync(process.env.FITREC_MODULE));
 
@@ -183,7 +183,7 @@ function finish([path, out]) {
   let it = finished(0);
   if (it.answer === 20) {
     const needed = it.length, less = finished(needed - 1);
-    if (needed > source.size + CLOSING_ROOM) throw new Error('a file that is longer than documented');
+    if (needed > source.size + FINISH_ROOM) throw new Error('a file that is longer than documented');
     if (less.answer !== 20 || less.length !== needed) throw new Error('another answer to a buffer that lacks one byte');
     it = finished(needed);
     writeFileSync(out, it.file);

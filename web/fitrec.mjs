@@ -8,7 +8,7 @@
 //
 // Files are given and answered as Uint8Array. What is refused is thrown as a FitError.
 
-const CLOSING_ROOM = 254, FRAME_ROOM = 16, ABSENT = 0xFFFFFFFF, NO_ROOM = 20, MORE_PIECES = 25, PAGE = 65536;
+const CLOSING_ROOM = 254, FINISH_ROOM = 287, FRAME_ROOM = 16, ABSENT = 0xFFFFFFFF, NO_ROOM = 20, MORE_PIECES = 25, PAGE = 65536;
 
 // Why bytes are no FIT file; why a file is no activity; why a ride is not saved, salvaged or finished.
 const FAULTS = { 1: 'Truncated', 2: 'HeaderSize', 3: 'Magic', 4: 'Protocol', 5: 'HeaderCrc', 6: 'UndefinedLocal', 7: 'SplitMessage',
@@ -17,7 +17,7 @@ const CHECKED = { ...FAULTS, 11: 'NoFileId', 12: 'NotActivity', 13: 'NoLap', 14:
 const SAVED = { 7: 'NothingRecorded', 8: 'Damaged', 16: 'Changed' };
 const SALVAGED = { 1: 'Truncated', 2: 'HeaderSize', 3: 'Magic', 4: 'Protocol', 22: 'TooLarge' };
 const PLAIN = { ...FAULTS, 21: 'TooLong' };
-const FINISHED = { ...FAULTS, 11: 'NoFileId', 12: 'NotActivity', 21: 'TooLarge', 26: 'NoSample' };
+const FINISHED = { ...FAULTS, 12: 'NotActivity', 21: 'TooLarge', 26: 'NoSample' };
 
 // Why something was refused: its kind, such as 'Damaged', and the place in bytes, if a byte is at fault.
 export class FitError extends Error {
@@ -177,9 +177,9 @@ export async function open(source) {
       return it.summary(summary);
     },
 
-    // The file with the closing messages that the activity lacks, and how many entries were heard and how many left out.
+    // The file with the file_id and the closing messages that the activity lacks, and how many entries were heard and how many left out.
     async finish(file) {
-      const it = await memory(), room = file.length + CLOSING_ROOM;
+      const it = await memory(), room = file.length + FINISH_ROOM;
       const at = it.put(file), out = it.room(room), length = it.number(), counts = it.room(16), place = it.number();
       refuseUnless0(it.call('fitrec_finish', at, file.length, out, room, length, counts, place), FINISHED, it.long(place));
       return { file: it.copy(out, it.long(length)), heard: it.long(counts), leftOut: it.long(counts + 8) };

@@ -69,10 +69,14 @@ async function ofFile(fitrec, ride, how) {
 // So many places that are left out are named.
 const PLACES = 5;
 
-// Why a file is no activity, and whether a summary would make it one.
-const NO_ACTIVITY = { NoFileId: false, NotActivity: false, NoLap: true, NoSession: true, NoActivity: true };
+// Why a file is no activity, and what would make it one, if anything does: the text that says so, and the offer.
+const FINISH = ['finishNext', 'finish'];
+const NO_ACTIVITY = { NoFileId: ['fileIdNext', 'fileId'], NotActivity: [], NoLap: FINISH, NoSession: FINISH, NoActivity: FINISH };
 
-const finishable = kind => NO_ACTIVITY[kind] ? { next: [['finishNext']], offers: ['finish'] } : { next: [], offers: [] };
+function finishable(kind) {
+  const [next, offer] = NO_ACTIVITY[kind] || [];
+  return offer ? { next: [[next]], offers: [offer] } : { next: [], offers: [] };
+}
 
 const hasHeader = bytes => String.fromCharCode(...bytes.subarray(8, 12)) === '.FIT';
 
@@ -87,12 +91,14 @@ async function salvaged(fitrec, ride, why, how) {
   const { kept, looked, more } = found, isOpen = new DataView(data.buffer, data.byteOffset).getUint32(4, true) === 0;
   const beside = isOpen && !journal ? [['journalBeside']] : [];
   if (!kept) return { ...nothing(why[0] || ['noMessage'], 'notFitNext'), reasons: [...(why.length ? why : [['noMessage']]), ...beside] };
-  const made = how.includes('finish') ? await finished(fitrec, found.file) : { file: found.file, reasons: [] };
+  const withFileId = how.includes('fileId');
+  const made = withFileId || how.includes('finish') ? await finished(fitrec, found.file) : { file: found.file, reasons: [] };
   const file = await orElse(fitrec.plain(made.file), () => made.file), { summary, kind } = await judged(fitrec, file);
   const isWhole = made.isFinished && kept === looked && !why.length, isWrong = !isOpen && why.some(([key]) => key === 'faultFileCrc');
   const counts = isWhole ? [] : keptOf(found, isWrong), { next, offers } = made.reasons.length ? finishable() : finishable(kind);
   const reasons = [...beside, ...why, ...counts, ...(more ? [['salvagedMore', { more }]] : []), ...made.reasons];
-  return { heading: isWhole ? 'finished' : 'salvaged', reasons, next, offers: [...(more && !all ? ['all'] : []), ...offers], file, summary };
+  const heading = !isWhole ? 'salvaged' : withFileId ? 'withFileId' : 'finished';
+  return { heading, reasons, next, offers: [...(more && !all ? ['all'] : []), ...offers], file, summary };
 }
 
 // With laps and totals, or why there are none.

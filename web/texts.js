@@ -31,6 +31,7 @@ en: {
   leftOutAt: '{count} bytes at byte {place}',
   leftOutMore: '{count} more places',
   finished: 'Laps and totals are added',
+  withFileId: 'The missing message is added',
   finishedWhy: 'The summary is of the {heard} samples, laps and pauses of the file.',
   finishedLeft: '{count} more have no time, or contradict what is before them: they stay in the file, and do not count.',
   missing: 'One more file is needed',
@@ -43,6 +44,7 @@ en: {
   offer_data: 'Save what is readable of the ride file alone',
   offer_all: 'Read the bytes after that length too',
   offer_finish: 'Add laps and totals',
+  offer_fileId: 'Add that message',
 
   noFile: 'No file was chosen.',
   emptyFile: '{name} is empty: it has no bytes.',
@@ -64,6 +66,7 @@ en: {
   notFit: '{name} is not a FIT file.',
   notFitNext: 'Choose another file. If this is a ride, no message of it is left that can be read.',
   noMessage: 'The file has no readable message.',
+  fileIdNext: 'The message that says what kind of file it is can be added, and laps and totals if there are none.',
   finishNext: 'The file has no summary. Most programs open it anyway; for others, laps and totals can be added from its samples.',
   unexpected: 'Something unexpected went wrong with these files. They are unchanged.',
 
@@ -137,6 +140,7 @@ de: {
   leftOutAt: '{count} Bytes bei Byte {place}',
   leftOutMore: '{count} weitere Stellen',
   finished: 'Runden und Summen sind ergänzt',
+  withFileId: 'Die fehlende Nachricht ist ergänzt',
   finishedWhy: 'Die Zusammenfassung ist aus den {heard} Messpunkten, Runden und Pausen der Datei.',
   finishedLeft: '{count} weitere haben keine Zeit oder widersprechen dem, was vorher kommt: Sie bleiben in der Datei und zählen nicht.',
   missing: 'Eine Datei fehlt noch',
@@ -149,6 +153,7 @@ de: {
   offer_data: 'Retten, was von der Fahrtdatei allein lesbar ist',
   offer_all: 'Auch die Bytes nach dieser Länge lesen',
   offer_finish: 'Runden und Summen ergänzen',
+  offer_fileId: 'Diese Nachricht ergänzen',
 
   noFile: 'Es wurde keine Datei gewählt.',
   emptyFile: '{name} ist leer: Die Datei hat keine Bytes.',
@@ -171,6 +176,7 @@ de: {
   notFit: '{name} ist keine FIT-Datei.',
   notFitNext: 'Wähle eine andere Datei. Wenn dies eine Fahrt ist, so ist keine Nachricht mehr da, die gelesen werden kann.',
   noMessage: 'In der Datei ist keine lesbare Nachricht.',
+  fileIdNext: 'Die Nachricht, die sagt, welche Art von Datei es ist, kann ergänzt werden, und Runden und Summen, wenn keine da sind.',
   finishNext: 'Die Datei hat keine Zusammenfassung. Die meisten Programme öffnen sie trotzdem; für andere können Runden und Summen aus '
     + 'ihren Messpunkten ergänzt werden.',
   unexpected: 'Mit diesen Dateien ist etwas Unerwartetes schiefgegangen. Sie sind unverändert.',
@@ -247,6 +253,7 @@ fr: {
   leftOutAt: '{count} octets à l’octet {place}',
   leftOutMore: '{count} autres endroits',
   finished: 'Les tours et les totaux sont ajoutés',
+  withFileId: 'Le message manquant est ajouté',
   finishedWhy: 'Le résumé provient des {heard} mesures, tours et pauses du fichier.',
   finishedLeft: '{count} autres n’ont pas d’heure ou contredisent ce qui les précède : ils restent dans le fichier, et ne comptent pas.',
   missing: 'Il manque encore un fichier',
@@ -259,6 +266,7 @@ fr: {
   offer_data: 'Récupérer ce qui est lisible du seul fichier de la sortie',
   offer_all: 'Lire aussi les octets après cette longueur',
   offer_finish: 'Ajouter les tours et les totaux',
+  offer_fileId: 'Ajouter ce message',
 
   noFile: 'Aucun fichier n’a été choisi.',
   emptyFile: '{name} est vide : il ne contient aucun octet.',
@@ -281,6 +289,7 @@ fr: {
   notFit: '{name} n’est pas un fichier FIT.',
   notFitNext: 'Choisissez un autre fichier. Si c’est une sortie, il n’en reste aucun message lisible.',
   noMessage: 'Le fichier n’a aucun message lisible.',
+  fileIdNext: 'Le message qui dit de quel type de fichier il s’agit peut être ajouté, ainsi que les tours et les totaux s’il n’y en a pas.',
   finishNext: 'Le fichier n’a pas de résumé. La plupart des programmes l’ouvrent quand même ; pour les autres, des tours et des totaux '
     + 'peuvent être ajoutés à partir de ses mesures.',
   unexpected: 'Une erreur inattendue s’est produite avec ces fichiers. Ils sont inchangés.',
@@ -356,6 +365,7 @@ es: {
   leftOutAt: '{count} bytes en el byte {place}',
   leftOutMore: '{count} lugares más',
   finished: 'Se han añadido vueltas y totales',
+  withFileId: 'Se ha añadido el mensaje que faltaba',
   finishedWhy: 'El resumen es de las {heard} muestras, vueltas y pausas del archivo.',
   finishedLeft: 'Otras {count} no tienen hora o contradicen lo anterior: se quedan en el archivo, y no cuentan.',
   missing: 'Falta otro archivo',
@@ -368,6 +378,7 @@ es: {
   offer_data: 'Recuperar lo legible del archivo de la salida solo',
   offer_all: 'Leer también los bytes después de esa longitud',
   offer_finish: 'Añadir vueltas y totales',
+  offer_fileId: 'Añadir ese mensaje',
 
   noFile: 'No se eligió ningún archivo.',
   emptyFile: '{name} está vacío: no tiene ningún byte.',
@@ -389,6 +400,7 @@ es: {
   notFit: '{name} no es un archivo FIT.',
   notFitNext: 'Elige otro archivo. Si es una salida, no queda ningún mensaje suyo que se pueda leer.',
   noMessage: 'El archivo no tiene ningún mensaje legible.',
+  fileIdNext: 'Se puede añadir el mensaje que dice qué tipo de archivo es, y vueltas y totales si no los hay.',
   finishNext: 'El archivo no tiene resumen. La mayoría de los programas lo abren igualmente; para los demás, se pueden añadir vueltas y '
     + 'totales a partir de sus muestras.',
   unexpected: 'Ha ocurrido algo inesperado con estos archivos. No se han modificado.',
@@ -464,6 +476,7 @@ it: {
   leftOutAt: '{count} byte al byte {place}',
   leftOutMore: 'altri {count} punti',
   finished: 'Giri e totali sono stati aggiunti',
+  withFileId: 'Il messaggio mancante è stato aggiunto',
   finishedWhy: 'Il riepilogo è dei {heard} campioni, giri e pause del file.',
   finishedLeft: 'Altri {count} non hanno un’ora o contraddicono ciò che li precede: restano nel file, e non contano.',
   missing: 'Manca ancora un file',
@@ -475,6 +488,7 @@ it: {
   offer_data: 'Recupera ciò che è leggibile del solo file dell’uscita',
   offer_all: 'Leggi anche i byte dopo quella lunghezza',
   offer_finish: 'Aggiungi giri e totali',
+  offer_fileId: 'Aggiungi quel messaggio',
 
   noFile: 'Non è stato scelto alcun file.',
   emptyFile: '{name} è vuoto: non ha alcun byte.',
@@ -496,6 +510,7 @@ it: {
   notFit: '{name} non è un file FIT.',
   notFitNext: 'Scegli un altro file. Se è un’uscita, non ne resta alcun messaggio leggibile.',
   noMessage: 'Il file non ha alcun messaggio leggibile.',
+  fileIdNext: 'Si può aggiungere il messaggio che dice che tipo di file è, e giri e totali se non ci sono.',
   finishNext: 'Il file non ha un riepilogo. Quasi tutti i programmi lo aprono comunque; per gli altri, si possono aggiungere giri e '
     + 'totali ricavati dai suoi campioni.',
   unexpected: 'Si è verificato un errore imprevisto con questi file. Non sono stati modificati.',

@@ -196,7 +196,7 @@ def finishing(program, source, mine, wanted, refusal, its):
     if place:
         lines, its = "%d\nat %s\n" % (answer_of(refusal), place[1]), None
     else:
-        lines = "%d\n%s" % (answer_of(wanted), "".join(wanted[1].splitlines(True)[1:]))
+        lines = "%d\n%s" % (answer_of(wanted), "".join(wanted[1].splitlines(True)[1:]).replace(", file_id added", ""))
     difference = differs((said, bytes_of(mine)), ((0, lines, ""), its))
     mine.unlink(missing_ok=True)
     return difference

@@ -18,7 +18,9 @@ pub use recording::start::{Sport, Start};
 pub use replay::frozen::FrozenReplay;
 pub use replay::{NotNext, Replay};
 pub use speaking::speech::{Speech, SpokenMessage};
-pub use speaking::{speak, speak_closing, speak_compressed, speak_start};
+pub use speaking::{
+    speak, speak_closing, speak_closing_with, speak_compressed, speak_file_id, speak_start,
+};
 pub use totals::Totals;
 pub use totals::frozen::{FrozenClock, FrozenSums, FrozenTally, FrozenTotals};
 pub use totals::summary::{ActivitySummary, LapSummary, SessionSummary, Stretch};

@@ -12,18 +12,30 @@ use Rattle.fit_grammar.proofs.Decoding.Reached.{records_size}
 use Rattle.fit_grammar.proofs.Encoder.Encoded.{encoded_items-length, encoded_is_header}
 use Rattle.fit_finishing.specs.declared.finishing.Finishing.{Finishing}
 use Rattle.fit_finishing.specs.Lacking.{added_items}
-use Rattle.fit_finishing.specs.Finished.{IsFinishing, finished_by, most_closing}
+use Rattle.fit_finishing.specs.Finished.{IsFinishing, finished_by, most_closing, most_opening}
 
 -- its records fit
 pub few_bytes : (v : FileValue) (f : Finishing) → IsFinishing v f → length (encoded_items (finished_by v f).items) < 2 ^ 32
 few_bytes v f is =
-    omega (arith, encoded_items-length (finished_by v f).items, sum_by-append item_size v.items (added_items f.lacks f.speech), is.added, is.room)
+    let first = added_items f.lacks f.opening in
+    let last = added_items f.lacks f.closing in
+    omega (
+      arith,
+      encoded_items-length (finished_by v f).items,
+      sum_by-append item_size first (v.items ++ last),
+      sum_by-append item_size v.items last,
+      is.fits.opening_added,
+      is.fits.closing_added,
+      is.fits.room,
+    )
 
--- it has at most the bytes of the file and of the closing messages
+-- it has at most the bytes of the file, of a file_id and of the closing messages
 pub finished_length : (bytes : List ℕ) (v : FileValue) (f : Finishing) → FileOf bytes v → IsFinishing v f
-    → length (encoded (finished_by v f)) ≤ length bytes + most_closing
+    → length (encoded (finished_by v f)) ≤ length bytes + most_opening + most_closing
 finished_length bytes v f file is =
     let new = finished_by v f in
+    let first = added_items f.lacks f.opening in
+    let last = added_items f.lacks f.closing in
     let whole : length bytes ≡ length ((file.header ++ file.records) ++ file.closing) = ap length file.joined in
     let header = encoded_header v.frame (data_size new.items) in
     let records = encoded_items new.items in
@@ -40,6 +52,8 @@ finished_length bytes v f file is =
       length-append header records,
       length-append (header ++ records) (two_bytes Little (crc (header ++ records))),
       encoded_items-length new.items,
-      sum_by-append item_size v.items (added_items f.lacks f.speech),
-      is.added,
+      sum_by-append item_size first (v.items ++ last),
+      sum_by-append item_size v.items last,
+      is.fits.opening_added,
+      is.fits.closing_added,
     )

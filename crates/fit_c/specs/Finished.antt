@@ -1,10 +1,11 @@
 -- What adding the closing messages to a file in memory leaves and returns.
 use Rattle.std.specs.Prelude.{◌≡◌, ℕ, ◌+◌, ◌<◌, List, length}
 use Rattle.fit_activity.specs.Files.Activity.{activity_fault_code}
+use Rattle.fit_activity.specs.declared.activity.ActivityFault.TheVariants as activities
 use Rattle.fit_grammar.specs.Format.Encoding.{encoded}
 use Rattle.fit_grammar.specs.Format.File.{FileValue, FileOf}
 use Rattle.fit_finishing.specs.declared.finishing.FinishFault.{FinishFault}
-use Rattle.fit_finishing.specs.declared.finishing.FinishFault.TheVariants.{Activity, NoSample, TooLong, Memory}
+use Rattle.fit_finishing.specs.declared.finishing.FinishFault.TheVariants.{NotActivity, NoSample, TooLong}
 use Rattle.fit_finishing.specs.Finished.{Finishes, IsNotFinished}
 use Rattle.fit_c.specs.declared.finishing.FinishCounts.{FinishCounts}
 
@@ -25,12 +26,11 @@ pub record NeedsRoomToFinish (bytes : List ℕ) (room needed : ℕ) (counts : Fi
   pub needed_is : needed ≡ length (encoded new)
   pub short : room < needed
 
--- the code of a fault; want of memory has none
+-- the code of a fault
 abbrev pub finish_code : FinishFault → ℕ
-finish_code (Activity fault) = 10 + activity_fault_code fault
+finish_code NotActivity = 10 + activity_fault_code activities.NotActivity
 finish_code NoSample = 26
 finish_code TooLong = 21
-finish_code Memory = 0
 
 -- the bytes are a file that is not finished; the code is that of the reason
 pub record CannotBeFinished (bytes : List ℕ) (code : ℕ) : Type 0 where

@@ -1,12 +1,13 @@
-// Adds the closing messages that an activity in memory lacks.
+// Adds the messages that an activity in memory lacks.
 
-ghost use Rattle.std.specs.Prelude.{◌≡◌, ◌≢◌, ◌+◌, ◌≤◌, ◌<◌, ◌⊎◌, [], length, take};
+ghost use Rattle.std.specs.Prelude.{◌≡◌, ◌+◌, ◌≤◌, ◌<◌, ◌⊎◌, [], length, take};
 ghost use Rattle.fit_grammar.specs.Format.Encoding.{encoded};
-ghost use Rattle.fit_finishing.specs.Finished.{IsFinishing, finished_by, most_closing};
+ghost use Rattle.fit_finishing.specs.Finished.{IsFinishing, finished_by, most_closing, most_opening};
 ghost use Rattle.fit_c.specs.Files.{IsNoFile};
 ghost use Rattle.fit_c.specs.Finished.{IsFinishedOf, NeedsRoomToFinish, CannotBeFinished, finish_code};
 
 use crate::room::Room;
+use fit_activity::ActivityFault;
 use fit_finishing::{FinishFault, Finishing};
 use fit_grammar::LentFile;
 
@@ -26,11 +27,12 @@ pub struct FinishCounts {
     pub left_out: u64,
 }
 
-/// Writes a new file into `out`: the FIT file `bytes` with the closing messages that the activity lacks, as `finish` of
-/// `fit_finishing` adds them. Returns 0, and the length of the file in `out_len`; 1 to 9 if the bytes are no FIT file (the code of the
-/// `FaultKind`), with the place of the fault in `fault_place`; 11 or 12 if its first message is none of an activity (10 more than the
-/// code of the `ActivityFault`); 20 if the new file does not fit into `out`, with its length in `out_len`; 21 if its records could exceed
-/// 4294967295 bytes; 26 if no sample was taken. An `out` that is 252 bytes longer than `bytes` is always large enough.
+/// Writes a new file into `out`: the FIT file `bytes` with the messages that the activity lacks, as `Finishing` of `fit_finishing` adds
+/// them: the closing ones, and a file_id if its first message is none. Returns 0, and the length of the file in `out_len`; 1 to 9 if the
+/// bytes are no FIT file (the code of the `FaultKind`), with the place of the fault in `fault_place`; 12 if its first message is a file_id
+/// of no activity (10 more than the code of the `ActivityFault`); 20 if the new file does not fit into `out`, with its length in
+/// `out_len`; 21 if its records could exceed 4294967295 bytes; 26 if no sample was taken. An `out` that is 287 bytes longer than `bytes`
+/// is always large enough.
 #[unsafe(no_mangle)]
 pub extern "C" fn fitrec_finish(
     bytes: &[u8],
@@ -39,19 +41,18 @@ pub extern "C" fn fitrec_finish(
     counts: &mut FinishCounts,
     fault_place: &mut u64,
 ) -> u8
-    ensures code { (result ≤ 9) ⊎ (result ≡ 11) ⊎ (result ≡ 12) ⊎ (result ≡ 20) ⊎ (result ≡ 21)
-        ⊎ (result ≡ 26) }
+    ensures code { (result ≤ 9) ⊎ (result ≡ 12) ⊎ (result ≡ 20) ⊎ (result ≡ 21) ⊎ (result ≡ 26) }
     ensures ok { result ≡ 0 → IsFinishedOf bytes.now (take out_len.new out.new) counts.new }
     ensures within { result ≡ 0 → out_len.new ≤ length out.new }
     ensures no_file { 1 ≤ result → result ≤ 9 → IsNoFile bytes.now result fault_place.new }
-    ensures not_finished { (result ≡ 11) ⊎ (result ≡ 12) ⊎ (21 ≤ result)
+    ensures not_finished { (result ≡ 12) ⊎ (21 ≤ result)
         → CannotBeFinished bytes.now result }
     ensures no_room { result ≡ 20
         → NeedsRoomToFinish bytes.now (length out.old) out_len.new counts.new }
-    ensures enough { result ≡ 20 → length out.old < length bytes.now + most_closing }
+    ensures enough { result ≡ 20 → length out.old < length bytes.now + most_opening + most_closing }
     ensures unchanged { ((1 ≤ result) × (result ≤ 12)) ⊎ (21 ≤ result)
         → (out_len.new ≡ out_len.old) × (out.new ≡ out.old) × (counts.new ≡ counts.old) }
-    ensures place { (result ≡ 0) ⊎ (11 ≤ result) → fault_place.new ≡ fault_place.old }
+    ensures place { (result ≡ 0) ⊎ (12 ≤ result) → fault_place.new ≡ fault_place.old }
 {
     let file = match LentFile::read(bytes) {
         Ok(file) => file,
@@ -103,13 +104,11 @@ fn write_in(finishing: &Finishing, file: &LentFile<'_>, room: &mut Room<'_>)
 
 // The code of a fault.
 fn code_of(fault: FinishFault) -> u8
-    requires { fault ≢ FinishFault.Memory }
     ensures { result ≡ finish_code fault }
 {
     match fault {
-        FinishFault::Activity(fault) => 10 + fault.code(),
+        FinishFault::NotActivity => 10 + ActivityFault::NotActivity.code(),
         FinishFault::NoSample => NO_SAMPLE,
         FinishFault::TooLong => TOO_LONG,
-        FinishFault::Memory => unreachable!(),
     }
 }

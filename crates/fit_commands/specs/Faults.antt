@@ -1,6 +1,7 @@
 -- The program's faults for the faults of the libraries below it, and which faults each subcommand may report.
 use Rattle.std.specs.Prelude.{◌≡◌, ◌<◌, ◌⊎◌, ℕ, Bool, true, false, List, Result, Ok, Err, codes}
 use Rattle.std.specs.Borrow.{Bor}
+use Rattle.fit_activity.specs.declared.activity.ActivityFault.TheVariants as activities
 use Rattle.fit_disk.specs.declared.files.OpenFault.{OpenFault}
 use Rattle.fit_disk.specs.declared.files.OpenFault.TheVariants.{Open, Memory}
 use Rattle.fit_files.specs.declared.fault.ReportFault.{ReportFault}
@@ -31,10 +32,9 @@ IsReportFault name (reports.Plain fault) reported = reported ≡ faults.Plain fa
 
 -- for an activity that is not finished
 abbrev pub fault_of_finish : FinishFault → Fault
-fault_of_finish (finishes.Activity fault) = faults.Activity fault
+fault_of_finish finishes.NotActivity = faults.Activity activities.NotActivity
 fault_of_finish finishes.NoSample = faults.NoSample
 fault_of_finish finishes.TooLong = faults.TooLarge
-fault_of_finish finishes.Memory = faults.NoMemory
 
 -- for a recording that was not repaired, or whose summary was not printed
 abbrev pub IsRepairReported : RepairFault → Fault → Type 0

@@ -26,8 +26,10 @@ use Rattle.fit_files.specs.Printed.Salvaged.{IsSalvage, saved_file, kept_text}
 use Rattle.fit_files.specs.Printed.Saved.{SavesRide}
 use Rattle.fit_files.specs.Printed.Summary.{summary_text}
 use Rattle.fit_files.specs.Printed.Checked.{SumsUp}
-use Rattle.fit_finishing.specs.declared.finishing.Finished.{Finished}
-use Rattle.fit_finishing.specs.Finished.{IsFinished}
+use Rattle.fit_finishing.specs.declared.finishing.Finishing.{Finishing}
+use Rattle.fit_finishing.specs.Finished.{IsFinishing}
+use Rattle.fit_files.specs.declared.finished.Heard.{Heard}
+use Rattle.fit_commands.specs.declared.content.FinishedFile.{FinishedFile}
 use Rattle.fit_files.specs.declared.fault.ReportFault.{ReportFault}
 use Rattle.fit_files.specs.declared.repairing.FileSums.{FileSums}
 use Rattle.fit_files.specs.declared.repairing.RepairFault.{RepairFault}
@@ -83,10 +85,19 @@ pub record IsFormOf (plain : Bool) (salvage : Salvage) (file : FileValue) : Type
   pub as_it_is : plain ≡ false → FileOf (saved_file salvage) file
   pub plain_form : plain ≡ true → PlainsTo (saved_file salvage) (Ok file)
 
--- it is that file with the closing messages that it lacks
-abbrev pub FinishesSalvage : Bool → Salvage → Finished → Type 0
+-- it is that file, with the messages that it lacks
+abbrev pub FinishesSalvage : Bool → Salvage → FinishedFile → Type 0
 FinishesSalvage plain salvage finished =
-    (file : FileValue) × IsFormOf plain salvage file × IsFinished file finished
+    IsFormOf plain salvage finished.file × IsFinishing finished.file finished.finishing
+
+-- what was heard of it
+abbrev pub heard_of : Finishing → Heard
+heard_of finishing =
+    record {
+      taken = finishing.taken;
+      left_out = finishing.left_out;
+      has_new_file_id = finishing.lacks.file_id;
+    }
 
 -- the longest row of whole items in some bytes was found, and its file finished; its length, and how many entries were heard and left
 -- out, was printed
@@ -94,8 +105,8 @@ abbrev pub FinishesFile : Bool → Bool → Option (List ℕ) → Option (List �
 FinishesFile all plain old new =
     (bytes : List ℕ) × (length bytes ≤ 268435456) × (salvage : Salvage)
     × IsSalvage all bytes salvage
-    × (finished : Finished) × FinishesSalvage plain salvage finished
-    × Appends old new (finished_lines salvage finished.taken finished.left_out)
+    × (finished : FinishedFile) × FinishesSalvage plain salvage finished
+    × Appends old new (finished_lines salvage (heard_of finished.finishing))
 
 -- what is kept of some bytes by going on after their faults, as one row
 pub record IsRowOf (mended : Mended) (salvage : Salvage) : Type 0 where
@@ -117,8 +128,8 @@ FinishesMended all plain old new =
     (bytes : List ℕ) × (length bytes ≤ 268435456) × (mended : Mended)
     × IsMended all bytes mended
     × (salvage : Salvage) × IsRowOf mended salvage
-    × (finished : Finished) × FinishesSalvage plain salvage finished
-    × Appends old new (finished_mended_lines mended finished.taken finished.left_out)
+    × (finished : FinishedFile) × FinishesSalvage plain salvage finished
+    × Appends old new (finished_mended_lines mended (heard_of finished.finishing))
 
 -- a line was printed for each of these files; after an Err, for the first of them, of which the last line may be cut off
 abbrev pub PrintsLines : List Part → Option (List ℕ) → Option (List ℕ)

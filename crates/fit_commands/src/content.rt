@@ -4,8 +4,11 @@ ghost use Rattle.std.specs.Prelude.{ℕ, List};
 ghost use Rattle.fit_grammar.specs.Calls.Output.{WritesText};
 ghost use Rattle.fit_grammar.specs.Format.Encoding.{encoded};
 ghost use Rattle.fit_files.specs.Printed.Salvaged.{saved_file};
+ghost use Rattle.fit_finishing.specs.Finished.{FitsFile, finished_by};
+ghost use Rattle.std.proofs.Props.{props};
 
 use fit_files::Salvage;
+use fit_finishing::Finishing;
 use fit_grammar::{EncodeFault, File, WriteFailed, encode_file};
 use std::io::Write;
 
@@ -30,6 +33,25 @@ impl Content for Salvage<'_> {
 
     fn write_to<W: Write>(&self, out: &mut W) -> Result<(), EncodeFault> {
         match self.write(out) {
+            Ok(()) => Ok(()),
+            Err(WriteFailed) => Err(EncodeFault::Write),
+        }
+    }
+}
+
+/// A file with the messages that it lacks.
+#[derive(Drop)]
+pub struct FinishedFile {
+    pub file: File,
+    pub finishing: Finishing,
+    ghost fits: { FitsFile file finishing } by { Prim.hlevel props },
+}
+
+impl Content for FinishedFile {
+    ghost bytes = { λ finished. encoded (finished_by finished.file finished.finishing) };
+
+    fn write_to<W: Write>(&self, out: &mut W) -> Result<(), EncodeFault> {
+        match self.finishing.write_file(&self.file, out) {
             Ok(()) => Ok(()),
             Err(WriteFailed) => Err(EncodeFault::Write),
         }

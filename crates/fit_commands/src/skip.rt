@@ -7,7 +7,7 @@ ghost use Rattle.fit_commands.specs.Reported.{FinishesMended, SavesMended, Print
 
 use crate::beside::write_whole;
 use crate::fault::Fault;
-use crate::finish::finish_salvage;
+use crate::finish::{finish_salvage, heard_in};
 use crate::input::{fault_of_report, print_end, read_file_front};
 use crate::salvage::write_salvage;
 use fit_files::{FrontRead, Mended, print_finished_mended, skip_bytes};
@@ -42,8 +42,7 @@ pub fn skip_file<'a, O: Write, E: Write>(
     }
 }
 
-/// The same as `skip_file`, with the closing messages that the activity lacks. Prints also how many entries were heard and how many left
-/// out.
+/// The same as `skip_file`, with the messages that the activity lacks. Prints also what was heard.
 pub fn finish_skipped_file<'a, O: Write, E: Write>(
     rt: &HostRuntime,
     name: &'a str,
@@ -62,10 +61,10 @@ pub fn finish_skipped_file<'a, O: Write, E: Write>(
     let mended = skip_read(rt.alloc(), name, &read, all)?;
     let salvage = mended.salvage();
     let finished = finish_salvage(rt.alloc(), name, plain, &salvage)?;
-    write_whole(rt, to, &finished.file)?;
+    write_whole(rt, to, &finished)?;
     let _ = print_end(name, read.unread_from(), err);
     let _ = salvage.print_left(err);
-    match print_finished_mended(&mended, finished.taken, finished.left_out, out) {
+    match print_finished_mended(&mended, heard_in(&finished.finishing), out) {
         Ok(()) => Ok(()),
         Err(fault) => Err(fault_of_report(name, fault)),
     }

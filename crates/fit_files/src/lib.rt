@@ -34,7 +34,7 @@ mod summary;
 pub use checking::{check_bytes, check_input, sum_up_input};
 pub use decoding::decode_input;
 pub use fault::ReportFault;
-pub use finished::{print_finished, print_finished_mended};
+pub use finished::{Heard, print_finished, print_finished_mended};
 pub use lack::Lack;
 pub use looking::{Looked, look_at};
 pub use mended::Mended;

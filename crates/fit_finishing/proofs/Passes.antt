@@ -1,22 +1,23 @@
 -- A finished file is an activity: it has the laps, sessions and activity messages that a check asks for.
-use Rattle.std.proofs.Common.{◌≡◌, ℕ, ◌+◌, ◌≤◌, Bool, true, false, cond, List, [], ◌∷◌, ◌++◌, map, refl, sym, arith}
-use Rattle.std.specs.Prelude.{zero, suc, Ok, count_by, ◌==◌}
+use Rattle.std.proofs.Common.{◌≡◌, ℕ, ◌+◌, ◌≤◌, Bool, true, false, cond, List, [], ◌∷◌, ◌++◌, map, refl, sym, ◌∙◌, arith}
+use Rattle.std.specs.Prelude.{zero, suc, Ok, not, count_by, ◌==◌}
 use Rattle.std.specs.List.{filter}
-use Rattle.std.proofs.lemmas.Bool.{ne_eqb, true≢false}
+use Rattle.std.proofs.lemmas.Bool.{eq-eqb, ne_eqb, true≢false}
 use Rattle.std.proofs.lemmas.List.Sums.{sum_by-append, sum_by-cons}
 use Rattle.fit_grammar.specs.Format.Message.{Message}
 use Rattle.fit_activity.specs.declared.totals.summary.LapSummary.{LapSummary}
 use Rattle.fit_activity.specs.declared.totals.summary.SessionSummary.{SessionSummary}
 use Rattle.fit_activity.specs.declared.totals.summary.ActivitySummary.{ActivitySummary}
-use Rattle.fit_activity.specs.Rides.Recording.{Recorded, is_lap}
+use Rattle.fit_activity.specs.Rides.Recording.{Recorded, is_lap, start_time}
 use Rattle.fit_activity.specs.Rides.Refusal.{has_stopped}
-use Rattle.fit_activity.specs.Rides.Stretch.{end_time, lap_of, session_of, activity_of}
+use Rattle.fit_activity.specs.Rides.Stretch.{end_time, lap_of, activity_of}
 use Rattle.fit_activity.specs.Messages.ProfileField.{as_message}
-use Rattle.fit_activity.specs.Messages.ProfileMessage.{event_message, stop_all_type, lap_message, session_end, session_message, activity_message}
-use Rattle.fit_activity.specs.Messages.RideMessages.{closing_messages_of}
+use Rattle.fit_activity.specs.Messages.ProfileMessage.{file_id_message, event_message, stop_all_type, lap_message, session_end, session_message, activity_message}
+use Rattle.fit_activity.specs.Messages.RideMessages.{closing_messages_of, session_with}
 use Rattle.fit_activity.specs.Files.Activity.{has_global, begins_with_file_id, is_activity_file, messages_counted, activity_in, summary_of}
 use Rattle.fit_finishing.specs.declared.closing.Lacks.{Lacks}
-use Rattle.fit_finishing.specs.Lacking.{lacks_in, lacks_lap, is_lacking, closing_for}
+use Rattle.fit_finishing.specs.Lacking.{lacks_in, lacks_lap, is_lacking, laps_stated, laps_finished, opening_for, closing_for}
+use Rattle.fit_finishing.specs.Finished.{IsFinishable}
 
 -- a message that may be there
 counted-if : (global : ℕ) (b : Bool) (m : Message) (messages : List Message)
@@ -79,14 +80,49 @@ some global messages added n has least =
     let whole = sum_by-append (λ m. cond (has_global global m) 1 0) messages added in
     ne_eqb (messages_counted global (messages ++ added)) 0 (λ none. omega (arith, whole, none, has, least))
 
-pub passes : (messages : List Message) (list : List Recorded) → begins_with_file_id messages ≡ true → is_activity_file messages ≡ true
-    → activity_in (messages ++ closing_for messages list) ≡ Ok (summary_of (messages ++ closing_for messages list))
-passes [] list begins is_activity = absurd (true≢false (sym begins))
-passes (m ∷ others) list begins is_activity =
-    let messages = m ∷ others in
+-- a file is one that begins with a file_id, and has one of each
+accepted : (all : List Message) → begins_with_file_id all ≡ true → is_activity_file all ≡ true
+    → (messages_counted 19 all == 0) ≡ false → (messages_counted 18 all == 0) ≡ false → (messages_counted 34 all == 0) ≡ false
+    → activity_in all ≡ Ok (summary_of all)
+accepted all begins is_activity laps sessions activities = rw begins (rw is_activity (rw laps (rw sessions (rw activities refl))))
+
+-- with messages before them there are still some
+still-some : (global : ℕ) (before all : List Message) → (messages_counted global all == 0) ≡ false → (messages_counted global (before ++ all) == 0) ≡ false
+still-some global before all is =
+    let whole = sum_by-append (λ m. cond (has_global global m) 1 0) before all in
+    ne_eqb (messages_counted global (before ++ all)) 0 (λ none. true≢false (sym (eq-eqb (messages_counted global all) 0 (omega (arith, whole, none))) ∙ is))
+
+begun : (b : Bool) (first : Message) (others : List Message) → begins_with_file_id (first ∷ []) ≡ true → is_activity_file (first ∷ []) ≡ true
+    → (b ≡ false → (begins_with_file_id others ≡ true) × (is_activity_file others ≡ true))
+    → (begins_with_file_id (cond b (first ∷ []) [] ++ others) ≡ true) × (is_activity_file (cond b (first ∷ []) [] ++ others) ≡ true)
+begun true first others is type own = (is, type)
+begun false first others is type own = own refl
+
+before-closing : (messages more : List Message) → begins_with_file_id messages ≡ true → is_activity_file messages ≡ true
+    → (begins_with_file_id (messages ++ more) ≡ true) × (is_activity_file (messages ++ more) ≡ true)
+before-closing [] more begins is = absurd (true≢false (sym begins))
+before-closing (m ∷ messages) more begins is = (begins, is)
+
+not-false : (b : Bool) → not b ≡ false → b ≡ true
+not-false true is = refl
+not-false false is = absurd (true≢false is)
+
+pub passes : (messages : List Message) (list : List Recorded) → IsFinishable messages
+    → activity_in (opening_for messages list ++ (messages ++ closing_for messages list))
+    ≡ Ok (summary_of (opening_for messages list ++ (messages ++ closing_for messages list)))
+passes messages list finishable =
     let lacks = lacks_in messages list in
+    let before = opening_for messages list in
     let added = closing_for messages list in
-    let laps = some 19 messages added _ (has-lap lacks (end_time list) (lap_of list) (session_of list) (activity_of list) (has_stopped list)) (some-lap (messages_counted 19 messages) (messages_counted 18 messages) (count_by is_lap list)) in
-    let sessions = some 18 messages added _ (has-session lacks (end_time list) (lap_of list) (session_of list) (activity_of list) (has_stopped list)) (some-or-none (messages_counted 18 messages)) in
-    let activities = some 34 messages added _ (has-activity lacks (end_time list) (lap_of list) (session_of list) (activity_of list) (has_stopped list)) (some-or-none (messages_counted 34 messages)) in
-    rw begins (rw is_activity (rw laps (rw sessions (rw activities refl))))
+    let session = session_with (laps_stated (laps_finished lacks messages)) list in
+    let laps = some 19 messages added _ (has-lap lacks (end_time list) (lap_of list) session (activity_of list) (has_stopped list)) (some-lap (messages_counted 19 messages) (messages_counted 18 messages) (count_by is_lap list)) in
+    let sessions = some 18 messages added _ (has-session lacks (end_time list) (lap_of list) session (activity_of list) (has_stopped list)) (some-or-none (messages_counted 18 messages)) in
+    let activities = some 34 messages added _ (has-activity lacks (end_time list) (lap_of list) session (activity_of list) (has_stopped list)) (some-or-none (messages_counted 34 messages)) in
+    let begins = begun lacks.file_id (as_message (file_id_message (start_time list) 0)) (messages ++ added) refl refl
+    (λ not_added.
+    let own = not-false (begins_with_file_id messages) not_added in
+    before-closing messages added own (finishable own)) in
+    accepted (before ++ (messages ++ added)) begins.0 begins.1
+    (still-some 19 before (messages ++ added) laps)
+    (still-some 18 before (messages ++ added) sessions)
+    (still-some 34 before (messages ++ added) activities)

@@ -1,24 +1,28 @@
--- Which closing messages a file lacks, and the items that they are added as.
-use Rattle.std.specs.Prelude.{ℕ, Bool, List, [], ◌∷◌, None, nat_le, count_by, flat_map, ◌==◌, ◌&&◌, ◌||◌, if◌then◌else◌}
+-- Which messages a file lacks at its beginning and at its end, and the items that they are added as.
+use Rattle.std.specs.Prelude.{ℕ, ◌+◌, Bool, false, List, [], ◌∷◌, None, min, not, nat_le, count_by, flat_map, ◌==◌, ◌&&◌, ◌||◌, if◌then◌else◌}
 use Rattle.std.specs.List.{filter}
 use Rattle.fit_grammar.specs.Format.Item.{Item, Defines, Data}
 use Rattle.fit_grammar.specs.Format.Message.{Message}
-use Rattle.fit_activity.specs.Rides.Recording.{Recorded, is_lap}
+use Rattle.fit_activity.specs.Rides.Recording.{Recorded, is_lap, start_time}
 use Rattle.fit_activity.specs.Rides.Timer.{runs_now}
-use Rattle.fit_activity.specs.Files.Activity.{messages_counted}
+use Rattle.fit_activity.specs.Files.Activity.{begins_with_file_id, messages_counted}
+use Rattle.fit_activity.specs.Messages.ProfileField.{as_message}
+use Rattle.fit_activity.specs.Messages.ProfileMessage.{file_id_message}
 use Rattle.fit_activity.specs.Messages.SpokenMessage.{SpokenMessage}
 use Rattle.fit_activity.specs.Messages.MessageBytes.{message_stated}
-use Rattle.fit_activity.specs.Messages.RideMessages.{closing}
+use Rattle.fit_activity.specs.Messages.RideMessages.{closing_with}
 use Rattle.fit_finishing.specs.declared.closing.Lacks.{Lacks}
 
 -- A file lacks the lap that is open if it has no lap; or if it has no session, and each of its laps is in the list.
 abbrev pub lacks_lap : ℕ → ℕ → ℕ → Bool
 lacks_lap laps sessions heard = (laps == 0) || ((sessions == 0) && nat_le laps heard)
 
--- It lacks a stop if its timer runs and it has no session; a session and an activity message if it has none.
+-- It lacks a file_id if its first message is none; a stop if its timer runs and it has no session; a session and an activity message if
+-- it has none.
 abbrev pub lacks_in : List Message → List Recorded → Lacks
 lacks_in messages list =
     record {
+      file_id = not (begins_with_file_id messages);
       stop = runs_now list && (messages_counted 18 messages == 0);
       lap =
           lacks_lap (messages_counted 19 messages) (messages_counted 18 messages) (count_by is_lap list);
@@ -26,16 +30,39 @@ lacks_in messages list =
       activity = messages_counted 34 messages == 0;
     }
 
+-- by its global number: file_id, event, lap, session, activity
 abbrev pub is_lacking : Lacks → Message → Bool
 is_lacking lacks m =
-    if m.global == 21 then lacks.stop
+    if m.global == 0 then lacks.file_id
+    else if m.global == 21 then lacks.stop
     else if m.global == 19 then lacks.lap
     else if m.global == 18 then lacks.session
-    else lacks.activity
+    else if m.global == 34 then lacks.activity
+    else false
 
--- the closing messages of the list without those that the file has
+-- how many laps the finished file has: its own, and the one that is added
+abbrev pub added_lap : Bool → ℕ
+added_lap lap = if lap then 1 else 0
+
+abbrev pub laps_finished : Lacks → List Message → ℕ
+laps_finished lacks messages = messages_counted 19 messages + added_lap lacks.lap
+
+-- their number in a session, which has two bytes for it; 65535 stands for no number
+abbrev pub laps_stated : ℕ → ℕ
+laps_stated laps = min laps 65535
+
+-- the file_id of a recording from the start of the list on, without a serial number
+abbrev pub opening : List Recorded → List Message
+opening list = as_message (file_id_message (start_time list) 0) ∷ []
+
+-- the first message and the closing ones of the list, without those that the file has; the session has the laps of the finished file
+abbrev pub opening_for : List Message → List Recorded → List Message
+opening_for messages list = filter (is_lacking (lacks_in messages list)) (opening list)
+
 abbrev pub closing_for : List Message → List Recorded → List Message
-closing_for messages list = filter (is_lacking (lacks_in messages list)) (closing list)
+closing_for messages list =
+    let lacks = lacks_in messages list in
+    filter (is_lacking lacks) (closing_with (laps_stated (laps_finished lacks messages)) list)
 
 -- a message after its definition, if it is lacking
 abbrev pub with_definition : SpokenMessage → List Item

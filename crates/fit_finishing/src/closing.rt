@@ -1,19 +1,20 @@
-// The closing messages that a file lacks.
+// The messages that a file lacks at its beginning and its end.
 
-ghost use Rattle.std.specs.Prelude.{◌≡◌, List};
+ghost use Rattle.std.specs.Prelude.{◌≡◌, ◌+◌, List};
 ghost use Rattle.fit_grammar.specs.Format.Message.{messages_of};
 ghost use Rattle.fit_activity.specs.Rides.Recording.{Recorded};
 ghost use Rattle.fit_activity.specs.Rides.RunningTotals.{AreTotals};
-ghost use Rattle.fit_activity.specs.Files.Activity.{messages_counted};
+ghost use Rattle.fit_activity.specs.Files.Activity.{begins_with_file_id as file_id_begins, messages_counted};
 ghost use Rattle.fit_activity.specs.Messages.MessageBytes.{message_stated};
-ghost use Rattle.fit_finishing.specs.Lacking.{lacks_in as lacks_of, lacks_lap as open_lap_lacks, is_lacking};
+ghost use Rattle.fit_finishing.specs.Lacking.{added_lap, lacks_in as lacks_of, lacks_lap as open_lap_lacks, is_lacking, laps_finished, laps_stated};
 
 use fit_activity::{SpokenMessage, Totals};
 use fit_grammar::LentFile;
 
-// Which closing messages a file lacks: the event that stops the timer, the open lap, the session, the activity message.
+// Which messages a file lacks: the file_id, the event that stops the timer, the open lap, the session, the activity message.
 #[derive(Clone, Copy)]
 pub(crate) struct Lacks {
+    pub(crate) file_id: bool,
     stop: bool,
     lap: bool,
     session: bool,
@@ -27,11 +28,37 @@ pub(crate) fn lacks_in(file: &LentFile<'_>, totals: &Totals) -> Lacks
 {
     let sessions = count_of(file, 18);
     Lacks {
+        file_id: !begins_with_file_id(file),
         stop: totals.running() && sessions == 0,
         lap: lacks_lap(count_of(file, 19), sessions, u32::from(totals.lap().index)),
         session: sessions == 0,
         activity: count_of(file, 34) == 0,
     }
+}
+
+// Whether the first message of a file is a file_id.
+fn begins_with_file_id(file: &LentFile<'_>) -> bool
+    ensures { result ≡ file_id_begins (messages_of file.now.items) }
+{
+    match file.messages().next() {
+        Some(message) => message.global() == 0,
+        None => false,
+    }
+}
+
+// How many laps the finished file has, as its session states it.
+pub(crate) fn laps_of(file: &LentFile<'_>, lacks: Lacks) -> u16
+    ensures { result ≡ laps_stated (laps_finished lacks (messages_of file.now.items)) }
+{
+    stated_laps(count_of(file, 19), lacks.lap)
+}
+
+// The number of so many laps and of one that is added, in two bytes.
+fn stated_laps(laps: u32, added: bool) -> u16
+    ensures { result ≡ laps_stated (laps + added_lap added) }
+{
+    let laps = laps.min(65_535) as u16;
+    if added { laps.saturating_add(1) } else { laps }
 }
 
 // Whether a file lacks the open lap, if it has so many laps and sessions, and so many of its laps were heard.
@@ -57,15 +84,17 @@ fn count_of(file: &LentFile<'_>, global: u16) -> u32
 }
 
 impl Lacks {
-    // Whether this closing message is one of them.
+    // Whether this message is one of them.
     pub(crate) fn has(self, message: &SpokenMessage) -> bool
         ensures { result ≡ is_lacking self (message_stated message.now) }
     {
         match message.definition().global {
+            0 => self.file_id,
             21 => self.stop,
             19 => self.lap,
             18 => self.session,
-            _ => self.activity,
+            34 => self.activity,
+            _ => false,
         }
     }
 }

@@ -1,6 +1,6 @@
-//! The summary of an activity of any maker: the messages that a recorder would close it with.
+//! What an activity of any maker lacks: a file_id, and the messages that a recorder would close it with.
 //!
-//! `finish` takes a file whose laps, session or activity message are missing. It hears the entries of a ride from the messages, whoever
+//! `Finishing` takes a file whose file_id, laps, session or activity message are missing. It hears the entries of a ride from the messages, whoever
 //! wrote them: samples by the table of fields, the events of the timer, and laps. An entry that a rule refuses is left out and counted.
 //! The totals are those of the list so heard, and the messages those that a recorder writes; what the file has is not written again.
 //!
@@ -17,4 +17,4 @@ mod ride;
 mod sport;
 mod value;
 
-pub use finishing::{FinishFault, Finished, Finishing, finish};
+pub use finishing::{FinishFault, Finishing};

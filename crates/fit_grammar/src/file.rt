@@ -35,7 +35,7 @@ use crate::message::Messages;
 pub use decode::decode_file;
 pub use decoder::Decoder;
 pub use encode::{encode_file, encode_records, header_front};
-pub use extending::encode_extended;
+pub use extending::{encode_extended, encode_file_extended};
 pub use fault::{EncodeFault, FaultKind, FileFault, PutFault};
 pub use frame::Frame;
 pub use header::{Header, read_header_front};

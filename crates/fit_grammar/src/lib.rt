@@ -38,7 +38,8 @@ pub use definition::{
 };
 pub use file::{
     Decoder, EncodeFault, FaultKind, File, FileFault, Frame, Header, LentFile, Places, PutFault,
-    decode_file, encode_extended, encode_file, encode_records, header_front, read_header_front,
+    decode_file, encode_extended, encode_file, encode_file_extended, encode_records, header_front,
+    read_header_front,
 };
 pub use item::{
     DataMessage, FileItem, Item, ItemFault, Items, Step, least_length, longest_front, next_item,

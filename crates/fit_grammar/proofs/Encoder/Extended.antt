@@ -1,13 +1,15 @@
--- A file with more items after its own, as it is written item by item: for `encode_extended` and what it calls.
-use Rattle.std.proofs.Common.{◌≡◌, ℕ, ◌+◌, List, [], ◌∷◌, ◌++◌, length, map, Option, Result, Ok, Err, sym, ap, ◌∙◌, append_assoc, append-nil}
+-- A file with more items around its own, as it is written: for `encode_extended`, `encode_file_extended` and what they call.
+use Rattle.std.proofs.Common.{◌≡◌, ℕ, ◌+◌, List, [], ◌∷◌, ◌++◌, length, map, Option, Result, Ok, Err, sym, ap, ◌∙◌, append_assoc, append-nil, arith}
 use Rattle.std.specs.List.{AllByRecursion}
 use Rattle.std.specs.Result.{IsErr}
 use Rattle.std.proofs.lemmas.Grind.{flat_map-append}
 use Rattle.std.proofs.lemmas.List.Sums.{sum_by-append}
+use Rattle.fit_base.specs.Checksum.{crc}
+use Rattle.fit_base.specs.declared.order.Arch.TheVariants.{Little}
 use Rattle.fit_grammar.specs.declared.file.frame.Frame.{Frame}
 use Rattle.fit_grammar.specs.Format.Item.{Item, item_size}
 use Rattle.fit_grammar.specs.Format.Records.{data_size}
-use Rattle.fit_grammar.specs.Format.Encoding.{encoded_item, encoded_items, encoded_header, with_checksum, encoded, HasEncoding}
+use Rattle.fit_grammar.specs.Format.Encoding.{encoded_item, encoded_items, encoded_header, two_bytes, with_checksum, encoded, HasEncoding}
 use Rattle.fit_grammar.specs.Format.File.{FileValue}
 use Rattle.fit_grammar.specs.Calls.Extended.{with_items}
 use Rattle.fit_grammar.specs.Calls.LentItem.{LentItem, item_lent}
@@ -66,13 +68,34 @@ items_all items o n before after left none w =
     checked_same (checked_ok w.written) (ap encoded_items all)
 
 -- the parts that are written one after another
-pub extended_whole : (v : FileValue) (frame : Frame) (size : ℕ) (more : List ℕ) (items : List Item)
-    → frame ≡ v.frame → size ≡ data_size v.items + length more → more ≡ encoded_items items
-    → with_checksum (encoded_header frame size ++ (encoded_items v.items ++ more)) ≡ encoded (with_items v items)
-extended_whole v frame size more items frame_is size_is more_is =
-    let whole : size ≡ data_size (v.items ++ items) =
-    size_is ∙ ap (λ (n : ℕ). data_size v.items + n) (ap length more_is ∙ encoded_items-length items) ∙ sym (sum_by-append item_size v.items items) in
-    ap (λ (f : Frame). with_checksum (encoded_header f size ++ (encoded_items v.items ++ more))) frame_is
-    ∙ ap (λ (n : ℕ). with_checksum (encoded_header v.frame n ++ (encoded_items v.items ++ more))) whole
-    ∙ ap (λ (l : List ℕ). with_checksum (encoded_header v.frame (data_size (v.items ++ items)) ++ (encoded_items v.items ++ l))) more_is
-    ∙ ap (λ (l : List ℕ). with_checksum (encoded_header v.frame (data_size (v.items ++ items)) ++ l)) (joined v.items items)
+pub extended_whole : (v : FileValue) (frame : Frame) (size : ℕ) (before after : List ℕ) (first last : List Item)
+    → frame ≡ v.frame → size ≡ length before + data_size v.items + length after → before ≡ encoded_items first → after ≡ encoded_items last
+    → (encoded_header frame size ++ before)
+    ++ (encoded_items v.items ++ (after ++ two_bytes Little (crc (((encoded_header frame size ++ before) ++ encoded_items v.items) ++ after))))
+    ≡ encoded (with_items first v last)
+extended_whole v frame size before after first last frame_is size_is before_is after_is =
+    let header = encoded_header frame size in
+    let own = encoded_items v.items in
+    let items = first ++ (v.items ++ last) in
+    let closing = two_bytes Little (crc (((header ++ before) ++ own) ++ after)) in
+    let whole : size ≡ data_size items =
+    omega (
+      arith,
+      size_is,
+      ap length before_is,
+      ap length after_is,
+      encoded_items-length first,
+      encoded_items-length last,
+      sum_by-append item_size first (v.items ++ last),
+      sum_by-append item_size v.items last,
+    ) in
+    let body : ((header ++ before) ++ own) ++ after ≡ encoded_header v.frame (data_size items) ++ encoded_items items =
+    append_assoc (header ++ before) own after ∙ append_assoc header before (own ++ after)
+    ∙ ap (λ (f : Frame). encoded_header f size ++ (before ++ (own ++ after))) frame_is
+    ∙ ap (λ (n : ℕ). encoded_header v.frame n ++ (before ++ (own ++ after))) whole
+    ∙ ap (λ (l : List ℕ). encoded_header v.frame (data_size items) ++ (l ++ (own ++ after))) before_is
+    ∙ ap (λ (l : List ℕ). encoded_header v.frame (data_size items) ++ (encoded_items first ++ (own ++ l))) after_is
+    ∙ ap (λ (l : List ℕ). encoded_header v.frame (data_size items) ++ (encoded_items first ++ l)) (joined v.items last)
+    ∙ ap (λ (l : List ℕ). encoded_header v.frame (data_size items) ++ l) (joined first (v.items ++ last)) in
+    sym (append_assoc (header ++ before) own (after ++ closing)) ∙ sym (append_assoc ((header ++ before) ++ own) after closing)
+    ∙ ap with_checksum body

@@ -1,4 +1,6 @@
-use Rattle.std.proofs.Common.{arith}
+use Rattle.std.proofs.Common.{ap, arith}
+use Rattle.fit_grammar.proofs.Encoder.Output.{writes_same}
+use Rattle.fit_files.specs.Printed.Finished.{finished_lines}
 use Rattle.fit_commands.proofs.finish.finish_file.Goals as goal
 
 pub returns-in-Ok-clause-finished : goal.returns-in-Ok-clause-finished
@@ -9,5 +11,5 @@ returns-in-Ok-clause-finished g c = (
   c.in_ok-salvage.ensures.found,
   c.in_ok-finished.finished,
   c.in_ok-finished.ensures.finished,
-  c.in-Ok.ensures.lines.all,
+  (writes_same c.in-Ok.ensures.lines (ap (λ heard. finished_lines c.in_ok-salvage.salvage heard) c.heard_in.ensures)).all,
 )

@@ -1,4 +1,6 @@
-use Rattle.std.proofs.Common.{arith}
+use Rattle.std.proofs.Common.{ap, arith}
+use Rattle.fit_grammar.proofs.Encoder.Output.{writes_same}
+use Rattle.fit_files.specs.Printed.Finished.{finished_mended_lines}
 use Rattle.fit_commands.proofs.skip.finish_skipped_file.Goals as goal
 
 pub returns-in-Ok-clause-finished : goal.returns-in-Ok-clause-finished
@@ -11,5 +13,5 @@ returns-in-Ok-clause-finished g c = (
   record { frame = c.salvage-salvage.ensures.frame; row = c.salvage-salvage.ensures.row },
   c.in_ok-finished.finished,
   c.in_ok-finished.ensures.finished,
-  c.in-Ok.ensures.lines.all,
+  (writes_same c.in-Ok.ensures.lines (ap (λ heard. finished_mended_lines c.in_ok-mended.mended heard) c.heard_in.ensures)).all,
 )

@@ -4,7 +4,7 @@ use Rattle.fit_files.specs.Printed.Finished.{heard_text}
 use Rattle.fit_files.proofs.finished.print_finished.Goals as goal
 
 pub returns-in_err-print-clause-lines : goal.returns-in_err-print-clause-lines
-returns-in_err-print-clause-lines g c = stops_before c.from_residual.ensures.0 c.in_err-print.ensures.line (heard_text c.args.taken c.args.left_out ++ codes "\n")
+returns-in_err-print-clause-lines g c = stops_before c.from_residual.ensures.0 c.in_err-print.ensures.line (heard_text c.args.heard ++ codes "\n")
 
 pub returns-clause-lines : goal.returns-clause-lines
 returns-clause-lines g c = then_writes c.in_ok-print.ensures.line c.print_line.ensures.line

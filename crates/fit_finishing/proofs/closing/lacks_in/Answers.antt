@@ -1,9 +1,9 @@
 use Rattle.std.proofs.Common.{◌≡◌, ap, sym, ◌∙◌}
-use Rattle.std.specs.Prelude.{◌==◌, ◌&&◌, count_by}
+use Rattle.std.specs.Prelude.{◌==◌, ◌&&◌, not, count_by}
 use Rattle.fit_grammar.specs.Format.Message.{messages_of}
 use Rattle.fit_activity.specs.Rides.Recording.{is_lap}
 use Rattle.fit_activity.specs.Rides.Timer.{runs_now}
-use Rattle.fit_activity.specs.Files.Activity.{messages_counted}
+use Rattle.fit_activity.specs.Files.Activity.{begins_with_file_id, messages_counted}
 use Rattle.fit_finishing.specs.Lacking.{lacks_lap}
 use Rattle.fit_finishing.proofs.closing.lacks_in.Goals as goal
 use Rattle.fit_finishing.proofs.closing.lacks_in.Goals.{then-running, else-running}
@@ -23,5 +23,6 @@ returns c = λ list are.
     ∙ ap (λ n. lacks_lap laps n c.from.result) c.count_of-sessions.ensures
     ∙ ap (lacks_lap laps sessions) (c.from.ensures ∙ ap (λ lap. lap.index) (c.lap.ensures list are)) in
     let session : (c.count_of-sessions.result == 0) ≡ (messages_counted 18 messages == 0) = ap (λ n. n == 0) c.count_of-sessions.ensures in
+    let file_id : not c.begins_with_file_id.result ≡ not (begins_with_file_id messages) = ap not c.begins_with_file_id.ensures in
     let activity : (c.count_of-2.result == 0) ≡ (messages_counted 34 messages == 0) = ap (λ n. n == 0) c.count_of-2.ensures in
     cc

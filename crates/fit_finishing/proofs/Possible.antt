@@ -1,0 +1,205 @@
+-- A finished file is a file: what is added to it fits into its bytes, and each message comes after its definition.
+use Rattle.std.proofs.Common.{◌≡◌, ℕ, ◌+◌, ◌<◌, ◌≤◌, ◌^◌, Bool, true, false, cond, List, [], ◌∷◌, ◌++◌, length, map, None, sym, subst, arith, append_assoc, append-nil}
+use Rattle.std.specs.Prelude.{zero, suc, flat_map, IsSomeAnd}
+use Rattle.std.specs.Int.{byte_at, bytes_low_first}
+use Rattle.std.specs.List.{AllByRecursion}
+use Rattle.std.proofs.lemmas.List.{length-map}
+use Rattle.std.proofs.lemmas.List.Sums.{sum_by-append}
+use Rattle.fit_base.specs.declared.base.BaseType.{BaseType}
+use Rattle.fit_base.specs.declared.base.BaseType.TheVariants.{Enum, Sint8, Uint8, Sint16, Uint16, Sint32, Uint32, String, Float32, Float64, Uint8z, Uint16z, Uint32z, Byte, Sint64, Uint64, Uint64z}
+use Rattle.fit_base.specs.Base.{row_of}
+use Rattle.fit_grammar.specs.declared.definition.FieldDefinition.{FieldDefinition}
+use Rattle.fit_grammar.specs.Format.Item.{Item, Defines, Data, content_size, item_size}
+use Rattle.fit_grammar.specs.Format.Records.{data_size}
+use Rattle.fit_grammar.specs.Format.File.{FileValue}
+use Rattle.fit_grammar.specs.Calls.Extended.{with_items}
+use Rattle.fit_grammar.specs.Calls.Possible.{FieldFits, DefinitionFits, CanFollow, AllCanFollow, CanBeFile}
+use Rattle.fit_grammar.proofs.KeptRow.InForce.{in_force-defines}
+use Rattle.fit_activity.specs.Rides.Recording.{Recorded}
+use Rattle.fit_activity.specs.Rides.Refusal.{has_stopped}
+use Rattle.fit_activity.specs.Rides.Stretch.{end_time, lap_of, activity_of}
+use Rattle.fit_activity.specs.Messages.SpokenMessage.{SpokenMessage}
+use Rattle.fit_activity.specs.Messages.ProfileField.{ProfileMessage, field_definition, field_content}
+use Rattle.fit_activity.specs.Messages.ProfileMessage.{file_id_message, event_message, stop_all_type, lap_message, session_end, session_message, activity_message}
+use Rattle.fit_activity.specs.declared.totals.summary.LapSummary.{LapSummary}
+use Rattle.fit_activity.specs.declared.totals.summary.SessionSummary.{SessionSummary}
+use Rattle.fit_activity.specs.declared.totals.summary.ActivitySummary.{ActivitySummary}
+use Rattle.fit_activity.specs.Messages.MessageBytes.{spelled, message_stated, IsWhole}
+use Rattle.fit_activity.specs.Messages.RideMessages.{closing_messages_of, closing_profile_messages_with, session_with}
+use Rattle.fit_finishing.specs.declared.closing.Lacks.{Lacks}
+use Rattle.fit_finishing.specs.Lacking.{is_lacking, with_definition, added_items}
+use Rattle.fit_finishing.specs.Finished.{HasLocal}
+use Rattle.fit_finishing.proofs.Added.{still-in_force}
+
+-- ---- a spelled message fits
+
+pub record FitsMessage (m : SpokenMessage) : Type 0 where
+  pub local : m.definition.local < 16
+  pub definition : DefinitionFits m.definition
+  pub content : AllByRecursion (λ byte. byte < 256) m.content
+
+byte-below : (i n : ℕ) → byte_at i n < 256
+byte-below zero n = omega arith
+byte-below (suc i) n = omega arith
+
+bytes-below : (i k n : ℕ) → AllByRecursion (λ byte. byte < 256) (bytes_low_first i k n)
+bytes-below i zero n = tt
+bytes-below i (suc k) n = (byte-below i n, bytes-below (suc i) k n)
+
+both-below : (xs ys : List ℕ) → AllByRecursion (λ byte. byte < 256) xs → AllByRecursion (λ byte. byte < 256) ys
+    → AllByRecursion (λ byte. byte < 256) (xs ++ ys)
+both-below [] ys a b = b
+both-below (x ∷ xs) ys a b = (a.0, both-below xs ys a.1 b)
+
+content-below : {A : Type 0} (content : A → List ℕ) → ((x : A) → AllByRecursion (λ byte. byte < 256) (content x)) → (fields : List A)
+    → AllByRecursion (λ byte. byte < 256) (flat_map content fields)
+content-below content each [] = tt
+content-below content each (field ∷ fields) =
+    both-below (content field) (flat_map content fields) (each field) (content-below content each fields)
+
+record BaseFits (base : BaseType) : Type 0 where
+  size : (row_of base).size < 256
+  code : (row_of base).code < 256
+
+base-fits : (base : BaseType) → BaseFits base
+base-fits Enum = record { size = omega arith; code = omega arith }
+base-fits Sint8 = record { size = omega arith; code = omega arith }
+base-fits Uint8 = record { size = omega arith; code = omega arith }
+base-fits Sint16 = record { size = omega arith; code = omega arith }
+base-fits Uint16 = record { size = omega arith; code = omega arith }
+base-fits Sint32 = record { size = omega arith; code = omega arith }
+base-fits Uint32 = record { size = omega arith; code = omega arith }
+base-fits String = record { size = omega arith; code = omega arith }
+base-fits Float32 = record { size = omega arith; code = omega arith }
+base-fits Float64 = record { size = omega arith; code = omega arith }
+base-fits Uint8z = record { size = omega arith; code = omega arith }
+base-fits Uint16z = record { size = omega arith; code = omega arith }
+base-fits Uint32z = record { size = omega arith; code = omega arith }
+base-fits Byte = record { size = omega arith; code = omega arith }
+base-fits Sint64 = record { size = omega arith; code = omega arith }
+base-fits Uint64 = record { size = omega arith; code = omega arith }
+base-fits Uint64z = record { size = omega arith; code = omega arith }
+
+fields-fit : {A : Type 0} (definition : A → FieldDefinition) (number : A → ℕ) → ((x : A) → number x < 256 → FieldFits (definition x))
+    → (fields : List A) → AllByRecursion (λ x. number x < 256) fields → AllByRecursion FieldFits (map definition fields)
+fields-fit definition number each [] are = tt
+fields-fit definition number each (field ∷ fields) are = (each field are.0, fields-fit definition number each fields are.1)
+
+-- each field has a number of one byte
+abbrev AreNumbered : ProfileMessage → Type 0
+AreNumbered m = AllByRecursion (λ field. field.number < 256) m.fields
+
+fits-spelled : (m : ProfileMessage) → m.local < 16 → m.global < 65536 → length m.fields < 256 → AreNumbered m → FitsMessage (spelled m)
+fits-spelled m local global few are = record {
+  local = local;
+  definition = record {
+    global = global;
+    count = omega (arith, few, length-map m.fields field_definition);
+    fields = fields-fit field_definition (λ field. field.number)
+        (λ field is.
+        let base = base-fits field.base in
+        record { number = is; size = base.size; base = base.code })
+        m.fields are;
+    developer_count = omega arith;
+    developer = tt;
+  };
+  content = content-below field_content (λ field. bytes-below 0 (row_of field.base).size field.value) m.fields;
+}
+
+pub opening-fits : (time serial : ℕ) → AllByRecursion FitsMessage (spelled (file_id_message time serial) ∷ [])
+opening-fits time serial =
+    (fits-spelled (file_id_message time serial) (omega arith) (omega arith) (omega arith) (omega arith, (omega arith, (omega arith, (omega arith, (omega arith, tt))))), tt)
+
+pub closing-fits : (laps : ℕ) (list : List Recorded) → AllByRecursion FitsMessage (map spelled (closing_profile_messages_with laps list))
+closing-fits laps list = go (has_stopped list)
+  where
+    event : (time : ℕ) → FitsMessage (spelled (event_message time stop_all_type))
+    event time = fits-spelled (event_message time stop_all_type) (omega arith) (omega arith) (omega arith) (omega arith, (omega arith, (omega arith, tt)))
+
+    lap : (l : LapSummary) → FitsMessage (spelled (lap_message l session_end))
+    lap l = fits-spelled (lap_message l session_end) (omega arith) (omega arith) (omega arith)
+        (omega arith, (omega arith, (omega arith, (omega arith, (omega arith, (omega arith, (omega arith, (omega arith, (omega arith, (omega arith, (omega arith, (omega arith, (omega arith, (omega arith, (omega arith, tt)))))))))))))))
+
+    session : (s : SessionSummary) → FitsMessage (spelled (session_message s))
+    session s = fits-spelled (session_message s) (omega arith) (omega arith) (omega arith)
+        (omega arith, (omega arith, (omega arith, (omega arith, (omega arith, (omega arith, (omega arith, (omega arith, (omega arith, (omega arith, (omega arith, (omega arith, (omega arith, (omega arith, (omega arith, (omega arith, (omega arith, (omega arith, (omega arith, tt)))))))))))))))))))
+
+    activity : (a : ActivitySummary) → FitsMessage (spelled (activity_message a))
+    activity a = fits-spelled (activity_message a) (omega arith) (omega arith) (omega arith) (omega arith, (omega arith, (omega arith, (omega arith, (omega arith, (omega arith, tt))))))
+
+    go : (stopped : Bool)
+        → AllByRecursion FitsMessage (map spelled (closing_messages_of stopped (end_time list) (lap_of list) (session_with laps list) (activity_of list)))
+    go true = (lap (lap_of list), (session (session_with laps list), (activity (activity_of list), tt)))
+    go false = (event (end_time list), (lap (lap_of list), (session (session_with laps list), (activity (activity_of list), tt))))
+
+pub fits-local : (speech : List SpokenMessage) → AllByRecursion FitsMessage speech → AllByRecursion HasLocal speech
+fits-local [] fit = tt
+fits-local (m ∷ speech) fit = (fit.0.local, fits-local speech fit.1)
+
+-- ---- what is added can stand where it is added
+
+pub added-follow : (lacks : Lacks) (before : List Item) (speech : List SpokenMessage) → AllByRecursion FitsMessage speech
+    → AllByRecursion IsWhole speech → AllCanFollow before (added_items lacks speech)
+added-follow lacks before [] fit whole = tt
+added-follow lacks before (m ∷ speech) fit whole =
+    go (is_lacking lacks (message_stated m)) (λ others. added-follow lacks others speech fit.1 whole.1)
+  where
+    go : (b : Bool) → ((others : List Item) → AllCanFollow others (added_items lacks speech))
+        → AllCanFollow before (cond b (with_definition m) [] ++ added_items lacks speech)
+    go false rest = rest before
+    go true rest =
+        let defines : Item = Defines m.definition in
+        let message : Item = Data m.definition.local None m.content in (
+          record { encodable = fit.0.local; fits = fit.0.definition; defined = tt },
+          (
+            record {
+              encodable = fit.0.local;
+              fits = fit.0.content;
+              defined = subst (λ o. IsSomeAnd o (λ d. content_size d ≡ length m.content)) (sym (in_force-defines before m.definition)) whole.0;
+            },
+            rest ((before ++ defines ∷ []) ++ message ∷ []),
+          ),
+        )
+
+-- items after others
+more-follow : (first before items : List Item) → AllCanFollow before items → AllCanFollow (first ++ before) items
+more-follow first before [] can = tt
+more-follow first before (item ∷ items) can = (
+  one item can.0,
+  subst (λ (l : List Item). AllCanFollow l items) (sym (append_assoc first before (item ∷ []))) (more-follow first (before ++ item ∷ []) items can.1),
+)
+  where
+    one : (item : Item) → CanFollow before item → CanFollow (first ++ before) item
+    one (Defines d) is = record { encodable = is.encodable; fits = is.fits; defined = tt }
+    one (Data local offset content) is = record {
+      encodable = is.encodable;
+      fits = is.fits;
+      defined = subst (λ o. IsSomeAnd o (λ d. content_size d ≡ length content)) (sym (still-in_force (λ d. content_size d ≡ length content) first before local is.defined)) is.defined;
+    }
+
+joined-follow : (before items more : List Item) → AllCanFollow before items → AllCanFollow (before ++ items) more → AllCanFollow before (items ++ more)
+joined-follow before [] more own others = subst (λ (l : List Item). AllCanFollow l more) (append-nil before) others
+joined-follow before (item ∷ items) more own others =
+    (own.0, joined-follow (before ++ item ∷ []) items more own.1 (subst (λ (l : List Item). AllCanFollow l more) (sym (append_assoc before (item ∷ []) items)) others))
+
+-- the items of the file and those after it
+pub closed-follow : (lacks : Lacks) (items : List Item) (closing : List SpokenMessage) → AllCanFollow [] items → AllByRecursion FitsMessage closing
+    → AllByRecursion IsWhole closing → AllCanFollow [] (items ++ added_items lacks closing)
+closed-follow lacks items closing own fit whole =
+    joined-follow [] items (added_items lacks closing) own (added-follow lacks items closing fit whole)
+
+pub possible : (v : FileValue) (lacks : Lacks) (opening closing : List SpokenMessage) → CanBeFile v
+    → AllByRecursion FitsMessage opening → AllByRecursion IsWhole opening → AllByRecursion FitsMessage closing → AllByRecursion IsWhole closing
+    → data_size (added_items lacks opening) ≤ 35 → data_size (added_items lacks closing) ≤ 252 → data_size v.items + 35 + 252 < 2 ^ 32
+    → CanBeFile (with_items (added_items lacks opening) v (added_items lacks closing))
+possible v lacks opening closing is opening-fit opening-whole closing-fit closing-whole few more room =
+    let first = added_items lacks opening in
+    let last = added_items lacks closing in
+    record {
+      is_frame = is.is_frame;
+      frame_fits = is.frame_fits;
+      items_follow = joined-follow [] first (v.items ++ last) (added-follow lacks [] opening opening-fit opening-whole)
+          (subst (λ (l : List Item). AllCanFollow l (v.items ++ last)) (append-nil first)
+          (more-follow first [] (v.items ++ last) (closed-follow lacks v.items closing is.items_follow closing-fit closing-whole)));
+      bound = omega (arith, few, more, room, sum_by-append item_size first (v.items ++ last), sum_by-append item_size v.items last);
+    }
