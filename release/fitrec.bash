@@ -16,7 +16,7 @@ _fitrec() {
         save) options='--earlier --help' ;;
         repair) options='--verify --help' ;;
         salvage) options='--all --skip --plain --finish --help' ;;
-        split) options='--help' ;;
+        split) options='--all --help' ;;
         plain) options='--help' ;;
         simulate) options='--checked --choices --help' ;;
         version) options='--help' ;;

@@ -31,8 +31,11 @@ uint32_t fitrec_version(void);
 /* A number of a summary that is not there. */
 #define FITREC_ABSENT UINT32_MAX
 
-/* How many bytes a repair may add to a data file, and fitrec_finish to a file. */
+/* How many bytes a repair may add to a data file. */
 #define FITREC_CLOSING_ROOM 254
+
+/* How many bytes fitrec_finish may add to a file. */
+#define FITREC_FINISH_ROOM 287
 
 /* How many bytes a salvage may add to a file. */
 #define FITREC_FRAME_ROOM 16
@@ -217,18 +220,17 @@ struct fitrec_finish_counts {
     uint64_t left_out; /* those that a rule refused */
 };
 
-/* Adds the closing messages that an activity of any maker lacks: the stop of the timer, the last lap, the session and the activity message
-   that a recorder would write after its samples, laps and events of the timer. What the file has stays as it is. A file that is cut off or
-   damaged has to be salvaged first.
+/* Adds what an activity of any maker lacks: the stop of the timer, the last lap, the session and the activity message that a recorder would
+   write after its samples, laps and events of the timer; and if its first message is no file_id, one before it. What the file has stays as
+   it is. A file that is cut off or damaged has to be salvaged first.
 
    bytes, size   the file
-   out, out_size the buffer of the new file; size + FITREC_CLOSING_ROOM bytes are enough
+   out, out_size the buffer of the new file; size + FITREC_FINISH_ROOM bytes are enough
    out_len       how many bytes the new file has, after 0 and FITREC_FINISH_NO_ROOM
    counts        is filled after 0 and FITREC_FINISH_NO_ROOM
    fault_place   the place of the fault, after 1 to 9
 
-   Answers 0, one of 1 to 9 above, FITREC_NO_FILE_ID, FITREC_NOT_ACTIVITY, or one of these. After FITREC_FINISH_NO_ROOM the bytes of out may
-   have changed. */
+   Answers 0, one of 1 to 9 above, FITREC_NOT_ACTIVITY, or one of these. After FITREC_FINISH_NO_ROOM the bytes of out may have changed. */
 enum {
     FITREC_FINISHED = 0,
     FITREC_FINISH_NO_ROOM = 20,  /* the new file has no room in out */
@@ -363,7 +365,7 @@ struct fitrec_plan {
 /* A recorder. Before fitrec_start the host sets data_size to the length of activity.fit. The other numbers are the library's. */
 struct fitrec_recorder {
     uint64_t data_size;
-    uint64_t numbers[188];
+    uint64_t numbers[190];
 };
 
 /* A recovery, a reopening or an erasing that reads the files by windows. */
@@ -376,7 +378,7 @@ struct fitrec_recovery {
     uint16_t count;
     uint16_t filled;       /* how many bytes you read into the window */
     uint8_t window[512];
-    uint64_t numbers[224]; /* the library's own */
+    uint64_t numbers[226]; /* the library's own */
 };
 
 /* The values of the sensors at one time. A sensor without a value has the greatest number of its type, such as UINT16_MAX. A device gives
