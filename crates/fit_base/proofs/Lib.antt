@@ -2,7 +2,6 @@
 pub mod Register
 mod Blocks
 mod Entries
-mod Entries32
 pub mod Sums
 pub mod Numbers
 mod Powers

@@ -12,6 +12,6 @@ returns-then-zeros-eq0 c =
 
 pub returns-else-zeros-eq0 : goal.returns-else-zeros-eq0
 returns-else-zeros-eq0 c =
-    let more : 8 * (c.args.zeros - 1 + 2) ≡ 8 * suc c.args.zeros = omega (arith, c.if-zeros-eq0.false) in
+    let more : 8 + 8 * suc (c.args.zeros - 1) ≡ 8 * suc c.args.zeros = omega (arith, c.if-zeros-eq0.false) in
     get_or-LATER _ (c.args.zeros - 1) c.args.byte (omega (arith, c.requires, c.if-zeros-eq0.false)) (omega arith)
     ∙ ap (λ (n : ℕ). shifts fit_polynomial n c.args.byte) more ∙ sym (crc-zeros c.args.byte c.args.zeros (omega arith))

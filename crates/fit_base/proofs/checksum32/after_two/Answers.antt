@@ -1,5 +1,5 @@
 use Rattle.std.proofs.Common.{arith, refl}
-use Rattle.fit_base.proofs.Entries32.{by_halves}
+use Rattle.fit_base.proofs.Entries.{by_halves}
 use Rattle.fit_base.proofs.checksum32.after_two.Goals as goal
 
 pub returns : goal.returns
