@@ -37,8 +37,9 @@ impl Recovery {
         numbers.time = self.reader.time;
         numbers.at = self.reader.at;
         numbers.len = self.reader.len;
-        numbers.checksum = self.reader.checksums.file.value();
-        numbers.crc32 = self.reader.checksums.stated.value();
+        let checksums = self.reader.checksums();
+        numbers.checksum = checksums.file.value();
+        numbers.crc32 = checksums.stated.value();
         self.reader.table.freeze(&mut numbers.definitions);
         self.replay.freeze(&mut numbers.heard);
         numbers.journal = self.journal.freeze();
@@ -62,7 +63,8 @@ impl Recovery {
         self.reader.at = 0; // At each moment the place is within the body.
         self.reader.len = numbers.len;
         self.reader.at = numbers.at;
-        self.reader.checksums = Checksums {
+        self.reader.from = 0;
+        self.reader.summed = Checksums {
             file: Crc::with_value(numbers.checksum),
             stated: Crc32::with_value(numbers.crc32),
         };
