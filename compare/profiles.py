@@ -61,7 +61,7 @@ def of_what_is_made():
     """The program's table is made of this one."""
     with tempfile.TemporaryDirectory() as folder:
         run(ROOT / "crates/fit_profile/make", folder)
-        for name in "src/table.rt", "specs/Table.antt":
+        for name in "src/table.rt", "specs/Table.antt", "src/known.rt", "specs/Known.antt":
             made, kept = pathlib.Path(folder, name).read_text(), (ROOT / "crates/fit_profile" / name).read_text()
             yield "made from the table", differs(laid_out(kept), laid_out(made), name)
 

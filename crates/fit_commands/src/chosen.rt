@@ -3,8 +3,8 @@
 ghost use Rattle.std.specs.Prelude.{◌≤◌, length};
 
 use arrayvec::ArrayVec;
-use fit_profile::fields_of;
-use fit_table::{Layout, field_of_word, message_of_word, usual_fields};
+use fit_profile::{fields_of, usual_fields};
+use fit_table::{Layout, field_of_word, message_of_word};
 use fit_words::TableForm;
 
 // The most columns of a table.

@@ -1,10 +1,10 @@
 -- Values in units, by the cases that the code distinguishes: for `json/number`, `json/member` and `json/known`.
-use Rattle.std.proofs.Common.{◌≡◌, ◌≢◌, ℕ, ◌+◌, ◌-◌, Bool, false, List, [], ◌∷◌, ◌++◌, ◌⊎◌, inl, inr, eq-zero-or-pos, length, get_or, append_assoc, refl, sym, ap, ◌∙◌, codes, Option, Some, None, arith}
+use Rattle.std.proofs.Common.{◌≡◌, ◌≢◌, ℕ, ◌+◌, ◌-◌, Bool, true, false, List, [], ◌∷◌, ◌++◌, ◌⊎◌, inl, inr, eq-zero-or-pos, length, get_or, append_assoc, refl, sym, ap, ◌∙◌, codes, Option, Some, None, arith}
 use Rattle.std.proofs.lemmas.Bool.{cases_lt}
 use Rattle.std.proofs.lemmas.List.{get_or-set_same, get_or-set_other, get_or_past, get_or-replicate, length-replicate, length-set}
 use lib.ListN.{replicate}
 use Rattle.std.specs.List.{join_by}
-use Rattle.std.specs.Prelude.{option_map, slice_set}
+use Rattle.std.specs.Prelude.{slice_set}
 use Rattle.fit_base.specs.declared.order.Arch.{Arch}
 use Rattle.fit_base.specs.declared.base.BaseType.{BaseType}
 use Rattle.fit_base.specs.Base.{base_type}
@@ -12,12 +12,13 @@ use Rattle.fit_base.specs.Value.{numbers}
 use Rattle.fit_grammar.specs.Format.Message.{MessageField}
 use Rattle.fit_text.specs.Json.{quoted}
 use Rattle.fit_text.specs.Members.{separator}
-use Rattle.fit_text.specs.Text.{named}
+use Rattle.fit_profile.specs.Facts.{FieldFacts}
+use Rattle.fit_profile.specs.Row.{row_by}
 use Rattle.fit_table.specs.declared.json.known.Found.{Found}
-use Rattle.fit_table.specs.declared.json.words.Words.{Words}
 use Rattle.fit_table.specs.declared.unit.Unit.{Unit as AnyUnit}
-use Rattle.fit_table.specs.Json.{are_in_units, unit_for, field_unit, number_json, numbers_json, values_in, field_title, field_json, AreWordsOf, AreKnown}
-use Rattle.fit_table.specs.Unit.{shown_by, suffix_of}
+use Rattle.fit_table.specs.Json.{are_in_units, unit_for, field_unit, number_json, numbers_json, values_in, field_title, field_json, IsRowOf, AreKnown}
+use Rattle.fit_table.specs.Table.{name_by}
+use Rattle.fit_table.specs.Unit.{end_of, shown_by, suffix_of, unit_of}
 
 -- ---- rows of numbers
 
@@ -44,18 +45,17 @@ member_parts : (first : Bool) (title values : List ℕ) →
     (separator first ++ codes "\"") ++ (title ++ (codes "\":" ++ values)) ≡ separator first ++ ((quoted title ++ codes ":") ++ values)
 member_parts first title values = simp append_assoc
 
-pub field_parts : (utc first : Bool) (message : ℕ) (field : MessageField) (words : Words) (in_units : Bool) (unit : AnyUnit) →
-    AreWordsOf message field.number words → in_units ≡ are_in_units (base_type field.base) field.values
-    → unit ≡ unit_for in_units (shown_by false utc words.unit) →
+pub field_parts : (utc first : Bool) (message : ℕ) (field : MessageField) (row : Option FieldFacts) (in_units : Bool) (own unit : AnyUnit) →
+    row ≡ row_by true message field.number → in_units ≡ are_in_units (base_type field.base) field.values
+    → own ≡ unit_of row → unit ≡ unit_for in_units (shown_by false utc own) →
     (separator first ++ codes "\"")
-    ++ ((named (option_map (λ name. name.now) words.name) (codes "field_") field.number ++ suffix_of words.end.now unit)
-    ++ (codes "\":" ++ values_in unit (base_type field.base) field.values))
+    ++ ((name_by row field.number ++ suffix_of (end_of row) unit) ++ (codes "\":" ++ values_in unit (base_type field.base) field.values))
     ≡ separator first ++ field_json utc message field
-field_parts utc first message field words in_units unit h known is =
-    let own : unit ≡ field_unit utc message field =
-    is ∙ ap (λ (it : Bool). unit_for it (shown_by false utc words.unit)) known
-    ∙ ap (λ u. unit_for (are_in_units (base_type field.base) field.values) (shown_by false utc u)) h.unit in
-    rw (own, h.name, h.end) (member_parts first (field_title utc message field) (values_in (field_unit utc message field) (base_type field.base) field.values))
+field_parts utc first message field row in_units own unit h known scale is =
+    let whole : unit ≡ field_unit utc message field =
+    is ∙ ap (λ (it : Bool). unit_for it (shown_by false utc own)) known
+    ∙ ap (λ u. unit_for (are_in_units (base_type field.base) field.values) (shown_by false utc u)) (scale ∙ ap unit_of h) in
+    rw (whole, h) (member_parts first (field_title utc message field) (values_in (field_unit utc message field) (base_type field.base) field.values))
 
 -- ---- what was looked up
 
@@ -76,7 +76,7 @@ same_or_not a b =
 
 -- with one more
 pub known_more : (places : List (Option Found)) (k : ℕ) (found : Found) → AreKnown places →
-    AreWordsOf found.message found.number found.words → AreKnown (slice_set places k (Some found))
+    IsRowOf found.message found.number found.row → AreKnown (slice_set places k (Some found))
 known_more places k found h is at =
     elim (same_or_not at k) [
       | inl here ↦ elim (cases_lt k (length places)) [

@@ -1,5 +1,6 @@
 -- A file as JSON in the names and the units of the Profile. Each field is named and written as its column in a table is.
 use Rattle.std.specs.Prelude.{◌≡◌, ℕ, ℤ, pos, negsuc, Bool, true, false, List, [], ◌∷◌, ◌++◌, Option, Some, None, IfSome, slice_index_or, codes, option_map, nat_le, ◌==◌, ◌&&◌, if◌then◌else◌}
+use Rattle.std.specs.Borrow.{Bor}
 use Rattle.std.specs.List.{join_by}
 use Rattle.fit_base.specs.declared.base.BaseType.{BaseType}
 use Rattle.fit_base.specs.declared.base.BaseType.TheVariants.{Byte}
@@ -11,16 +12,15 @@ use Rattle.fit_grammar.specs.Format.File.{FileValue}
 use Rattle.fit_text.specs.Date.{date_text}
 use Rattle.fit_text.specs.Form.{lines_of}
 use Rattle.fit_text.specs.Json.{quoted, string_json, values_json, developer_key, developer_json, line_json, header_json, count_json}
-use Rattle.fit_text.specs.Text.{named}
 use Rattle.fit_profile.specs.declared.scale.Scale.{Scale}
 use Rattle.fit_profile.specs.declared.scale.Scale.TheVariants.{Whole as AsItIs}
-use Rattle.fit_profile.specs.Facts.{row_in}
-use Rattle.fit_profile.specs.Table.{fields_at, message_named}
+use Rattle.fit_profile.specs.Facts.{facts_of}
+use Rattle.fit_profile.specs.Row.{row_by}
+use Rattle.fit_profile.specs.Table.{message_named}
 use Rattle.fit_columns.specs.Columns.{is_whole}
 use Rattle.fit_table.specs.declared.unit.Unit.{Unit as AnyUnit}
-use Rattle.fit_table.specs.declared.unit.Unit.TheVariants.{Whole, Date, Degrees, Height, Metres, Seconds, Speed, Scaled, Stated}
+use Rattle.fit_table.specs.declared.unit.Unit.TheVariants.{Whole, Date, Scaled, Stated}
 use Rattle.fit_table.specs.declared.json.known.Found.{Found}
-use Rattle.fit_table.specs.declared.json.words.Words.{Words}
 use Rattle.fit_table.specs.Described.{Description, described_in, descriptions_of}
 use Rattle.fit_table.specs.Number.{unit_text}
 use Rattle.fit_table.specs.Table.{name_of}
@@ -40,11 +40,6 @@ keeps_scale AsItIs = true
 keeps_scale scale = false
 
 abbrev pub keeps_number : AnyUnit → Bool
-keeps_number Degrees = false
-keeps_number Height = false
-keeps_number Metres = false
-keeps_number Seconds = false
-keeps_number Speed = false
 keeps_number (Scaled scale) = keeps_scale scale
 keeps_number (Stated scale offset) = false
 keeps_number unit = true
@@ -101,7 +96,7 @@ values_in unit type values = values_json type values
 abbrev pub field_title : Bool → ℕ → MessageField → List ℕ
 field_title utc message field =
     name_of true message field.number
-    ++ suffix_of (end_of (row_in (fields_at message) field.number)) (field_unit utc message field)
+    ++ suffix_of (end_of (row_by true message field.number)) (field_unit utc message field)
 
 abbrev pub field_json : Bool → ℕ → MessageField → List ℕ
 field_json utc message field =
@@ -140,15 +135,11 @@ profile_json_of utc v =
 
 -- ---- what is looked up of a field
 
--- the words of the fields of this number
-pub record AreWordsOf (message number : ℕ) (words : Words) : Type 0 where
-  pub name : named (option_map (λ name. name.now) words.name) (codes "field_") number
-      ≡ name_of true message number
-  pub end : words.end.now ≡ end_of (row_in (fields_at message) number)
-  pub unit : words.unit ≡ unit_by true message number
+-- the row of the fields of this number
+abbrev pub IsRowOf : ℕ → ℕ → Option (Bor (ℕ × Bor (List ℕ) × Bor (List ℕ) × Scale)) → Type 0
+IsRowOf message number row = option_map (λ row. facts_of row.now) row ≡ row_by true message number
 
 -- what is known of fields that were looked up is so
 abbrev pub AreKnown : List (Option Found) → Type 0
 AreKnown places =
-    (at : ℕ) → IfSome (slice_index_or places at None)
-    (λ found. AreWordsOf found.message found.number found.words)
+    (at : ℕ) → IfSome (slice_index_or places at None) (λ found. IsRowOf found.message found.number found.row)

@@ -3,7 +3,7 @@ use Rattle.std.specs.Prelude.{ℕ, ◌≤◌, zero, suc, ◌+◌, ◌*◌, ◌^�
 use Rattle.std.specs.Fmt.{signed_decimal}
 use Rattle.fit_text.specs.Date.{date_text}
 use Rattle.fit_table.specs.declared.unit.Unit.{Unit as AnyUnit}
-use Rattle.fit_table.specs.declared.unit.Unit.TheVariants.{Whole, Time, Date, Degrees, Height, Metres, Seconds, Speed, Beats, Turns, Watts, Celsius, Scaled, Stated}
+use Rattle.fit_table.specs.declared.unit.Unit.TheVariants.{Whole, Time, Date, Scaled, Stated}
 use Rattle.fit_profile.specs.declared.scale.Parts.{Parts}
 use Rattle.fit_profile.specs.Scale.{parts, parts_of}
 
@@ -24,16 +24,6 @@ split_of (negsuc n) = Err (suc n)
 abbrev pub signed_text : (ℕ → List ℕ) → Result ℕ ℕ → List ℕ
 signed_text text (Ok n) = text n
 signed_text text (Err n) = codes "-" ++ text n
-
-abbrev pub fixed_text : ℕ → ℕ → ℤ → List ℕ
-fixed_text power count value = signed_text (places_text power count) (split_of value)
-
--- semicircles, of which 2 ^ 31 are 180 degrees, in the nearest hundred millionths of a degree
-abbrev pub rounded : ℕ → ℕ
-rounded n = (n * 1125000000 + 67108864) / 134217728
-
-abbrev pub degrees_text : ℤ → List ℕ
-degrees_text value = signed_text (λ n. places_text 100000000 8 (rounded n)) (split_of value)
 
 -- a value of a scale of the Profile: the nearest with so many decimals
 abbrev pub decimals_text : ℕ → ℕ → ℕ → List ℕ
@@ -99,14 +89,5 @@ abbrev pub unit_text : List ℕ → AnyUnit → ℤ → List ℕ
 unit_text empty Whole value = signed_decimal value
 unit_text empty Time value = signed_decimal value
 unit_text empty Date value = date_or empty value
-unit_text empty Degrees value = degrees_text value
-unit_text empty Height value = fixed_text 10 1 (pos 2 *ℤ (value -ℤ pos 2500))
-unit_text empty Metres value = fixed_text 100 2 value
-unit_text empty Seconds value = fixed_text 1000 3 value
-unit_text empty Speed value = fixed_text 1000 3 value
-unit_text empty Beats value = signed_decimal value
-unit_text empty Turns value = signed_decimal value
-unit_text empty Watts value = signed_decimal value
-unit_text empty Celsius value = signed_decimal value
 unit_text empty (Scaled scale) value = scaled_text (parts_of scale) value
 unit_text empty (Stated scale offset) value = scaled_text (stated_parts scale offset) value

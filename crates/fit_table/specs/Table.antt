@@ -1,12 +1,13 @@
 -- A table: a first line with the names of the columns, and a line for each message.
-use Rattle.std.specs.Prelude.{ℕ, ◌+◌, ℤ, Bool, true, false, List, [], ◌∷◌, ◌++◌, length, Option, Some, None, codes, ◌==◌, if◌then◌else◌}
+use Rattle.std.specs.Prelude.{ℕ, ◌+◌, ℤ, Bool, false, List, [], ◌∷◌, ◌++◌, length, Option, Some, None, option_map, codes, ◌==◌, if◌then◌else◌}
 use Rattle.fit_base.specs.declared.order.Arch.{Arch}
 use Rattle.fit_base.specs.Base.{base_type}
 use Rattle.fit_grammar.specs.Format.Message.{Message, MessageField}
-use Rattle.fit_text.specs.Profile.{names_of_fields}
-use Rattle.fit_text.specs.Text.{field_name, message_name}
-use Rattle.fit_profile.specs.Facts.{FieldFacts, row_in}
-use Rattle.fit_profile.specs.Table.{fields_at, message_named}
+use Rattle.fit_text.specs.Text.{named}
+use Rattle.fit_profile.specs.Facts.{FieldFacts}
+use Rattle.fit_profile.specs.Known.{known_named}
+use Rattle.fit_profile.specs.Row.{row_by}
+use Rattle.fit_profile.specs.Table.{message_named}
 use Rattle.fit_columns.specs.declared.place.Place.{Place}
 use Rattle.fit_columns.specs.Columns.{cell_in, found_in}
 use Rattle.fit_columns.specs.Places.{cell_with, field_with, place_cell, place_field}
@@ -25,22 +26,17 @@ line_end = 13 ∷ 10 ∷ []
 
 -- ---- the first line
 
--- the name of a field: the Profile's if that is asked for and has the field
-abbrev pub name_by : Bool → Option FieldFacts → ℕ → ℕ → List ℕ
-name_by true (Some row) message number = row.1
-name_by _ _ message number = field_name (names_of_fields message) number
+-- the name of a field, by its row if it has one
+abbrev pub name_by : Option FieldFacts → ℕ → List ℕ
+name_by row number = named (option_map (λ row. row.1) row) (codes "field_") number
 
 abbrev pub name_of : Bool → ℕ → ℕ → List ℕ
-name_of profile message number =
-    name_by profile (row_in (fields_at message) number) message number
+name_of profile message number = name_by (row_by profile message number) number
 
 -- the name of a message in the same way
-abbrev pub title_by : Bool → Option (List ℕ) → ℕ → List ℕ
-title_by true (Some name) number = name
-title_by _ _ number = message_name number
-
 unfoldable pub title_of : Bool → ℕ → List ℕ
-title_of profile number = title_by profile (message_named number) number
+title_of profile number =
+    named (if profile then message_named number else known_named number) (codes "message_") number
 
 -- the name of a column: that of its field, and its unit
 abbrev pub column_name : Layout → ℕ → List ℕ

@@ -5,6 +5,6 @@ mod file;
 mod known;
 mod member;
 mod number;
-mod words;
+mod units;
 
 pub use file::show_profile_json;

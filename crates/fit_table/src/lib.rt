@@ -25,5 +25,5 @@ pub use float::{put_float32, put_float64};
 pub use json::show_profile_json;
 pub use layout::Layout;
 pub use table::{write_head, write_lines, write_table};
-pub use unit::{Unit, usual_fields};
+pub use unit::Unit;
 pub use words::{field_of_word, message_of_word};

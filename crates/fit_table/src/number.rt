@@ -3,12 +3,12 @@
 ghost use Rattle.std.specs.Prelude.{◌≡◌, ◌≤◌, ◌++◌, codes, length, take, IfOk, IfErr};
 ghost use Rattle.fit_text.specs.Pen.{Puts};
 ghost use Rattle.fit_columns.specs.Places.{IsSmall};
-ghost use Rattle.fit_table.specs.Number.{digits, places_text, fixed_text, rounded, degrees_text, date_or, unit_text, split_of, limit, IsWide, nearest, decimals_text, scaled_text, AreSmallParts};
+ghost use Rattle.fit_table.specs.Number.{digits, places_text, date_or, unit_text, split_of, limit, IsWide, nearest, decimals_text, scaled_text, AreSmallParts};
 
 use crate::stated::stated_parts;
 use crate::unit::Unit;
 use fit_grammar::Sink;
-use fit_profile::{Parts, parts_of};
+use fit_profile::{Parts, Scale, parts_of};
 use fit_text::{Pen, put_date};
 use std::io::Write;
 
@@ -26,15 +26,10 @@ pub fn put_value<S: Sink>(
     ensures { Puts pen.old pen.new result (unit_text empty.now unit value) }
 {
     match unit {
-        Unit::Degrees => put_degrees(pen, value),
-        Unit::Height => put_fixed(pen, 1, 10, 2 * (value - 2500)),
-        Unit::Metres => put_fixed(pen, 2, 100, value),
-        Unit::Seconds | Unit::Speed => put_fixed(pen, 3, 1000, value),
+        Unit::Whole | Unit::Time | Unit::Scaled(Scale::Whole) => pen.put_signed(value),
         Unit::Date => put_date_or(pen, empty, value),
         Unit::Scaled(scale) => put_scaled(pen, parts_of(scale), value),
         Unit::Stated(scale, offset) => put_scaled(pen, stated_parts(scale, offset), value),
-        Unit::Whole | Unit::Time | Unit::Beats | Unit::Turns | Unit::Watts | Unit::Celsius =>
-            pen.put_signed(value),
     }
 }
 
@@ -90,42 +85,6 @@ fn put_date_or<S: Sink>(pen: &mut Pen<'_, S>, empty: &[u8], value: i64) -> Resul
     }
 }
 
-// A number of units of which `power` are one.
-fn put_fixed<S: Sink>(
-    pen: &mut Pen<'_, S>,
-    count: usize,
-    power: u64,
-    value: i64,
-) -> Result<(), S::Fault>
-    requires few { count ≤ 8 }
-    requires some { 1 ≤ power }
-    requires wide { IsWide value }
-    ensures { Puts pen.old pen.new result (fixed_text power count value) }
-{
-    match split(value) {
-        Ok(n) => put_places(pen, count, power, n),
-        Err(n) => put_negative(pen, count, power, n),
-    }
-}
-
-fn put_degrees<S: Sink>(pen: &mut Pen<'_, S>, value: i64) -> Result<(), S::Fault>
-    requires { IsWide value }
-    ensures { Puts pen.old pen.new result (degrees_text value) }
-{
-    match split(value) {
-        Ok(n) => put_places(pen, 8, 100_000_000, round(n)),
-        Err(n) => put_negative(pen, 8, 100_000_000, round(n)),
-    }
-}
-
-// Semicircles in hundred millionths of a degree.
-fn round(n: u64) -> u64
-    requires { n ≤ limit }
-    ensures { result ≡ rounded n }
-{
-    (n * 1_125_000_000 + 67_108_864) / 134_217_728
-}
-
 // A number without its sign.
 fn split(value: i64) -> Result<u64, u64>
     requires { IsWide value }
@@ -138,20 +97,6 @@ fn split(value: i64) -> Result<u64, u64>
     } else {
         Ok(value as u64)
     }
-}
-
-fn put_negative<S: Sink>(
-    pen: &mut Pen<'_, S>,
-    count: usize,
-    power: u64,
-    n: u64,
-) -> Result<(), S::Fault>
-    requires few { count ≤ 8 }
-    requires some { 1 ≤ power }
-    ensures { Puts pen.old pen.new result (codes "-" ++ places_text power count n) }
-{
-    pen.put(b"-")?;
-    put_places(pen, count, power, n)
 }
 
 fn put_places<S: Sink>(

@@ -1,16 +1,16 @@
 // A table of a file's messages.
 
-ghost use Rattle.std.specs.Prelude.{◌≡◌, ◌≤◌, ◌++◌, [], length, map, codes, decimal, IfOk};
+ghost use Rattle.std.specs.Prelude.{◌≡◌, ◌≤◌, ◌++◌, [], length, map, option_map, codes, decimal, IfOk};
 ghost use Rattle.fit_grammar.specs.Calls.Output.{WritesText};
 ghost use Rattle.fit_grammar.specs.Format.Message.{message_under, messages_of};
 ghost use Rattle.fit_text.specs.Pen.{Puts};
-ghost use Rattle.fit_text.specs.Profile.{names_of_fields};
-ghost use Rattle.fit_text.specs.Text.{field_name as name_of_field};
+ghost use Rattle.fit_profile.specs.Facts.{facts_of};
+ghost use Rattle.fit_profile.specs.Row.{row_by};
 ghost use Rattle.fit_columns.specs.declared.plans.TheConstants.{MOST_COLUMNS};
 ghost use Rattle.fit_columns.specs.Places.{ArePlacesIn, IsPlanOf};
 ghost use Rattle.fit_table.specs.Unit.{AreUnits};
 ghost use Rattle.fit_table.specs.Tokens.{PutsTokens, WritesTokens};
-ghost use Rattle.fit_table.specs.Table.{column_name, name_of, names_from, head_of, head_with, cells_at, line_of, lines_from, lines_of, table_of, table_with};
+ghost use Rattle.fit_table.specs.Table.{column_name, name_by, names_from, head_of, head_with, cells_at, line_of, lines_from, lines_of, table_of, table_with};
 
 use crate::cell::put_cell;
 use crate::described::{Described, descriptions_of};
@@ -20,8 +20,8 @@ use crate::unit::{Unit, suffix_in, units_of};
 use fit_base::Arch;
 use fit_columns::{MOST_COLUMNS, Place, Plan, Plans};
 use fit_grammar::{DataMessage, FileItem, LentFile, Sink, WriteFailed};
-use fit_profile::field_row;
-use fit_text::{Pen, field_name};
+use fit_profile::{FieldRow, row_by};
+use fit_text::Pen;
 use std::io::Write;
 
 /// Writes the table of a file: its first line, and a line for each message with the global number of the layout, in order.
@@ -175,40 +175,28 @@ fn put_name<W: Write>(
 ) -> Result<(), WriteFailed>
     ensures { Puts pen.old pen.new result (column_name layout.now number) }
 {
-    put_field_name(pen, layout, number)?;
+    let row = row_by(layout.profile, layout.message, number);
+    put_name_by(pen, row, number)?;
     pen.put(suffix_in(layout, number))
 }
 
-fn put_field_name<W: Write>(
-    pen: &mut Pen<'_, W>,
-    layout: &Layout<'_>,
+/// The name of a field, by its row if it has one.
+pub fn put_name_by<S: Sink>(
+    pen: &mut Pen<'_, S>,
+    row: Option<&'static FieldRow>,
     number: u8,
-) -> Result<(), WriteFailed>
+) -> Result<(), S::Fault>
     ensures { Puts pen.old pen.new result
-        (name_of layout.now.profile layout.now.message number) }
+        (name_by (option_map (λ row. facts_of row.now) row.entry) number) }
 {
-    match field_row(layout.message, number) {
-        Some(row) if layout.profile => pen.put(row.1.as_bytes()),
-        _ => put_plain_name(pen, layout.message, number),
-    }
-}
-
-// The name without the Profile.
-fn put_plain_name<W: Write>(
-    pen: &mut Pen<'_, W>,
-    message: u16,
-    number: u8,
-) -> Result<(), WriteFailed>
-    ensures { Puts pen.old pen.new result (name_of_field (names_of_fields message) number) }
-{
-    match field_name(message, number) {
-        Some(name) => pen.put(name.as_bytes()),
+    match row {
+        Some(row) => pen.put(row.1.as_bytes()),
         None => put_number_name(pen, number),
     }
 }
 
-/// The name of a field that has none.
-pub fn put_number_name<S: Sink>(pen: &mut Pen<'_, S>, number: u8) -> Result<(), S::Fault>
+// The name of a field that has none.
+fn put_number_name<S: Sink>(pen: &mut Pen<'_, S>, number: u8) -> Result<(), S::Fault>
     ensures { Puts pen.old pen.new result (codes "field_" ++ decimal number) }
 {
     pen.put(b"field_")?;

@@ -30,17 +30,13 @@ pub fn put_wide<W: Write>(
     ensures { Puts pen.old pen.new result (unit_text empty.now unit value) }
 {
     match unit {
-        Unit::Degrees => put_scaled(pen, parts_of(Scale::Semicircles), value),
-        Unit::Height => put_scaled(pen, parts_of(Scale::Tenth), 2 * (value - 2500)),
-        Unit::Metres => put_scaled(pen, parts_of(Scale::Hundredth), value),
-        Unit::Seconds | Unit::Speed => put_scaled(pen, parts_of(Scale::Thousandth), value),
-        Unit::Date => put_date_or(pen, empty, value),
-        Unit::Scaled(scale) => put_scaled(pen, parts_of(scale), value),
-        Unit::Stated(scale, offset) => put_scaled(pen, stated_parts(scale, offset), value),
-        Unit::Whole | Unit::Time | Unit::Beats | Unit::Turns | Unit::Watts | Unit::Celsius => {
+        Unit::Whole | Unit::Time | Unit::Scaled(Scale::Whole) => {
             let mut buffer = Buffer::new();
             pen.put(buffer.format(value).as_bytes())
         }
+        Unit::Date => put_date_or(pen, empty, value),
+        Unit::Scaled(scale) => put_scaled(pen, parts_of(scale), value),
+        Unit::Stated(scale, offset) => put_scaled(pen, stated_parts(scale, offset), value),
     }
 }
 

@@ -1,12 +1,11 @@
 // The numbers of messages and fields that words name.
 
-ghost use Rattle.std.specs.Prelude.{◌≡◌, ◌≤◌, ◌++◌, ℕ, IsTrue, ◌↔◌, None, IfSome, codes, decimal};
-ghost use Rattle.fit_text.specs.Profile.{names_of_fields};
-ghost use Rattle.fit_text.specs.Text.{message_name, field_name};
+ghost use Rattle.std.specs.Prelude.{◌≡◌, ◌≤◌, ◌++◌, ℕ, IsTrue, ◌↔◌, None, IfSome, codes, decimal, option_map, if◌then◌else◌};
+ghost use Rattle.fit_profile.specs.Known.{known_named};
+ghost use Rattle.fit_profile.specs.Table.{message_named};
 ghost use Rattle.fit_table.specs.Table.{name_of, title_of};
 
-use fit_profile::field_row;
-use fit_text::{field_name, message_name};
+use fit_profile::{known_name, message_name, row_by};
 use itoa::Buffer;
 
 /// The global number of the messages that this word names, such as `lap`, or `message_23` for those that have no name.
@@ -46,16 +45,7 @@ pub fn field_of_word(profile: bool, message: u16, word: &str) -> Option<u8>
 fn is_message(profile: bool, number: u16, word: &str) -> bool
     ensures { IsTrue result ↔ (title_of profile number ≡ word.now) }
 {
-    match fit_profile::message_name(number) {
-        Some(name) if profile => name == word,
-        _ => is_plain_message(number, word),
-    }
-}
-
-fn is_plain_message(number: u16, word: &str) -> bool
-    ensures { IsTrue result ↔ (message_name number ≡ word.now) }
-{
-    match message_name(number) {
+    match name_of_message(profile, number) {
         Some(name) => name == word,
         None => match word.strip_prefix("message_") {
             Some(digits) => is_number(u64::from(number), digits),
@@ -64,20 +54,22 @@ fn is_plain_message(number: u16, word: &str) -> bool
     }
 }
 
-fn is_field(profile: bool, message: u16, number: u8, word: &str) -> bool
-    ensures { IsTrue result ↔ (name_of profile message number ≡ word.now) }
+fn name_of_message(profile: bool, number: u16) -> Option<&'static str>
+    ensures { option_map (λ name. name.now) result
+        ≡ (if profile then message_named number else known_named number) }
 {
-    match field_row(message, number) {
-        Some(row) if profile => row.1 == word,
-        _ => is_plain_field(message, number, word),
+    if profile {
+        message_name(number)
+    } else {
+        known_name(number)
     }
 }
 
-fn is_plain_field(message: u16, number: u8, word: &str) -> bool
-    ensures { IsTrue result ↔ (field_name (names_of_fields message) number ≡ word.now) }
+fn is_field(profile: bool, message: u16, number: u8, word: &str) -> bool
+    ensures { IsTrue result ↔ (name_of profile message number ≡ word.now) }
 {
-    match field_name(message, number) {
-        Some(name) => name == word,
+    match row_by(profile, message, number) {
+        Some(row) => row.1 == word,
         None => match word.strip_prefix("field_") {
             Some(digits) => is_number(u64::from(number), digits),
             None => false,

@@ -21,7 +21,8 @@ use Rattle.fit_text.specs.Date.{dates_of}
 use Rattle.fit_text.specs.Json.{quoted, field_json, developer_key, name_json, line_json, has_bytes, has_developer_bytes}
 use Rattle.fit_text.specs.Members.{separator, joined, inner, field_in, column_json, columns_json, time_json, IsNamed, AreNamed}
 use Rattle.fit_text.specs.Plan.{field_at, json_at, time_field_definition, IsColumn, AreColumns, IsPlanOf, shown_developer, shown_fields}
-use Rattle.fit_text.specs.Profile.{FieldNames, names_of_fields}
+use Rattle.fit_profile.specs.Facts.{FieldFacts}
+use Rattle.fit_profile.specs.Known.{known_at}
 use Rattle.fit_text.specs.Text.{field_name}
 use Rattle.fit_text.proofs.EmptyLemmas.{developer_shown, shown_size, timed_shown}
 use Rattle.fit_text.proofs.PlanLemmas.{columns_size}
@@ -42,21 +43,21 @@ inner_of name =
     ap (λ n. take n (name ++ codes "=")) long ∙ take-append_seam name (codes "=")
 
 -- the member of a column under its label is that of its field
-pub column_is : (names : FieldNames) (dates : List ℕ) (arch : Arch) (column : Column) (bytes : List ℕ) → IsNamed names dates column →
+pub column_is : (names : List FieldFacts) (dates : List ℕ) (arch : Arch) (column : Column) (bytes : List ℕ) → IsNamed names dates column →
     column_json dates arch column bytes ≡ field_json names dates (field_in column arch bytes)
 column_is names dates arch column bytes h =
     ap (λ label. (quoted (inner label) ++ codes ":") ++ json_at dates column.number column.base arch bytes) h.label
     ∙ ap (λ name. (quoted name ++ codes ":") ++ json_at dates column.number column.base arch bytes) (inner_of (field_name names column.number))
 
 -- a column is that of its field, for every text of a field
-field_is : (member : MessageField → List ℕ) (names : FieldNames) (dates : List ℕ) (arch : Arch) (field : FieldDefinition) (column : Column)
+field_is : (member : MessageField → List ℕ) (names : List FieldFacts) (dates : List ℕ) (arch : Arch) (field : FieldDefinition) (column : Column)
     (bytes : List ℕ) → IsColumn names dates field column →
     member (field_in column arch bytes) ≡ member (field_at field.number field.base arch bytes)
 field_is member names dates arch field column bytes h =
     ap (λ n. member (field_at n column.base arch bytes)) h.number ∙ ap (λ b. member (field_at field.number b arch bytes)) h.base
 
 -- the first member after some text, and the others
-next_is : (front : List ℕ) (member : MessageField → List ℕ) (names : FieldNames) (dates : List ℕ) (arch : Arch) (field : FieldDefinition)
+next_is : (front : List ℕ) (member : MessageField → List ℕ) (names : List FieldFacts) (dates : List ℕ) (arch : Arch) (field : FieldDefinition)
     (column : Column) (columns : List Column) (content others : List ℕ) → IsColumn names dates field column →
     columns_json false member arch columns (drop field.size content) ≡ others →
     (front ++ member (field_in column arch (take column.size content))) ++ columns_json false member arch columns (drop column.size content)
@@ -67,7 +68,7 @@ next_is front member names dates arch field column columns content others h rest
     (field_is member names dates arch field column (take field.size content) h)
     ∙ ap (λ t. (front ++ member (field_at field.number field.base arch (take field.size content))) ++ t) rest
 
-columns_after : (member : MessageField → List ℕ) (names : FieldNames) (dates : List ℕ) (arch : Arch) (fields : List FieldDefinition)
+columns_after : (member : MessageField → List ℕ) (names : List FieldFacts) (dates : List ℕ) (arch : Arch) (fields : List FieldDefinition)
     (columns : List Column) (content : List ℕ) → AreColumns names dates fields columns →
     columns_json false member arch columns content ≡ joined false member (fields_of arch fields content)
 columns_after member names dates arch [] [] content h = refl
@@ -77,7 +78,7 @@ columns_after member names dates arch (field ∷ fields) (column ∷ columns) co
     next_is (codes ",") member names dates arch field column columns content _ h.0
     (columns_after member names dates arch fields columns (drop field.size content) h.1)
 
-columns_are : (first : Bool) (member : MessageField → List ℕ) (names : FieldNames) (dates : List ℕ) (arch : Arch)
+columns_are : (first : Bool) (member : MessageField → List ℕ) (names : List FieldFacts) (dates : List ℕ) (arch : Arch)
     (fields : List FieldDefinition) (columns : List Column) (content : List ℕ) → AreColumns names dates fields columns →
     columns_json first member arch columns content ≡ joined first member (fields_of arch fields content)
 columns_are false member names dates arch fields columns content h = columns_after member names dates arch fields columns content h
@@ -90,14 +91,14 @@ columns_are true member names dates arch (field ∷ fields) (column ∷ columns)
 
 -- ---- names and kinds
 
-pub column_named : (names : FieldNames) (dates : List ℕ) (field : FieldDefinition) (column : Column) → IsColumn names dates field column →
+pub column_named : (names : List FieldFacts) (dates : List ℕ) (field : FieldDefinition) (column : Column) → IsColumn names dates field column →
     IsNamed names dates column
 column_named names dates field column h = record {
   label = h.label ∙ ap (λ n. codes " " ++ field_name names n ++ codes "=") (sym h.number);
   kind = h.kind;
 }
 
-columns_named : (names : FieldNames) (dates : List ℕ) (fields : List FieldDefinition) (columns : List Column) →
+columns_named : (names : List FieldFacts) (dates : List ℕ) (fields : List FieldDefinition) (columns : List Column) →
     AreColumns names dates fields columns → AreNamed names dates columns
 columns_named names dates [] [] h = tt
 columns_named names dates [] (column ∷ columns) h = absurd h
@@ -106,14 +107,14 @@ columns_named names dates (field ∷ fields) (column ∷ columns) h =
     (column_named names dates field column h.0, columns_named names dates fields columns h.1)
 
 pub plan_named : (d : Definition) (plan : Plan) (columns : List Column) (developer : List DeveloperFieldDefinition) →
-    IsPlanOf false d plan columns developer → AreNamed (names_of_fields plan.global) (dates_of plan.utc plan.global) columns
+    IsPlanOf false d plan columns developer → AreNamed (known_at plan.global) (dates_of plan.utc plan.global) columns
 plan_named d plan columns developer h =
-    rw h.global (columns_named (names_of_fields d.global) (dates_of plan.utc d.global) (shown_fields false d.fields.items) columns h.fields)
+    rw h.global (columns_named (known_at d.global) (dates_of plan.utc d.global) (shown_fields false d.fields.items) columns h.fields)
 
 pub time_named : (d : Definition) (plan : Plan) (columns : List Column) (developer : List DeveloperFieldDefinition) →
-    IsPlanOf false d plan columns developer → IsNamed (names_of_fields plan.global) (dates_of plan.utc plan.global) plan.time
+    IsPlanOf false d plan columns developer → IsNamed (known_at plan.global) (dates_of plan.utc plan.global) plan.time
 time_named d plan columns developer h =
-    rw h.global (column_named (names_of_fields d.global) (dates_of plan.utc d.global) time_field_definition plan.time h.time)
+    rw h.global (column_named (known_at d.global) (dates_of plan.utc d.global) time_field_definition plan.time h.time)
 
 -- ---- the line of a message
 
@@ -123,7 +124,7 @@ flipped true false e = refl
 flipped false true e = refl
 flipped false false e = cc
 
-members_by : (member : MessageField → List ℕ) (names : FieldNames) (dates : List ℕ) (arch : Arch) (fields : List FieldDefinition)
+members_by : (member : MessageField → List ℕ) (names : List FieldFacts) (dates : List ℕ) (arch : Arch) (fields : List FieldDefinition)
     (columns : List Column) (content : List ℕ) (column : Column) (time : Option ℕ) → IfSome time (λ time. time < 2 ^ 32) →
     IsColumn names dates time_field_definition column → AreColumns names dates fields columns →
     time_json member column time ++ columns_json (is_none time) member arch columns content
@@ -190,7 +191,7 @@ pub plan_json : (name : ℕ → Option (List ℕ)) (member : Bool → ℕ → Me
     ++ (join_by object (codes ",") (developer_of plan.arch developer (drop (sum_by (λ c. c.size) columns) content)) ++ codes "]}\n"))))
     ≡ line_json (name d.global) (member plan.utc d.global) object number (message_under d time content)
 plan_json name member object number d time content plan columns developer first fits begins whole h =
-    let names = names_of_fields d.global in
+    let names = known_at d.global in
     let shown = dates_of plan.utc d.global in
     let own = member plan.utc d.global in
     let fields = shown_fields false d.fields.items in
@@ -276,12 +277,12 @@ pub no_column : (is_first : Bool) (member : MessageField → List ℕ) (arch : A
 no_column is_first member arch [] content none = refl
 no_column is_first member arch (column ∷ columns) content none = absurd (omega arith)
 
-pub first_named : (names : FieldNames) (dates : List ℕ) (columns : List Column) (column : Column) → 1 ≤ length columns →
+pub first_named : (names : List FieldFacts) (dates : List ℕ) (columns : List Column) (column : Column) → 1 ≤ length columns →
     column ≡ get_or columns 0 column → AreNamed names dates columns → IsNamed names dates column
 first_named names dates [] column some is h = absurd (omega arith)
 first_named names dates (c ∷ columns) column some is h = rw is h.0
 
-pub other_named : (names : FieldNames) (dates : List ℕ) (columns : List Column) → 1 ≤ length columns → AreNamed names dates columns →
+pub other_named : (names : List FieldFacts) (dates : List ℕ) (columns : List Column) → 1 ≤ length columns → AreNamed names dates columns →
     AreNamed names dates (other_columns columns)
 other_named names dates [] some h = absurd (omega arith)
 other_named names dates (c ∷ columns) some h =

@@ -1,7 +1,6 @@
 -- Public are the lemmas that proofs of the crates above cite.
 pub mod PenLemmas
 mod DecimalLemmas
-mod NameLemmas
 mod PlanLemmas
 pub mod TextLemmas
 mod FieldLemmas

@@ -32,7 +32,8 @@ use Rattle.fit_grammar.specs.declared.definition.DeveloperFieldDefinition.{Devel
 use Rattle.fit_grammar.specs.Format.Message.{fields_of, developer_of, time_field, time_fields, message_under}
 use Rattle.fit_grammar.specs.Format.Item.{fields_size}
 use Rattle.fit_text.specs.Date.{dates_of}
-use Rattle.fit_text.specs.Profile.{FieldNames, names_of_fields}
+use Rattle.fit_profile.specs.Facts.{FieldFacts}
+use Rattle.fit_profile.specs.Known.{known_at}
 use Rattle.fit_text.specs.Form.{plain_as, number_as, numbers_as}
 use Rattle.fit_text.specs.Json.{bytes_json, number_json, numbers_json}
 use Rattle.fit_text.specs.Plan.{field_at, shown_at, json_at, whole_of, ShowsWhole, IsKind, IsWholeOf, IsKindOf, time_field_definition, time_text, column_text, columns_text, IsColumn, AreColumns, HaveKinds, shown_fields, IsShown, IsPlanOf, IsPlanIn, IsPlanAt, ArePlansFor}
@@ -196,7 +197,7 @@ kind_shows dates n base size type Other no_date known e h = tt
 
 -- ---- columns
 
-pub columns_length : (names : FieldNames) (dates : List ℕ) (fields : List FieldDefinition) (columns : List Column) →
+pub columns_length : (names : List FieldFacts) (dates : List ℕ) (fields : List FieldDefinition) (columns : List Column) →
     AreColumns names dates fields columns → length columns ≡ length fields
 columns_length names dates [] [] h = refl
 columns_length names dates [] (column ∷ columns) h = absurd h
@@ -217,7 +218,7 @@ next_field done (field ∷ fields) all d e lt =
     rw (rest, append_assoc) e
 
 -- the columns with one more field's
-pub columns_more : (names : FieldNames) (dates : List ℕ) (fields : List FieldDefinition) (columns : List Column) (field : FieldDefinition)
+pub columns_more : (names : List FieldFacts) (dates : List ℕ) (fields : List FieldDefinition) (columns : List Column) (field : FieldDefinition)
     (column : Column) → AreColumns names dates fields columns → IsColumn names dates field column →
     AreColumns names dates (fields ++ field ∷ []) (columns ++ column ∷ [])
 columns_more names dates [] [] field column h k = (k, tt)
@@ -227,7 +228,7 @@ columns_more names dates (f ∷ fields) (c ∷ columns) field column h k =
     (h.0, columns_more names dates fields columns field column h.1 k)
 
 -- the text of a column is that of its field
-column_shows : (names : FieldNames) (dates : List ℕ) (arch : Arch) (field : FieldDefinition) (column : Column) (bytes : List ℕ) →
+column_shows : (names : List FieldFacts) (dates : List ℕ) (arch : Arch) (field : FieldDefinition) (column : Column) (bytes : List ℕ) →
     IsColumn names dates field column →
     column_text dates arch column bytes ≡ field_text names dates (field_at field.number field.base arch bytes)
 column_shows names dates arch field column bytes h =
@@ -236,7 +237,7 @@ column_shows names dates arch field column bytes h =
     ∙ ap (λ b. codes " " ++ field_name names field.number ++ codes "=" ++ shown_at dates field.number b arch bytes) h.base
 
 -- the text of a time is that of its field
-time_shown : (names : FieldNames) (dates : List ℕ) (column : Column) (time : Option ℕ) → IfSome time (λ time. time < 2 ^ 32) →
+time_shown : (names : List FieldFacts) (dates : List ℕ) (column : Column) (time : Option ℕ) → IfSome time (λ time. time < 2 ^ 32) →
     IsColumn names dates time_field_definition column → time_text dates column time ≡ flat_map (field_text names dates) (time_fields time)
 time_shown names dates column None fits h = refl
 time_shown names dates column (Some time) fits h =
@@ -244,7 +245,7 @@ time_shown names dates column (Some time) fits h =
     column_shows names dates Little time_field_definition column (to_le_bytes w32 time) h
     ∙ ap (λ n. field_text names dates (time_field n)) all ∙ sym (append-nil _)
 
-pub columns_show : (names : FieldNames) (dates : List ℕ) (arch : Arch) (fields : List FieldDefinition) (columns : List Column)
+pub columns_show : (names : List FieldFacts) (dates : List ℕ) (arch : Arch) (fields : List FieldDefinition) (columns : List Column)
     (content : List ℕ) → AreColumns names dates fields columns →
     columns_text dates arch columns content ≡ flat_map (field_text names dates) (fields_of arch fields content)
 columns_show names dates arch [] [] content h = refl
@@ -258,14 +259,14 @@ columns_show names dates arch (field ∷ fields) (column ∷ columns) content h 
       columns_show names dates arch fields columns (drop field.size content) h.1,
     ) refl
 
-pub columns_kinds : (names : FieldNames) (dates : List ℕ) (fields : List FieldDefinition) (columns : List Column) →
+pub columns_kinds : (names : List FieldFacts) (dates : List ℕ) (fields : List FieldDefinition) (columns : List Column) →
     AreColumns names dates fields columns → HaveKinds dates columns
 columns_kinds names dates [] [] h = tt
 columns_kinds names dates [] (column ∷ columns) h = absurd h
 columns_kinds names dates (field ∷ fields) [] h = absurd h
 columns_kinds names dates (field ∷ fields) (column ∷ columns) h = (h.0.kind, columns_kinds names dates fields columns h.1)
 
-pub columns_size : (names : FieldNames) (dates : List ℕ) (fields : List FieldDefinition) (columns : List Column) →
+pub columns_size : (names : List FieldFacts) (dates : List ℕ) (fields : List FieldDefinition) (columns : List Column) →
     AreColumns names dates fields columns → sum_by (λ c. c.size) columns ≡ sum_by (λ f. f.size) fields
 columns_size names dates [] [] h = refl
 columns_size names dates [] (column ∷ columns) h = absurd h
@@ -333,9 +334,9 @@ pub plan_text : (number : ℕ) (d : Definition) (time : Option ℕ) (content : L
     ++ (flat_map developer_text (developer_of plan.arch developer (drop (sum_by (λ c. c.size) columns) content)) ++ codes "\n")))
     ≡ message_text plan.utc number (message_under d time content)
 plan_text number d time content plan columns developer dates is fits h =
-    let size = columns_size (names_of_fields d.global) (dates_of plan.utc d.global) d.fields.items columns h.fields in
+    let size = columns_size (known_at d.global) (dates_of plan.utc d.global) d.fields.items columns h.fields in
     let in_force_after = flat_map developer_text (developer_of d.arch d.developer.items (drop (fields_size d) content)) in
-    let names = names_of_fields d.global in
+    let names = known_at d.global in
     let shown = dates_of plan.utc d.global in
     let texts = flat_map-append (field_text names shown) (time_fields time) (fields_of d.arch d.fields.items content) in
     rw (is, h.global, h.arch, h.name, time_shown names shown plan.time time fits h.time, columns_show names shown d.arch d.fields.items columns content h.fields, h.developer, size)
@@ -345,12 +346,12 @@ plan_text number d time content plan columns developer dates is fits h =
 pub plan_kinds : (d : Definition) (plan : Plan) (columns : List Column) (developer : List DeveloperFieldDefinition) (dates : List ℕ) →
     dates ≡ dates_of plan.utc plan.global → IsPlanOf true d plan columns developer → HaveKinds dates columns
 plan_kinds d plan columns developer dates is h =
-    rw (is, h.global) (columns_kinds (names_of_fields d.global) (dates_of plan.utc d.global) d.fields.items columns h.fields)
+    rw (is, h.global) (columns_kinds (known_at d.global) (dates_of plan.utc d.global) d.fields.items columns h.fields)
 
 pub plan_size : (empty : Bool) (d : Definition) (plan : Plan) (columns : List Column) (developer : List DeveloperFieldDefinition) →
     IsPlanOf empty d plan columns developer → sum_by (λ c. c.size) columns ≡ fields_size d
 plan_size empty d plan columns developer h =
-    columns_size (names_of_fields d.global) (dates_of plan.utc d.global) (shown_fields empty d.fields.items) columns h.fields
+    columns_size (known_at d.global) (dates_of plan.utc d.global) (shown_fields empty d.fields.items) columns h.fields
     ∙ shown_size empty d.fields.items
 
 -- a plan for the definition of the fields that are shown is one for the whole definition

@@ -1,24 +1,18 @@
 -- Times that are shown as dates: which fields hold them, and their text in UTC, such as 2021-09-08T01:46:40Z.
-use Rattle.std.specs.Prelude.{ℕ, zero, suc, ◌+◌, ◌/◌, ◌%◌, pos, Bool, List, [], ◌∷◌, ◌++◌, codes, Option, Some, None, ◌==◌, ◌||◌, nat_le, nat_lt, if◌then◌else◌}
+use Rattle.std.specs.Prelude.{ℕ, zero, suc, ◌+◌, ◌/◌, ◌%◌, pos, Bool, List, [], ◌∷◌, ◌++◌, codes, Option, Some, None, ◌==◌, nat_le, nat_lt, if◌then◌else◌}
 use Rattle.std.specs.List.{list_any}
 use Rattle.std.specs.Option.{option_and_then}
 use Rattle.jiff.specs.Words.{days_in_month}
 use Rattle.fit_base.specs.declared.base.BaseType.TheVariants.{Uint32}
 use Rattle.fit_grammar.specs.Format.Message.{MessageField}
 use Rattle.fit_grammar.specs.Format.OneValue.{value_in}
+use Rattle.fit_profile.specs.Row.{times_at}
 
 -- ---- fields
 
--- the numbers of the fields that hold times: timestamp in each message, time_created in file_id, start_time in session and lap
-abbrev pub times_of : ℕ → List ℕ
-times_of global =
-    if global == 0 then 253 ∷ 4 ∷ []
-    else if global == 18 || global == 19 then 253 ∷ 2 ∷ []
-    else 253 ∷ []
-
--- the numbers of the fields that are shown as dates
+-- the numbers of the fields that are shown as dates: the known ones that hold times
 abbrev pub dates_of : Bool → ℕ → List ℕ
-dates_of utc global = if utc then times_of global else []
+dates_of utc global = if utc then times_at global else []
 
 -- a calendar time; below it, a time is in seconds since the device was switched on
 abbrev pub calendar_time : ℕ → Option ℕ

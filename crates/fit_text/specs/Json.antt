@@ -12,7 +12,8 @@ use Rattle.fit_grammar.specs.Format.Message.{Message, MessageField, MessageDevel
 use Rattle.fit_grammar.specs.Format.File.{FileValue}
 use Rattle.fit_text.specs.Date.{dates_of, date_in, date_text}
 use Rattle.fit_text.specs.Form.{number_as, numbers_as, header_by, lines_of}
-use Rattle.fit_text.specs.Profile.{FieldNames, message_named, names_of_fields}
+use Rattle.fit_profile.specs.Facts.{FieldFacts}
+use Rattle.fit_profile.specs.Known.{known_at, known_named}
 use Rattle.fit_text.specs.Text.{hex_byte, hex_text, is_plain, field_name}
 
 -- ---- strings
@@ -74,7 +75,7 @@ shown_json (Some time) field = quoted (date_text time)
 shown_json None field = values_json (base_type field.base) field.values
 
 -- a field with its name, if the fields of these numbers are dates
-abbrev pub field_json : FieldNames → List ℕ → MessageField → List ℕ
+abbrev pub field_json : List FieldFacts → List ℕ → MessageField → List ℕ
 field_json names dates field =
     quoted (field_name names field.number) ++ codes ":" ++ shown_json (date_in dates field) field
 
@@ -121,8 +122,8 @@ line_json name member developer number message =
 -- with the names of the shown text
 abbrev pub message_json : Bool → ℕ → Message → List ℕ
 message_json utc number message =
-    line_json (message_named message.global)
-    (field_json (names_of_fields message.global) (dates_of utc message.global)) developer_json
+    line_json (known_named message.global)
+    (field_json (known_at message.global) (dates_of utc message.global)) developer_json
     number message
 
 -- ---- files

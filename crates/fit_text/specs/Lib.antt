@@ -1,4 +1,3 @@
-pub mod Profile
 pub mod Date
 pub mod Form
 pub mod Text

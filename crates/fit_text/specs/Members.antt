@@ -8,7 +8,7 @@ use Rattle.fit_grammar.specs.Format.Message.{MessageField}
 use Rattle.fit_text.specs.declared.showing.plan.Column.{Column}
 use Rattle.fit_text.specs.Json.{quoted}
 use Rattle.fit_text.specs.Plan.{field_at, json_at, IsKind}
-use Rattle.fit_text.specs.Profile.{FieldNames}
+use Rattle.fit_profile.specs.Facts.{FieldFacts}
 use Rattle.fit_text.specs.Text.{field_name}
 
 -- a comma, if it is not the first
@@ -30,11 +30,11 @@ column_json dates arch column bytes =
     (quoted (inner column.label) ++ codes ":") ++ json_at dates column.number column.base arch bytes
 
 -- a column that has the name and the kind of its fields
-pub record IsNamed (names : FieldNames) (dates : List ℕ) (column : Column) : Type 0 where
+pub record IsNamed (names : List FieldFacts) (dates : List ℕ) (column : Column) : Type 0 where
   pub label : column.label ≡ codes " " ++ field_name names column.number ++ codes "="
   pub kind : IsKind dates column.number column.base column.size column.kind
 
-abbrev pub AreNamed : FieldNames → List ℕ → List Column → Type 0
+abbrev pub AreNamed : List FieldFacts → List ℕ → List Column → Type 0
 AreNamed names dates [] = Unit {0}
 AreNamed names dates (column ∷ columns) =
     IsNamed names dates column × AreNamed names dates columns

@@ -18,7 +18,8 @@ use Rattle.fit_text.specs.declared.showing.plan.Column.{Column}
 use Rattle.fit_text.specs.declared.showing.plan.Plan.{Plan}
 use Rattle.fit_text.specs.declared.showing.plans.Plans.{Plans}
 use Rattle.fit_text.specs.Date.{dates_of, date_in}
-use Rattle.fit_text.specs.Profile.{FieldNames, names_of_fields}
+use Rattle.fit_profile.specs.Facts.{FieldFacts}
+use Rattle.fit_profile.specs.Known.{known_at}
 use Rattle.fit_text.specs.Form.{number_as}
 use Rattle.fit_text.specs.Json.{shown_json}
 use Rattle.fit_text.specs.Text.{IsNumber, message_name, field_name, shown_text}
@@ -80,7 +81,7 @@ columns_text dates arch (column ∷ columns) content =
     ++ columns_text dates arch columns (drop column.size content)
 
 -- a column that shows this field of each message
-pub record IsColumn (names : FieldNames) (dates : List ℕ) (field : FieldDefinition)
+pub record IsColumn (names : List FieldFacts) (dates : List ℕ) (field : FieldDefinition)
     (column : Column) : Type 0 where
   pub label : column.label ≡ codes " " ++ field_name names field.number ++ codes "="
   pub number : column.number ≡ field.number
@@ -89,7 +90,7 @@ pub record IsColumn (names : FieldNames) (dates : List ℕ) (field : FieldDefini
   pub kind : IsKind dates column.number column.base column.size column.kind
 
 -- columns that show these fields, in their order
-abbrev pub AreColumns : FieldNames → List ℕ → List FieldDefinition → List Column → Type 0
+abbrev pub AreColumns : List FieldFacts → List ℕ → List FieldDefinition → List Column → Type 0
 AreColumns names dates [] [] = Unit {0}
 AreColumns names dates (field ∷ fields) (column ∷ columns) =
     IsColumn names dates field column × AreColumns names dates fields columns
@@ -132,9 +133,9 @@ pub record IsPlanOf (empty : Bool) (d : Definition) (plan : Plan) (columns : Lis
   pub arch : plan.arch ≡ d.arch
   pub global : plan.global ≡ d.global
   pub name : plan.name ≡ codes " " ++ message_name d.global
-  pub time : IsColumn (names_of_fields d.global)
+  pub time : IsColumn (known_at d.global)
       (dates_of plan.utc d.global) time_field_definition plan.time
-  pub fields : AreColumns (names_of_fields d.global)
+  pub fields : AreColumns (known_at d.global)
       (dates_of plan.utc d.global) (shown_fields empty d.fields.items) columns
   pub developer : last ≡ shown_developer empty d.developer.items
 

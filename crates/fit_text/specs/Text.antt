@@ -1,6 +1,6 @@
 -- The text that shows a file: a line for its header, a line for each message, and a line that counts them. It
 -- depends on the messages and not on how they are encoded.
-use Rattle.std.specs.Prelude.{ℕ, Bool, ◌/◌, ◌%◌, List, [], ◌∷◌, ◌++◌, codes, decimal, Option, Some, None, true, ◌==◌, ◌&&◌, not, nat_le, if◌then◌else◌}
+use Rattle.std.specs.Prelude.{ℕ, Bool, ◌/◌, ◌%◌, List, [], ◌∷◌, ◌++◌, codes, decimal, Option, Some, None, option_map, true, ◌==◌, ◌&&◌, not, nat_le, if◌then◌else◌}
 use Rattle.std.specs.Fmt.{digit_glyph}
 use Rattle.std.specs.List.{flat_map, list_all, before_first}
 use Rattle.fit_base.specs.declared.base.BaseType.{BaseType}
@@ -12,7 +12,9 @@ use Rattle.fit_grammar.specs.Format.Message.{Message, MessageField, MessageDevel
 use Rattle.fit_grammar.specs.Format.File.{FileValue}
 use Rattle.fit_text.specs.Date.{dates_of, date_in, date_text}
 use Rattle.fit_text.specs.Form.{number_as, numbers_as, header_by, lines_of}
-use Rattle.fit_text.specs.Profile.{FieldNames, message_named, names_of_fields, field_named}
+use Rattle.fit_profile.specs.Facts.{FieldFacts}
+use Rattle.fit_profile.specs.Known.{known_at, known_named}
+use Rattle.fit_profile.specs.Row.{row_or_common}
 
 -- ---- values
 
@@ -77,10 +79,11 @@ named None word number = word ++ decimal number
 named (Some name) word number = name
 
 abbrev pub message_name : ℕ → List ℕ
-message_name number = named (message_named number) (codes "message_") number
+message_name number = named (known_named number) (codes "message_") number
 
-abbrev pub field_name : FieldNames → ℕ → List ℕ
-field_name names number = named (field_named names number) (codes "field_") number
+abbrev pub field_name : List FieldFacts → ℕ → List ℕ
+field_name names number =
+    named (option_map (λ row. row.1) (row_or_common names number)) (codes "field_") number
 
 -- a date, or else the values of the field
 abbrev pub shown_text : Option ℕ → MessageField → List ℕ
@@ -88,7 +91,7 @@ shown_text (Some time) field = date_text time
 shown_text None field = values_text (base_type field.base) field.values
 
 -- a field, if the fields of these numbers are shown as dates
-abbrev pub field_text : FieldNames → List ℕ → MessageField → List ℕ
+abbrev pub field_text : List FieldFacts → List ℕ → MessageField → List ℕ
 field_text names dates field =
     codes " " ++ field_name names field.number ++ codes "="
     ++ shown_text (date_in dates field) field
@@ -103,7 +106,7 @@ developer_text field =
 abbrev pub message_text : Bool → ℕ → Message → List ℕ
 message_text utc number message =
     decimal number ++ codes " " ++ message_name message.global
-    ++ flat_map (field_text (names_of_fields message.global)
+    ++ flat_map (field_text (known_at message.global)
     (dates_of utc message.global)) message.fields
     ++ flat_map developer_text message.developer ++ codes "\n"
 

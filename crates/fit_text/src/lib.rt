@@ -13,15 +13,14 @@
 //!     0 file_id type=4 time_created=2021-09-08T01:46:40Z
 //!     messages 1
 //!
-//! (The test `the_example_of_the_crate` of `fit_format_tests`.) The names of messages and fields are in `profile`. The text goes
-//! through the buffer of a `Pen` (`writing`). `show_json` writes JSON by the same walk (`form`). Contracts use the definitions in
-//! `specs/`: `Text` has the text of a file, `Json` its JSON, `Form` what both share, `Profile` the names in them, `Date` the dates, and
-//! `Pen` what a pen puts. `Plan` and `Members` are only for private functions and proofs.
+//! (The test `the_example_of_the_crate` of `fit_format_tests`.) The names of messages and fields are those that `fit_profile` marks as
+//! known. The text goes through the buffer of a `Pen` (`writing`). `show_json` writes JSON by the same walk (`form`). Contracts use the
+//! definitions in `specs/`: `Text` has the text of a file, `Json` its JSON, `Form` what both share, `Date` the dates, and `Pen` what a pen
+//! puts. `Plan` and `Members` are only for private functions and proofs.
 #![tactic(auto)]
 
 mod form;
 mod json;
-mod profile;
 mod showing;
 mod writing;
 
@@ -30,7 +29,6 @@ pub use json::{
     Members, put_developer_bytes, put_developer_key, put_json_count, put_json_header,
     put_json_string, put_json_value, put_message, put_quoted_date, show_json,
 };
-pub use profile::{field_name, message_name};
 pub use showing::date::put_date;
 pub use showing::plan::{Column, Plan};
 pub use showing::show;

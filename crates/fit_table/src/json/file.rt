@@ -110,14 +110,14 @@ impl<'a> Members for AsProfile<'a> {
         bytes: &[u8],
         is_first: bool,
     ) -> Result<(), S::Fault> {
-        let words = self.known.words(plan.global, column.number);
+        let row = self.known.row(plan.global, column.number);
         let value = FieldValue::new(column.base, arch, bytes);
         put_field(
             pen,
             plan.utc,
             plan.global,
             column.number,
-            &words,
+            row,
             &value,
             is_first,
         )

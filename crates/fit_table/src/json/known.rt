@@ -1,23 +1,23 @@
-// The words of fields that were looked up.
+// The rows of fields that were looked up.
 
 ghost use Rattle.std.specs.Prelude.{◌<◌};
-ghost use Rattle.fit_table.specs.Json.{AreWordsOf};
+ghost use Rattle.fit_table.specs.Json.{IsRowOf};
 
-use crate::json::words::{Words, words_of};
+use fit_profile::{FieldRow, row_by};
 use std::marker::Model;
 
 // How many places there are. A field has one by its number and that of its message.
 const PLACES: usize = 512;
 
-// The words of a field, with its numbers.
+// The row of a field, if the Profile has it, with its numbers.
 #[derive(Clone, Copy)]
 struct Found {
     message: u16,
     number: u8,
-    words: Words,
+    row: Option<&'static FieldRow>,
 }
 
-/// The words of fields, each looked up when its first message is written, and again only if another field took its place.
+/// The rows of fields, each looked up when its first message is written, and again only if another field took its place.
 #[derive(Drop)]
 pub struct Known {
     places: [Option<Found>; PLACES],
@@ -41,27 +41,27 @@ impl Known {
         }
     }
 
-    /// The words of the fields of this number in messages with this global number.
-    pub fn words(&mut self, message: u16, number: u8) -> Words
-        ensures { AreWordsOf message number result }
+    /// The row of the fields of this number in messages with this global number.
+    pub fn row(&mut self, message: u16, number: u8) -> Option<&'static FieldRow>
+        ensures { IsRowOf message number result }
     {
         let at = (usize::from(message) * 61 + usize::from(number)) % PLACES;
         match self.places[at] {
-            Some(found) if found.message == message && found.number == number => found.words,
+            Some(found) if found.message == message && found.number == number => found.row,
             _ => self.look_up(at, message, number),
         }
     }
 
-    fn look_up(&mut self, at: usize, message: u16, number: u8) -> Words
+    fn look_up(&mut self, at: usize, message: u16, number: u8) -> Option<&'static FieldRow>
         requires { at < PLACES }
-        ensures { AreWordsOf message number result }
+        ensures { IsRowOf message number result }
     {
-        let words = words_of(message, number);
+        let row = row_by(true, message, number);
         self.places[at] = Some(Found {
             message,
             number,
-            words,
+            row,
         });
-        words
+        row
     }
 }

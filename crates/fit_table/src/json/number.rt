@@ -8,7 +8,7 @@ ghost use Rattle.fit_columns.specs.Places.{IsSmall};
 ghost use Rattle.fit_text.specs.Pen.{Puts};
 ghost use Rattle.fit_table.specs.Json.{are_in_units, date_json, has_units, number_json, numbers_json, value_json, values_in};
 
-use crate::json::words::has_units;
+use crate::json::units::has_units;
 use crate::number::put_value;
 use crate::unit::Unit;
 use fit_base::{BaseType, FieldValue};

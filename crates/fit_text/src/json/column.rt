@@ -4,7 +4,7 @@ ghost use Rattle.std.specs.Prelude.{◌≡◌, ◌≤◌, ◌++◌, length, drop
 ghost use Rattle.fit_text.specs.Date.{dates_of};
 ghost use Rattle.fit_text.specs.Pen.{Puts};
 ghost use Rattle.fit_text.specs.Plan.{IsKind, json_at};
-ghost use Rattle.fit_text.specs.Profile.{names_of_fields};
+ghost use Rattle.fit_profile.specs.Known.{known_at};
 ghost use Rattle.fit_text.specs.Members.{separator, column_json, columns_json, AreNamed};
 
 use crate::form::whole::{add_signed, add_unsigned};
@@ -29,7 +29,7 @@ pub fn put_columns<'c, M: Members, S: Sink>(
     content: &'c [u8],
     is_first: bool,
 ) -> Result<&'c [u8], S::Fault>
-    requires named { AreNamed (names_of_fields plan.now.global)
+    requires named { AreNamed (known_at plan.now.global)
         (dates_of plan.now.utc plan.now.global) columns.now }
     requires within { sum_by (λ column. column.size) columns.now ≤ length content.now }
     ensures text { Puts pen.old pen.new result

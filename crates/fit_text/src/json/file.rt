@@ -12,11 +12,11 @@ use crate::json::developer::put_developer_bytes;
 use crate::json::members::Members;
 use crate::json::message::put_message;
 use crate::json::notation::AsJson;
-use crate::profile;
 use crate::showing::plan::{Column, Plan};
 use crate::writing::Pen;
 use fit_base::Arch;
 use fit_grammar::{DataMessage, DeveloperFieldDefinition, Frame, LentFile, Sink};
+use fit_profile::known_name;
 
 /// Writes a file as JSON, an object on each line, in one pass and without allocation, through a buffer of its own. If `utc` is set,
 /// times are dates in UTC. The writer is not flushed. If it fails, it has taken a prefix of the text.
@@ -73,16 +73,16 @@ impl Form for AsJson {
 impl Members for AsJson {
     ghost use Rattle.fit_text.specs.Date.{dates_of};
     ghost use Rattle.fit_text.specs.Json.{developer_json, field_json};
-    ghost use Rattle.fit_text.specs.Profile.{message_named, names_of_fields};
+    ghost use Rattle.fit_profile.specs.Known.{known_at, known_named};
 
-    ghost name = { message_named };
+    ghost name = { known_named };
 
-    ghost member = { λ utc global. field_json (names_of_fields global) (dates_of utc global) };
+    ghost member = { λ utc global. field_json (known_at global) (dates_of utc global) };
 
     ghost developer = { λ _ number. developer_json };
 
     fn message_name(global: u16) -> Option<&'static str> {
-        profile::message_name(global)
+        known_name(global)
     }
 
     #[inline(always)]

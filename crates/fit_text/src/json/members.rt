@@ -5,7 +5,7 @@ ghost use Rattle.fit_grammar.specs.Format.Message.{MessageField, MessageDevelope
 ghost use Rattle.fit_text.specs.Date.{dates_of};
 ghost use Rattle.fit_text.specs.Members.{separator, field_in, IsNamed};
 ghost use Rattle.fit_text.specs.Pen.{Puts};
-ghost use Rattle.fit_text.specs.Profile.{names_of_fields};
+ghost use Rattle.fit_profile.specs.Known.{known_at};
 
 use crate::showing::plan::{Column, Plan};
 use crate::writing::Pen;
@@ -36,7 +36,7 @@ pub trait Members {
         bytes: &[u8],
         is_first: bool,
     ) -> Result<(), S::Fault>
-        requires column { IsNamed (names_of_fields plan.now.global)
+        requires column { IsNamed (known_at plan.now.global)
             (dates_of plan.now.utc plan.now.global) column.now }
         requires size { length bytes.now ≡ column.now.size }
         ensures text { Puts pen.old pen.new result (separator is_first

@@ -5,7 +5,7 @@ ghost use Rattle.fit_grammar.specs.Format.Message.{message_under};
 ghost use Rattle.fit_text.specs.Date.{dates_of};
 ghost use Rattle.fit_text.specs.Pen.{Puts};
 ghost use Rattle.fit_text.specs.Plan.{IsPlanOf};
-ghost use Rattle.fit_text.specs.Profile.{names_of_fields};
+ghost use Rattle.fit_profile.specs.Known.{known_at};
 ghost use Rattle.fit_text.specs.Json.{name_json, line_json};
 ghost use Rattle.fit_text.specs.Members.{time_json, IsNamed};
 
@@ -90,7 +90,7 @@ fn put_time<M: Members, S: Sink>(
     plan: &Plan,
     time: Option<u32>,
 ) -> Result<(), S::Fault>
-    requires named { IsNamed (names_of_fields plan.now.global)
+    requires named { IsNamed (known_at plan.now.global)
         (dates_of plan.now.utc plan.now.global) plan.now.time }
     requires size { plan.now.time.size ≡ 4 }
     ensures text { Puts pen.old pen.new result

@@ -8,6 +8,7 @@ ghost use Rattle.fit_text.specs.Date.{dates_of, date_in, date_text};
 use crate::writing::Pen;
 use fit_base::{BaseType, FieldValue};
 use fit_grammar::Sink;
+use fit_profile::times_of;
 use jiff::Timestamp;
 use jiff::fmt::temporal::DateTimePrinter;
 
@@ -24,11 +25,7 @@ pub fn dates_of(utc: bool, global: u16) -> &'static [u8]
     if !utc {
         return &[];
     }
-    match global {
-        0 => &[253, 4],
-        18 | 19 => &[253, 2],
-        _ => &[253],
-    }
+    times_of(global)
 }
 
 /// The time that a field of this number holds, if it is shown as a date. Fields of the numbers `dates` are,

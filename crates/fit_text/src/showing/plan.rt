@@ -4,15 +4,15 @@ ghost use Rattle.std.specs.Prelude.{◌≡◌, ◌+◌, ◌≤◌, ◌++◌, Lis
 ghost use Rattle.fit_text.specs.declared.showing.plan.Column.{Column as AnyColumn};
 ghost use Rattle.fit_text.specs.declared.showing.plan.TheConstants.{COLUMNS};
 ghost use Rattle.fit_text.specs.Plan.{time_field_definition, IsKind, IsKindOf, IsColumn, AreColumns, IsPlanIn};
-ghost use Rattle.fit_text.specs.Profile.{names_of_fields};
+ghost use Rattle.fit_profile.specs.Known.{known_at};
 ghost use Rattle.fit_text.specs.Text.{field_name, message_name};
 
-use crate::profile;
 use crate::showing::date::dates_of;
 use crate::writing::Label;
 use arrayvec::ArrayVec;
 use fit_base::{Arch, BaseType};
 use fit_grammar::{Definition, DeveloperFieldDefinition, FieldDefinition};
+use fit_profile::{known_name, known_row};
 
 // The field that holds the time of a compressed timestamp.
 const TIMESTAMP: u8 = 253;
@@ -43,7 +43,7 @@ pub struct Column {
 impl Column {
     /// The column of a field in messages with this global number. Fields of the numbers `dates` are shown as dates.
     pub fn new(global: u16, dates: &[u8], field: &FieldDefinition) -> Self
-        ensures { IsColumn (names_of_fields global) dates.now field.now result }
+        ensures { IsColumn (known_at global) dates.now field.now result }
     {
         Column {
             label: field_label(global, field.number),
@@ -120,7 +120,7 @@ impl Plan {
 
 // The column for the time of a compressed timestamp in messages with this global number.
 fn time_column(global: u16, dates: &[u8]) -> Column
-    ensures { IsColumn (names_of_fields global) dates.now time_field_definition result }
+    ensures { IsColumn (known_at global) dates.now time_field_definition result }
 {
     let time = FieldDefinition {
         number: TIMESTAMP,
@@ -139,7 +139,7 @@ fn add_columns(
 )
     requires { length columns.old.items + length fields.now ≤ COLUMNS }
     ensures { (own : List AnyColumn) × (columns.new.items ≡ columns.old.items ++ own)
-        × AreColumns (names_of_fields global) dates.now fields.now own }
+        × AreColumns (known_at global) dates.now fields.now own }
 {
     let mut rest = fields;
     while let [field, others @ ..] = rest {
@@ -174,12 +174,12 @@ fn kind_of_one(base: BaseType) -> Kind
 
 // A space, the name of a field in messages with this global number, and `=`.
 fn field_label(global: u16, number: u8) -> Label
-    ensures { result ≡ codes " " ++ field_name (names_of_fields global) number ++ codes "=" }
+    ensures { result ≡ codes " " ++ field_name (known_at global) number ++ codes "=" }
 {
     let mut label = Label::new();
     label.add(b" ");
-    match profile::field_name(global, number) {
-        Some(name) => label.add(name.as_bytes()),
+    match known_row(global, number) {
+        Some(row) => label.add(row.1.as_bytes()),
         None => {
             label.add(b"field_");
             label.add_number(u64::from(number));
@@ -195,7 +195,7 @@ pub fn message_label(global: u16) -> Label
 {
     let mut label = Label::new();
     label.add(b" ");
-    match profile::message_name(global) {
+    match known_name(global) {
         Some(name) => label.add(name.as_bytes()),
         None => {
             label.add(b"message_");

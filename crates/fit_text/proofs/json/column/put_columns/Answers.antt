@@ -1,6 +1,6 @@
 use Rattle.std.proofs.Common.{refl, sym, ◌∙◌, arith}
 use Rattle.fit_text.specs.Date.{dates_of}
-use Rattle.fit_text.specs.Profile.{names_of_fields}
+use Rattle.fit_profile.specs.Known.{known_at}
 use Rattle.fit_text.proofs.PenLemmas.{leaves_all, leaves_less, leaves_off}
 use Rattle.fit_text.proofs.PlanLemmas.{first_size, first_after, no_after}
 use Rattle.fit_text.proofs.JsonLemmas.{next_column, first_named, other_named}
@@ -12,7 +12,7 @@ loop-left-init g c = record { named = c.requires.named; within = c.requires.with
 pub put_member-requires-clause-column : goal.put_member-requires-clause-column
 put_member-requires-clause-column g c =
     let plan = c.args.plan.now in
-    first_named (names_of_fields plan.global) (dates_of plan.utc plan.global) c.loop-left.left.now c.column-item.result
+    first_named (known_at plan.global) (dates_of plan.utc plan.global) c.loop-left.left.now c.column-item.result
     c.in-len1-up.len_at_least c.column-item.is c.loop-left.invariant.named
 
 pub returns-in_err-put_member-clause-text : goal.returns-in_err-put_member-clause-text
@@ -29,7 +29,7 @@ loop-left-preserved g c =
     let plan = c.args.plan.now in
     let size = first_size left column c.in-len1-up.len_at_least c.column-item.is in
     record {
-      named = other_named (names_of_fields plan.global) (dates_of plan.utc plan.global) left c.in-len1-up.len_at_least c.loop-left.invariant.named;
+      named = other_named (known_at plan.global) (dates_of plan.utc plan.global) left c.in-len1-up.len_at_least c.loop-left.invariant.named;
       within = omega (arith, size, c.loop-left.invariant.within, c.split_at.ensures.back_len, c.from.ensures);
       after = first_after left column c.loop-left.rest.now _ _ c.in-len1-up.len_at_least c.column-item.is c.split_at.ensures.back c.from.ensures
           ∙ c.loop-left.invariant.after;

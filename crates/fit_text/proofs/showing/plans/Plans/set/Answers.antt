@@ -1,4 +1,3 @@
-use Rattle.std.proofs.Common.{Some, sym, ap, ◌∙◌}
 use Rattle.fit_text.proofs.PlanLemmas.{plans_set, shown_plan_in}
 use Rattle.fit_text.proofs.showing.plans.Plans.set.Goals as goal
 
