@@ -15,7 +15,7 @@ from tools.program import run
 NEEDS = ("fitrec", "valgrind")
 
 # The most instructions for each byte that a command reads. The most bytes of JSON: for each byte, and for the line of each message.
-INSTRUCTIONS = {"check": 3000, "show --json": 10000, "show --json --profile": 10000, "table": 5000, "table --profile": 8000}
+INSTRUCTIONS = {"check": 3000, "show --json": 10000, "show --json --profile": 5000, "table": 5000, "table --profile": 8000}
 WRITTEN, LINE = 60, 110
 RECORD, DESCRIPTION = 20, 206
 UINT8, STRING = 2, 7
@@ -49,8 +49,7 @@ class Family(NamedTuple):
     without: tuple = ()
 
 
-FEW, LONG = descriptions(255, 4, 1), descriptions(255, 250, 250)
-BY_NAMES = "show --json --profile", "table --profile"
+SHORT, FEW, LONG = descriptions(255, 3, 0), descriptions(255, 4, 1), descriptions(255, 250, 250)
 FAMILIES = {
     "255 fields of size 0": Family(definition(0, RECORD, numbers(0)[0]), b"\0", 1),
     "255 fields of size 0 of a message without a name": Family(definition(0, 0xFF00, numbers(0)[0]), b"\0", 1),
@@ -65,10 +64,12 @@ FAMILIES = {
     "255 developer fields of size 0": Family(FEW + definition(0, RECORD, [], numbers(0)[1]), b"\0", 1, ("table --profile",)),
     "255 developer fields of size 0 with long names": Family(
         LONG + definition(0, RECORD, [], numbers(0)[1]), b"\0", 1, ("table --profile",)),
-    "255 developer fields with long names": Family(LONG + definition(0, RECORD, [], numbers(1)[1]), b"\0" + bytes(range(255)), 1, BY_NAMES),
+    "255 developer fields with long names": Family(LONG + definition(0, RECORD, [], numbers(1)[1]), b"\0" + bytes(range(255)), 1,
+                                                   ("show --json --profile",)),
+    "255 developer fields with short names": Family(SHORT + definition(0, RECORD, [], numbers(1)[1]), b"\0" + bytes(range(255)), 1),
     "developer fields by turns": Family(
         FEW + definition(0, RECORD, [], numbers(1)[1]) + definition(1, RECORD, [], numbers(1)[1][::-1]),
-        b"\0" + bytes(range(255)) + b"\1" + bytes(range(255)), 2, BY_NAMES),
+        b"\0" + bytes(range(255)) + b"\1" + bytes(range(255)), 2, ("show --json --profile",)),
     "definitions alone": Family(b"", definition(0, RECORD, *numbers(0)), 0),
     "definitions with one message each": Family(b"", definition(0, RECORD, [], [(0, 1, 0)]) + b"\0\0", 1),
     "descriptions": Family(b"", LONG, 255),

@@ -1,13 +1,11 @@
 -- Descriptions of developer fields: for `described`.
-use Rattle.std.proofs.Common.{◌≡◌, ℕ, ◌-◌, ◌≤◌, ◌==◌, ◌%◌, Bool, true, false, List, [], ◌∷◌, length, get_or, take, drop, refl, sym, ap, ◌∙◌, Option, Some, None, if◌then◌else◌, eq-eqb, arith}
+use Rattle.std.proofs.Common.{◌≡◌, ℕ, ◌==◌, ◌%◌, Bool, true, false, List, length, refl, sym, ap, ◌∙◌, Option, Some, if◌then◌else◌, eq-eqb, arith}
 use Rattle.std.specs.List.{before_first}
-use Rattle.std.specs.Option.{option_or}
-use Rattle.std.proofs.lemmas.List.{take_all}
 use Rattle.fit_base.specs.declared.base.BaseType.{BaseType}
 use Rattle.fit_base.specs.declared.base.BaseType.TheVariants.{String}
 use Rattle.fit_base.specs.Base.{base_type}
 use Rattle.fit_base.specs.Value.{Field, Numbers, Raw, raw_by, is_raw, values_of}
-use Rattle.fit_table.specs.Described.{Description, text_by, describes, one_if, described_in}
+use Rattle.fit_table.specs.Described.{text_by}
 use Rattle.fit_table.proofs.CellLemmas.{string_bytes}
 
 -- ---- strings
@@ -26,21 +24,3 @@ pub text_is : (field : Field) → base_type field.base ≡ Some String →
 text_is field e =
     ap (before_first (λ byte. byte == 0)) (sym (string_bytes field e))
     ∙ text_if (base_type field.base) (is_raw field) field.bytes _ e (whole_string (base_type field.base) field.bytes e)
-
--- ---- the last of several
-
-either : {X : Type 0} (a b c : Option X) → option_or (option_or a b) c ≡ option_or a (option_or b c)
-either None b c = refl
-either (Some x) b c = refl
-
-abbrev others : List Description → List Description
-others known = take (length known - 1) (drop 1 known)
-
-pub next_described : (known : List Description) (d : Description) (place index number : ℕ) (found : Option Description) → 1 ≤ length known →
-    d ≡ get_or known 0 d →
-    option_or (described_in known place index number) found
-    ≡ option_or (described_in (others known) place index number) (option_or (one_if (describes d place index number) d) found)
-next_described [] d place index number found some is = absurd (omega arith)
-next_described (first ∷ known) d place index number found some is =
-    let rest : others (first ∷ known) ≡ known = take_all _ known (omega arith) in
-    rw (is, rest) (either (described_in known place index number) (one_if (describes first place index number) first) found)

@@ -1,5 +1,6 @@
 pub mod Unit
 pub mod Described
+pub mod Lookup
 pub mod Number
 pub mod Cells
 pub mod Named

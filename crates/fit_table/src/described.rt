@@ -1,9 +1,10 @@
 // What a file says of its developer fields.
 
-ghost use Rattle.std.specs.Prelude.{◌≡◌, ◌≤◌, ℕ, Option, length, sum_by, option_map};
+ghost use Rattle.std.specs.Prelude.{◌≡◌, ◌≤◌, ℕ, Option, length, sum_by};
 ghost use Rattle.fit_grammar.specs.Format.Message.{fields_of, message_under, messages_of};
 ghost use Rattle.fit_columns.specs.Columns.{cell_in, found_in};
-ghost use Rattle.fit_table.specs.Described.{base_in, description, descriptions_of, described_in, describes, is_number, known_after, offset_in, scale_in, text_in, unit_stated};
+ghost use Rattle.fit_table.specs.Lookup.{AreAscending};
+ghost use Rattle.fit_table.specs.Described.{base_in, description, descriptions_of, known_after, offset_in, scale_in, text_in, unit_stated};
 
 use crate::unit::Unit;
 use arrayvec::ArrayVec;
@@ -21,10 +22,11 @@ const FIELD_DESCRIPTION: u16 = 206;
 /// What a message field_description says of a developer field.
 #[derive(Drop, Default)]
 pub struct Described<'a> {
-    // The place of the message among those of its file.
-    place: u64,
-    index: Option<i64>,
-    number: Option<i64>,
+    /// The place of the message among those of its file.
+    pub place: u64,
+    /// Which developer field it describes, if these are numbers of a byte.
+    pub index: Option<i64>,
+    pub number: Option<i64>,
     /// The base type byte.
     pub base: u8,
     /// The unit of its numbers.
@@ -36,6 +38,7 @@ pub struct Described<'a> {
 }
 
 impl<'a> Model for Described<'a> {
+    ghost use Rattle.fit_table.specs.Lookup.{AreAscending};
     ghost use Rattle.fit_table.specs.Described.{Description};
 
     ghost Value = { Description };
@@ -53,7 +56,8 @@ impl<'a> Model for Described<'a> {
 
 /// The descriptions of a file, in order, and no more than 256.
 pub fn descriptions_of<'a>(file: &LentFile<'a>) -> ArrayVec<Described<'a>, MOST_DESCRIPTIONS>
-    ensures { result.items ≡ descriptions_of (messages_of file.now.items) }
+    ensures descriptions { result.items ≡ descriptions_of (messages_of file.now.items) }
+    ensures ascending { AreAscending result.items }
 {
     let _ = file.data_size(); // Its contract bounds how many messages there are.
     let mut known = ArrayVec::new();
@@ -139,43 +143,6 @@ fn text_in<'a>(fields: &[FieldDefinition], arch: Arch, content: &'a [u8], number
             FieldValue::new(place.base, arch, bytes).text_bytes()
         }
         _ => &[],
-    }
-}
-
-/// The last description of the developer fields of this index and number that comes before the message in this place.
-pub fn described_in<'k, 'a>(
-    known: &'k [Described<'a>],
-    place: u64,
-    index: u8,
-    number: u8,
-) -> Option<&'k Described<'a>>
-    ensures { option_map (λ d. d.now) result ≡ described_in known.now place index number }
-{
-    let mut found = None;
-    let mut left = known;
-    while let [first, others @ ..] = left {
-        if describes(first, place, index, number) {
-            found = Some(first);
-        }
-        left = others;
-    }
-    found
-}
-
-fn describes(described: &Described<'_>, place: u64, index: u8, number: u8) -> bool
-    ensures { result ≡ describes described.now place index number }
-{
-    described.place < place
-        && is_number(described.index, index)
-        && is_number(described.number, number)
-}
-
-fn is_number(found: Option<i64>, number: u8) -> bool
-    ensures { result ≡ is_number found number }
-{
-    match found {
-        Some(found) => found == i64::from(number),
-        None => false,
     }
 }
 

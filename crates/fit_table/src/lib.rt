@@ -12,6 +12,7 @@ mod described;
 mod float;
 mod json;
 mod layout;
+mod lookup;
 mod named;
 mod number;
 mod stated;

@@ -10,7 +10,8 @@ ghost use Rattle.fit_table.specs.Named.{cells_by, is_new, named_cells, names_in,
 ghost use Rattle.fit_table.specs.Tokens.{PutsTokens};
 
 use crate::cell::put_field;
-use crate::described::{Described, described_in};
+use crate::described::Described;
+use crate::lookup::Lookup;
 use crate::string::put_string;
 use crate::unit::Unit;
 use arrayvec::ArrayVec;
@@ -80,7 +81,7 @@ pub fn put_titles<W: Write>(pen: &mut Pen<'_, W>, names: &[&[u8]]) -> Result<(),
 /// is set.
 pub fn put_named_cells<W: Write>(
     pen: &mut Pen<'_, W>,
-    known: &[Described<'_>],
+    known: &Lookup<'_, '_>,
     place: u64,
     raw: bool,
     names: &[&[u8]],
@@ -99,7 +100,7 @@ pub fn put_named_cells<W: Write>(
 
 // The descriptions of the message's developer fields.
 fn told_of<'k, 'a>(
-    known: &'k [Described<'a>],
+    known: &Lookup<'k, 'a>,
     place: u64,
     message: &DataMessage<'_>,
 ) -> ArrayVec<Option<&'k Described<'a>>, 255>
@@ -109,7 +110,7 @@ fn told_of<'k, 'a>(
 {
     let mut told = ArrayVec::new();
     for field in developer_fields_of(message) {
-        told.push(described_in(known, place, field.index, field.number));
+        told.push(known.last(place, field.index, field.number));
     }
     told
 }

@@ -3,6 +3,7 @@
 ghost use Rattle.std.specs.Prelude.{◌≡◌, ◌≤◌, ◌++◌, codes, length, take, IfOk, IfErr};
 ghost use Rattle.fit_text.specs.Pen.{Puts};
 ghost use Rattle.fit_columns.specs.Places.{IsSmall};
+ghost use Rattle.fit_profile.specs.Scale.{parts_of};
 ghost use Rattle.fit_table.specs.Number.{digits, places_text, date_or, unit_text, split_of, limit, IsWide, nearest, decimals_text, scaled_text, AreSmallParts};
 
 use crate::stated::stated_parts;
@@ -26,14 +27,25 @@ pub fn put_value<S: Sink>(
     ensures { Puts pen.old pen.new result (unit_text empty.now unit value) }
 {
     match unit {
-        Unit::Whole | Unit::Time | Unit::Scaled(Scale::Whole) => pen.put_signed(value),
+        Unit::Whole | Unit::Time => pen.put_signed(value),
         Unit::Date => put_date_or(pen, empty, value),
-        Unit::Scaled(scale) => put_scaled(pen, parts_of(scale), value),
+        Unit::Scaled(scale) => put_by_scale(pen, scale, value),
         Unit::Stated(scale, offset) => put_scaled(pen, stated_parts(scale, offset), value),
     }
 }
 
-// A value of a scale.
+// A value of a scale of the Profile. A whole number needs no division.
+fn put_by_scale<S: Sink>(pen: &mut Pen<'_, S>, scale: Scale, value: i64) -> Result<(), S::Fault>
+    requires { IsSmall value }
+    ensures { Puts pen.old pen.new result (scaled_text (parts_of scale) value) }
+{
+    match scale {
+        Scale::Whole => pen.put_signed(value),
+        scale => put_scaled(pen, parts_of(scale), value),
+    }
+}
+
+// A value of these parts.
 fn put_scaled<S: Sink>(pen: &mut Pen<'_, S>, parts: Parts, value: i64) -> Result<(), S::Fault>
     requires small { IsSmall value }
     requires parts { AreSmallParts parts }
@@ -124,13 +136,14 @@ pub fn put_digits<S: Sink>(pen: &mut Pen<'_, S>, count: usize, n: u64) -> Result
     pen.put(&bytes[..count])
 }
 
-fn place_digits(bytes: &mut [u8], count: usize, n: u64)
+fn place_digits(bytes: &mut [u8], count: usize, mut n: u64)
     requires { count ≤ length bytes.old }
     ensures { take count bytes.new ≡ digits count n }
 {
-    if count == 0 {
-        return;
+    let mut at = count;
+    while at > 0 {
+        at -= 1;
+        bytes[at] = b'0' + (n % 10) as u8;
+        n /= 10;
     }
-    place_digits(bytes, count - 1, n / 10);
-    bytes[count - 1] = b'0' + (n % 10) as u8;
 }

@@ -13,8 +13,9 @@ ghost use Rattle.fit_table.specs.Tokens.{PutsTokens, WritesTokens};
 ghost use Rattle.fit_table.specs.Table.{column_name, name_by, names_from, head_of, head_with, cells_at, line_of, lines_from, lines_of, table_of, table_with};
 
 use crate::cell::put_cell;
-use crate::described::{Described, descriptions_of};
+use crate::described::descriptions_of;
 use crate::layout::Layout;
+use crate::lookup::Lookup;
 use crate::named::{names_of, put_named_cells, put_titles};
 use crate::unit::{Unit, suffix_in, units_of};
 use fit_base::Arch;
@@ -70,7 +71,7 @@ pub fn write_lines<W: Write>(
         (lines_of layout.now front.now (messages_of file.now.items)) }
 {
     let mut pen = Pen::new(out);
-    let done = put_all_lines(&mut pen, layout, &[], &[], front, file);
+    let done = put_all_lines(&mut pen, layout, &Lookup::new(&[]), &[], front, file);
     let _ = pen.into_writer();
     done
 }
@@ -86,16 +87,17 @@ fn put_table<W: Write>(
     ensures none { IfOk result (λ _. pen.new.waiting ≡ []) }
 {
     if layout.developer {
-        return put_described_table(pen, layout, descriptions_of(file).as_slice(), file);
+        let known = descriptions_of(file);
+        return put_described_table(pen, layout, &Lookup::new(known.as_slice()), file);
     }
-    put_described_table(pen, layout, &[], file)
+    put_described_table(pen, layout, &Lookup::new(&[]), file)
 }
 
 // The table of a file, with columns for the developer fields that these describe.
 fn put_described_table<W: Write>(
     pen: &mut Pen<'_, W>,
     layout: &Layout<'_>,
-    known: &[Described<'_>],
+    known: &Lookup<'_, '_>,
     file: &LentFile<'_>,
 ) -> Result<(), WriteFailed>
     requires { length layout.now.fields.now ≤ MOST_COLUMNS }
@@ -103,7 +105,7 @@ fn put_described_table<W: Write>(
         (table_with layout.now known.now (messages_of file.now.items)) }
     ensures none { IfOk result (λ _. pen.new.waiting ≡ []) }
 {
-    let names = names_of(known);
+    let names = names_of(known.known());
     put_head(pen, layout, names.as_slice(), &[])?;
     put_all_lines(pen, layout, known, names.as_slice(), &[], file)
 }
@@ -123,7 +125,7 @@ fn put_whole_head<W: Write>(
 fn put_all_lines<W: Write>(
     pen: &mut Pen<'_, W>,
     layout: &Layout<'_>,
-    known: &[Described<'_>],
+    known: &Lookup<'_, '_>,
     names: &[&[u8]],
     front: &[u8],
     file: &LentFile<'_>,
@@ -206,7 +208,7 @@ fn put_number_name<S: Sink>(pen: &mut Pen<'_, S>, number: u8) -> Result<(), S::F
 fn put_lines<W: Write>(
     pen: &mut Pen<'_, W>,
     layout: &Layout<'_>,
-    known: &[Described<'_>],
+    known: &Lookup<'_, '_>,
     names: &[&[u8]],
     front: &[u8],
     file: &LentFile<'_>,
@@ -246,7 +248,7 @@ fn put_lines<W: Write>(
 fn put_line<W: Write>(
     pen: &mut Pen<'_, W>,
     layout: &Layout<'_>,
-    known: &[Described<'_>],
+    known: &Lookup<'_, '_>,
     names: &[&[u8]],
     front: &[u8],
     units: &[Unit; 256],

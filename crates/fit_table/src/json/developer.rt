@@ -6,8 +6,9 @@ ghost use Rattle.fit_text.specs.Pen.{Puts};
 ghost use Rattle.fit_table.specs.Described.{described_in};
 ghost use Rattle.fit_table.specs.Json.{described_json, developer_json_by};
 
-use crate::described::{Described, described_in};
+use crate::described::Described;
 use crate::json::number::put_values;
+use crate::lookup::Lookup;
 use fit_base::{Arch, BaseType, FieldValue};
 use fit_grammar::{DeveloperFieldDefinition, Sink};
 use fit_text::{Pen, put_developer_bytes, put_developer_key, put_json_string};
@@ -15,7 +16,7 @@ use fit_text::{Pen, put_developer_bytes, put_developer_key, put_json_string};
 /// A developer field of the message in this place, by its description among these. One that has none is written by its bytes.
 pub fn put_developer<S: Sink>(
     pen: &mut Pen<'_, S>,
-    known: &[Described<'_>],
+    known: &Lookup<'_, '_>,
     place: u64,
     arch: Arch,
     field: &DeveloperFieldDefinition,
@@ -31,7 +32,7 @@ pub fn put_developer<S: Sink>(
           bytes = bytes.now;
         })) }
 {
-    match described_in(known, place, field.index, field.number) {
+    match known.last(place, field.index, field.number) {
         Some(described) => put_described(pen, described, arch, field, bytes),
         None => put_developer_bytes(pen, field, bytes),
     }

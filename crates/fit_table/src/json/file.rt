@@ -5,11 +5,11 @@ ghost use Rattle.std.specs.Prelude.{◌≡◌, false, option_map};
 ghost use Rattle.fit_text.specs.Pen.{Puts};
 ghost use Rattle.fit_table.specs.Json.{profile_json_of};
 
-use crate::described::{Described, MOST_DESCRIPTIONS, descriptions_of};
+use crate::described::descriptions_of;
 use crate::json::developer::put_developer;
 use crate::json::known::Known;
 use crate::json::member::put_field;
-use arrayvec::ArrayVec;
+use crate::lookup::Lookup;
 use fit_base::{Arch, FieldValue};
 use fit_grammar::{DataMessage, DeveloperFieldDefinition, Frame, LentFile, Sink};
 use fit_text::{
@@ -27,27 +27,28 @@ pub fn show_profile_json<S: Sink>(
 ) -> Result<(), ShowFault<S::Fault>>
     ensures { WritesText (S.held out.old) (S.held out.new) result (profile_json_of utc file.now) }
 {
+    let known = descriptions_of(file);
     let mut form = AsProfile {
         known: Known::new(),
-        descriptions: descriptions_of(file),
+        descriptions: Lookup::new(known.as_slice()),
     };
     write_file(&mut form, file, utc, out)
 }
 
 /// JSON by the Profile.
 #[derive(Drop)]
-struct AsProfile<'a> {
+struct AsProfile<'k, 'a> {
     known: Known,
-    descriptions: ArrayVec<Described<'a>, MOST_DESCRIPTIONS>,
+    descriptions: Lookup<'k, 'a>,
 }
 
-impl<'a> Form for AsProfile<'a> {
+impl<'k, 'a> Form for AsProfile<'k, 'a> {
     ghost use Rattle.fit_text.specs.Json.{header_json, count_json};
     ghost use Rattle.fit_table.specs.Json.{message_json};
 
     ghost header = { header_json };
 
-    ghost line = { λ form. message_json form.descriptions.items };
+    ghost line = { λ form. message_json form.descriptions };
 
     ghost count = { count_json };
 
@@ -85,7 +86,7 @@ impl<'a> Form for AsProfile<'a> {
     }
 }
 
-impl<'a> Members for AsProfile<'a> {
+impl<'k, 'a> Members for AsProfile<'k, 'a> {
     ghost use Rattle.fit_profile.specs.Table.{message_named};
     ghost use Rattle.fit_table.specs.Json.{field_json, developer_json_in};
 
@@ -93,7 +94,7 @@ impl<'a> Members for AsProfile<'a> {
 
     ghost member = { field_json };
 
-    ghost developer = { λ form. developer_json_in form.descriptions.items };
+    ghost developer = { λ form. developer_json_in form.descriptions };
 
     fn message_name(global: u16) -> Option<&'static str>
         ensures { option_map (λ name. name.now) result ≡ message_named global }
@@ -131,13 +132,6 @@ impl<'a> Members for AsProfile<'a> {
         field: &DeveloperFieldDefinition,
         bytes: &[u8],
     ) -> Result<(), S::Fault> {
-        put_developer(
-            pen,
-            self.descriptions.as_slice(),
-            number,
-            arch,
-            field,
-            bytes,
-        )
+        put_developer(pen, &self.descriptions, number, arch, field, bytes)
     }
 }

@@ -15,7 +15,7 @@ pub loop-field-preserved : goal.loop-field-preserved
 loop-field-preserved c =
     let steps = c.in-Some.ensures.steps in
     let done = c.loop-field.told.items in record {
-      told = λ time. rw c.push.ensures.items (pushed seen done _ _ (told_in c.args.known.now c.args.place c.next.new.self) c.described_in.ensures)
+      told = λ time. rw c.push.ensures.items (pushed seen done _ _ (told_in c.args.known.now c.args.place c.next.new.self) c.last.ensures)
           ∙ ap (λ fields. map seen done ++ told_in c.args.known.now c.args.place fields) (sym steps)
           ∙ c.loop-field.invariant.told time;
       few = omega (arith, c.loop-field.invariant.few, ap length steps, ap length c.push.ensures.items, length-append done);

@@ -3,9 +3,9 @@ use Rattle.fit_table.proofs.table.put_described_table.Goals as goal
 
 pub returns-in_err-put_head-clause-text : goal.returns-in_err-put_head-clause-text
 returns-in_err-put_head-clause-text g c =
-    tokens_stop c.from_residual.ensures.0 (tokens_text (rw (c.as_slice.ensures.value, c.names_of-names.ensures) at c.in_err-put_head.ensures)) _
+    tokens_stop c.from_residual.ensures.0 (tokens_text (rw (c.as_slice.ensures.value, c.names_of-names.ensures, c.known.ensures) at c.in_err-put_head.ensures)) _
 
 pub returns-clause-text : goal.returns-clause-text
 returns-clause-text g c =
-    tokens_then (tokens_text (rw (c.as_slice.ensures.value, c.names_of-names.ensures) at c.in_ok-put_head.ensures))
-    (rw (c.as_slice-2.ensures.value, c.names_of-names.ensures) at c.put_all_lines.ensures.text)
+    tokens_then (tokens_text (rw (c.as_slice.ensures.value, c.names_of-names.ensures, c.known.ensures) at c.in_ok-put_head.ensures))
+    (rw (c.as_slice-2.ensures.value, c.names_of-names.ensures, c.known.ensures) at c.put_all_lines.ensures.text)

@@ -1,4 +1,4 @@
 use Rattle.fit_table.proofs.json.developer.put_developer.Goals as goal
 
 pub returns-in-None : goal.returns-in-None
-returns-in-None g c = rw (← c.described_in.ensures, c.in-None.is) (c.put_developer_bytes.ensures c.args.arch)
+returns-in-None g c = rw (← c.last.ensures, c.in-None.is) (c.put_developer_bytes.ensures c.args.arch)
