@@ -436,6 +436,44 @@ def split_hostile(given):
         yield "%d bytes of headers take little time" % size, unless(took < 2, took, "less than 2 s")
 
 
+def time_stated(row, it):
+    """The time that a message states in full."""
+    at, fields = it.start + 1, it.what[1][6:6 + 3 * it.what[1][5]]
+    for number, size, base in zip(*[iter(fields)] * 3):
+        if (number, size, base) == (253, 4, 0x86):
+            return int.from_bytes(row[at:at + 4], "big" if it.what[1][2] & 1 else "little")
+        at += size
+
+
+def others_told(given):
+    """A part that is left out and has another ride says when that starts, by the definitions before it or its own. One that has the same
+    ride again, or none, says nothing."""
+    pick, (hearts, ride) = random.Random(given.seed), [bytes_plain(given.fitrec, it) for it in own_rides(given.fitrec)]
+    head, row = numbers(ride)
+    there, old, other = records(ride), older(row), older(numbers(hearts)[1])
+    end, start = there[2000].start, there[900]
+    place, times = len(head) + end, [time_stated(old, it) for it in there[900:902]]
+    of_hearts = time_stated(other, records(hearts)[0])
+    for name, hole, said in (
+            ("an older ride", old[start.start:], times[0]), ("within a record", old[start.start + 5:], times[1]),
+            ("another layout", hearts[:len(head)] + other, of_hearts),
+            ("fewer than eight records", old[start.start:there[907].start] + bytes(200), None), ("noise", pick.randbytes(3000), None),
+            ("zeros", bytes(3000), None), ("the same ride again", row[start.start:], None)):
+        (status, out, err), file = mended(given.fitrec, head + row[:end] + hole, "--all")
+        line = "left out %d at %d%s\n" % (len(hole), place, ": another ride from %d" % said if said else "")
+        wanted = 0, "kept %d of %d, parts 1\n" % (end, end + len(hole)) + line, ""
+        yield name, differs((status, out, err), wanted)
+
+
+def bytes_plain(fitrec, data):
+    """The plain form of a file."""
+    with tempfile.TemporaryDirectory() as folder:
+        source, out = pathlib.Path(folder) / "in.fit", pathlib.Path(folder) / "out.fit"
+        source.write_bytes(data)
+        run(fitrec, "plain", source, out)
+        return bytes_of(out)
+
+
 def finishes(given):
     """With --finish the file has the closing messages that a second reader gives what is kept, and another line says how many entries."""
     pick = random.Random(given.seed)
@@ -465,6 +503,7 @@ def check(given):
     yield from given.checks(damaged_headers, given)
     yield from given.checks(lost_beginnings, given)
     yield from given.checks(told, given)
+    yield from given.checks(others_told, given)
     yield from given.checks(clusters, given)
     yield from given.checks(split, given)
     yield from given.checks(split_refused, given)

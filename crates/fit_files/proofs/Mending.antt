@@ -1,5 +1,5 @@
 -- What is kept of damaged bytes: for `skip_bytes`, and for the lines of it.
-use Rattle.std.proofs.Common.{◌≡◌, inr, ℕ, ◌-◌, ◌<◌, ◌≤◌, Bool, true, false, ◌||◌, ◌==◌, if◌then◌else◌, List, [], ◌∷◌, ◌++◌, length, take, drop, get_or, refl, sym, ap, ◌∙◌, subst, append-nil, codes, Result, Ok, Err, arith}
+use Rattle.std.proofs.Common.{◌≡◌, inr, ℕ, ◌-◌, ◌<◌, ◌≤◌, Bool, true, false, ◌||◌, ◌==◌, if◌then◌else◌, List, [], ◌∷◌, ◌++◌, length, take, drop, get_or, refl, sym, ap, ◌∙◌, subst, append-nil, codes, Option, Result, Ok, Err, arith}
 use Rattle.std.specs.Prelude.{◌↔◌, IfOk, OnErr}
 use Rattle.std.specs.Result.{is_ok}
 use Rattle.std.proofs.lemmas.List.{take_all, nil_from_length, length-drop, length-take}
@@ -13,7 +13,7 @@ use Rattle.fit_text.proofs.PenLemmas.{Leaves, leaves_none, puts_same, puts_then}
 use Rattle.fit_files.specs.declared.fault.ReportFault.{ReportFault}
 use Rattle.fit_files.specs.declared.looking.Looked.{Looked}
 use Rattle.fit_files.specs.declared.mended.Mended.{Mended}
-use Rattle.fit_files.specs.Printed.Mended.{LooksAt, bare_frame, kept_count, kept_line, mended_text, piece_text, pieces_text}
+use Rattle.fit_files.specs.Printed.Mended.{LooksAt, bare_frame, first_of, kept_count, kept_line, mended_text, piece_text, pieces_text}
 use Rattle.fit_files.specs.Printed.Salvaged.{looked_at, not_looked_at, salvaged_frame}
 use Rattle.fit_files.proofs.Headers.{one_frame, one_size}
 
@@ -84,22 +84,24 @@ abbrev pub others : List Piece → List Piece
 others pieces = take (length pieces - 1) (drop 1 pieces)
 
 -- the first line, and those of the pieces after it
-pub first_piece : (pieces : List Piece) (d : Piece) → 1 ≤ length pieces →
-    pieces_text pieces ≡ piece_text (get_or pieces 0 d) ++ pieces_text (others pieces)
-first_piece [] d some = absurd (omega arith)
-first_piece (piece ∷ pieces) d some =
+pub first_piece : (pieces : List Piece) (said left : List (Option ℕ)) (other : Option ℕ) (d : Piece) → 1 ≤ length pieces →
+    other ≡ first_of said → left ≡ drop 1 said →
+    pieces_text pieces said ≡ piece_text (get_or pieces 0 d) other ++ pieces_text (others pieces) left
+first_piece [] said left other d some first more = absurd (omega arith)
+first_piece (piece ∷ pieces) said left other d some first more =
     let rest : others (piece ∷ pieces) ≡ pieces = take_all _ pieces (omega arith) in
-    rw rest refl
+    rw (rest, first, more) refl
 
 -- no piece is left, and all lines were handed over
-pub all_lines : {T E : Type 0} (o m n : Written) (text : List ℕ) (left : List Piece) (flushed : Result T E) → length left < 1 →
-    Leaves o m text (pieces_text left) → Puts m n flushed [] → Puts o n flushed text
-all_lines o m n text left flushed none leaves flush =
+pub all_lines : {T E : Type 0} (o m n : Written) (text : List ℕ) (left : List Piece) (said : List (Option ℕ))
+    (flushed : Result T E) → length left < 1 → Leaves o m text (pieces_text left said) → Puts m n flushed [] → Puts o n flushed text
+all_lines o m n text left said flushed none leaves flush =
     let no : left ≡ [] = nil_from_length left (omega arith) in
     puts_same (puts_then (leaves_none {E = ReportFault} (tt {0}) (rw no at leaves)) flush) (append-nil text)
 
 -- the text of what is kept and left out, by the numbers that its first line has
-pub text_is : (mended : Mended) (kept parts : ℕ) (counted rest : List Piece) → kept ≡ length mended.skipped.row.items →
+pub text_is : (mended : Mended) (kept parts : ℕ) (counted rest : List Piece) (said : List (Option ℕ)) → kept ≡ length mended.skipped.row.items →
     counted ≡ mended.skipped.pieces.items → parts ≡ kept_count counted → rest ≡ mended.skipped.pieces.items →
-    (kept_line kept mended.looked.looked_at parts ++ codes "\n") ++ pieces_text rest ≡ mended_text mended
-text_is mended kept parts counted rest long all count same = rw (long, count, all, same) refl
+    said ≡ mended.skipped.others.items →
+    (kept_line kept mended.looked.looked_at parts ++ codes "\n") ++ pieces_text rest said ≡ mended_text mended
+text_is mended kept parts counted rest said long all count same also = rw (long, count, all, same, also) refl

@@ -1,8 +1,8 @@
 // The lines of what is kept of a damaged file, and of what is left out.
 
-ghost use Rattle.std.specs.Prelude.{◌≡◌, [], IfErr, OnOk};
+ghost use Rattle.std.specs.Prelude.{◌≡◌, [], drop, IfErr, OnOk};
 ghost use Rattle.fit_text.specs.Pen.{Puts};
-ghost use Rattle.fit_files.specs.Printed.Mended.{kept_count, mended_text, piece_text, pieces_text};
+ghost use Rattle.fit_files.specs.Printed.Mended.{first_of, kept_count, mended_text, piece_text, pieces_text};
 ghost use Rattle.fit_files.specs.Printed.Shown.{IsOutputFault};
 
 use crate::fault::ReportFault;
@@ -25,7 +25,11 @@ pub(crate) fn put_lines<O: Write>(mended: &Mended, pen: &mut Pen<'_, O>) -> Resu
         parts: count_kept(mended.skipped.pieces.as_slice()),
     };
     put_line(&kept, pen)?;
-    put_pieces(mended.skipped.pieces.as_slice(), pen)
+    put_pieces(
+        mended.skipped.pieces.as_slice(),
+        mended.skipped.others.as_slice(),
+        pen,
+    )
 }
 
 // How many pieces are kept.
@@ -43,24 +47,46 @@ fn count_kept(pieces: &[Piece]) -> usize
     count
 }
 
-// Puts a line for each piece that is left out, and hands all that was put to the writer.
-fn put_pieces<O: Write>(pieces: &[Piece], pen: &mut Pen<'_, O>) -> Result<(), ReportFault>
+// Puts a line for each piece that is left out, with the other ride in it, and hands all that was put to the writer.
+fn put_pieces<O: Write>(
+    pieces: &[Piece],
+    others: &[Option<u32>],
+    pen: &mut Pen<'_, O>,
+) -> Result<(), ReportFault>
     ensures fault { IfErr result IsOutputFault }
     ensures none { OnOk result (pen.new.waiting ≡ []) }
-    ensures lines { Puts pen.old pen.new result (pieces_text pieces.now) }
+    ensures lines { Puts pen.old pen.new result (pieces_text pieces.now others.now) }
 {
     let mut rest = pieces;
-    while let [piece, others @ ..] = rest {
-        put_piece(piece, pen)?;
-        rest = others;
+    let mut later = others;
+    while let [piece, more @ ..] = rest {
+        let (other, left) = take_first(later);
+        put_piece(piece, other, pen)?;
+        rest = more;
+        later = left;
     }
     flush(pen)
 }
 
+// What is said of the first piece, and of those after it.
+fn take_first(others: &[Option<u32>]) -> (Option<u32>, &[Option<u32>])
+    ensures first { result.0 ≡ first_of others.now }
+    ensures left { result.1.now ≡ drop 1 others.now }
+{
+    match others {
+        [first, left @ ..] => (*first, left),
+        [] => (None, others),
+    }
+}
+
 // Puts the line of a piece that is left out.
-fn put_piece<O: Write>(piece: &Piece, pen: &mut Pen<'_, O>) -> Result<(), ReportFault>
+fn put_piece<O: Write>(
+    piece: &Piece,
+    other: Option<u32>,
+    pen: &mut Pen<'_, O>,
+) -> Result<(), ReportFault>
     ensures fault { IfErr result IsOutputFault }
-    ensures line { Puts pen.old pen.new result (piece_text piece.now) }
+    ensures line { Puts pen.old pen.new result (piece_text piece.now other) }
 {
     if piece.kept {
         return Ok(());
@@ -68,6 +94,7 @@ fn put_piece<O: Write>(piece: &Piece, pen: &mut Pen<'_, O>) -> Result<(), Report
     let line = LeftOutLine {
         count: piece.end.saturating_sub(piece.start),
         at: piece.start,
+        other,
     };
     put_line(&line, pen)
 }
@@ -97,16 +124,21 @@ impl fmt::Display for KeptLine {
 struct LeftOutLine {
     count: usize,
     at: usize,
+    other: Option<u32>,
 }
 
 impl fmt::Display for LeftOutLine {
     ghost use Rattle.std.specs.Prelude.{Some};
     ghost use Rattle.fit_files.specs.Printed.Mended.{left_out_line};
 
-    ghost output = { λ line. Some (left_out_line line.count line.at) };
+    ghost output = { λ line. Some (left_out_line line.count line.at line.other) };
 
     fn fmt<W: fmt::Write>(&self, f: &mut Formatter<W>) -> fmt::Result {
-        let LeftOutLine { count, at } = self;
-        write!(f, "left out {count} at {at}")
+        let LeftOutLine { count, at, other } = self;
+        write!(f, "left out {count} at {at}")?;
+        match other {
+            Some(time) => write!(f, ": another ride from {time}"),
+            None => Ok(()),
+        }
     }
 }

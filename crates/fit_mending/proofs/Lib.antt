@@ -3,3 +3,5 @@ pub mod Rows
 pub mod Cut
 pub mod Files
 mod Found
+mod Riding
+pub mod Others

@@ -9,7 +9,7 @@ pub(crate) const RECORD: u16 = 20;
 const TIME: u8 = 253;
 
 // How far two times of a ride are apart at most, in seconds.
-const DAY: u32 = 86_400;
+pub(crate) const DAY: u32 = 86_400;
 
 // A record whose time is later by more seconds than this is no sign until the next one follows it, and another message is worth less.
 const LEAP: u32 = 120;

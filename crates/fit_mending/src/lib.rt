@@ -8,8 +8,8 @@
 //! `split_files` cuts bytes into the files that are chained in them, each of which begins with its header. `find_files` finds the whole
 //! files that stand somewhere in them, as in the image of a card.
 //!
-//! Contracts use the definitions of `specs/`: `Pieces` has what is kept and left out, `Chained` where files end, `Found`
-//! which files stand in bytes.
+//! Contracts use the definitions of `specs/`: `Pieces` has what is kept and left out, `Others` other rides in what is left out, `Chained`
+//! where files end, `Found` which files stand in bytes.
 #![tactic(auto)]
 
 mod chained;
@@ -20,6 +20,7 @@ mod form;
 mod layout;
 mod pieces;
 mod progress;
+mod rides;
 mod row;
 mod skipping;
 mod stray;

@@ -18,4 +18,6 @@ pub struct Skipped {
     pub row: Vec<u8>,
     /// The pieces of all bytes, one after another.
     pub pieces: Vec<Piece>,
+    /// Of each piece that is left out and has another ride, when that starts, in seconds since 1989-12-31 00:00 UTC.
+    pub others: Vec<Option<u32>>,
 }

@@ -7,11 +7,13 @@ ghost use Rattle.fit_grammar.specs.Calls.Step.{IsStep};
 ghost use Rattle.fit_grammar.specs.Calls.Table.{definition_in};
 ghost use Rattle.fit_mending.specs.declared.pieces.Piece.{Piece as AnyPiece};
 ghost use Rattle.fit_mending.specs.Pieces.{AreCut, AreCutFrom, AreItems, CutsFaults, HasFirst, IsSkipped, kept_of, kept_row, piece_bytes};
+ghost use Rattle.fit_mending.specs.Others.{FindsOthers};
 ghost use Rattle.fit_mending.specs.Private.Passed.{HasPassed};
 
 use crate::fitting::{fits_after_fault, fits_in_row};
 use crate::pieces::{Piece, Skipped};
 use crate::progress::Progress;
+use crate::rides::{other_rides, own_ride};
 use crate::row::row_of;
 use crate::stray::after_stray;
 use crate::taking::TakesPieces;
@@ -47,11 +49,17 @@ pub fn skip_faults(
         → IfOk result (λ skipped. skipped.row.items ≡ drop front bytes.now) }
     ensures short { IfOk result (λ skipped. length skipped.row.items ≤ length bytes.now) }
     ensures first { IfOk result (λ skipped. HasFirst bytes.now front skipped.pieces.items) }
+    ensures others { IfOk result (FindsOthers bytes.now) }
 {
     let mut pieces = Vec::new(alloc);
     cut_faults(bytes, front, trusted, &mut pieces)?;
     let row = row_of(alloc, bytes, pieces.as_slice())?;
-    Ok(Skipped { row, pieces })
+    let others = other_rides(alloc, bytes, pieces.as_slice(), own_ride(row.as_slice()))?;
+    Ok(Skipped {
+        row,
+        pieces,
+        others,
+    })
 }
 
 /// Cuts the bytes from `front` on as `skip_faults` does, into what takes the pieces. It takes no memory, and fails only if a piece is not

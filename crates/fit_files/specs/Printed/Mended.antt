@@ -1,10 +1,11 @@
 -- What is kept of a damaged file by going on after its faults, and what is printed of it.
-use Rattle.std.specs.Prelude.{◌≡◌, ◌↔◌, ℕ, ◌+◌, ◌-◌, ◌≤◌, Bool, true, false, List, [], ◌∷◌, ◌++◌, length, take, drop, codes, decimal}
+use Rattle.std.specs.Prelude.{◌≡◌, ◌↔◌, ℕ, ◌+◌, ◌-◌, ◌≤◌, Bool, true, false, List, [], ◌∷◌, ◌++◌, length, take, drop, codes, decimal, Option, Some, None}
 use Rattle.fit_grammar.specs.declared.file.frame.Frame.{Frame}
 use Rattle.fit_grammar.specs.Format.File.{FileValue, FileOf, IsFrame}
 use Rattle.fit_grammar.specs.Calls.BeginningHeader.{BeginsWithHeader}
 use Rattle.fit_mending.specs.declared.pieces.Piece.{Piece}
 use Rattle.fit_mending.specs.Pieces.{CutsFaults, kept_row}
+use Rattle.fit_mending.specs.Others.{FindsOthers}
 use Rattle.fit_files.specs.declared.looking.Looked.{Looked}
 use Rattle.fit_files.specs.declared.mended.Mended.{Mended}
 use Rattle.fit_files.specs.Printed.Salvaged.{looked_at, not_looked_at, salvaged_frame}
@@ -40,10 +41,11 @@ pub record AreMended (all : Bool) (bytes : List ℕ) (looked : Looked) (pieces :
 abbrev pub mended_row : List ℕ → Looked → List Piece → List ℕ
 mended_row bytes looked pieces = kept_row (seen_of bytes looked) pieces
 
--- both
+-- both, and the other rides in what is left out
 pub record IsMended (all : Bool) (bytes : List ℕ) (mended : Mended) : Type 0 where
   pub are : AreMended all bytes mended.looked mended.skipped.pieces.items
   pub row_is : mended.skipped.row.items ≡ mended_row bytes mended.looked mended.skipped.pieces.items
+  pub others : FindsOthers (seen_of bytes mended.looked) mended.skipped
 
 -- how many pieces are kept
 abbrev pub one_if : Bool → ℕ
@@ -58,24 +60,36 @@ abbrev pub kept_line : ℕ → ℕ → ℕ → List ℕ
 kept_line kept of parts =
     codes "kept " ++ decimal kept ++ codes " of " ++ decimal of ++ codes ", parts " ++ decimal parts
 
-abbrev pub left_out_line : ℕ → ℕ → List ℕ
-left_out_line count at = codes "left out " ++ decimal count ++ codes " at " ++ decimal at
+-- another ride, by the time at which it starts
+abbrev pub ride_text : Option ℕ → List ℕ
+ride_text None = []
+ride_text (Some time) = codes ": another ride from " ++ decimal time
+
+abbrev pub left_out_line : ℕ → ℕ → Option ℕ → List ℕ
+left_out_line count at other =
+    codes "left out " ++ decimal count ++ codes " at " ++ decimal at ++ ride_text other
 
 -- the line of a piece, if it is left out
 abbrev pub text_if : Bool → List ℕ → List ℕ
 text_if true line = []
 text_if false line = line ++ codes "\n"
 
-abbrev pub piece_text : Piece → List ℕ
-piece_text piece =
-    text_if piece.kept (left_out_line (piece.end - piece.start) piece.start)
+abbrev pub piece_text : Piece → Option ℕ → List ℕ
+piece_text piece other =
+    text_if piece.kept (left_out_line (piece.end - piece.start) piece.start other)
 
-abbrev pub pieces_text : List Piece → List ℕ
-pieces_text [] = []
-pieces_text (piece ∷ pieces) = piece_text piece ++ pieces_text pieces
+-- the lines of pieces, with what is said of each
+abbrev pub first_of : List (Option ℕ) → Option ℕ
+first_of [] = None
+first_of (other ∷ others) = other
+
+abbrev pub pieces_text : List Piece → List (Option ℕ) → List ℕ
+pieces_text [] others = []
+pieces_text (piece ∷ pieces) others =
+    piece_text piece (first_of others) ++ pieces_text pieces (drop 1 others)
 
 -- the line of what is kept, and then those of what is left out
 abbrev pub mended_text : Mended → List ℕ
 mended_text mended =
     (kept_line (length mended.skipped.row.items) mended.looked.looked_at (kept_count mended.skipped.pieces.items) ++ codes "\n")
-    ++ pieces_text mended.skipped.pieces.items
+    ++ pieces_text mended.skipped.pieces.items mended.skipped.others.items

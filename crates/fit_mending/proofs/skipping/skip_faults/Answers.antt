@@ -11,6 +11,13 @@ row_of-requires c =
     subst (AreWithin bytes) (sym (c.as_slice.ensures.value ∙ found.1))
     (are_within bytes c.args.front (length bytes) [] found.0 found.2.cut.0 found.2.cut.1.are_pieces)
 
+pub other_rides-requires : goal.other_rides-requires
+other_rides-requires c =
+    let bytes = c.args.bytes.now in
+    let found = c.in_ok-cut_faults.ensures.cut in
+    subst (AreWithin bytes) (sym (c.as_slice-2.ensures.value ∙ found.1))
+    (are_within bytes c.args.front (length bytes) [] found.0 found.2.cut.0 found.2.cut.1.are_pieces)
+
 pub returns-clause-short : goal.returns-clause-short
 returns-clause-short c =
     let bytes = c.args.bytes.now in
