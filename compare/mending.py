@@ -458,11 +458,15 @@ def others_told(given):
             ("an older ride", old[start.start:], times[0]), ("within a record", old[start.start + 5:], times[1]),
             ("another layout", hearts[:len(head)] + other, of_hearts),
             ("fewer than eight records", old[start.start:there[907].start] + bytes(200), None), ("noise", pick.randbytes(3000), None),
-            ("zeros", bytes(3000), None), ("the same ride again", row[start.start:], None)):
+            ("zeros", bytes(3000), None)):
         (status, out, err), file = mended(given.fitrec, head + row[:end] + hole, "--all")
         line = "left out %d at %d%s\n" % (len(hole), place, ": another ride from %d" % said if said else "")
         wanted = 0, "kept %d of %d, parts 1\n" % (end, end + len(hole)) + line, ""
         yield name, differs((status, out, err), wanted)
+    # The last record before that is left out too.
+    (status, out, err), file = mended(given.fitrec, head + row[:end] + row[start.start:there[1900].start], "--all")
+    is_right = out.count("left out") == 1 and "another" not in out
+    yield "the same ride again", unless((status, is_right, err) == (0, True, ""), out, "one part, and no other ride")
 
 
 def bytes_plain(fitrec, data):

@@ -1,6 +1,9 @@
 // Subcommands over several files. They go on after one that is refused.
 
-ghost use Rattle.std.specs.Prelude.{◌≡◌, ◌<◌, ◌≤◌, ◌++◌, codes, length, IfErr, IfOk, OnOk, true, false};
+ghost use Rattle.std.specs.Prelude.{◌≡◌, ◌<◌, ◌≤◌, ◌++◌, ℕ, List, String, codes, length, map, string_bytes, IfErr, IfOk, IfSome, OnOk, true, false};
+ghost use Rattle.fit_grammar.specs.Calls.Output.{WritesText};
+ghost use Rattle.fit_commands.specs.Each.{AddsTable, AreNamesOf, ChecksAll, ChecksEach, IsFoundLine, TablesAll, TablesEach, left_out_by, name_cell, named_line, refused_by};
+ghost use Rattle.fit_exports.specs.Checked.{checked_json};
 ghost use Rattle.std.specs.List.{flat_map};
 ghost use Rattle.fit_table.specs.Cells.{byte_cell};
 ghost use Rattle.fit_commands.specs.declared.fault.Fault.TheVariants.{Refused};
@@ -28,17 +31,47 @@ pub fn check_each<O: Write>(
     names: &Names<'_>,
     json: bool,
     out: &mut O,
-) -> Result<(), Fault<'static>> {
+) -> Result<(), Fault<'static>>
+    ensures lines { ChecksEach json (map (λ word. word.now) names.now.all.items)
+        (O.contents out.old) (O.contents out.new) result }
+{
     let all = all_names(rt, names)?;
-    let mut refused: usize = 0;
-    for name in all.as_slice() {
-        let found = sum_up_file(rt, name.as_str());
-        print_found(rt.alloc(), json, name.as_str(), &found, out)?;
-        if found.is_err() {
-            refused = refused.saturating_add(1);
-        }
+    match check_all(rt, all.as_slice(), json, out) {
+        Ok(refused) => none_refused(refused),
+        Err(fault) => Err(fault),
     }
-    none_refused(refused)
+}
+
+// Checks the files of these names, and prints a line for each. Returns how many are refused.
+fn check_all<O: Write>(
+    rt: &HostRuntime,
+    names: &[String],
+    json: bool,
+    out: &mut O,
+) -> Result<usize, Fault<'static>>
+    ensures { ChecksAll json (map string_bytes names.now) (O.contents out.old)
+        (O.contents out.new) result }
+{
+    let mut refused: usize = 0;
+    let mut rest = names;
+    while let [first, more @ ..] = rest {
+        let name = first.as_str();
+        let found = sum_up_file(rt, name);
+        print_found(rt.alloc(), json, name, &found, out)?;
+        refused += refused_in(&found);
+        rest = more;
+    }
+    Ok(refused)
+}
+
+// 1 if a file was refused.
+fn refused_in(found: &Result<Summary, Fault<'_>>) -> usize
+    ensures { result ≡ refused_by found.now }
+{
+    match found {
+        Ok(_) => 0,
+        Err(_) => 1,
+    }
 }
 
 /// Prints one table of all files, the first column of which has their names. A line on `err` says why one is left out. If some are,
@@ -51,18 +84,47 @@ pub fn table_each<O: Write, E: Write>(
     err: &mut E,
 ) -> Result<(), Fault<'static>>
     requires { length layout.now.fields.now ≤ 128 }
+    ensures lines { TablesEach layout.now (map (λ word. word.now) names.now.all.items)
+        (O.contents out.old) (O.contents out.new) result }
 {
     let all = all_names(rt, names)?;
     let Ok(()) = table_head(layout, b"file,", out) else {
         return Err(Fault::Write("-"));
     };
-    let mut refused: usize = 0;
-    for name in all.as_slice() {
-        if !add_table(rt, name.as_str(), layout, out, err)? {
-            refused = refused.saturating_add(1);
-        }
+    match table_all(rt, all.as_slice(), layout, out, err) {
+        Ok(left_out) => none_refused(left_out),
+        Err(fault) => Err(fault),
     }
-    none_refused(refused)
+}
+
+// 1 if a file was left out.
+fn left_out_in(added: bool) -> usize
+    ensures { result ≡ left_out_by added }
+{
+    if added { 0 } else { 1 }
+}
+
+// Adds the lines of the files of these names to a table. Returns how many are left out.
+fn table_all<O: Write, E: Write>(
+    rt: &HostRuntime,
+    names: &[String],
+    layout: &Layout<'_>,
+    out: &mut O,
+    err: &mut E,
+) -> Result<usize, Fault<'static>>
+    requires { length layout.now.fields.now ≤ 128 }
+    ensures { TablesAll layout.now (map string_bytes names.now) (O.contents out.old)
+        (O.contents out.new) result }
+{
+    let mut left_out: usize = 0;
+    let mut rest = names;
+    while let [first, more @ ..] = rest {
+        let name = first.as_str();
+        let added = add_table(rt, name, layout, out, err)?;
+        left_out += left_out_in(added);
+        rest = more;
+    }
+    Ok(left_out)
 }
 
 fn none_refused(refused: usize) -> Result<(), Fault<'static>>
@@ -104,19 +166,38 @@ fn print_found<O: Write>(
     name: &str,
     found: &Result<Summary, Fault<'_>>,
     out: &mut O,
-) -> Result<(), Fault<'static>> {
-    let printed = match found {
-        Ok(summary) if json => print_checked(name, Ok(*summary), out),
-        Ok(summary) => return print_named(alloc, "", name, &SummaryLine(*summary), out),
-        Err(fault) if json => {
+) -> Result<(), Fault<'static>>
+    ensures { (line : List ℕ) × IsFoundLine json name.now found.now line
+        × WritesText (O.contents out.old) (O.contents out.new) result line }
+{
+    match found {
+        Ok(summary) if json => print_object(name, Ok(*summary), out),
+        Ok(summary) => print_named(alloc, "", name, &SummaryLine(*summary), out),
+        Err(fault) => {
             let Ok(text) = format!(in alloc; "{fault}") else {
                 return Err(Fault::NoMemory);
             };
-            print_checked(name, Err(text.as_str()), out)
+            if json {
+                print_object(name, Err(text.as_str()), out)
+            } else {
+                print_named(alloc, "", name, &text.as_str(), out)
+            }
         }
-        Err(fault) => return print_named(alloc, "", name, fault, out),
-    };
-    printed.map_err(|_| Fault::Write("-"))
+    }
+}
+
+fn print_object<O: Write>(
+    name: &str,
+    found: Result<Summary, &str>,
+    out: &mut O,
+) -> Result<(), Fault<'static>>
+    ensures { WritesText (O.contents out.old) (O.contents out.new) result
+        (checked_json name.now found.entry) }
+{
+    match print_checked(name, found, out) {
+        Ok(()) => Ok(()),
+        Err(_) => Err(Fault::Write("-")),
+    }
 }
 
 // Adds the lines of one file to the table. Returns whether it was read.
@@ -128,7 +209,7 @@ fn add_table<O: Write, E: Write>(
     err: &mut E,
 ) -> Result<bool, Fault<'static>>
     requires { length layout.now.fields.now ≤ 128 }
-    ensures left_out { IfOk result (λ is_read. is_read ≡ false → O.contents out.new ≡ O.contents out.old) }
+    ensures { AddsTable layout.now name.now (O.contents out.old) (O.contents out.new) result }
 {
     let Ok(front) = first_cell(rt.alloc(), name) else {
         return Err(Fault::NoMemory);
@@ -154,8 +235,7 @@ fn add_table<O: Write, E: Write>(
 
 // A name as the first cell of a line, with its comma.
 fn first_cell(alloc: Global, name: &str) -> Result<Vec<u8>, AllocError>
-    ensures { IfOk result (λ cell.
-        cell.items ≡ codes "\"" ++ flat_map (byte_cell true) name.now ++ codes "\",") }
+    ensures { IfOk result (λ cell. cell.items ≡ name_cell name.now) }
 {
     let mut cell = Vec::new(alloc);
     cell.push(b'"')?;
@@ -184,7 +264,11 @@ fn print_named<L: Display, O: Write>(
     name: &str,
     line: &L,
     out: &mut O,
-) -> Result<(), Fault<'static>> {
+) -> Result<(), Fault<'static>>
+    ensures { IfSome (L.output line.now) (λ text.
+        WritesText (O.contents out.old) (O.contents out.new) result
+        (named_line front.now name.now text)) }
+{
     let Ok(text) = format!(in alloc; "{front}{}: {line}\n", ShownWord(name)) else {
         return Err(Fault::NoMemory);
     };
@@ -195,7 +279,10 @@ fn print_named<L: Display, O: Write>(
 }
 
 // All names, with those that standard input lists in the place of the first `-`.
-fn all_names(rt: &HostRuntime, names: &Names<'_>) -> Result<Vec<String>, Fault<'static>> {
+fn all_names(rt: &HostRuntime, names: &Names<'_>) -> Result<Vec<String>, Fault<'static>>
+    ensures { IfOk result (λ all. AreNamesOf (map (λ word. word.now) names.now.all.items)
+        (map string_bytes all.items)) }
+{
     let mut listed = Vec::new(rt.alloc());
     if names.all.as_slice().contains(&"-") {
         let mut from = rt.stdin();
@@ -211,20 +298,39 @@ fn names_with(
     alloc: Global,
     names: &Names<'_>,
     mut listed: &[u8],
-) -> Result<Vec<String>, AllocError> {
+) -> Result<Vec<String>, AllocError>
+    ensures { IfOk result (λ all. AreNamesOf (map (λ word. word.now) names.now.all.items)
+        (map string_bytes all.items)) }
+{
     let end = if names.null { 0 } else { b'\n' };
     let mut all = Vec::new(alloc);
-    for name in names.all.as_slice() {
-        if *name != "-" {
-            all.push(String::from_str(alloc, name)?)?;
-            continue;
+    let mut rest = names.all.as_slice();
+    while let [word, more @ ..] = rest {
+        if *word == "-" {
+            push_listed(alloc, &mut all, listed, end)?;
+            listed = &[];
+        } else {
+            all.push(String::from_str(alloc, *word)?)?;
         }
-        for line in listed.split(|byte| *byte == end) {
-            if !line.is_empty() {
-                all.push(text_of_word(alloc, line)?)?;
-            }
-        }
-        listed = &[];
+        rest = more;
     }
     Ok(all)
+}
+
+// Adds the names that are listed, each with this end.
+fn push_listed(
+    alloc: Global,
+    all: &mut Vec<String>,
+    listed: &[u8],
+    end: u8,
+) -> Result<(), AllocError>
+    ensures { OnOk result ((own : List (List ℕ))
+        × (map string_bytes all.new.items ≡ map string_bytes all.old.items ++ own)) }
+{
+    for line in listed.split(|byte| *byte == end) {
+        if !line.is_empty() {
+            all.push(text_of_word(alloc, line)?)?;
+        }
+    }
+    Ok(())
 }

@@ -2,6 +2,7 @@
 
 ghost use Rattle.std.specs.Prelude.{◌≤◌, length, None, option_map};
 ghost use Rattle.fit_exports.specs.Tabled.{ShowsHeld, ShowsTable};
+ghost use Rattle.fit_exports.specs.declared.held.Held.{Held as AnyHeld};
 ghost use Rattle.fit_commands.specs.Faults.{IsReportFault};
 ghost use Rattle.fit_commands.specs.Reported.{ReportsRun};
 
@@ -60,9 +61,9 @@ pub fn table_of_all<'a, O: Write, E: Write>(
     out: &mut O,
     err: &mut E,
 ) -> Result<(), Fault<'a>>
-    ensures { ReportsRun name.entry (O.contents out.old) (O.contents out.new)
+    ensures { (held : AnyHeld) × ReportsRun name.entry (O.contents out.old) (O.contents out.new)
         (IsReportFault name.entry)
-        (ShowsHeld layout.now (O.contents out.old) (O.contents out.new)) result }
+        (ShowsHeld layout.now held (O.contents out.old) (O.contents out.new)) result }
 {
     let mut held = Held::new();
     let done = table_held(rt, name, layout, &mut held, out);
@@ -79,7 +80,7 @@ fn table_held<'a, O: Write>(
 ) -> Result<(), Fault<'a>>
     ensures { ReportsRun name.entry (O.contents out.old) (O.contents out.new)
         (IsReportFault name.entry)
-        (ShowsHeld layout.now (O.contents out.old) (O.contents out.new)) result }
+        (ShowsHeld layout.now held.new (O.contents out.old) (O.contents out.new)) result }
 {
     if name == "-" {
         let mut from = rt.stdin();
@@ -99,7 +100,7 @@ fn table_held_from<'a, T: Read, O: Write>(
 ) -> Result<(), Fault<'a>>
     ensures { ReportsRun name.entry (O.contents out.old) (O.contents out.new)
         (IsReportFault name.entry)
-        (ShowsHeld layout.now (O.contents out.old) (O.contents out.new)) result }
+        (ShowsHeld layout.now held.new (O.contents out.old) (O.contents out.new)) result }
 {
     match table_held_input(alloc, from, MOST_BYTES, layout, held, out) {
         Ok(()) => Ok(()),

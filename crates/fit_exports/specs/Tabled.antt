@@ -10,6 +10,8 @@ use Rattle.fit_table.specs.Tokens.{Token, WritesTokens}
 use Rattle.fit_files.specs.declared.fault.ReportFault.{ReportFault}
 use Rattle.fit_files.specs.declared.fault.ReportFault.TheVariants as faults
 use Rattle.fit_files.specs.Printed.Shown.{IsOutputFault}
+use Rattle.fit_exports.specs.declared.held.Held.{Held}
+use Rattle.fit_exports.specs.Held.{AreHeld, numbers_held}
 
 -- the table of a file, or, with a text that begins each line, its lines alone
 abbrev pub tabled : Layout → Option (List ℕ) → FileValue → List Token
@@ -30,8 +32,17 @@ ShowsTable {T} layout front old new bytes (Err fault) =
     × WritesTokens {T = T} {E = ReportFault} old new (Err fault) (tabled layout front v))
     × IsOutputFault fault
 
--- the same with some fields in place of the layout's
-abbrev pub ShowsHeld : {T : Type 0} → Layout → Option (List ℕ) → Option (List ℕ) → List ℕ
+-- unless the bytes are not a file, these fields are those that the messages have in it, as far as a table has columns
+abbrev pub FindsHeld : {T : Type 0} → ℕ → Held → List ℕ → List ℕ → Result T ReportFault → Type 0
+FindsHeld message held fields bytes (Err (faults.File fault)) = Unit {0}
+FindsHeld message held fields bytes result =
+    (v : FileValue) × FileOf bytes v × (fields ≡ held.fields.items)
+    × AreHeld (numbers_held message v.items) held
+
+-- the same with these fields in place of the layout's
+abbrev pub ShowsHeld : {T : Type 0} → Layout → Held → Option (List ℕ) → Option (List ℕ) → List ℕ
     → Result T ReportFault → Type 0
-ShowsHeld layout old new bytes result =
-    (fields : Bor (List ℕ)) × ShowsTable (record layout { fields = fields }) None old new bytes result
+ShowsHeld layout held old new bytes result =
+    (fields : Bor (List ℕ))
+    × ShowsTable (record layout { fields = fields }) None old new bytes result
+    × FindsHeld layout.message held fields.now bytes result

@@ -1,5 +1,11 @@
 // What is said of one of several files, as JSON.
 
+ghost use Rattle.std.specs.Prelude.{◌≡◌, ◌++◌, OnOk, [], codes};
+ghost use Rattle.fit_grammar.specs.Calls.Output.{WritesText};
+ghost use Rattle.fit_text.specs.Json.{string_json};
+ghost use Rattle.fit_text.specs.Pen.{Puts};
+ghost use Rattle.fit_exports.specs.Checked.{checked_json, found_json, member_json, number_json, summary_json};
+
 use fit_activity::Summary;
 use fit_base::{Arch, BaseType, FieldValue};
 use fit_grammar::WriteFailed;
@@ -13,7 +19,10 @@ pub fn print_checked<O: Write>(
     name: &str,
     checked: Result<Summary, &str>,
     out: &mut O,
-) -> Result<(), WriteFailed> {
+) -> Result<(), WriteFailed>
+    ensures { WritesText (O.contents out.old) (O.contents out.new) result
+        (checked_json name.now checked.entry) }
+{
     let mut pen = Pen::new(out);
     let done = put_checked(&mut pen, name, checked);
     let _ = pen.into_writer();
@@ -24,27 +33,47 @@ fn put_checked<O: Write>(
     pen: &mut Pen<'_, O>,
     name: &str,
     checked: Result<Summary, &str>,
-) -> Result<(), WriteFailed> {
+) -> Result<(), WriteFailed>
+    ensures puts { Puts pen.old pen.new result (checked_json name.now checked.entry) }
+    ensures none { OnOk result (pen.new.waiting ≡ []) }
+{
     pen.put(b"{\"file\":")?;
     put_text(pen, name)?;
-    match checked {
-        Ok(summary) => put_summary(pen, summary)?,
-        Err(fault) => {
-            pen.put(b",\"fault\":")?;
-            put_text(pen, fault)?;
-        }
-    }
+    put_found(pen, checked)?;
     pen.put(b"}\n")?;
     pen.flush()
 }
 
-fn put_text<O: Write>(pen: &mut Pen<'_, O>, text: &str) -> Result<(), WriteFailed> {
+fn put_found<O: Write>(
+    pen: &mut Pen<'_, O>,
+    checked: Result<Summary, &str>,
+) -> Result<(), WriteFailed>
+    ensures { Puts pen.old pen.new result (found_json checked.entry) }
+{
+    match checked {
+        Ok(summary) => put_summary(pen, summary),
+        Err(fault) => put_fault(pen, fault),
+    }
+}
+
+fn put_fault<O: Write>(pen: &mut Pen<'_, O>, fault: &str) -> Result<(), WriteFailed>
+    ensures { Puts pen.old pen.new result (codes ",\"fault\":" ++ string_json fault.now) }
+{
+    pen.put(b",\"fault\":")?;
+    put_text(pen, fault)
+}
+
+fn put_text<O: Write>(pen: &mut Pen<'_, O>, text: &str) -> Result<(), WriteFailed>
+    ensures { Puts pen.old pen.new result (string_json text.now) }
+{
     let field = FieldValue::new(BaseType::String.code(), Arch::Little, text.as_bytes());
     put_json_string(pen, &field)
 }
 
 // The values of the line of a summary.
-fn put_summary<O: Write>(pen: &mut Pen<'_, O>, summary: Summary) -> Result<(), WriteFailed> {
+fn put_summary<O: Write>(pen: &mut Pen<'_, O>, summary: Summary) -> Result<(), WriteFailed>
+    ensures { Puts pen.old pen.new result (summary_json summary) }
+{
     put_member(pen, b"records", Some(summary.records))?;
     put_member(pen, b"laps", Some(summary.laps))?;
     put_member(pen, b"sessions", Some(summary.sessions))?;
@@ -58,10 +87,18 @@ fn put_member<O: Write>(
     pen: &mut Pen<'_, O>,
     name: &[u8],
     number: Option<u32>,
-) -> Result<(), WriteFailed> {
+) -> Result<(), WriteFailed>
+    ensures { Puts pen.old pen.new result (member_json name.now number) }
+{
     pen.put(b",\"")?;
     pen.put(name)?;
     pen.put(b"\":")?;
+    put_number(pen, number)
+}
+
+fn put_number<O: Write>(pen: &mut Pen<'_, O>, number: Option<u32>) -> Result<(), WriteFailed>
+    ensures { Puts pen.old pen.new result (number_json number) }
+{
     match number {
         Some(number) => pen.put_number(u64::from(number)),
         None => pen.put(b"null"),

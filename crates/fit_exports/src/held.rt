@@ -1,8 +1,13 @@
 // The fields that the messages of a file have, as the columns of a table.
 
+ghost use Rattle.std.specs.Prelude.{◌≡◌, ◌<◌, ◌^◌, ◌++◌, ◌∷◌, ◌==◌, ◌&&◌, ◌||◌, if◌then◌else◌, [], ℕ, List, Option, Some, false, is_some, length, slice_index_or};
+ghost use Rattle.fit_grammar.specs.declared.definition.Definition.{Definition};
+ghost use Rattle.fit_grammar.specs.Calls.LentItem.{items_lent};
+ghost use Rattle.fit_exports.specs.Held.{AreHeld, AreNoted, is_field, is_field_of, is_held, numbers_held, others_below};
+
 use arrayvec::ArrayVec;
 use fit_columns::MOST_COLUMNS;
-use fit_grammar::{DefinitionMessage, FileItem, LentFile};
+use fit_grammar::{DataMessage, FieldDefinition, FileItem, LentFile};
 
 // The number of the field that has the time of a message.
 const TIMESTAMP: u8 = 253;
@@ -17,7 +22,9 @@ pub struct Held {
 
 impl Held {
     /// Those of no file.
-    pub fn new() -> Held {
+    pub fn new() -> Held
+        ensures { AreHeld [] result }
+    {
         Held {
             fields: ArrayVec::new(),
             left_out: 0,
@@ -25,59 +32,120 @@ impl Held {
     }
 
     // Those of the messages of this global number. If there are none, it is the time alone.
-    pub(crate) fn find(&mut self, file: &LentFile<'_>, message: u16) {
+    pub(crate) fn find(&mut self, file: &LentFile<'_>, message: u16)
+        ensures { AreHeld (numbers_held message file.now.items) self.new }
+    {
         let held = numbers_in(file, message);
         self.fields.clear();
         self.left_out = 0;
-        if held[usize::from(TIMESTAMP)] {
-            self.add(TIMESTAMP);
-        }
-        for number in 0..256 {
-            if held[number] && number != usize::from(TIMESTAMP) {
-                self.add(number as u8);
-            }
-        }
+        self.add_if(held[usize::from(TIMESTAMP)], TIMESTAMP);
+        self.add_others(&held);
         if self.fields.is_empty() {
             self.add(TIMESTAMP);
         }
     }
 
-    fn add(&mut self, number: u8) {
-        if self.fields.try_push(number).is_err() {
+    // Adds the numbers but that of the time.
+    fn add_others(&mut self, held: &[bool; 256])
+        ensures { (numbers : List ℕ) → length numbers < 2 → AreHeld numbers self.old
+            → AreHeld (numbers ++ others_below (λ number. slice_index_or held.now number false) 256) self.new }
+    {
+        for number in 0..256 {
+            self.add_if(
+                held[number] & (number != usize::from(TIMESTAMP)),
+                number as u8,
+            );
+        }
+    }
+
+    fn add_if(&mut self, is_held: bool, number: u8)
+        ensures { (numbers : List ℕ) → length numbers < 2 ^ 32 → AreHeld numbers self.old
+            → AreHeld (numbers ++ (if is_held then number ∷ [] else [])) self.new }
+    {
+        if is_held {
+            self.add(number);
+        }
+    }
+
+    fn add(&mut self, number: u8)
+        ensures { (numbers : List ℕ) → length numbers < 2 ^ 32 → AreHeld numbers self.old
+            → AreHeld (numbers ++ number ∷ []) self.new }
+    {
+        if self.fields.is_full() {
             self.left_out = self.left_out.saturating_add(1);
+        } else {
+            self.fields.push(number);
         }
     }
 }
 
-// Which numbers the fields have that are not of size 0. A definition is looked at when its first message comes.
-fn numbers_in(file: &LentFile<'_>, message: u16) -> [bool; 256] {
+// Which numbers the fields have that are not of size 0.
+fn numbers_in(file: &LentFile<'_>, message: u16) -> [bool; 256]
+    ensures { (number : ℕ) → number < 256 → slice_index_or result number false
+        ≡ is_held message (items_lent file.now.items) number }
+{
     let mut held = [false; 256];
     let mut known = [false; 16];
     for item in file.items() {
         match item {
             FileItem::Definition(definition) => {
-                known[usize::from(definition.local() % 16)] = false;
+                known[usize::from(definition.local())] = false;
+                continue;
             }
             FileItem::Data(found, time) => {
-                let local = usize::from(found.local % 16);
-                if found.definition.global() == message {
-                    held[usize::from(TIMESTAMP)] |= time.is_some();
-                    if !known[local] {
-                        known[local] = true;
-                        note_fields(&found.definition, &mut held);
-                    }
+                if found.definition.global() != message {
+                    continue;
                 }
+                note(&mut held, &mut known, &found, time);
             }
         }
     }
     held
 }
 
-fn note_fields(definition: &DefinitionMessage<'_>, held: &mut [bool; 256]) {
-    let definition = definition.read();
-    for field in definition.fields.as_slice() {
-        if field.size != 0 {
-            held[usize::from(field.number)] = true;
-        }
+// Notes the fields of a message, of which those of its definition are noted if it is known.
+fn note(
+    held: &mut [bool; 256],
+    known: &mut [bool; 16],
+    message: &DataMessage<'_>,
+    time: Option<u32>,
+)
+    requires { message.now.local < 16 }
+    ensures noted { (definition_for : ℕ → Option Definition)
+        → definition_for message.now.local ≡ Some message.now.definition
+        → AreNoted definition_for held.old known.old
+        → AreNoted definition_for held.new known.new }
+    ensures held { (definition_for : ℕ → Option Definition)
+        → definition_for message.now.local ≡ Some message.now.definition
+        → AreNoted definition_for held.old known.old
+        → (number : ℕ) → number < 256
+        → slice_index_or held.new number false
+        ≡ (slice_index_or held.old number false
+        || (is_field_of number message.now.definition.fields.items || ((number == 253) && is_some time))) }
+{
+    held[usize::from(TIMESTAMP)] |= time.is_some();
+    let local = usize::from(message.local);
+    if known[local] {
+        return;
+    }
+    known[local] = true;
+    note_fields(held, message.definition.read().fields.as_slice());
+}
+
+fn note_fields(held: &mut [bool; 256], fields: &[FieldDefinition])
+    ensures { (number : ℕ) → number < 256 → slice_index_or held.new number false
+        ≡ (slice_index_or held.old number false || is_field_of number fields.now) }
+{
+    for field in fields {
+        note_field(held, field);
+    }
+}
+
+fn note_field(held: &mut [bool; 256], field: &FieldDefinition)
+    ensures { (number : ℕ) → number < 256 → slice_index_or held.new number false
+        ≡ (slice_index_or held.old number false || is_field number field.now) }
+{
+    if field.size != 0 {
+        held[usize::from(field.number)] = true;
     }
 }

@@ -52,7 +52,7 @@ pub fn table_held_input<T: Read, O: Write>(
     out: &mut O,
 ) -> Result<(), ReportFault>
     ensures shown { ReportsInput most (T.remaining from.old) (T.remaining from.new)
-        (ShowsHeld layout.now (O.contents out.old) (O.contents out.new)) result }
+        (ShowsHeld layout.now held.new (O.contents out.old) (O.contents out.new)) result }
     ensures quiet { (why : ReadFault) → result ≡ Err (Input why)
         → O.contents out.new ≡ O.contents out.old }
 {

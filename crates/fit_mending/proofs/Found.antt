@@ -1,10 +1,10 @@
 -- The files that stand in bytes, found from the front on.
-use Rattle.std.proofs.Common.{◌≡◌, ℕ, ◌+◌, ◌<◌, ◌≤◌, Bool, true, false, List, [], ◌∷◌, ◌++◌, length, drop, refl, sym, subst, arith}
+use Rattle.std.proofs.Common.{◌≡◌, ℕ, ◌+◌, ◌/◌, ◌<◌, ◌≤◌, Bool, true, false, List, [], ◌∷◌, ◌++◌, length, drop, refl, sym, subst, arith}
 use Rattle.std.specs.Prelude.{ltb, Result, Ok, Err, if◌then◌else◌}
 use Rattle.std.specs.Result.{is_err, is_ok}
 use Rattle.std.proofs.lemmas.Bool.{ltb-true, ltb-false, true≢false}
 use Rattle.fit_mending.specs.declared.chained.Part.{Part}
-use Rattle.fit_mending.specs.Found.{BeginsWithFile, BeginsFile, HasNoFile, AreFound}
+use Rattle.fit_mending.specs.Found.{BeginsWithFile, BeginsFile, HasNoFile, AreFound, AreReadBefore, IsReadTo, TakesTooLong}
 
 -- these are the files up to a place, after which none has begun so far
 abbrev pub AreFoundTo : List ℕ → ℕ → List Part → ℕ → Type 0
@@ -54,3 +54,25 @@ all_found bytes from to (part ∷ parts) are ended =
 pub pushed : {T E X : Type 0} (r : Result T E) (new more same : X) → is_err r ≡ false → new ≡ (if is_ok r then more else same) → new ≡ more
 pushed (Ok x) new more same is e = e
 pushed (Err x) new more same is e = absurd (true≢false is)
+
+-- what was read in vain so far
+abbrev pub HasRead : List ℕ → ℕ → ℕ → Type 0
+HasRead bytes at passed = (places : List ℕ) × (read : ℕ) × AreReadBefore bytes at places read × (passed ≤ read)
+
+later : (bytes : List ℕ) (at to : ℕ) (places : List ℕ) (read : ℕ) → at ≤ to → AreReadBefore bytes at places read
+    → AreReadBefore bytes to places read
+later bytes at to [] read less are = are
+later bytes at to (place ∷ places) read less are = (are.0, are.1, omega (arith, less, are.2), are.3, are.4, are.5)
+
+pub read_later : (bytes : List ℕ) (at to passed : ℕ) → at ≤ to → HasRead bytes at passed → HasRead bytes to passed
+read_later bytes at to passed less has = (has.0, has.1, later bytes at to has.0 has.1 less has.2, has.3)
+
+pub read_more : (bytes : List ℕ) (at place passed sum : ℕ) → HasRead bytes at passed → IsReadTo (drop at bytes) place → sum ≤ passed + place
+    → HasRead bytes (at + 1) sum
+read_more bytes at place passed sum has is most =
+    (at ∷ has.0, place + has.1, (place, has.1, omega arith, is, refl, has.2), omega (arith, has.3, most))
+
+pub reads_too_long : (bytes : List ℕ) (to passed : ℕ) → HasRead bytes to passed → to ≤ length bytes → length bytes < passed / 32
+    → TakesTooLong bytes
+reads_too_long bytes to passed has within much =
+    (has.0, has.1, later bytes to (length bytes) has.0 has.1 within has.2, omega (arith, has.3, much))

@@ -1,5 +1,5 @@
 -- Other rides in bytes that are left out.
-use Rattle.std.specs.Prelude.{◌≡◌, ℕ, ◌+◌, ◌-◌, ◌<◌, ◌≤◌, Bool, true, false, List, [], ◌∷◌, ◌++◌, length, drop, Option, Some, None, nat_lt, ◌==◌, if◌then◌else◌}
+use Rattle.std.specs.Prelude.{◌≡◌, ℕ, ◌+◌, ◌-◌, ◌<◌, ◌≤◌, Bool, true, false, List, [], ◌∷◌, ◌++◌, length, drop, Option, Some, None, unwrap_or, nat_lt, ◌==◌, if◌then◌else◌}
 use Rattle.fit_grammar.specs.declared.definition.Definition.{Definition}
 use Rattle.fit_grammar.specs.Format.Item.{Item, Defines, Data}
 use Rattle.fit_grammar.specs.Format.Records.{in_force}
@@ -25,12 +25,20 @@ followed_record so_far time =
     else if nat_lt 86400 (time - so_far.time) then None
     else Some (record { start = so_far.start; time = time; records = so_far.records + 1 })
 
--- the same with a message that has this time or none; one that is no record may have any
+-- the same with another message, which may have any time, if a record came before it
+abbrev pub followed_other : Followed → Option ℕ → Option Followed
+followed_other so_far time =
+    if so_far.records == 0 then None
+    else Some (record {
+      start = so_far.start;
+      time = unwrap_or time so_far.time;
+      records = so_far.records;
+    })
+
+-- the same with a message that is a record or not, and has this time or none
 abbrev pub followed_at : Followed → Bool → Option ℕ → Option Followed
-followed_at so_far is_record None = Some so_far
 followed_at so_far true (Some time) = followed_record so_far time
-followed_at so_far false (Some time) =
-    Some (record { start = so_far.start; time = time; records = so_far.records })
+followed_at so_far _ time = followed_other so_far time
 
 -- the same with the message of an item; a definition has none
 abbrev pub followed_message : Followed → Option LentMessage → Option Followed
@@ -67,10 +75,10 @@ abbrev pub GoesOn : ℕ → (ℕ → Option Definition) → Followed → List �
 GoesOn most definition_for so_far bytes time =
     (items : List Item) × (length items ≤ most) × IsRideWith definition_for so_far bytes items time
 
--- Under these definitions a ride begins at the front of the bytes: eight records or more among 32 items at most, one after another, none
--- with an earlier time than the one before it.
+-- Under these definitions a ride begins at the front of the bytes: eight records or more among 24 items at most, one after another, none
+-- with an earlier time than the one before it. The first message is one of them.
 abbrev pub BeginsRide : (ℕ → Option Definition) → List ℕ → ℕ → Type 0
-BeginsRide definition_for bytes time = GoesOn 32 definition_for nothing_followed bytes time
+BeginsRide definition_for bytes time = GoesOn 24 definition_for nothing_followed bytes time
 
 -- the time at which the first ride in the bytes starts, or none if there is no ride in them
 abbrev pub IsFirstRide : (ℕ → Option Definition) → List ℕ → Option ℕ → Type 0

@@ -1,7 +1,8 @@
 // The files that stand somewhere in the bytes of a card.
 
 ghost use Rattle.std.specs.Prelude.{◌≡◌, Ok, Err, ◌↔◌, IfOk, IfErr, length, take, drop};
-ghost use Rattle.fit_mending.specs.Found.{AreFound, BeginsFile, BeginsWithFile};
+ghost use Rattle.fit_mending.specs.Found.{AreFound, BeginsFile, BeginsWithFile, IsReadTo, TakesTooLong};
+ghost use Rattle.fit_mending.specs.declared.finding.FindFault.TheVariants.{TooManyHeaders};
 
 use crate::chained::{Part, first_file};
 use fit_grammar::LentFile;
@@ -24,6 +25,8 @@ pub enum FindFault {
 pub fn find_files(alloc: Global, bytes: &[u8]) -> Result<Vec<Part<'_>>, FindFault>
     // Each is a file, none begins within another, and no other file begins between them.
     ensures found { IfOk result (λ parts. AreFound bytes.now 0 parts.items) }
+    // It gives up only where that is so.
+    ensures too_many { IfErr result (λ fault. fault ≡ TooManyHeaders → TakesTooLong bytes.now) }
 {
     let mut parts: Vec<Part<'_>> = Vec::new(alloc);
     let mut at: usize = 0;
@@ -57,6 +60,7 @@ pub fn find_files(alloc: Global, bytes: &[u8]) -> Result<Vec<Part<'_>>, FindFaul
 fn file_at(bytes: &[u8]) -> Result<&[u8], usize>
     ensures file { IfOk result (λ file. BeginsWithFile bytes.now file.now) }
     ensures none { IfErr result (λ _. BeginsFile bytes.now → ⊥) }
+    ensures read { IfErr result (IsReadTo bytes.now) }
 {
     let (file, _) = bytes.split_at(first_file(bytes));
     match LentFile::read(file) {

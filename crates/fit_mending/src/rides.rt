@@ -14,7 +14,7 @@ use fit_grammar::{Item, Latest, Step, message_of, step_after, take_over};
 use std::alloc::{AllocError, Global};
 
 // How many items at most show that a ride begins.
-const MOST_ITEMS: u32 = 32;
+const MOST_ITEMS: u32 = 24;
 
 // How many records it has at least, and by how many seconds the last time is later than that of the first one.
 const RECORDS: u32 = 8;
@@ -54,28 +54,26 @@ impl Followed {
 
     // The messages with that of one more item, if it goes on with them.
     fn with(&self, item: &Item<'_>) -> Option<Followed>
-        requires { self.now.records < 32 }
+        requires { self.now.records < 24 }
         ensures { result ≡ followed_message self.now (message_lent item.now self.now.time) }
     {
         let Some(message) = message_of(item, self.time) else {
             return Some(*self);
         };
-        let Some(time) = message.time() else {
-            return Some(*self);
-        };
-        if message.global() == RECORD {
-            return self.with_record(time);
+        match message.time() {
+            Some(time) if message.global() == RECORD => self.with_record(time),
+            _ if self.records == 0 => None,
+            time => Some(Followed {
+                start: self.start,
+                time: time.unwrap_or(self.time),
+                records: self.records,
+            }),
         }
-        Some(Followed {
-            start: self.start,
-            time,
-            records: self.records,
-        })
     }
 
     // The same of a record of this time.
     fn with_record(&self, time: u32) -> Option<Followed>
-        requires { self.now.records < 32 }
+        requires { self.now.records < 24 }
         ensures { result ≡ followed_record self.now time }
     {
         if time < DATE {
@@ -101,7 +99,7 @@ impl Followed {
 
 // When the ride starts that begins at the front, after these messages, if at most so many more items show it.
 fn ride_after<'a>(bytes: &'a [u8], latest: &Latest<'a>, so_far: Followed, most: u32) -> Option<u32>
-    requires { so_far.records + most ≤ 32 }
+    requires { so_far.records + most ≤ 24 }
     ensures some { IfSome result (GoesOn most (definition_in latest.now) so_far bytes.now) }
     ensures none { result ≡ None → (time : ℕ)
         → GoesOn most (definition_in latest.now) so_far bytes.now time → ⊥ }

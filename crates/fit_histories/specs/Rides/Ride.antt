@@ -1,5 +1,5 @@
 -- What contracts see of a ride.
-use Rattle.std.specs.Prelude.{◌≡◌, ◌↔◌, ℕ, Bool, true, false, None, List, [], ◌∷◌, ◌++◌}
+use Rattle.std.specs.Prelude.{◌≡◌, ◌↔◌, ℕ, Bool, true, false, List, [], ◌∷◌, ◌++◌}
 use Rattle.fit_activity.specs.declared.recording.entry.Entry.TheVariants as entries
 use Rattle.fit_activity.specs.Rides.Recording.{Recorded, Started, Added, is_stop}
 use Rattle.fit_disk.specs.Counts.{Log}

@@ -1,4 +1,4 @@
-use Rattle.std.proofs.Common.{◌≡◌, ℕ, Ok, Err, refl}
+use Rattle.std.proofs.Common.{ℕ, Ok, Err}
 use Rattle.fit_activity.specs.declared.activity.Summary.{Summary}
 use Rattle.fit_disk.specs.State.{Contents}
 use Rattle.fit_grammar.specs.Calls.PlainForm.{IsRefusedAt}

@@ -1,4 +1,4 @@
-use Rattle.std.proofs.Common.{◌≡◌, ◌++◌, ◌∷◌, [], true, refl, sym, ap, ◌∙◌, subst, arith, map}
+use Rattle.std.proofs.Common.{◌≡◌, ◌++◌, ◌∷◌, [], refl, sym, ap, ◌∙◌, subst, arith, map}
 use Rattle.std.specs.Prelude.{not}
 use Rattle.std.specs.List.{filter, AllByRecursion}
 use Rattle.std.proofs.lemmas.Bool.{leb-true}
@@ -8,7 +8,7 @@ use Rattle.fit_activity.specs.Messages.ProfileField.{as_message}
 use Rattle.fit_activity.specs.Messages.ProfileMessage.{file_id_message}
 use Rattle.fit_activity.specs.Messages.MessageBytes.{spelled, message_stated}
 use Rattle.fit_activity.specs.Messages.RideMessages.{closing_with}
-use Rattle.fit_activity.specs.Files.Activity.{activity_in, begins_with_file_id, summary_of}
+use Rattle.fit_activity.specs.Files.Activity.{activity_in, summary_of}
 use Rattle.fit_finishing.specs.Heard.{heard, heard_as}
 use Rattle.fit_finishing.specs.Lacking.{is_lacking, added_items, opening, laps_stated, laps_finished}
 use Rattle.fit_finishing.specs.Finished.{finished_messages}

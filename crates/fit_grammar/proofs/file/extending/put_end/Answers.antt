@@ -1,4 +1,4 @@
-use Rattle.std.proofs.Common.{◌≡◌, ℕ, ◌++◌, List, refl, ap, sym, ◌∙◌}
+use Rattle.std.proofs.Common.{ℕ, ◌++◌, List, refl, ap, sym, ◌∙◌}
 use Rattle.fit_base.specs.declared.order.Arch.TheVariants.{Little}
 use Rattle.fit_base.specs.Checksum.{crc, crc_from}
 use Rattle.fit_base.proofs.Register.{crc_from-append}

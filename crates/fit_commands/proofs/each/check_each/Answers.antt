@@ -1,0 +1,14 @@
+use Rattle.std.proofs.Common.{inr, map, sym, subst, List, Global}
+use Rattle.std.specs.Prelude.{String, string_bytes}
+use Rattle.fit_commands.specs.Each.{AreNamesOf}
+use Rattle.fit_commands.proofs.each.check_each.Goals as goal
+
+pub returns : goal.returns
+returns g c = record {
+  lines = inr (
+    map string_bytes c.as_slice.result.now,
+    subst (λ (names : List (String Global)). AreNamesOf (map (λ word. word.now) c.args.names.now.all.items) (map string_bytes names))
+        (sym c.as_slice.ensures.value) c.in_ok-all.ensures,
+    inr c.in-Err.ensures,
+  );
+}
