@@ -1,5 +1,5 @@
 -- What the calls over the bytes of a file answer.
-use Rattle.std.specs.Prelude.{◌≡◌, ℕ, ◌+◌, ◌<◌, ◌≤◌, ℤ, Bool, List, length, true, Ok, Err}
+use Rattle.std.specs.Prelude.{◌≡◌, ℕ, ◌+◌, ◌<◌, ◌≤◌, ℤ, Bool, List, length, true, false, Ok, Err}
 use Rattle.std.specs.Io.Iter.{u64_saturate}
 use Rattle.fit_activity.specs.declared.activity.Summary.{Summary}
 use Rattle.fit_activity.specs.declared.activity.ActivityFault.{ActivityFault}
@@ -24,31 +24,23 @@ pub record IsNoFile (bytes : List ℕ) (code place : ℕ) : Type 0 where
   pub code_is : code ≡ kind_code fault.kind
   pub place_is : place ≡ fault.place
 
--- the bytes are a file, and the text is its text
-pub record Shows (utc : Bool) (bytes text : List ℕ) : Type 0 where
-  pub file : FileValue
-  pub is : FileOf bytes file
-  pub text_is : text ≡ text_of utc file
+-- the text of a file, or its JSON
+abbrev pub shown_as : (json utc : Bool) → FileValue → List ℕ
+shown_as false utc file = text_of utc file
+shown_as true utc file = json_of utc file
 
--- the bytes are a file, whose text has so many bytes, or more than 2^64 - 1, and more than there is room for
-pub record NeedsRoomToShow (utc : Bool) (bytes : List ℕ) (room needed : ℕ) : Type 0 where
+-- the bytes are a file, and this is its text or its JSON
+pub record Shows (json utc : Bool) (bytes text : List ℕ) : Type 0 where
   pub file : FileValue
   pub is : FileOf bytes file
-  pub needed_is : needed ≡ u64_saturate (length (text_of utc file))
-  pub short : room < length (text_of utc file)
+  pub text_is : text ≡ shown_as json utc file
 
--- the bytes are a file, and the text is its JSON
-pub record ShowsJson (utc : Bool) (bytes text : List ℕ) : Type 0 where
+-- the bytes are a file, and that has so many bytes, or more than 2^64 - 1, and more than there is room for
+pub record NeedsRoomToShow (json utc : Bool) (bytes : List ℕ) (room needed : ℕ) : Type 0 where
   pub file : FileValue
   pub is : FileOf bytes file
-  pub text_is : text ≡ json_of utc file
-
--- the bytes are a file, whose JSON has so many bytes, or more than 2^64 - 1, and more than there is room for
-pub record NeedsRoomForJson (utc : Bool) (bytes : List ℕ) (room needed : ℕ) : Type 0 where
-  pub file : FileValue
-  pub is : FileOf bytes file
-  pub needed_is : needed ≡ u64_saturate (length (json_of utc file))
-  pub short : room < length (json_of utc file)
+  pub needed_is : needed ≡ u64_saturate (length (shown_as json utc file))
+  pub short : room < length (shown_as json utc file)
 
 -- the bytes are a file, and these are its plain form
 pub record IsPlainOf (bytes plain : List ℕ) : Type 0 where

@@ -12,7 +12,6 @@ mod columns;
 mod committing;
 mod finishing;
 mod framing;
-mod json;
 mod pieces;
 mod plain;
 mod repairing;
@@ -27,13 +26,12 @@ pub use checking::fitrec_check;
 pub use columns::fitrec_columns;
 pub use committing::{fitrec_leave_changed, fitrec_uncommitted};
 pub use finishing::{FinishCounts, fitrec_finish};
-pub use json::fitrec_json;
 pub use pieces::FilePiece;
 pub use plain::fitrec_plain;
 pub use repairing::{RideSummary, fitrec_repair};
 pub use salvaging::fitrec_salvage;
 pub use saving::fitrec_save;
-pub use showing::fitrec_show;
+pub use showing::{fitrec_json, fitrec_show};
 pub use skipping::{fitrec_first_file, fitrec_skip};
 
 /// The version of these calls. It grows when one of them changes.
