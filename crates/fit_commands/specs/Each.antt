@@ -23,6 +23,14 @@ use Rattle.fit_commands.specs.declared.fault.Fault.TheVariants as faults
 abbrev pub named_line : List ℕ → List ℕ → List ℕ → List ℕ
 named_line front name text = front ++ (shown_text name ++ (codes ": " ++ (text ++ codes "\n")))
 
+-- standard input, which lists names, was not read, the output failed, or memory was refused
+abbrev pub IsStopped : Fault → Type 0
+IsStopped (faults.Read name) = name.now ≡ codes "-"
+IsStopped (faults.Write name) = name.now ≡ codes "-"
+IsStopped faults.TooLarge = Unit {0}
+IsStopped faults.NoMemory = Unit {0}
+IsStopped _ = ⊥
+
 -- what was found of the file of a name
 pub record FoundFile : Type 0 where
   pub name : Bor (List ℕ)
@@ -77,10 +85,10 @@ abbrev pub ChecksEach : (json : Bool) → List (List ℕ) → Option (List ℕ) 
 ChecksEach json words old new (Ok done) =
     (names : List (List ℕ)) × AreNamesOf words names × ChecksAll json names old new (Ok 0)
 ChecksEach json words old new (Err fault) =
-    (new ≡ old)
+    (IsStopped fault × (new ≡ old))
     ⊎ ((names : List (List ℕ)) × AreNamesOf words names
     × (((refused : ℕ) × (fault ≡ faults.Refused refused) × (0 < refused) × ChecksAll json names old new (Ok refused))
-    ⊎ ChecksAll json names old new (Err fault)))
+    ⊎ (IsStopped fault × ChecksAll json names old new (Err fault))))
 
 -- ---- tables
 
@@ -130,9 +138,9 @@ TablesEach layout words old new (Ok done) =
     (names : List (List ℕ)) × AreNamesOf words names × (mid : Option (List ℕ))
     × Appends old mid (head_of layout (codes "file,")) × TablesAll layout names mid new (Ok 0)
 TablesEach layout words old new (Err fault) =
-    (new ≡ old) ⊎ AppendsBeginning old new (head_of layout (codes "file,"))
+    (IsStopped fault × ((new ≡ old) ⊎ AppendsBeginning old new (head_of layout (codes "file,"))))
     ⊎ ((names : List (List ℕ)) × AreNamesOf words names × (mid : Option (List ℕ))
     × Appends old mid (head_of layout (codes "file,"))
     × (((left_out : ℕ) × (fault ≡ faults.Refused left_out) × (0 < left_out)
     × TablesAll layout names mid new (Ok left_out))
-    ⊎ TablesAll layout names mid new (Err fault)))
+    ⊎ (IsStopped fault × TablesAll layout names mid new (Err fault))))

@@ -2,7 +2,7 @@
 
 ghost use Rattle.std.specs.Prelude.{◌≡◌, ◌<◌, ◌≤◌, ◌++◌, ℕ, List, String, codes, length, map, string_bytes, IfErr, IfOk, IfSome, OnOk, true, false};
 ghost use Rattle.fit_grammar.specs.Calls.Output.{WritesText};
-ghost use Rattle.fit_commands.specs.Each.{AddsTable, AreNamesOf, ChecksAll, ChecksEach, IsFoundLine, TablesAll, TablesEach, left_out_by, name_cell, named_line, refused_by};
+ghost use Rattle.fit_commands.specs.Each.{AddsTable, AreNamesOf, ChecksAll, ChecksEach, IsFoundLine, IsStopped, TablesAll, TablesEach, left_out_by, name_cell, named_line, refused_by};
 ghost use Rattle.fit_exports.specs.Checked.{checked_json};
 ghost use Rattle.std.specs.List.{flat_map};
 ghost use Rattle.fit_table.specs.Cells.{byte_cell};
@@ -49,8 +49,9 @@ fn check_all<O: Write>(
     json: bool,
     out: &mut O,
 ) -> Result<usize, Fault<'static>>
-    ensures { ChecksAll json (map string_bytes names.now) (O.contents out.old)
+    ensures lines { ChecksAll json (map string_bytes names.now) (O.contents out.old)
         (O.contents out.new) result }
+    ensures fault { IfErr result IsStopped }
 {
     let mut refused: usize = 0;
     let mut rest = names;
@@ -113,8 +114,9 @@ fn table_all<O: Write, E: Write>(
     err: &mut E,
 ) -> Result<usize, Fault<'static>>
     requires { length layout.now.fields.now ≤ 128 }
-    ensures { TablesAll layout.now (map string_bytes names.now) (O.contents out.old)
+    ensures lines { TablesAll layout.now (map string_bytes names.now) (O.contents out.old)
         (O.contents out.new) result }
+    ensures fault { IfErr result IsStopped }
 {
     let mut left_out: usize = 0;
     let mut rest = names;
@@ -167,8 +169,9 @@ fn print_found<O: Write>(
     found: &Result<Summary, Fault<'_>>,
     out: &mut O,
 ) -> Result<(), Fault<'static>>
-    ensures { (line : List ℕ) × IsFoundLine json name.now found.now line
+    ensures line { (line : List ℕ) × IsFoundLine json name.now found.now line
         × WritesText (O.contents out.old) (O.contents out.new) result line }
+    ensures fault { IfErr result IsStopped }
 {
     match found {
         Ok(summary) if json => print_object(name, Ok(*summary), out),
@@ -191,8 +194,9 @@ fn print_object<O: Write>(
     found: Result<Summary, &str>,
     out: &mut O,
 ) -> Result<(), Fault<'static>>
-    ensures { WritesText (O.contents out.old) (O.contents out.new) result
+    ensures line { WritesText (O.contents out.old) (O.contents out.new) result
         (checked_json name.now found.entry) }
+    ensures fault { IfErr result IsStopped }
 {
     match print_checked(name, found, out) {
         Ok(()) => Ok(()),
@@ -209,7 +213,8 @@ fn add_table<O: Write, E: Write>(
     err: &mut E,
 ) -> Result<bool, Fault<'static>>
     requires { length layout.now.fields.now ≤ 128 }
-    ensures { AddsTable layout.now name.now (O.contents out.old) (O.contents out.new) result }
+    ensures lines { AddsTable layout.now name.now (O.contents out.old) (O.contents out.new) result }
+    ensures fault { IfErr result IsStopped }
 {
     let Ok(front) = first_cell(rt.alloc(), name) else {
         return Err(Fault::NoMemory);
@@ -265,9 +270,10 @@ fn print_named<L: Display, O: Write>(
     line: &L,
     out: &mut O,
 ) -> Result<(), Fault<'static>>
-    ensures { IfSome (L.output line.now) (λ text.
+    ensures line { IfSome (L.output line.now) (λ text.
         WritesText (O.contents out.old) (O.contents out.new) result
         (named_line front.now name.now text)) }
+    ensures fault { IfErr result IsStopped }
 {
     let Ok(text) = format!(in alloc; "{front}{}: {line}\n", ShownWord(name)) else {
         return Err(Fault::NoMemory);
@@ -280,8 +286,9 @@ fn print_named<L: Display, O: Write>(
 
 // All names, with those that standard input lists in the place of the first `-`.
 fn all_names(rt: &HostRuntime, names: &Names<'_>) -> Result<Vec<String>, Fault<'static>>
-    ensures { IfOk result (λ all. AreNamesOf (map (λ word. word.now) names.now.all.items)
+    ensures names { IfOk result (λ all. AreNamesOf (map (λ word. word.now) names.now.all.items)
         (map string_bytes all.items)) }
+    ensures fault { IfErr result IsStopped }
 {
     let mut listed = Vec::new(rt.alloc());
     if names.all.as_slice().contains(&"-") {

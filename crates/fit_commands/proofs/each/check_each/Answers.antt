@@ -8,7 +8,7 @@ returns g c = record {
   lines = inr (
     map string_bytes c.as_slice.result.now,
     subst (λ (names : List (String Global)). AreNamesOf (map (λ word. word.now) c.args.names.now.all.items) (map string_bytes names))
-        (sym c.as_slice.ensures.value) c.in_ok-all.ensures,
-    inr c.in-Err.ensures,
+        (sym c.as_slice.ensures.value) c.in_ok-all.ensures.names,
+    inr (c.in-Err.ensures.fault, c.in-Err.ensures.lines),
   );
 }

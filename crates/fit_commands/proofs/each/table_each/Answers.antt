@@ -5,12 +5,12 @@ use Rattle.fit_commands.proofs.each.table_each.Goals as goal
 
 pub returns : goal.returns
 returns g c = record {
-  lines = inr (inr (
+  lines = inr (
     map string_bytes c.as_slice.result.now,
     subst (λ (l : List (String Global)). AreNamesOf (map (λ word. word.now) c.args.names.now.all.items) (map string_bytes l))
-        (sym c.as_slice.ensures.value) c.in_ok-all.ensures,
+        (sym c.as_slice.ensures.value) c.in_ok-all.ensures.names,
     _,
     c.in-Ok.ensures.text.all,
-    inr c.in-Err.ensures,
-  ));
+    inr (c.in-Err.ensures.fault, c.in-Err.ensures.lines),
+  );
 }
