@@ -5,6 +5,8 @@ import shutil
 
 from tools import START, launched, nine_fields, run
 
+READ = ["show"], ["check"], ["show", "--json"], ["table"], ["table", "--profile"], ["show", "--gpx"]
+
 
 def counted(work, *words):
     """The instructions of a run."""
@@ -24,7 +26,7 @@ def of_a_ride(program, work, fields, samples):
     found = [counted(work, program, "replay", script, folder)]
     shutil.copytree(folder, copy)
     found.append(counted(work, program, "repair", copy))
-    return found + [counted(work, program, *words, copy / "activity.fit") for words in (["show"], ["check"], ["show", "--json"])]
+    return found + [counted(work, program, *words, copy / "activity.fit") for words in READ]
 
 
 def figures(work):
@@ -36,4 +38,5 @@ def figures(work):
         few, many = (of_a_ride(program, work, fields, samples) for samples in (2000, 8000))
         each = [(more - less) / 6000 for less, more in zip(few, many)]
         yield "instructions a sample of `replay`, `repair`, `show`, `check`, " + name, "{:,.0f}, {:,.0f}, {:,.0f}, {:,.0f}".format(*each[:4])
+        yield "instructions a sample of `table`, `table --profile`, `show --gpx`, " + name, "{:,.0f}, {:,.0f}, {:,.0f}".format(*each[5:])
         yield "`show --json` by `show`, " + name, "%.2f" % (each[4] / each[2])

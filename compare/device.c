@@ -271,16 +271,19 @@ static uint8_t go_on(const char *word) {
     return fitrec_erase_next(&room.recovery, &room.plan);
 }
 
-/* A window of the data file that has too few bytes is read as far as it goes. Those of the journal would be its end, and are not tried. */
+/* A window that has too few bytes ends a recovery and a reopening. */
 static void give_too_few(void) {
     static struct fitrec_recovery before;
+    static struct fitrec_recorder recorder;
     struct fitrec_recovery *it = &room.recovery;
-    before = *it;
-    uint16_t few = it->filled = (uint16_t)chance(it->filled);
-    uint8_t answer = go_on(chance(2) ? "recover" : "reopen");
-    if (answer != FITREC_NEEDS_WINDOW || it->file != before.file || it->at < before.at || it->at > before.at + few || room.plan.count)
+    before = *it, recorder = room.recorder;
+    const char *word = chance(2) ? "recover" : "reopen";
+    it->filled = (uint16_t)chance(it->filled);
+    if (go_on(word) != FITREC_DEVICE || room.plan.count || memcmp(&recorder, &room.recorder, sizeof recorder))
         fail("a window with too few bytes was believed");
-    fill_window();
+    if (go_on(word) != FITREC_NO_RECORDER)
+        fail("a recovery went on after a window with too few bytes");
+    *it = before;
 }
 
 /* An erasing is refused a window of the data file. */
@@ -343,7 +346,7 @@ static uint8_t step_by_windows(const char *word) {
                 fail("a call before the end of a recovery");
         carry_out_plan();
         fill_window();
-        if (it->file == FITREC_DATA_FILE && it->filled && chance(4) == 0)
+        if (it->filled && chance(4) == 0)
             give_too_few();
         if (it->file == FITREC_DATA_FILE && chance(4) == 0)
             erase_too_late();
@@ -433,7 +436,7 @@ static void check_state(const char *line, const char *word, uint8_t answer) {
 }
 
 static void report(int number, const char *word, uint8_t answer) {
-    static const char *faults[] = {"ok", "NotEmpty", "", "Full", "JournalFull", "Device", "Failed", "NothingRecorded", "Damaged", "", "", "NoRecorder"};
+    static const char *faults[] = {"ok", "NotEmpty", "", "Full", "JournalFull", "Device", "Failed", "NothingRecorded", "Damaged", "", "", "NoRecorder", "NoSport", "NeedsWindow", "Erasing"};
     static const char *refused[] = {"", "Time", "Distance", "Value", "TimerStopped", "TimerRunning", "TooLong", "TooManyLaps", "Stopped"};
     if (answer > 32)
         printf("%d %s: Refused(%s)\n", number, word, refused[answer - 32]);

@@ -82,10 +82,11 @@ void _start(void) {
     fitrec_start(&recorder, 1000000000, 7, 1, &plan);
 }
 """
-# The room for the stack of the module in C; and the most bytes that rides take of the machine's stack, device.c and the C library's printing
-# included, and of the module's: with an object file, and in C.
-STACK = 65536 - 64
-OF_OBJECT, OF_C = (12544, 0), (8192, 10240)
+# The room for the stack of the module in C, and the most bytes that its calls take of it.
+STACK, OF_MODULE = 65536 - 64, 10240
+# A row of the table of stacks in docs/EMBEDDING.md: calls, and the bytes that one takes on each processor.
+OF_CALLS = re.compile(r"(?m)^\| ((?:`fitrec_\w+`(?:, )?)+) \| ([\d,]+) \| ([\d,]+) \| ([\d,]+) \|$")
+PROCESSORS = "for a Cortex-M4", "for a Cortex-M0+", "for RISC-V"
 # What a host does that breaks a rule, by its number.
 BROKEN = {1: "a call is left out", 2: "the calls are made in another order", 3: "the answer comes before the calls",
           4: "the recording goes on after a failed call", 5: "a sync keeps nothing"}
@@ -180,8 +181,20 @@ def of_cuts(fitrec, program, calls, seed):
             yield "a rule is needed: " + name, unless(seen, "nothing was lost", "a loss")
 
 
+def after_an_erasing(program, script, folder, seed):
+    """What is answered in a folder whose erasing may have been cut off: that it is to be erased again, if only that is left of the ride. Then
+    the next ride begins."""
+    data, journal = holds(folder)
+    script.write_text("recover\nreopen\n")
+    said = run(program, "play", script, folder, seed)
+    script.write_text("erase\nstart 1000000000 7 running\n")
+    begun = run(program, "play", script, folder, seed)
+    is_erasing = bool(data) and journal[:3] == b"\0RJ"
+    return differs((said[0], said[1].count(": Erasing\n"), begun), (0, 2 * is_erasing, (0, "1 erase: ok\n2 start: ok\n", "")))
+
+
 def of_erasings(fitrec, program, seed):
-    """The power goes inside each call of an erasing: the ride stays as it was, or is gone."""
+    """The power goes inside each call of an erasing: the ride stays as it was, or is gone, and the next one begins."""
     with room() as (script, new):
         later = pathlib.Path(str(script) + "-later")
         script.write_text(RIDE[:RIDE.index("stop")])
@@ -197,11 +210,13 @@ def of_erasings(fitrec, program, seed):
                 is_gone = done[2] == "fitrec: NothingRecorded\n"
                 is_right = answers[0] == 0 and (is_gone if "1 erase: ok\n" in answers[1] else is_gone or done == expected)
                 yield "a power cut in an erasing", unless(is_right, (call, answers, done), "nothing recorded, or the ride as it was")
+                yield "after a power cut in an erasing", after_an_erasing(program, script, folder, seed + times)
 
 
 def machine_program(compiler, program, made, *words):
     """compare/device.c for an emulated processor."""
     common = ["-Os", "-w", "-ffunction-sections", "-fdata-sections", "-Wl,--gc-sections", "-DMOST=65536", "-DFITREC_STACK=%d" % STACK]
+    common += ["-Wl,--wrap=" + it for it in declared()[1]]
     sources = [ROOT / "compare/device.c", ROOT / "examples/device/flash.c", ROOT / "device/emulated.c"]
     subprocess.run([compiler, *common, "-I", made, "-I", ROOT / "include", *words, *sources, "-o", program], check=True)
     return program
@@ -243,6 +258,16 @@ def machine_programs(folder):
             yield from programs_of(folder, folder + "/made")
 
 
+def stated_otherwise(form, found):
+    """The rows of docs/EMBEDDING.md that do not state, for a processor, the stack that was found: the most that one of their calls takes, or up
+    to 64 bytes more."""
+    for row in OF_CALLS.findall((ROOT / "docs/EMBEDDING.md").read_text()):
+        figure = int(row[1 + PROCESSORS.index(form)].replace(",", ""))
+        most = max(found.pop(it, 0) for it in re.findall(r"fitrec_\w+", row[0]))
+        if not most <= figure <= most + 64:
+            yield row[0], figure, most
+
+
 def of_32_bits(fitrec, count, seed):
     """The same answers and bytes on an emulated processor of 32 bits, within the stacks that docs/EMBEDDING.md gives."""
     with tempfile.TemporaryDirectory() as folder, room() as (script, new):
@@ -253,20 +278,24 @@ def of_32_bits(fitrec, count, seed):
                 continue
             if form == "in C":
                 yield "the crate in C, without a C library", differs(links_alone(folder, folder + "/made"), (0, "", ""))
-            most = [0, 0]
+            most = {}
             for text in scripts(count, seed):
                 script.write_text(text)
                 mine, its = new(), new()
                 shutil.copy(script, mine + "/script.txt")
                 found, expected = run(*emulator, program, cwd=mine, stdin=subprocess.DEVNULL), run(fitrec, "replay", "--checked", script, its)
                 # Semihosting may have one console for all output.
-                said, _, used = (found[1] + found[2]).rpartition("stack: ")
+                said, used = found[1] + found[2], {}
+                for name, bytes_used in re.findall(r"(?m)^stack of (.+): (\d+)\n", said):
+                    used[name] = int(bytes_used)
+                    most[name] = max(most.get(name, 0), used[name])
                 answers = re.sub(r"ok records.*", "ok", expected[1])
-                yield "a ride by 32 bits, " + form, differs((said, holds(mine)), (answers, holds(its)))
-                most = [max(pair) for pair in zip(most, map(int, re.findall(r"\d+", used)))]
-            allowed = OF_C if form.startswith("in C") else OF_OBJECT
-            yield "the stacks of 32 bits, " + form, unless(
-                0 < most[0] <= allowed[0] and most[1] <= allowed[1], most, "%d and %d bytes at most" % allowed)
+                yield "a ride by 32 bits, " + form, differs((re.sub(r"(?m)^stack of .+\n", "", said), holds(mine)), (answers, holds(its)))
+            if form in PROCESSORS:
+                yield "the stacks of 32 bits, " + form, differs((list(stated_otherwise(form, most)), most), ([], {}))
+            else:
+                of_module = most["the module"]
+                yield "the stack of the module, " + form, unless(0 < of_module <= OF_MODULE, of_module, "%d bytes at most" % OF_MODULE)
         for it in release.OBJECTS:
             yield release.same(it, "%s/made/%s" % (folder, it))
 
@@ -345,6 +374,22 @@ def of_cut_off_starts(fitrec, program, lines):
                     (done, {name: bytes_of(ride / name) for name in files}), ((1, "", "ride: no ride can begin here (7)\n"), files))
 
 
+def of_a_cut_off_erasing(fitrec, program, lines):
+    """The host begins the next ride where an erasing was cut off: the journal has lost its first byte, and the data file has all of its own."""
+    with room() as (script, new):
+        script.write_text(RIDE)
+        for words in ((), ("--checked",)):
+            ride = pathlib.Path(new())
+            run(fitrec, "replay", *words, script, ride)
+            journal = bytes_of(ride / "activity.frj")
+            (ride / "activity.frj").write_bytes(b"\0" + journal[1:])
+            done = run(program, ride, input="".join(lines))
+            found = re.match(r"ok records=(\d+) ", run(fitrec, "check", ride / "activity.fit")[1])
+            is_right = done[0] == 0 and found and int(found[1]) == len(lines)
+            yield "the host of examples/device begins after an erasing that was cut off", unless(
+                is_right, (words, done, found), "%d records" % len(lines))
+
+
 def of_interrupted_calls(fitrec, program, lines):
     """A call that a signal interrupts is made again, in a ride that is begun, left, reopened and stopped."""
     with tracing(program) as host, room() as (_, new):
@@ -412,7 +457,7 @@ def check(given):
             yield from given.checks(of_flash, fitrec, program, 150, seed)
             yield from given.checks(of_flash, fitrec, sanitized, 20, seed, under="under sanitizers")
             host, lines = host_program(archive, folder), ["%d %d %d\n" % (1000000000 + k, 90 + k, 300 * k) for k in range(30)]
-            for group in (of_host, of_cut_off_starts, of_interrupted_calls, of_locked_files):
+            for group in (of_host, of_cut_off_starts, of_a_cut_off_erasing, of_interrupted_calls, of_locked_files):
                 yield from given.checks(group, fitrec, host, lines)
             yield from given.checks(of_32_bits, fitrec, min(count, 12), seed)
             for how in made:

@@ -206,8 +206,8 @@ def messages():
     rows = re.findall(r"(?m)^\| (`.*?`) \|", page("docs/PROGRAM.md").partition("## Messages")[2])
     named = {re.sub(r"\([A-Z]\)", "", name) for row in rows for name in re.findall(r"`([^`]*)`", row)}
     texts = re.findall(r'#\[error\("(.*?)"', page("crates/fit_commands/src/fault.rt"))
-    # A text that is a fault of a library alone, as {0} or {} at {}, is among those of FAULTS.
-    texts = [it for it in texts if "fitrec: " not in it and not re.fullmatch(r"\{0?\}( at \{\})?", it)]
+    # A text that is a fault of a library alone, as {0} or {} at {}, or that after a name, is among those of FAULTS.
+    texts = [it for it in texts if "fitrec: " not in it and not re.fullmatch(r"(\{\}: )?\{0?\}( at \{\})?", it)]
     texts = [re.sub(r"\(N\)", "", it.replace("{}", "NAME").replace("{0}", "N")) for it in texts]
     wanted = {it for it in texts if "{" not in it and "line" not in it} | {"cannot write -", "cannot read -"} | OTHERS
     for file in LINES:

@@ -17,6 +17,8 @@ NEEDS = ("fitrec", "valgrind")
 # The most instructions for each byte that a command reads. The most bytes of JSON: for each byte, and for the line of each message.
 INSTRUCTIONS = {"check": 3000, "show --json": 10000, "show --json --profile": 5000, "table": 5000, "table --profile": 8000}
 WRITTEN, LINE = 60, 110
+# The most instructions for each byte of a table, which has up to 256 cells of a message of one byte.
+CELL = 150
 RECORD, DESCRIPTION = 20, 206
 UINT8, STRING = 2, 7
 
@@ -54,6 +56,8 @@ FAMILIES = {
     "255 fields of size 0": Family(definition(0, RECORD, numbers(0)[0]), b"\0", 1),
     "255 fields of size 0 of a message without a name": Family(definition(0, 0xFF00, numbers(0)[0]), b"\0", 1),
     "255 fields of size 0 with a compressed timestamp": Family(definition(0, RECORD, numbers(0)[0]), b"\x80", 1),
+    "254 fields of size 0 and one of size 4": Family(
+        definition(0, RECORD, [*numbers(0)[0][:254], (254, 4, UINT8)]), b"\0" + bytes(range(4)), 1),
     "one field 255 times": Family(definition(0, RECORD, [(3, 1, UINT8)] * 255), b"\0" + bytes(range(255)), 1),
     "255 fields of size 1": Family(definition(0, RECORD, numbers(1)[0]), b"\0" + bytes(range(255)), 1),
     "three definitions by turns": Family(
@@ -61,9 +65,8 @@ FAMILIES = {
         b"\0\1" * 50 + b"\3" + bytes(200), 101),
     "two definitions of 129 fields by turns": Family(
         definition(0, RECORD, numbers(1)[0][:129]) + definition(1, 18, numbers(1)[0][:129]), b"\0" + bytes(129) + b"\1" + bytes(129), 2),
-    "255 developer fields of size 0": Family(FEW + definition(0, RECORD, [], numbers(0)[1]), b"\0", 1, ("table --profile",)),
-    "255 developer fields of size 0 with long names": Family(
-        LONG + definition(0, RECORD, [], numbers(0)[1]), b"\0", 1, ("table --profile",)),
+    "255 developer fields of size 0": Family(FEW + definition(0, RECORD, [], numbers(0)[1]), b"\0", 1),
+    "255 developer fields of size 0 with long names": Family(LONG + definition(0, RECORD, [], numbers(0)[1]), b"\0", 1),
     "255 developer fields with long names": Family(LONG + definition(0, RECORD, [], numbers(1)[1]), b"\0" + bytes(range(255)), 1,
                                                    ("show --json --profile",)),
     "255 developer fields with short names": Family(SHORT + definition(0, RECORD, [], numbers(1)[1]), b"\0" + bytes(range(255)), 1),
@@ -100,8 +103,9 @@ def over(command, family, sizes, came):
     steps = [after - before for before, after in zip(sizes, sizes[1:])]
     taken, wrote = ([after[at] - before[at] for before, after in zip(came, came[1:])] for at in (0, 1))
     each = [count / step for count, step in zip(taken, steps)]
-    if max(each) > INSTRUCTIONS[command]:
-        return Difference("%d instructions a byte at most" % INSTRUCTIONS[command], each)
+    allowed = [max(INSTRUCTIONS[command] * step, CELL * count if "table" in command else 0) for step, count in zip(steps, wrote)]
+    if any(count > limit for count, limit in zip(taken, allowed)):
+        return Difference("%s instructions at most" % allowed, taken)
     # What so few bytes take besides is not counted.
     if each[1] > 1.1 * each[0] + 100:
         return Difference("no more for the second half than for the first", each)
@@ -128,5 +132,37 @@ def of_the_program(given):
         yield from given.judged(judge, rows)
 
 
+# What is there many times after a record with a time, in a file whose checksum is wrong: a salvage judges each item by what follows it.
+RECORD_AT = definition(0, RECORD, [(253, 4, 0x86)]) + b"\0" + (1_000_000_000).to_bytes(4, "little")
+JUDGED = {
+    "definitions": definition(0, RECORD, [(253, 4, 0x86)]),
+    "definitions of another local number": definition(1, RECORD, [(3, 1, UINT8)]),
+    "messages without a time": definition(1, RECORD, [(3, 1, UINT8)]) + b"\1\x50" * 200,
+    "records at one time": RECORD_AT[-5:],
+}
+# The most instructions for each byte that a salvage judges.
+OF_SALVAGE = 4000
+
+
+def of_a_salvage(given):
+    """A salvage that goes on after faults takes no more for the second half than for the first."""
+    with tempfile.TemporaryDirectory() as folder:
+        def judge(number, row):
+            name, many = row
+            sizes, came = [], []
+            for step in STEPS:
+                source, out = pathlib.Path(folder, "%d-%d.fit" % (number, step)), pathlib.Path(folder, "%d-%d.out" % (number, step))
+                data = framed(RECORD_AT + many * (-(-SIZE // len(many)) * step))
+                source.write_bytes(data[:-1] + bytes([data[-1] ^ 1]))
+                sizes.append(len(data))
+                came.append(cost(given.fitrec, "salvage", "--skip", source, out)[0])
+            each = [(after - before) / (end - start) for before, after, start, end in zip(came, came[1:], sizes, sizes[1:])]
+            well = max(each) <= OF_SALVAGE and each[1] <= 1.1 * each[0] + 100
+            return "salvage --skip: " + name, None if well else Difference("%d instructions a byte, and no more for the second half" % OF_SALVAGE, each)
+
+        yield from given.judged(judge, list(JUDGED.items()))
+
+
 def check(given):
     yield from given.checks(of_the_program, given)
+    yield from given.checks(of_a_salvage, given)

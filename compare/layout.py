@@ -10,7 +10,7 @@ from tools.program import ROOT
 
 NEEDS = ("cc",)
 # Each struct of the header with the one that the library takes for it. Of a recorder and a recovery only the first fields are the host's.
-STRUCTS = {"summary": "RideSummary", "salvage_counts": "SalvageCounts", "finish_counts": "FinishCounts", "piece": "FilePiece", "call": "Call", "plan": "DevicePlan", "sample": "DeviceSample", "state": "DeviceState", "recorder": "Handle",
+STRUCTS = {"summary": "RideSummary", "salvage_counts": "SalvageCounts", "finish_counts": "FinishCounts", "piece": "FilePiece", "value": "ValueHead", "call": "Call", "plan": "DevicePlan", "sample": "DeviceSample", "state": "DeviceState", "recorder": "Handle",
            "recovery": "RecoveryHandle"}
 OTHER_NAMES = {"lon": "long"}
 OWN = ("numbers",)
@@ -53,7 +53,7 @@ def of_c():
     for name in STRUCTS:
         body = re.search(r"struct fitrec_%s \{(.*?)\};" % name, header, re.S)[1]
         fields = re.findall(r"(\w+)(?:\[\w+\])?;", re.sub(r"/\*.*?\*/", "", body, flags=re.S))
-        lines.append('printf("%s size %%zu\\n", sizeof(struct fitrec_%s));' % (name, name))
+        lines.append('printf("%s sizeof %%zu\\n", sizeof(struct fitrec_%s));' % (name, name))
         lines += ['printf("%s %s %%zu\\n", offsetof(struct fitrec_%s, %s));' % (name, it, name, it) for it in fields if it not in OWN]
     with tempfile.TemporaryDirectory() as folder:
         source = pathlib.Path(folder, "layout.c")
@@ -67,7 +67,7 @@ def of_the_header():
     structs, constants = rattle()
     for name, field, place in of_c():
         size, _, places = layout(STRUCTS[name], structs, constants)
-        expected = size if field == "size" else places.get(OTHER_NAMES.get(field, field))
+        expected = size if field == "sizeof" else places.get(OTHER_NAMES.get(field, field))
         yield "the layout of the header", differs((name, field, int(place)), (name, field, expected))
 
 

@@ -14,6 +14,9 @@
      library show IN UTC OUT                 the text goes to OUT; its buffer has just as many bytes, and too few at first
      library json IN UTC OUT                 the same as JSON
      library columns IN MESSAGE FIELDS       the values, a line for each message; its buffer has just as many, and too few at first
+     library held IN MESSAGE                 the codes of the fields, each with what the messages hold there, a line for each
+     library values IN MESSAGE CODES         what each message has of each field, a line for each; its buffers have just as much room, and too
+                                             little at first
      library lengths DATA JOURNAL            lengths that are greater than their buffers, and buffers of no bytes
 
    It prints the answer and, if that is 0, a line on what was found. Each buffer is between two rows of known bytes, which no call
@@ -484,6 +487,118 @@ static void split(char **words) {
     check_guards(in);
 }
 
+/* Asks what the messages hold, in a buffer of so many codes, with room for so many values of one field. */
+static unsigned held_in(struct buffer in, char **words, size_t room_for, size_t codes, struct buffer *held, uint64_t *rows, uint64_t *place) {
+    static const uint8_t field = 253;
+    struct buffer out = room(room_for * sizeof(int64_t));
+    *held = room(codes);
+    fill(rows, sizeof *rows);
+    fill(place, sizeof *place);
+    unsigned answer = fitrec_fields(in.bytes, in.size, (uint16_t)atoi(words[1]), &field, 1, room_for, (int64_t *)out.bytes, room_for,
+                                    held->bytes, codes, rows, place);
+    bool is_refused = answer && answer <= FITREC_TRAILING_BYTES;
+    check_numbers(place, sizeof *place, !is_refused);
+    check_numbers(rows, sizeof *rows, is_refused);
+    if (is_refused) {
+        check_numbers(held->bytes, held->size, true);
+        check_numbers(out.bytes, out.size, true);
+    }
+    check_guards(out);
+    return answer;
+}
+
+static void held(char **words) {
+    struct buffer in = file_at(words[0], 0), first, all;
+    uint64_t rows, place;
+    unsigned answer = held_in(in, words, 0, 300, &first, &rows, &place);
+    if (answer == 0 || answer == FITREC_COLUMNS_NO_ROOM) {
+        uint64_t needed = rows;
+        if ((answer == 0) != (needed == 0))
+            fail("another answer to a buffer without rows");
+        answer = held_in(in, words, needed, FITREC_CODES, &all, &rows, &place);
+        if (rows != needed || memcmp(all.bytes, first.bytes, first.size))
+            fail("other fields in a shorter buffer");
+    }
+    printf("%u\n", answer);
+    for (size_t code = 0; answer == 0 && code < all.size; code++)
+        if (all.bytes[code])
+            printf("%zu %u\n", code, all.bytes[code]);
+    if (answer == 0)
+        check_guards(all);
+    else
+        printf("at %llu\n", (unsigned long long)place);
+    check_guards(first);
+    check_guards(in);
+}
+
+/* Finds values with this room, in buffers of so many heads and bytes. */
+static unsigned values_in(struct buffer in, char **words, size_t room_for, size_t many, size_t size, struct buffer *heads,
+                          struct buffer *values, uint64_t *rows, uint64_t *place) {
+    uint32_t codes[FITREC_MOST_COLUMNS];
+    size_t count = 0;
+    for (char *at = words[2]; *at; at += *at == ',')
+        codes[count++] = (uint32_t)strtol(at, &at, 10);
+    *heads = room(many * sizeof(struct fitrec_value));
+    *values = room(size);
+    fill(rows, sizeof *rows);
+    fill(&values->len, sizeof values->len);
+    fill(place, sizeof *place);
+    unsigned answer = fitrec_values(in.bytes, in.size, (uint16_t)atoi(words[1]), codes, count, room_for, (struct fitrec_value *)heads->bytes,
+                                    many, values->bytes, size, rows, &values->len, place);
+    bool is_refused = answer && answer <= FITREC_TRAILING_BYTES;
+    check_numbers(place, sizeof *place, !is_refused);
+    check_numbers(rows, sizeof *rows, answer != FITREC_VALUES && answer != FITREC_VALUES_NO_ROOM);
+    check_numbers(&values->len, sizeof values->len, answer != FITREC_VALUES && answer != FITREC_VALUES_NO_ROOM);
+    if (is_refused || answer == FITREC_VALUES_SHORT) {
+        check_numbers(heads->bytes, heads->size, true);
+        check_numbers(values->bytes, values->size, true);
+    }
+    heads->len = count;
+    return answer;
+}
+
+static void print_values(const struct fitrec_value *heads, const uint8_t *at, size_t count, uint64_t room_for, uint64_t rows) {
+    for (uint64_t row = 0; row < rows; row++)
+        for (size_t k = 0; k < count; k++) {
+            struct fitrec_value it = heads[k * room_for + row];
+            printf("%u %u %u %u %u ", it.message, it.at, it.size, it.base, it.size ? it.order : 0);
+            for (size_t left = it.size; left; left--)
+                printf("%02x", *at++);
+            printf("\n");
+        }
+}
+
+static void values(char **words) {
+    struct buffer in = file_at(words[0], 0), heads, values;
+    uint64_t rows, place;
+    unsigned answer = values_in(in, words, 0, 0, 0, &heads, &values, &rows, &place);
+    if (answer == FITREC_VALUES_NO_ROOM) {
+        uint64_t needed = rows, size = values.len, count = heads.len;
+        for (int lacks = 0; lacks < 3; lacks++) {
+            check_guards(heads);
+            check_guards(values);
+            unsigned wanted = lacks == 2 ? FITREC_VALUES_SHORT : FITREC_VALUES_NO_ROOM;
+            if (lacks == 1 && !size)
+                wanted = FITREC_VALUES;
+            answer = values_in(in, words, needed - (lacks == 0), count * (needed - (lacks == 0)) - (lacks == 2), size - (lacks == 1 && size),
+                               &heads, &values, &rows, &place);
+            if (answer != wanted || (lacks < 2 && (rows != needed || values.len != size)))
+                fail("another answer to a buffer that lacks a row, a byte or a head");
+        }
+        check_guards(heads);
+        check_guards(values);
+        answer = values_in(in, words, needed, count * needed, size, &heads, &values, &rows, &place);
+    }
+    printf("%u\n", answer);
+    if (answer)
+        printf("at %llu\n", (unsigned long long)place);
+    else
+        print_values((struct fitrec_value *)heads.bytes, values.bytes, heads.len, rows, rows);
+    check_guards(heads);
+    check_guards(values);
+    check_guards(in);
+}
+
 static void lengths(char **words) {
     struct buffer data = file_at(words[0], FITREC_CLOSING_ROOM), journal = file_at(words[1], 0), nothing = room(0);
     struct fitrec_summary sum;
@@ -531,6 +646,10 @@ int main(int count, char **words) {
         json(words + 2);
     else if (count == 5 && !strcmp(words[1], "columns"))
         columns(words + 2);
+    else if (count == 4 && !strcmp(words[1], "held"))
+        held(words + 2);
+    else if (count == 5 && !strcmp(words[1], "values"))
+        values(words + 2);
     else if (count == 2 && !strcmp(words[1], "version"))
         printf("%u\n", fitrec_version() == FITREC_VERSION);
     else if (count == 4 && !strcmp(words[1], "lengths"))

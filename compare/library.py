@@ -9,7 +9,7 @@ import tempfile
 from tools import release
 from tools.checks import differs
 from tools.libraries import build, declared, names_of, programs
-from tools.library_calls import ANSWERS, of_files, of_finished, of_mended, of_recordings, of_shown_and_checked
+from tools.library_calls import ANSWERS, of_files, of_finished, of_mended, of_recordings, of_shown_and_checked, of_values
 from tools.program import ROOT, run
 
 NEEDS = ("fitrec", "rt", "cc")
@@ -49,5 +49,5 @@ def check(given):
         with programs(ROOT / "compare/library.c", archive, words=("-std=c99", "-pedantic")) as made:
             for how, program in made.items():
                 yield from given.checks(of_recordings, given.fitrec, program, given.files // 12, given.seed, under=how)
-                for group in (of_files, of_finished, of_mended, of_shown_and_checked):
+                for group in (of_files, of_finished, of_mended, of_shown_and_checked, of_values):
                     yield from given.checks(group, given.fitrec, program, given.files // 48, given.seed, under=how)

@@ -30,7 +30,7 @@ def of_the_page():
 
 
 # The words of a command line, the last of which is completed, and what comes of it.
-ASKED = [(["sa"], ["salvage", "save"]), (["rec"], ["record"]), (["show", "--"], ["--help", "--json", "--profile", "--utc"]), (["help", "ver"], ["version"]),
+ASKED = [(["sa"], ["salvage", "save"]), (["rec"], ["record"]), (["show", "--"], ["--gpx", "--help", "--json", "--profile", "--utc"]), (["help", "ver"], ["version"]),
          (["record", "--c"], ["--commit"])]
 # The name of a file, what is typed of it, and what the program then gets.
 TYPED = [("one.fit", "show on"), ("a long ride.fit", "show a"), ("a long ride.fit", r"show a\ l"), ("a long ride.fit", 'show "a l'), ("it's (1).fit", "plain it")]

@@ -20,7 +20,7 @@ from typing import NamedTuple
 from tools.checks import Skipped, differs, unless
 from tools.finished import finished
 from tools.fit_files import framed
-from tools.holes import CLUSTERS, CONTENTS, KINDS, SIZES, TAIL, hole, items, numbers, older, other_cluster, touches
+from tools.holes import CLUSTERS, CONTENTS, KINDS, SIZES, TAIL, hole, items, messages, numbers, older, other_cluster, touches
 from tools.other_makers import rides
 from tools.program import FITREC, as_nobody, bytes_of, for_everyone, run
 from tools.reader import Refused, checksum, show
@@ -33,10 +33,17 @@ KEPT = {1: 0.99, 16: 0.99, 512: 0.99, 4096: 0.97}
 MADE_UP = 1 / 1000
 # Beside a cluster that has another content, or before the end of an older ride.
 KEPT_BESIDE = 0.99
+# Of the parts with another ride, how many say so at least.
+TOLD = 0.3
 # How many may be of bytes of other moments, in a ride of heart rates alone: nearly all that stand in a hole of 512 bytes.
 MADE_UP_WITHOUT = 72 / 1000
 # One ride of another maker has so many records whose times are two years later.
 STRANGE = 14
+# Two rides of one device each, whose definitions have the same local numbers; and how many of the intact records come back at least where one
+# has lost its definitions and the other lends them.
+OF_ONE_DEVICE = (("2012_01_11_11_51_01.fit", "2013-04-11-17-32-50.fit"), ("20130716_202738.fit", "20130717_143733.fit"),
+                 ("GarminSwimExample.fit", "2016-05-23_18-14-30_4_25.fit"))
+BROUGHT_BACK = 0.95
 
 
 class Damaged(NamedTuple):
@@ -49,12 +56,16 @@ class Damaged(NamedTuple):
     is_undefined: bool
 
 
-def mended(fitrec, data, *words):
-    """What salvage --skip prints of these bytes, and the file that it makes."""
+def mended(fitrec, data, *words, like=None):
+    """What salvage --skip prints of these bytes, and the file that it makes, with the definitions of another file if one is given."""
     with tempfile.TemporaryDirectory() as folder:
-        source, out = pathlib.Path(folder) / "in.fit", pathlib.Path(folder) / "out.fit"
+        source, out, other = (pathlib.Path(folder) / name for name in ("in.fit", "out.fit", "like.fit"))
         source.write_bytes(data)
-        return run(fitrec, "salvage", "--skip", *words, source, out), bytes_of(out)
+        if like is not None:
+            other.write_bytes(like)
+            words = *words, "--like", other
+        status, text, err = run(fitrec, "salvage", "--skip", *words, source, out)
+        return (status, text.replace(str(other), "LIKE"), err.replace(str(other), "LIKE")), bytes_of(out)
 
 
 def records(data):
@@ -300,6 +311,59 @@ def lost_beginnings(given):
         yield "the first 512 bytes lost", unless(kept >= 0.99 * under, kept, under)
 
 
+def without_definitions(pick, data):
+    """A ride whose first definitions are lost in some way, and up to which place of its records."""
+    head, row = numbers(data)
+    first = next(it.start for it in items(row) if it.what is not None)
+    yield "the first 512 bytes lost", data[512:], 512 - len(head)
+    yield "512 bytes of zeros", head + bytes(512) + row[512:], 512
+    yield "512 bytes of noise", head + pick.randbytes(512) + row[512:], 512
+    yield "all before the first record lost", row[first:], first
+    yield "zeros before the first record", head + bytes(first) + row[first:], first
+
+
+def definition_count(data):
+    """For how many local numbers a file has a definition."""
+    row = numbers(data)[1]
+    return len({row[it.start] & 15 for it in messages(row) if it.what is None})
+
+
+def lent_definitions(given):
+    """Where the definitions are lost, those of another ride of the device bring the records back, and those of another device make nothing
+    up. Where none is lost, the messages are the same."""
+    found = rides()
+    if isinstance(found, Skipped):
+        yield "definitions of another file", found
+        return
+    pick, names = random.Random(given.seed), [name for pair in OF_ONE_DEVICE for name in pair]
+    for pair in OF_ONE_DEVICE:
+        for name, other in pair, pair[::-1]:
+            data, there = found[name], collections.Counter(it.what for it in records(found[name]))
+            line = "definitions from LIKE: %d\n" % definition_count(found[other])
+            for lost, bad, at in without_definitions(pick, data):
+                outside = collections.Counter(it.what for it in records(data) if it.start >= at)
+                for lender in [it for it in names if it != name]:
+                    (status, out, err), file = mended(given.fitrec, bad, "--all", like=found[lender])
+                    kept = collections.Counter(it.what for it in records(file)) if file else collections.Counter()
+                    sums = sum(outside.values()), sum((kept & outside).values()), sum((kept - there).values())
+                    if lender == other:
+                        well = sums[1] >= BROUGHT_BACK * sums[0] and sums[2] == 0 and out.endswith(line)
+                        wanted = "%.2f kept, none made up, %r" % (BROUGHT_BACK, line)
+                    else:
+                        well, wanted = sums[2] <= MADE_UP * sum(there.values()), "none made up"
+                    yield "%s, by %s" % (lost, "its device" if lender == other else "another"), unless(well, described(sums) + out, wanted)
+            head, row = numbers(data)
+            at = pick.randrange(len(row) // 2, len(row) - 600)
+            for bad in data, head + hole(pick, row, older(row), "noise", 512, at) + bytes(2):
+                plain, lent = (mended(given.fitrec, bad, like=like)[1] for like in (None, found[other]))
+                came, wanted = ([it.what[0] for it in messages(numbers(it)[1]) if it.what] for it in (lent, plain))
+                yield "no definition lost", unless(came == wanted, len(came), len(wanted))
+    small = given.small
+    for bad, fault in (small[:-1] + bytes([small[-1] ^ 1]), "FileCrc at %d" % (len(small) - 2)), (b"", "Truncated at 0"):
+        came = mended(given.fitrec, small, like=bad)
+        yield "what is no file lends none", differs(came, ((1, "", "fitrec: LIKE: %s\n" % fault), None))
+
+
 def defined_after(row, at):
     """How many records have their definition, and all of it, after a place."""
     defined, count = {}, 0
@@ -416,7 +480,8 @@ def split_images(given):
             wanted = {"%d.fit" % places[at]: files[at] for at in whole}
             lines = "".join("%d.fit: %d bytes\n" % (places[at], len(files[at])) for at in whole)
             left = {path.name: path.read_bytes() for path in new.iterdir()}
-            yield name, unless((said, left) == ((0, lines, ""), wanted), (said, sorted(left)), (lines, sorted(wanted)))
+            answer = (0, lines, "") if whole else (1, "", "fitrec: no FIT file in %s\n" % source)
+            yield name, unless((said, left) == (answer, wanted), (said, sorted(left)), (answer, sorted(wanted)))
 
 
 def split_hostile(given):
@@ -469,6 +534,22 @@ def others_told(given):
     yield "the same ride again", unless((status, is_right, err) == (0, True, ""), out, "one part, and no other ride")
 
 
+def same_told(given):
+    """A cluster of another place of the same ride is not told as another ride; one of an older ride, or its end, often is."""
+    found = of_other_makers()
+    if isinstance(found, Skipped):
+        yield "clusters of the same ride", found
+        return
+    for content, sizes, least, most in (
+            (CONTENTS[1], CLUSTERS, 0, 0), (CONTENTS[0], CLUSTERS, TOLD, 1), (TAIL, [0], TOLD, 1)):
+        told, count = 0, 0
+        for size in sizes:
+            pick = random.Random("%d %s %d" % (given.seed, content, size))
+            for _ in range(max(1, given.files // 75)):
+                told, count = told + ("another ride" in mended(given.fitrec, clustered(pick, found, content, size).data, "--all")[0][1]), count + 1
+        yield "told: " + content, unless(least * count <= told <= most * count, "%d of %d" % (told, count), "%.2f to %.2f" % (least, most))
+
+
 def bytes_plain(fitrec, data):
     """The plain form of a file."""
     with tempfile.TemporaryDirectory() as folder:
@@ -506,8 +587,10 @@ def check(given):
     yield from given.checks(rhythms, given)
     yield from given.checks(damaged_headers, given)
     yield from given.checks(lost_beginnings, given)
+    yield from given.checks(lent_definitions, given)
     yield from given.checks(told, given)
     yield from given.checks(others_told, given)
+    yield from given.checks(same_told, given)
     yield from given.checks(clusters, given)
     yield from given.checks(split, given)
     yield from given.checks(split_refused, given)

@@ -37,7 +37,7 @@ NEEDS = ("fitrec", "rt", "node", "wasm-opt", "chromium")
 WEB, MODULE = ROOT / "web", ROOT / "compare/module.mjs"
 GROUPS = of_inputs, of_choosing, of_lists, of_holes, of_no_messages, of_chains, of_numbers, of_values, of_looking, of_people, of_an_app, of_a_long_ride
 # The most bytes of the page.
-MOST = 190_000
+MOST = 193_000
 
 
 def pieces_of(said, front):

@@ -1,13 +1,11 @@
 /* What compare/device.c needs on an emulated processor with semihosting. It records with both files in memory, and this reports how much
-   of each stack was used. */
+   of the stack each call used, and how much of the module's own all of them. */
 
 #include "../examples/device/files.h"
 #include <stdio.h>
 #include <stdlib.h>
 #include <string.h>
 
-/* The machine's stack ends here. */
-extern uint8_t _estack_low;
 /* Only the module in C has it. */
 extern uint8_t fitrec_memory[] __attribute__((weak));
 
@@ -39,25 +37,78 @@ void fitrec_trap(void) {
     exit(3);
 }
 
-static uint8_t *top;
+/* How much of the stack each call has used at most. */
+struct measured {
+    const char *name;
+    uint32_t most;
+    struct measured *next;
+};
 
-static uint32_t painted(const uint8_t *low) {
-    const uint8_t *at = low;
-    while (*at == PAINT)
-        at++;
-    return (uint32_t)(at - low);
+static struct measured *all;
+
+/* No call takes more. */
+enum { DEEP = 16384 };
+
+/* Paints the stack below the caller's frame, but for what this function has of it. */
+static __attribute__((noinline)) void paint_below(uint8_t *frame) {
+    for (volatile uint8_t *at = frame - DEEP; at < frame - 128; at++)
+        *at = PAINT;
 }
 
+static __attribute__((noinline)) void note(struct measured *it, const uint8_t *frame) {
+    const uint8_t *at = frame - DEEP;
+    while (*at == PAINT)
+        at++;
+    if (!it->most)
+        it->next = all, all = it;
+    if ((uint32_t)(frame - at) > it->most)
+        it->most = (uint32_t)(frame - at);
+}
+
+/* The linker puts these in the place of the library's calls. */
+#define MEASURED(name, parameters, arguments) \
+    uint8_t __real_fitrec_##name parameters; \
+    uint8_t __wrap_fitrec_##name parameters { \
+        static struct measured call = {#name, 0, NULL}; \
+        paint_below(__builtin_frame_address(0)); \
+        uint8_t answer = __real_fitrec_##name arguments; \
+        note(&call, __builtin_frame_address(0)); \
+        return answer; \
+    }
+
+typedef struct fitrec_recorder *recorder_at;
+typedef struct fitrec_recovery *recovery_at;
+typedef struct fitrec_plan *plan_at;
+typedef const uint8_t *bytes_at;
+
+MEASURED(start, (recorder_at it, uint32_t time, uint32_t serial, uint8_t sport, plan_at plan), (it, time, serial, sport, plan))
+MEASURED(add_sample, (recorder_at it, const struct fitrec_sample *sample, plan_at plan), (it, sample, plan))
+MEASURED(add_lap, (recorder_at it, uint32_t time, plan_at plan), (it, time, plan))
+MEASURED(pause_timer, (recorder_at it, uint32_t time, plan_at plan), (it, time, plan))
+MEASURED(resume_timer, (recorder_at it, uint32_t time, plan_at plan), (it, time, plan))
+MEASURED(commit, (recorder_at it, plan_at plan), (it, plan))
+MEASURED(stop, (recorder_at it, uint32_t time, plan_at plan), (it, time, plan))
+MEASURED(state_of, (const struct fitrec_recorder *it, struct fitrec_state *state), (it, state))
+MEASURED(recover, (bytes_at data, size_t size, bytes_at journal, size_t journal_size, plan_at plan), (data, size, journal, journal_size, plan))
+MEASURED(reopen, (recorder_at it, bytes_at data, size_t size, bytes_at journal, size_t journal_size, plan_at plan),
+         (it, data, size, journal, journal_size, plan))
+MEASURED(erase, (bytes_at data, size_t size, bytes_at journal, size_t journal_size, plan_at plan), (data, size, journal, journal_size, plan))
+MEASURED(recover_begin, (recovery_at it, plan_at plan), (it, plan))
+MEASURED(recover_next, (recovery_at it, plan_at plan), (it, plan))
+MEASURED(reopen_next, (recovery_at it, recorder_at recorder, plan_at plan), (it, recorder, plan))
+MEASURED(erase_next, (recovery_at it, plan_at plan), (it, plan))
+
 static void report(void) {
-    fprintf(stderr, "stack: %lu of the machine, %lu of the module\n", (unsigned long)(top - &_estack_low - painted(&_estack_low)),
-            (unsigned long)(fitrec_memory ? FITREC_STACK - painted(fitrec_memory) : 0));
+    const uint8_t *at = fitrec_memory;
+    while (at && *at == PAINT)
+        at++;
+    if (at)
+        fprintf(stderr, "stack of the module: %lu\n", (unsigned long)(fitrec_memory + FITREC_STACK - at));
+    for (const struct measured *it = all; it; it = it->next)
+        fprintf(stderr, "stack of fitrec_%s: %lu\n", it->name, (unsigned long)it->most);
 }
 
 __attribute__((constructor)) static void paint(void) {
-    uint8_t here;
-    top = &here;
-    for (uint8_t *at = &_estack_low; at < top - 256; at++)
-        *at = PAINT;
     if (fitrec_memory)
         memset(fitrec_memory, PAINT, FITREC_STACK);
     atexit(report);

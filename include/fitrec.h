@@ -9,7 +9,7 @@
 
    The library takes no memory, keeps none between calls, and calls nothing but memcpy, memmove and memset. So calls on different buffers
    may run at the same time in any threads. On x86-64 a repair and a save need 40 KB of stack, a text and JSON 84 KB,
-   columns 50 KB, and the other calls 16 KB. */
+   columns 50 KB, fields and values 68 KB, and the other calls 16 KB. */
 
 #ifndef FITREC_H
 #define FITREC_H
@@ -311,6 +311,63 @@ enum {
 uint8_t fitrec_columns(const uint8_t *bytes, size_t size, uint16_t message, const uint8_t *fields, size_t field_count, size_t room,
                        int64_t *out, size_t out_size, uint64_t *rows, uint64_t *fault_place);
 
+/* The code of a field is its number, and that of a developer field this, of its developer data index and its number. */
+#define FITREC_DEVELOPER(index, number) (256 * ((index) + 1) + (number))
+
+/* How many codes there are. */
+#define FITREC_CODES 65792
+
+/* What the messages with one global number hold at a code. */
+enum {
+    FITREC_HELD_NOTHING = 0, /* none of them has such a field */
+    FITREC_HELD_EMPTY = 1,   /* its size is always 0 */
+    FITREC_HELD_WHOLE = 2,   /* one whole number of at most 4 bytes, or nothing: fitrec_columns has all of the values */
+    FITREC_HELD_OTHER = 3    /* other values too, as floats, 8 bytes, strings, several values, developer fields: fitrec_values has them */
+};
+
+/* Fills columns as fitrec_columns does, and says beside this which fields the messages have. Without fields it only says that.
+
+   held, held_size   what the messages hold at each code, by the definitions of the messages; FITREC_CODES bytes, or only the first ones
+
+   The rest, and the answers, are those of fitrec_columns. held is filled after 0 and FITREC_COLUMNS_NO_ROOM. */
+uint8_t fitrec_fields(const uint8_t *bytes, size_t size, uint16_t message, const uint8_t *fields, size_t field_count, size_t room,
+                      int64_t *out, size_t out_size, uint8_t *held, size_t held_size, uint64_t *rows, uint64_t *fault_place);
+
+/* What a message has of a field. */
+struct fitrec_value {
+    uint32_t message; /* the place of the message among all messages of the file, from 0 on */
+    uint32_t at;      /* where the value begins in the content of the message */
+    uint16_t size;    /* how many bytes the value has; 0 if the message has no such field */
+    uint8_t base;     /* its base type byte; 255 of a developer field, whose type its field_description message gives */
+    uint8_t order;    /* 0 if numbers begin with their low byte, 1 if with their high byte */
+};
+
+/* Finds the values of some fields, of every type: for each message with one global number, in the order of the file, the value of its
+   first field of each code, as the bytes that the file has. The time of a compressed timestamp is no such field: fitrec_columns has it.
+
+   bytes, size   the file
+   message       the global number, such as 20 for records, or 206 for the field_description messages of developer fields
+   fields, field_count   the codes of the fields
+   room          how many messages there is room for
+   heads         field k begins at heads[k * room] and has *rows of these
+   heads_size    how many of these (not bytes) the buffer has, at least field_count * room
+   values        the bytes of the values, one after another: those of the first message, by the order of fields, then those of the next
+   values_size   how many bytes it has; as many as the file are always enough if no code is there twice
+   rows          how many messages have the number, after 0 and FITREC_VALUES_NO_ROOM
+   values_len    how many bytes their values have, after 0 and FITREC_VALUES_NO_ROOM
+   fault_place   the place of the fault, after 1 to 9
+
+   Answers 0, one of 1 to 9 above, or one of these. After FITREC_VALUES_NO_ROOM heads and values may have changed. */
+enum {
+    FITREC_VALUES = 0,
+    FITREC_VALUES_NO_ROOM = 20,  /* there are more messages than room, or more bytes than values_size */
+    FITREC_VALUES_TOO_MANY = 23, /* field_count exceeds FITREC_MOST_COLUMNS */
+    FITREC_VALUES_SHORT = 24     /* heads_size is below field_count * room */
+};
+uint8_t fitrec_values(const uint8_t *bytes, size_t size, uint16_t message, const uint32_t *fields, size_t field_count, size_t room,
+                      struct fitrec_value *heads, size_t heads_size, uint8_t *values, size_t values_size, uint64_t *rows,
+                      uint64_t *values_len, uint64_t *fault_place);
+
 /* A recorder in a device.
 
    The library is crates/fit_device of fitrec; docs/PROOFS.md says what is proved of it. The device keeps the recorder as plain numbers and carries out the calls of its two files,
@@ -419,10 +476,11 @@ enum {
     FITREC_NOT_EMPTY = 1,    /* start: the data file has bytes */
     FITREC_FULL = 3,         /* the ride has its longest size; commit and stop still work */
     FITREC_JOURNAL_FULL = 4, /* only in a ride of an older recorder; never in one that fitrec_start began, reopened or not */
-    FITREC_DEVICE = 5,       /* by windows: an older recorder's journal is too long for one; no other step answers it */
+    FITREC_DEVICE = 5,       /* by windows: a window has less than was asked for, or an older recorder's journal is too long for one */
     /* 7 and 8, as of a repair: FITREC_NOTHING_RECORDED, FITREC_DAMAGED */
     FITREC_NO_RECORDER = 11, /* the handle is none of a recorder */
     FITREC_NO_SPORT = 12,    /* start: no sport has this number */
+    FITREC_ERASING = 14,     /* recovery, reopening: an erasing was cut off; erase again, and start */
     /* Refused by a rule; nothing changed. */
     FITREC_REFUSED_TIME = 33,          /* below the last time, or 0xFFFFFFFF; a start may have 0x10000000 to 0xFFFFFFFE */
     FITREC_REFUSED_DISTANCE = 34,      /* below the last distance */
@@ -461,7 +519,8 @@ uint8_t fitrec_state_of(const struct fitrec_recorder *recorder, struct fitrec_st
 /* After a power cut. These three read both files where they lie, for example in flash that the processor can address: data and journal are
    all that reads of the files give. The files may change only by the plan. Each may be cut off anywhere, and begun anew. */
 
-/* Makes the data file the finished file of everything that was committed. At most 6 calls. */
+/* Makes the data file the finished file of everything that was committed. At most 6 calls. It does not end the ride: until an erasing
+   fitrec_reopen goes on with it. */
 uint8_t fitrec_recover(const uint8_t *data, size_t data_size, const uint8_t *journal, size_t journal_size, struct fitrec_plan *plan);
 
 /* Makes a recorder that continues the ride as it was committed, and cuts off what comes after that. At most 4 calls. Answers
@@ -482,11 +541,10 @@ uint8_t fitrec_erase(const uint8_t *data, size_t data_size, const uint8_t *journ
 
    - The recovery stays as it is between two calls, but for window and filled.
    - The files change only by the plans.
-   - A read gives fewer bytes than are asked for only where the file ends.
    - A read that fails ends the recovery, and it is begun anew.
 
-   It may be cut off anywhere, and begun anew. A recovery and a reopening answer FITREC_DEVICE if the journal is a row of slots of an older
-   recorder and longer than 512 bytes: give fitrec_recover or fitrec_reopen the whole files. */
+   It may be cut off anywhere, and begun anew. A recovery and a reopening answer FITREC_DEVICE if a window has less than was asked for, and if
+   the journal is a row of slots of an older recorder and longer than 512 bytes: give fitrec_recover or fitrec_reopen the whole files. */
 
 /* Begins a recovery, a reopening or an erasing. 2 calls, which sync both files. */
 uint8_t fitrec_recover_begin(struct fitrec_recovery *recovery, struct fitrec_plan *plan);

@@ -8,14 +8,14 @@ _fitrec() {
     fi
     case ${COMP_WORDS[1]} in
         help) COMPREPLY=($(compgen -W 'show table check replay record save repair salvage split plain simulate version' -- "$word")); return ;;
-        show) options='--utc --json --profile --help' ;;
+        show) options='--utc --json --profile --gpx --help' ;;
         table) options='--utc --raw --profile --message --fields --each --null --help' ;;
         check) options='--each --null --json --help' ;;
         replay) options='--checked --help' ;;
         record) options='--commit --help' ;;
         save) options='--earlier --help' ;;
         repair) options='--verify --help' ;;
-        salvage) options='--all --skip --plain --finish --help' ;;
+        salvage) options='--all --skip --like --plain --finish --help' ;;
         split) options='--all --help' ;;
         plain) options='--help' ;;
         simulate) options='--checked --choices --help' ;;

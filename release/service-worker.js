@@ -1,5 +1,5 @@
 // Keeps the page where it is served, so that it opens without a connection. A new version of the page is a new name.
-const NAME = 'fitrec-72dfcfc785e25b7a', FILES = ['fitrec.html', 'manifest.webmanifest', 'icon.svg'];
+const NAME = 'fitrec-249daf1c4c654816', FILES = ['fitrec.html', 'manifest.webmanifest', 'icon.svg'];
 
 addEventListener('install', event => {
   event.waitUntil(caches.open(NAME).then(cache => cache.addAll(FILES)).then(() => skipWaiting()));

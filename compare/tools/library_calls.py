@@ -1,6 +1,7 @@
 """Compares a program that makes the calls of the library for C with fitrec, byte for byte: compare/library.c over the library, or
 compare/module.mjs over the module of the page."""
 
+import itertools
 import pathlib
 import random
 import re
@@ -8,7 +9,9 @@ import shutil
 import tempfile
 
 from finishing import Maker, recorded, ride
+from tools import reader
 from tools.checks import differs
+from tools.described_files import described_file
 from tools.fit_files import damaged, made
 from tools.program import NAMES, bytes_of, holds, room, run
 from tools.reader import checksum, names_of
@@ -153,10 +156,12 @@ def skipped(fitrec, program, source, mine, its, every):
 
 
 def splits(fitrec, program, source, folder):
-    """What differs between the files that the library and the program find in a chained one."""
+    """What differs between the files that the library and the program find in a chained one. The program refuses what has none."""
     said, wanted = run(program, "split", source), run(fitrec, "split", source, folder)
     lines = ["%s.fit: %s bytes" % (number, size) for number, size in enumerate(said[1].split(), 1)]
-    return differs((said[0], said[2], lines), (wanted[0], "", [line.partition(",")[0] for line in wanted[1].splitlines()]))
+    found = (0, "") if lines else (1, "fitrec: no FIT file in %s\n" % source)
+    return differs((said[0], said[2], lines), (0, "", [line.partition(",")[0] for line in wanted[1].splitlines()])) \
+        or differs((wanted[0], wanted[2]), found)
 
 
 def with_a_hole(pick, data):
@@ -275,6 +280,64 @@ def plainly(fitrec, program, source, mine, its):
     mine.unlink(missing_ok=True)
     its.unlink(missing_ok=True)
     return difference
+
+
+def all_fields(data, message):
+    """For each message with this number, by the second reader, its place in the file, and by the codes of its fields, in their order, where
+    each begins, its size, its base type byte, its byte order and its bytes."""
+    rows = []
+    for place, (number, fields, developer) in enumerate(reader.messages(data, False, lambda *it: it, lambda time: None)[3]):
+        coded = [(field, *it) for field, it in fields if it]
+        coded += [(256 * (index + 1) + field, 255, big, content) for index, field, big, content in developer]
+        ends = itertools.accumulate((len(content) for *_, content in coded), initial=0)
+        row = [(code, (at, len(content), base, int(big and content != b""), content)) for at, (code, base, big, content) in zip(ends, coded)]
+        if number == message:
+            rows.append((place, row))
+    return rows
+
+
+def refusal_of(data):
+    """The lines of the answer for bytes that are no file; None for a file."""
+    try:
+        reader.messages(data, False, lambda *it: it)
+    except reader.Refused as refused:
+        kind, place = re.match(r"(\w+)(?:\(\d+\))? at (\d+)$", str(refused)).groups()
+        return "%d\nat %s\n" % (ANSWERS[kind], place)
+    return None
+
+
+def holding(size, base):
+    """What a field of this size and type holds: 1 for nothing, 2 for one whole number of at most 4 bytes, 3 for other values."""
+    name, own, _ = reader.BASE_TYPES.get(base, ("", 0, 0))
+    return 1 if size == 0 else 2 if size == own <= 4 and name not in ("string", "float32") else 3
+
+
+def value_line(place, value):
+    """A line of a value: the place of its message, where it begins, its size, base type byte and byte order, and its bytes."""
+    return "%d %d %d %d %d %s\n" % (place, *value[:4], value[4].hex())
+
+
+def of_values(_, program, count, seed):
+    """Which fields the messages of files have, and their values of every type, against the second reader."""
+    pick = random.Random(seed)
+    with tempfile.TemporaryDirectory() as folder:
+        source = pathlib.Path(folder, "in.fit")
+        for at in range(4 * count):
+            data = damaged(pick, made(pick)) if at % 4 == 0 else described_file(pick) if at % 4 == 1 else made(pick)
+            source.write_bytes(data)
+            refusal = refusal_of(data)
+            numbers = [] if refusal else [it[0] for it in reader.messages(data, False, lambda *it: it)[3]]
+            for message in sorted({20, 206, *pick.sample(numbers, min(3, len(numbers)))}):
+                rows, held = [] if refusal else all_fields(data, message), {}
+                for code, (_, size, base, *_) in (it for _, row in rows for it in row):
+                    held[code] = max(held.get(code, 0), holding(size, base))
+                wanted = refusal or "0\n" + "".join("%d %d\n" % it for it in sorted(held.items()))
+                yield "the fields of a file", differs(run(program, "held", source, message), (0, wanted, ""), data)
+                codes = [*pick.sample([*held], min(pick.choice([0, 1, 5, 127]), len(held))), pick.randrange(65792)]
+                firsts = [(place, dict(reversed(row))) for place, row in rows]
+                lines = [value_line(place, row.get(code, (0, 0, 0, 0, b""))) for place, row in firsts for code in codes]
+                said = run(program, "values", source, message, ",".join(map(str, codes)))
+                yield "the values of a file", differs(said, (0, refusal or "0\n" + "".join(lines), ""), data)
 
 
 def of_shown_and_checked(fitrec, program, count, seed):

@@ -159,10 +159,11 @@ def triples(data):
     return [tuple(data[at:at + 3]) for at in range(0, len(data), 3)]
 
 
-def messages(data, utc, value):
+def messages(data, utc, value, time=None):
     """What a file states: its size of the header, its versions and its size of records; and for each message its number, its fields and
     its developer fields. Each field has its number and the `value` of its base type, whether its high byte is first, and its bytes. A
-    developer field has its index, its number, whether its high byte is first, and its bytes. Times are dates or numbers."""
+    developer field has its index, its number, whether its high byte is first, and its bytes. Times are dates or numbers. The time of a
+    compressed timestamp is a field 253, of which `time` gives the value if there is one."""
     header, size = read_header(data)
     at, end = header, header + size
     definitions, before, found, needless = {}, 0, [], 0
@@ -196,7 +197,7 @@ def messages(data, utc, value):
             while before % 32 != first & 31:
                 before += 1
             before %= 1 << 32
-            shown.append((253, utc and date_text(before) or value(0x86, True, before.to_bytes(4, "big"))))
+            shown.append((253, time(before) if time else utc and date_text(before) or value(0x86, True, before.to_bytes(4, "big"))))
         for field, length, base in fields:
             content = data[at:at + length]
             at += length

@@ -5,7 +5,7 @@
      ride --erase FOLDER
 
    On a system such as this a plan is carried out by pwrite, ftruncate and fsync (files.c). A folder that holds a ride without its end, as
-   after a power cut, continues it; a start that was cut off is erased. If no line comes, the ride is finished as it was committed; with
+   after a power cut, continues it; a start or an erasing that was cut off is erased. If no line comes, the ride is finished as it was committed; with
    --erase it is gone. Only a window of the files is ever in memory. */
 
 #include "files.h"
@@ -30,7 +30,7 @@ static uint8_t done(uint8_t answer) {
     if (carry_out(&files, &plan))
         give_up("a call of a file failed", answer);
     if (answer == FITREC_DEVICE)
-        give_up("the journal is too long for a window", answer);
+        give_up("a window is too short, or the journal too long for one", answer);
     return answer;
 }
 
@@ -64,9 +64,10 @@ static uint8_t begin(uint32_t time) {
     int64_t size = file_size(&files, FITREC_DATA_FILE);
     if (size > 0) {
         uint8_t answer = by_windows(reopen_on);
-        if (answer != FITREC_NOTHING_RECORDED || size > FITREC_LONGEST_START || by_windows(erase_on))
+        int is_cut_off = answer == FITREC_ERASING || (answer == FITREC_NOTHING_RECORDED && size <= FITREC_LONGEST_START);
+        if (!is_cut_off || by_windows(erase_on))
             return answer;
-        size = 0; /* a start was cut off: nothing is lost */
+        size = 0; /* an erasing or a start was cut off: nothing is lost */
     }
     recorder.data_size = (uint64_t)size;
     return done(fitrec_start(&recorder, time, 7, 2, &plan));

@@ -2,15 +2,13 @@
 
 from __future__ import annotations
 
-from functools import cached_property
 from itertools import chain, count
 from typing import Dict, Iterable, List, NamedTuple, Optional, Set, Tuple, Union
 
 import numpy as np
 
-from ._described import Key, described_at, descriptions
-from ._items import Group, Part, groups, kind_of, numbers, raw_bytes, texts
-from ._library import MOST_COLUMNS, NO_VALUE, fill
+from ._library import MOST_COLUMNS, NO_VALUE, Found, fill, find
+from ._values import Key, Part, described_parts, descriptions, numbers, parts, raw_bytes, texts
 from .profile import USUAL, Field, numbered, of_name, of_number
 
 # Times count from 1989-12-31T00:00:00Z. Below the first calendar time they count from when the device was switched on.
@@ -18,150 +16,140 @@ _EPOCH, _FIRST_DATE = 631065600, 0x10000000
 _DATES = ("date", "local_date")
 _TIMESTAMP = 253
 
+# What the messages hold at a code, from where on it has bytes, and if not all are whole numbers of at most 4.
+_SOME, _OTHER = 2, 3
 
 # The most columns of developer fields that a file gets by itself, as many as a table has.
 _MOST_DEVELOPER = 128
 
 
-class Value(NamedTuple):
-    """A field in a group of messages: what it holds, under which base type, and in which unit."""
-
-    group: Group
-    part: Part
-    base: Optional[int]
-    kind: str
-    field: Field
-
-
 class Column(NamedTuple):
-    """What a column has: the field that names it, and where its values are."""
+    """What a column has: the field that names it, and of a developer field the values."""
 
     field: Field
-    values: List[Value]
-    is_developer: bool = False
+    parts: Optional[List[Part]] = None
 
 
 class File:
-    """The messages of one number in a file."""
+    """The messages of one number in a file. The library reads it when columns are asked for, which raises FitError."""
 
     def __init__(self, data, message: Union[int, str]):
-        self.data = data
+        self.data, self.rows = data, 0
         self.message, self.known = numbered(message)
-        try:
-            self._found = groups(data)
-        except (IndexError, KeyError):
-            self._found = []  # which is no file: the library says why
-        self.groups, self.rows = [it for it in self._found if it.definition.message == self.message], 0
+        self._whole: Dict[int, np.ndarray] = {}
+        self._found: Dict[int, Found] = {}
 
     def columns(self) -> List[Column]:
         """The usual columns, and those of the other fields that the messages have."""
-        present = {number for developer, number in self._present if developer is None}
         usual = USUAL.get(self.message, [_TIMESTAMP])
-        found = [self._column(of_number(self.known, it)) for it in [*usual, *sorted(present - set(usual))]]
+        self._fill(usual)
+        present = [*usual, *(it for it in np.flatnonzero(self._held[:256]).tolist() if it not in usual)]
+        self._fill(present)
+        self._find(present, True)
+        found = [Column(of_number(self.known, it)) for it in present]
         return found + self._developer_columns({it.field.name for it in found})[:_MOST_DEVELOPER]
 
-    @cached_property
-    def _present(self) -> Set[Tuple[Optional[int], int]]:
-        return set().union(*(it.definition.present for it in self.groups))
+    def chosen(self, fields: Iterable[Union[int, str]]) -> List[Optional[Column]]:
+        """The columns of the fields with these names or numbers, None for a name that neither the Profile nor the file has."""
+        chosen = [(it, of_number(self.known, it) if isinstance(it, int) else of_name(self.known, it)) for it in fields]
+        own = [field.number for _, field in chosen if field]
+        self._fill(own)
+        self._find(own, len(own) < len(chosen))
+        return [Column(field) if field else self._named(name) for name, field in chosen]
 
-    def _column(self, field: Field) -> Column:
-        return Column(field, self._fields.get(field.number, []))
+    def _fill(self, wanted: List[int]) -> None:
+        """Reads the fields with these numbers, as whole numbers of at most 4 bytes, and what the messages hold."""
+        new = sorted(set(wanted) - set(self._whole))
+        for at in range(0, max(len(new), not self._whole), MOST_COLUMNS):
+            some = new[at:at + MOST_COLUMNS]
+            table, self._held = fill(self.data, self.message, some)
+            self._whole.update(zip(some, table))
+            self.rows = table.shape[1]
 
-    @cached_property
-    def _fields(self) -> Dict[int, List[Value]]:
-        """Where each field is, by its number."""
-        found: Dict[int, List[Value]] = {}
-        for group in self.groups:
-            for it in group.definition.parts:
-                if it.developer is None:
-                    value = Value(group, it, it.base, kind_of(it.base, it.size), of_number(self.known, it.number))
-                    found.setdefault(it.number, []).append(value)
-        return found
+    def _find(self, wanted: List[int], developer: bool) -> None:
+        """Reads those of the fields with these numbers that are other values too, and all developer fields if they are asked for."""
+        held = self._held[:256].tolist()
+        new = [it for it in dict.fromkeys(wanted) if it != _TIMESTAMP and held[it] == _OTHER]
+        new += self._developer_codes(_SOME) if developer else []
+        for at in range(0, len(new), MOST_COLUMNS):
+            some = new[at:at + MOST_COLUMNS]
+            found = find(self.data, self.message, some, self.rows)
+            self._found.update((code, found.of(row)) for row, code in enumerate(some))
 
-    @cached_property
-    def _developer_fields(self) -> Dict[Key, Dict[Tuple[str, str], List[Value]]]:
-        """Where each developer field is, by its index and number, and then by the name and the unit that the last description before it
-        gives it."""
-        mine = [(group, it) for group in self.groups for it in group.definition.parts if it.developer is not None]
-        if not mine:
-            return {}
-        fill(self.data, self.message, [])  # Descriptions are read once the library has judged the file.
-        said, found = descriptions(self.data, self._found), {}
-        for group, part in mine:
-            key = part.developer, part.number
-            _, base, field = described_at(said, key, group.runs[0].start)
-            value = Value(group, part, base, kind_of(base, part.size), field)
-            found.setdefault(key, {}).setdefault((field.name, field.unit), []).append(value)
+    def _developer_codes(self, least: int) -> List[int]:
+        """The codes of the developer fields that hold at least this."""
+        held = self._held[256:]
+        return (256 + np.flatnonzero(held >= least)).tolist() if held.max() >= least else []
+
+    def _developer_fields(self) -> Dict[Key, Dict[Tuple[str, str], List[Part]]]:
+        """The values of each developer field, by its index and number, and then by the name and the unit that the last description before
+        it gives it; in the order in which they come first."""
+        found: Dict[Key, Dict[Tuple[str, str], List[Part]]] = {}
+        mine = sorted((_first(it), _key(code), code) for code, it in self._found.items() if code >= 256)
+        said = descriptions(self.data) if mine else {}
+        for _, key, code in mine:
+            for part in described_parts(self._found[code], key, *said.get(key, ([], []))):
+                found.setdefault(key, {}).setdefault((part.field.name, part.field.unit), []).append(part)
         return found
 
     def _developer_columns(self, taken: Set[str]) -> List[Column]:
         """The columns of the developer fields. One whose name is taken has the index and the number after it, and then a count."""
         found, taken = [], set(taken)
-        for key, described in self._developer_fields.items():
-            for (name, _), values in described.items():
+        for key, described in self._developer_fields().items():
+            for (name, _), own in described.items():
                 others = ("%s_%d_%d%s" % (name, *key, end) for end in chain([""], ("_%d" % it for it in count(2))))
-                own = name if name not in taken else next(it for it in others if it not in taken)
-                taken.add(own)
-                found.append(Column(values[0].field._replace(name=own), values, True))
+                new = name if name not in taken else next(it for it in others if it not in taken)
+                taken.add(new)
+                found.append(Column(own[0].field._replace(name=new), own))
         return found
-
-    def chosen(self, fields: Iterable[Union[int, str]]) -> List[Optional[Column]]:
-        """The columns of the fields with these names or numbers, None for a name that neither the Profile nor the file has."""
-        return [self._column(of_number(self.known, it)) if isinstance(it, int) else self._named(it) for it in fields]
 
     def _named(self, name: str) -> Optional[Column]:
-        field = of_name(self.known, name)
-        if field:
-            return self._column(field)
-        named = {it.field.name: it for it in self._developer_columns({it.name for it in self.known.values()})}
-        return self._numbered_developer(name) or named.get(name)
-
-    def _numbered_developer(self, name: str) -> Optional[Column]:
-        """The column of a developer field that is named by its index and its number, whatever its descriptions say."""
-        key = next((it for it in self._present if it[0] is not None and name == "developer_%d_%d" % it), None)
-        if key is None:
-            return None
-        described = self._developer_fields.get(key, {})
-        units = {unit for _, unit in described}
-        values = [it for said in described.values() for it in said]
-        return Column(Field(key[1], name, units.pop() if len(units) == 1 else ""), values, True)
+        """The column of a developer field, by its index and its number, whatever its descriptions say, or by its name."""
+        for key in map(_key, self._developer_codes(1)):
+            if name == "developer_%d_%d" % key:
+                described = self._developer_fields().get(key, {})
+                units = {unit for _, unit in described}
+                return Column(Field(key[1], name, units.pop() if len(units) == 1 else ""), [it for own in described.values() for it in own])
+        return {it.field.name: it for it in self._developer_columns({it.name for it in self.known.values()})}.get(name)
 
     def filled(self, columns: List[Column], raw: bool) -> List[np.ndarray]:
-        """The columns: whole numbers of at most 4 bytes by the library, all others by NumPy. It raises FitError."""
-        others = [it.is_developer or (it.field.number != _TIMESTAMP and any(value.kind != "whole" for value in it.values)) for it in columns]
-        whole = self._whole(sorted({it.field.number for it, is_other in zip(columns, others) if not is_other}))
-        return [self._other(it.values, raw) if is_other else in_units(it.field, whole[it.field.number], raw)
-                for it, is_other in zip(columns, others)]
+        """The columns."""
+        return [self._filled(it.field, it.parts, raw) for it in columns]
 
-    def _whole(self, wanted: List[int]) -> Dict[int, np.ndarray]:
-        found = {}
-        for at in range(0, max(len(wanted), 1), MOST_COLUMNS):
-            some = wanted[at:at + MOST_COLUMNS]
-            table = fill(self.data, self.message, some)
-            found.update(zip(some, table))
-            self.rows = table.shape[1]
-        return found
-
-    def _other(self, values: List[Value], raw: bool) -> np.ndarray:
-        if all(it.kind in ("whole", "number") for it in values):
-            return self._numbers(values, raw)
+    def _filled(self, field: Field, own: Optional[List[Part]], raw: bool) -> np.ndarray:
+        if own is None:
+            own = parts(self._found[field.number], field) if field.number in self._found else []
+            if all(it.kind == "whole" for it in own):
+                return in_units(field, self._whole[field.number], raw)
+        if all(it.kind in ("whole", "number") for it in own):
+            return self._numbers(own, raw)
         column = np.empty(self.rows, object)
-        for it in values:
-            column[it.group.rows] = _objects(self.data, it, raw)
+        for it in own:
+            column[it.rows] = _objects(it, raw)
         return column
 
-    def _numbers(self, values: List[Value], raw: bool) -> np.ndarray:
-        read = [(it, *_valued(self.data, it, raw)) for it in values]
+    def _numbers(self, own: List[Part], raw: bool) -> np.ndarray:
+        read = [(it, *_valued(it, raw)) for it in own]
         column = _empty({found.dtype.kind + str(found.dtype.itemsize) for _, found, _ in read}, self.rows, raw)
         for it, found, invalid in read:
             valid = ~invalid[:, 0]
-            column[it.group.rows[valid]] = found[valid, 0] if raw else _scaled(it.field, found[valid, 0].astype(float))
+            column[it.rows[valid]] = found[valid, 0] if raw else _scaled(it.field, found[valid, 0].astype(float))
         return column
 
 
-def _valued(data, value: Value, raw: bool) -> Tuple[np.ndarray, np.ndarray]:
+def _key(code: int) -> Key:
+    return divmod(code - 256, 256)
+
+
+def _first(found: Found) -> Tuple[int, int]:
+    """Where the first value of a field is: the place of its message, and where in that."""
+    row = 0 if found.kinds[0] & 0xFFFF else np.argmax(found.kinds & 0xFFFF != 0)
+    return int(found.messages[row]), int(found.at[row])
+
+
+def _valued(part: Part, raw: bool) -> Tuple[np.ndarray, np.ndarray]:
     """The numbers of a field, a row for each message, and which of them are no values. In units an infinity is none."""
-    found, invalid = numbers(data, value.group, value.part, value.base)
+    found, invalid = numbers(part)
     return found, invalid if raw else invalid | ~np.isfinite(found)
 
 
@@ -174,19 +162,19 @@ def _empty(types: set, rows: int, raw: bool) -> np.ndarray:
     return np.full(rows, np.nan)
 
 
-def _objects(data, value: Value, raw: bool) -> np.ndarray:
+def _objects(part: Part, raw: bool) -> np.ndarray:
     """The values of a field as objects, None for none."""
-    column = np.empty(len(value.group.rows), object)
-    if value.kind == "text":
-        column[:] = texts(data, value.group, value.part)
-    elif value.kind == "bytes":
-        column[:] = raw_bytes(data, value.group, value.part, value.base)
+    column = np.empty(len(part.rows), object)
+    if part.kind == "text":
+        column[:] = texts(part)
+    elif part.kind == "bytes":
+        column[:] = raw_bytes(part)
     else:
-        found, invalid = _valued(data, value, raw)
-        shown = found.astype(found.dtype.newbyteorder("=")) if raw else np.where(invalid, np.nan, _scaled(value.field, found.astype(float)))
+        found, invalid = _valued(part, raw)
+        shown = found.astype(found.dtype.newbyteorder("=")) if raw else np.where(invalid, np.nan, _scaled(part.field, found.astype(float)))
         for row in range(len(column)):
             if not invalid[row].all():
-                column[row] = shown[row] if value.kind == "numbers" else shown[row, 0].item()
+                column[row] = shown[row] if part.kind == "numbers" else shown[row, 0].item()
     return column
 
 

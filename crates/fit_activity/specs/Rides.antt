@@ -1,3 +1,4 @@
+pub mod Fields
 -- The entries of a recording, the rules for them, what they add up to, and their running totals.
 pub mod Table
 pub mod Recording

@@ -1,7 +1,6 @@
 // Whether a file is an activity, and what its first session states.
 
 ghost use Rattle.std.specs.Prelude.{◌≡◌, Some};
-ghost use Rattle.fit_grammar.specs.Format.Message.{messages_of};
 
 use fit_grammar::File;
 use std::error::Error;

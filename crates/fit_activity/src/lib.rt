@@ -2,6 +2,7 @@
 #![tactic(auto)]
 
 mod activity;
+mod fields;
 mod hearing;
 pub mod laws;
 mod recording;
@@ -11,6 +12,7 @@ mod totals;
 
 pub use activity::checking::check_activity;
 pub use activity::{ActivityFault, Summary};
+pub use fields::{FIELDS, SAMPLE_FIELDS, SampleField};
 pub use hearing::{entry_of, file_id_of, sport_of};
 pub use recording::entry::{Entry, Sample};
 pub use recording::refusal::Refusal;

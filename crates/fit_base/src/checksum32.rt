@@ -1,6 +1,6 @@
 // CRC-32, by tables.
 
-ghost use Rattle.std.specs.Prelude.{◌≡◌, ◌/◌, ◌%◌, ◌<◌, [], ◌∷◌, bit_xor, length, replicate};
+ghost use Rattle.std.specs.Prelude.{◌≡◌, ◌/◌, ◌%◌, ◌<◌, [], ◌∷◌, length, replicate};
 ghost use Rattle.fit_base.specs.Checksum.{crc32, crc32_from, crc32_polynomial, register_after};
 
 mod tables;

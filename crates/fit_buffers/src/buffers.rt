@@ -1,11 +1,11 @@
 // The disk over two buffers.
 
-ghost use Rattle.std.specs.Prelude.{◌≡◌, ◌↔◌, ◌+◌, ◌<◌, ◌≤◌, ◌^◌, false, true, IsTrue, length, take, IfOk, IsErr, OnOk, OnErr};
+ghost use Rattle.std.specs.Prelude.{◌≡◌, ◌↔◌, ◌+◌, ◌<◌, ◌≤◌, ◌^◌, false, true, IsTrue, length, take, IfOk, IsErr};
 ghost use Rattle.fit_disk.specs.Changes.{after_write};
 ghost use Rattle.fit_disk.specs.Calls.{ReadsAt, Wrote, Shortened, Synced, IsSound};
 ghost use Rattle.fit_disk.specs.CallSchedule.{counts_of};
 ghost use Rattle.fit_disk.specs.Content.{over};
-ghost use Rattle.fit_disk.specs.Counts.{CountsCall, CountsRead, no_calls, with_call, with_failure, last_count};
+ghost use Rattle.fit_disk.specs.Counts.{CountsCall, CountsRead, no_calls, with_failure, last_count};
 ghost use Rattle.fit_disk.specs.Runs.{TakesRoom};
 ghost use Rattle.fit_disk.specs.Stored.{at_rest};
 ghost use Rattle.fit_disk.specs.Story.{seen_of};

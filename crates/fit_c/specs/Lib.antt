@@ -5,3 +5,4 @@ pub mod Finished
 pub mod Salvaged
 pub mod Saved
 pub mod Skipped
+pub mod Values

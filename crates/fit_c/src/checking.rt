@@ -3,9 +3,9 @@
 ghost use Rattle.std.specs.Prelude.{◌≡◌, ◌≢◌, ◌≤◌, ◌⊎◌};
 ghost use Rattle.fit_c.specs.Files.{IsActivity, IsNoFile, IsNoActivity};
 
+use crate::reading::read_file;
 use crate::repairing::{RideSummary, numbers};
 use fit_activity::check_activity;
-use fit_grammar::LentFile;
 
 /// Checks whether the bytes are an activity file, as `check_activity` of `fit_activity` does, and fills `summary` if they are.
 /// Returns 0; 1 to 9 if they are no FIT file (the code of the `FaultKind`), with the place of the fault in `fault_place`; 11 to 15
@@ -19,12 +19,9 @@ pub extern "C" fn fitrec_check(bytes: &[u8], summary: &mut RideSummary, fault_pl
     ensures unchanged { 1 ≤ result → summary.new ≡ summary.old }
     ensures place { (result ≡ 0) ⊎ (11 ≤ result) → fault_place.new ≡ fault_place.old }
 {
-    let file = match LentFile::read(bytes) {
+    let file = match read_file(bytes, fault_place) {
         Ok(file) => file,
-        Err(fault) => {
-            *fault_place = fault.place as u64;
-            return fault.kind.code();
-        }
+        Err(code) => return code,
     };
     match check_activity(&file) {
         Ok(found) => {

@@ -1,8 +1,10 @@
 // The values of some fields, as columns.
 
-ghost use Rattle.std.specs.Prelude.{◌≡◌, ◌≤◌, ◌<◌, ◌*◌, ◌⊎◌, ◌↔◌, IsTrue, length};
+ghost use Rattle.std.specs.Prelude.{◌≡◌, ◌≤◌, ◌<◌, ◌*◌, ◌⊎◌, IfErr, IfOk, OnOk, length};
+ghost use Rattle.fit_grammar.specs.Format.File.{FileOf};
 ghost use Rattle.fit_c.specs.Files.{IsNoFile, HasColumns, NeedsRows};
 
+use crate::reading::read_file;
 use crate::room::NO_ROOM;
 use fit_columns::{MOST_COLUMNS, fill_columns};
 use fit_grammar::LentFile;
@@ -38,30 +40,36 @@ pub extern "C" fn fitrec_columns(
         → (rows.new ≡ rows.old) × (out.new ≡ out.old) }
     ensures place { (result ≡ 0) ⊎ (20 ≤ result) → fault_place.new ≡ fault_place.old }
 {
-    if fields.len() > MOST_COLUMNS {
-        return TOO_MANY;
-    }
-    if !fit(fields.len(), room, out.len()) {
-        return SHORT;
-    }
-    let file = match LentFile::read(bytes) {
+    let file = match read_for_columns(bytes, fields.len(), room, out.len(), fault_place) {
         Ok(file) => file,
-        Err(fault) => {
-            *fault_place = fault.place as u64;
-            return fault.kind.code();
-        }
+        Err(code) => return code,
     };
     let count = fill_columns(&file, message, fields, room, out);
     *rows = count as u64;
     if count <= room { 0 } else { NO_ROOM }
 }
 
-// Whether so many columns of this room fit.
-fn fit(columns: usize, room: usize, size: usize) -> bool
-    ensures { IsTrue result ↔ (columns * room ≤ size) }
+// Reads the file that the bytes are, as `read_file` does, if a buffer of this size has room for so many columns.
+pub fn read_for_columns<'a>(
+    bytes: &'a [u8],
+    columns: usize,
+    room: usize,
+    size: usize,
+    fault_place: &mut u64,
+) -> Result<LentFile<'a>, u8>
+    ensures file { IfOk result (FileOf bytes.now) }
+    ensures fit { OnOk result ((columns ≤ 128) × (columns * room ≤ size)) }
+    ensures place { OnOk result (fault_place.new ≡ fault_place.old) }
+    ensures refused { IfErr result
+        (λ code. ((1 ≤ code) × (code ≤ 9) × IsNoFile bytes.now code fault_place.new)
+        ⊎ ((fault_place.new ≡ fault_place.old)
+        × (((code ≡ 23) × (128 < columns)) ⊎ ((code ≡ 24) × (size < columns * room))))) }
 {
+    if columns > MOST_COLUMNS {
+        return Err(TOO_MANY);
+    }
     match columns.checked_mul(room) {
-        Some(values) => values <= size,
-        None => false,
+        Some(values) if values <= size => read_file(bytes, fault_place),
+        _ => Err(SHORT),
     }
 }

@@ -6,6 +6,7 @@ ghost use Rattle.fit_finishing.specs.Finished.{IsFinishing, finished_by, most_cl
 ghost use Rattle.fit_c.specs.Files.{IsNoFile};
 ghost use Rattle.fit_c.specs.Finished.{IsFinishedOf, NeedsRoomToFinish, CannotBeFinished, finish_code};
 
+use crate::reading::read_file;
 use crate::room::Room;
 use fit_activity::ActivityFault;
 use fit_finishing::{FinishFault, Finishing};
@@ -54,12 +55,9 @@ pub extern "C" fn fitrec_finish(
         → (out_len.new ≡ out_len.old) × (out.new ≡ out.old) × (counts.new ≡ counts.old) }
     ensures place { (result ≡ 0) ⊎ (12 ≤ result) → fault_place.new ≡ fault_place.old }
 {
-    let file = match LentFile::read(bytes) {
+    let file = match read_file(bytes, fault_place) {
         Ok(file) => file,
-        Err(fault) => {
-            *fault_place = fault.place as u64;
-            return fault.kind.code();
-        }
+        Err(code) => return code,
     };
     match Finishing::of(&file) {
         Ok(finishing) => {

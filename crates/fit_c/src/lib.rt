@@ -14,6 +14,7 @@ mod finishing;
 mod framing;
 mod pieces;
 mod plain;
+mod reading;
 mod repairing;
 mod room;
 mod salvaging;
@@ -21,6 +22,7 @@ mod saving;
 mod showing;
 mod skipping;
 mod tape;
+mod values;
 
 pub use checking::fitrec_check;
 pub use columns::fitrec_columns;
@@ -33,6 +35,7 @@ pub use salvaging::fitrec_salvage;
 pub use saving::fitrec_save;
 pub use showing::{fitrec_json, fitrec_show};
 pub use skipping::{fitrec_first_file, fitrec_skip};
+pub use values::{fitrec_fields, fitrec_values};
 
 /// The version of these calls. It grows when one of them changes.
 #[unsafe(no_mangle)]

@@ -7,6 +7,7 @@ ghost use Rattle.fit_grammar.specs.Format.Encoding.{encoded, encoded_items};
 ghost use Rattle.fit_grammar.specs.Format.Records.{data_size};
 ghost use Rattle.fit_c.specs.Files.{IsNoFile, IsPlainOf, NeedsRoomForPlain, HasNoPlainForm};
 
+use crate::reading::read_file;
 use crate::room::Room;
 use fit_grammar::{LentFile, WritePlainFault, write_plain, write_plain_records};
 use std::convert::Infallible;
@@ -35,12 +36,9 @@ pub extern "C" fn fitrec_plain(
         → (out_len.new ≡ out_len.old) × (out.new ≡ out.old) }
     ensures place { (result ≡ 0) ⊎ (20 ≤ result) → fault_place.new ≡ fault_place.old }
 {
-    match LentFile::read(bytes) {
+    match read_file(bytes, fault_place) {
         Ok(file) => write_file(&file, out, out_len),
-        Err(fault) => {
-            *fault_place = fault.place as u64;
-            fault.kind.code()
-        }
+        Err(code) => code,
     }
 }
 

@@ -1,6 +1,6 @@
 // What takes bytes into a caller's buffer. It takes all bytes, and keeps them if they have room.
 
-ghost use Rattle.std.specs.Prelude.{◌≡◌, ◌+◌, ◌<◌, ◌≤◌, ◌⊎◌, ◌++◌, [], Bool, true, false, length, take};
+ghost use Rattle.std.specs.Prelude.{◌≡◌, ◌+◌, ◌<◌, ◌≤◌, ◌⊎◌, ◌++◌, [], true, false, length, take};
 ghost use Rattle.std.specs.Io.Iter.{u64_saturate};
 
 use crate::tape::Tape;

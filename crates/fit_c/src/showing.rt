@@ -3,6 +3,7 @@
 ghost use Rattle.std.specs.Prelude.{◌≡◌, ◌≤◌, ◌⊎◌, [], true, false, length, take};
 ghost use Rattle.fit_c.specs.Files.{IsNoFile, NeedsRoomToShow, Shows, shown_as};
 
+use crate::reading::read_file;
 use crate::room::Room;
 use fit_grammar::LentFile;
 use fit_text::{ShowFault, show, show_json};
@@ -71,12 +72,9 @@ fn show_as(
         → (out_len.new ≡ out_len.old) × (out.new ≡ out.old) }
     ensures place { (result ≡ 0) ⊎ (20 ≤ result) → fault_place.new ≡ fault_place.old }
 {
-    let file = match LentFile::read(bytes) {
+    let file = match read_file(bytes, fault_place) {
         Ok(file) => file,
-        Err(fault) => {
-            *fault_place = fault.place as u64;
-            return fault.kind.code();
-        }
+        Err(code) => return code,
     };
     let mut room = Room::new(out);
     show_in(&file, json, utc, &mut room);

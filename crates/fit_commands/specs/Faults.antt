@@ -1,5 +1,5 @@
 -- The program's faults for the faults of the libraries below it, and which faults each subcommand may report.
-use Rattle.std.specs.Prelude.{◌≡◌, ◌<◌, ◌⊎◌, ℕ, Bool, true, false, List, Result, Ok, Err, codes}
+use Rattle.std.specs.Prelude.{◌≡◌, ◌<◌, ◌⊎◌, ℕ, Bool, true, false, List, Option, Some, None, Result, Ok, Err, codes}
 use Rattle.std.specs.Borrow.{Bor}
 use Rattle.fit_activity.specs.declared.activity.ActivityFault.TheVariants as activities
 use Rattle.fit_disk.specs.declared.files.OpenFault.{OpenFault}
@@ -12,7 +12,8 @@ use Rattle.fit_recorder.specs.Calls.Recovery.{IsRecoveryFault}
 use Rattle.fit_recorder.specs.declared.fault.RecFault.TheVariants.{NothingRecorded, Damaged}
 use Rattle.fit_files.specs.declared.repairing.RepairFault.{RepairFault}
 use Rattle.fit_files.specs.declared.repairing.RepairFault.TheVariants as repairs
-use Rattle.fit_commands.specs.Reading.{fault_of_read}
+use Rattle.fit_words.specs.declared.request.SalvageForm.{SalvageForm}
+use Rattle.fit_commands.specs.Reading.{IsFileFault, fault_of_read}
 use Rattle.fit_commands.specs.declared.fault.Fault.{Fault}
 use Rattle.fit_commands.specs.declared.fault.Fault.TheVariants as faults
 
@@ -111,44 +112,49 @@ IsNotWritten out (faults.Write name) = name ≡ out
 IsNotWritten out faults.NoMemory = Unit {0}
 IsNotWritten out _ = ⊥
 
--- of writing the readable part of a file, or its plain form: there is no plain form, or it was not written
-abbrev pub IsNotMade : Bool → Bor (List ℕ) → Fault → Type 0
-IsNotMade plain out (faults.File fault) = plain ≡ true
-IsNotMade plain out (faults.Plain fault) = plain ≡ true
-IsNotMade plain out reported = IsNotWritten out reported
+-- of making the file of what is kept, or its plain form
+abbrev pub IsNoFormReported : Bool → Fault → Type 0
+IsNoFormReported plain (faults.File fault) = Unit {0}
+IsNoFormReported plain (faults.Plain fault) = plain ≡ true
+IsNoFormReported plain faults.NoMemory = Unit {0}
+IsNoFormReported plain _ = ⊥
 
--- of finding the readable part of a file of this name
-abbrev pub IsNoSalvage : Bor (List ℕ) → Fault → Type 0
-IsNoSalvage file (faults.Read name) = name ≡ file
-IsNoSalvage file (faults.File fault) = Unit {0}
-IsNoSalvage file _ = ⊥
+-- of finishing a file: it is no activity, has no sample, or would be too long
+abbrev pub IsNotFinishedReported : Fault → Type 0
+IsNotFinishedReported (faults.Activity fault) = Unit {0}
+IsNotFinishedReported faults.NoSample = Unit {0}
+IsNotFinishedReported faults.TooLarge = Unit {0}
+IsNotFinishedReported _ = ⊥
 
--- of finishing the readable part, or its plain form
-abbrev pub IsNotFinishedReported : Bool → Fault → Type 0
-IsNotFinishedReported plain (faults.File fault) = Unit {0}
-IsNotFinishedReported plain (faults.Plain fault) = plain ≡ true
-IsNotFinishedReported plain (faults.Activity fault) = Unit {0}
-IsNotFinishedReported plain faults.NoSample = Unit {0}
-IsNotFinishedReported plain faults.TooLarge = Unit {0}
-IsNotFinishedReported plain faults.NoMemory = Unit {0}
-IsNotFinishedReported plain _ = ⊥
+-- of writing what is kept in this form to a file of this name: there is no plain form, it is not finished, or it was not written
+abbrev pub IsNotMade : SalvageForm → Bor (List ℕ) → Fault → Type 0
+IsNotMade form out (faults.File fault) = (form.plain ≡ true) ⊎ (form.finish ≡ true)
+IsNotMade form out (faults.Plain fault) = form.plain ≡ true
+IsNotMade form out (faults.Activity fault) = form.finish ≡ true
+IsNotMade form out faults.NoSample = form.finish ≡ true
+IsNotMade form out faults.TooLarge = form.finish ≡ true
+IsNotMade form out reported = IsNotWritten out reported
 
--- of salvaging a file into another: one was not opened, read or written, the first is not a file, or the output failed
-abbrev pub IsSalvageReported : Bool → Bor (List ℕ) → Bor (List ℕ) → Fault → Type 0
-IsSalvageReported plain file out (faults.Open name) = name ≡ file
-IsSalvageReported plain file out (faults.Read name) = name ≡ file
-IsSalvageReported plain file out (faults.Write name) = (name ≡ out) ⊎ (name.now ≡ codes "-")
-IsSalvageReported plain file out faults.TooLarge = Unit {0}
-IsSalvageReported plain file out faults.NoMemory = Unit {0}
-IsSalvageReported plain file out (faults.File fault) = Unit {0}
-IsSalvageReported plain file out (faults.Plain fault) = plain ≡ true
-IsSalvageReported plain file out _ = ⊥
+-- of keeping nothing of a file of this name, which begins with no header; going on after its faults takes memory
+abbrev pub IsNothingKept : Bool → Bor (List ℕ) → Fault → Type 0
+IsNothingKept skip file (faults.Read name) = name ≡ file
+IsNothingKept skip file (faults.File fault) = Unit {0}
+IsNothingKept skip file faults.NoMemory = skip ≡ true
+IsNothingKept skip file _ = ⊥
 
--- of salvaging a file into another with its closing messages: also that it is no activity, or has no sample
-abbrev pub IsFinishReported : Bool → Bor (List ℕ) → Bor (List ℕ) → Fault → Type 0
-IsFinishReported plain file out (faults.Activity fault) = Unit {0}
-IsFinishReported plain file out faults.NoSample = Unit {0}
-IsFinishReported plain file out reported = IsSalvageReported plain file out reported
+-- of salvaging a file into another: one was not opened, read or written, the first is not a file, or the output failed; or there is no
+-- plain form, or it is not finished
+abbrev pub IsSalvageReported : SalvageForm → Bor (List ℕ) → Bor (List ℕ) → Fault → Type 0
+IsSalvageReported form file out (faults.Open name) = name ≡ file
+IsSalvageReported form file out (faults.Read name) = name ≡ file
+IsSalvageReported form file out (faults.Write name) = (name ≡ out) ⊎ (name.now ≡ codes "-")
+IsSalvageReported form file out faults.TooLarge = Unit {0}
+IsSalvageReported form file out faults.NoMemory = Unit {0}
+IsSalvageReported form file out (faults.File fault) = Unit {0}
+IsSalvageReported form file out (faults.Plain fault) = form.plain ≡ true
+IsSalvageReported form file out (faults.Activity fault) = form.finish ≡ true
+IsSalvageReported form file out faults.NoSample = form.finish ≡ true
+IsSalvageReported form file out _ = ⊥
 
 -- of making the plain form of a file: it was not opened or read, it is not a file, or its plain form was not made
 abbrev pub IsFormReported : Bor (List ℕ) → Fault → Type 0
@@ -171,10 +177,11 @@ IsPlainReported file out (faults.File fault) = Unit {0}
 IsPlainReported file out (faults.Plain fault) = Unit {0}
 IsPlainReported file out _ = ⊥
 
--- of going on after the faults of a file of this name: nothing is kept, and it begins with no header; or memory was refused
-abbrev pub IsNothingKept : Bor (List ℕ) → Fault → Type 0
-IsNothingKept file faults.NoMemory = Unit {0}
-IsNothingKept file reported = IsNoSalvage file reported
+-- of taking the definitions of a file: the file of this name was not opened or read, or is no file
+abbrev pub IsNoLike : Option (Bor (List ℕ)) → Fault → Type 0
+IsNoLike None reported = ⊥
+IsNoLike (Some name) (faults.NotLike other fault) = other ≡ name
+IsNoLike (Some name) reported = IsFileFault name reported
 
 -- what was not read to its end is not refused as a file
 abbrev pub IsOfWhole : Bool → Fault → Type 0
@@ -198,6 +205,7 @@ IsNotFound all _ = ⊥
 abbrev pub IsSplitReported : Bor (List ℕ) → Bor (List ℕ) → Bool → Fault → Type 0
 IsSplitReported file folder all (faults.Open name) = (name ≡ file) ⊎ (name ≡ folder)
 IsSplitReported file folder all (faults.Read name) = name ≡ file
+IsSplitReported file folder all (faults.NoFile name) = name ≡ file
 IsSplitReported file folder all faults.TooLarge = Unit {0}
 IsSplitReported file folder all (faults.TooManyFiles count) = (all ≡ false) × (1000 < count)
 IsSplitReported file folder all faults.TooManyHeaders = all ≡ true

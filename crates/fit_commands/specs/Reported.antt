@@ -1,5 +1,5 @@
 -- What a whole subcommand did: what it printed, and which fault it reports if it failed.
-use Rattle.std.specs.Prelude.{◌≡◌, ◌⊎◌, ◌≤◌, ℕ, Bool, true, false, List, ◌++◌, length, map, Option, Result, Ok, Err, codes}
+use Rattle.std.specs.Prelude.{◌≡◌, ◌⊎◌, ◌≤◌, ℕ, Bool, true, false, List, [], ◌++◌, length, map, Option, Some, None, Result, Ok, Err, codes, decimal, if◌then◌else◌}
 use Rattle.std.specs.Borrow.{Bor}
 use Rattle.std.specs.Io.KnownBytes.{Appends}
 use Rattle.fit_activity.specs.declared.activity.Summary.{Summary}
@@ -11,25 +11,29 @@ use Rattle.fit_grammar.specs.Format.Message.{messages_of}
 use Rattle.std.specs.Result.{IsErr}
 use Rattle.fit_mending.specs.declared.chained.Part.{Part}
 use Rattle.fit_mending.specs.Chained.{AreChained, AreNumbered}
+use Rattle.fit_mending.specs.Known.{IsKnownBy}
+use Rattle.fit_words.specs.Shown.{shown_text}
+use Rattle.fit_words.specs.declared.request.SalvageForm.{SalvageForm}
+use Rattle.fit_commands.specs.declared.like.Like.{Like}
 use Rattle.fit_mending.specs.Found.{AreFound}
-use Rattle.fit_files.specs.declared.mended.Mended.{Mended}
 use Rattle.fit_files.specs.declared.salvage.Salvage.{Salvage}
 use Rattle.fit_files.specs.declared.saving.SavedRide.{SavedRide}
 use Rattle.fit_files.specs.Calls.Reading.{ReadsAll}
 use Rattle.fit_files.specs.Calls.Rereading.{AreSumsOf}
-use Rattle.fit_files.specs.Printed.Mended.{IsMended, mended_text}
+use Rattle.fit_files.specs.Printed.Mended.{IsMended}
 use Rattle.fit_files.specs.Printed.Parts.{AreLines}
 use Rattle.fit_files.specs.Printed.PlainFile.{PlainsTo, messages_text}
-use Rattle.fit_files.specs.Printed.Finished.{finished_lines, finished_mended_lines}
+use Rattle.fit_files.specs.Printed.Kept.{IsRowOf, heard_line, kept_lines}
 use Rattle.fit_files.specs.Printed.Repaired.{Repairs}
-use Rattle.fit_files.specs.Printed.Salvaged.{IsSalvage, saved_file, kept_text}
+use Rattle.fit_files.specs.Printed.Salvaged.{IsSalvage, saved_file}
 use Rattle.fit_files.specs.Printed.Saved.{SavesRide}
 use Rattle.fit_files.specs.Printed.Summary.{summary_text}
 use Rattle.fit_files.specs.Printed.Checked.{SumsUp}
 use Rattle.fit_finishing.specs.declared.finishing.Finishing.{Finishing}
 use Rattle.fit_finishing.specs.Finished.{IsFinishing}
-use Rattle.fit_files.specs.declared.finished.Heard.{Heard}
-use Rattle.fit_commands.specs.declared.content.FinishedFile.{FinishedFile}
+use Rattle.fit_files.specs.declared.kept.Heard.{Heard}
+use Rattle.fit_files.specs.declared.kept.Kept.{Kept}
+use Rattle.fit_files.specs.declared.kept.Kept.TheVariants.{Front, Pieces}
 use Rattle.fit_files.specs.declared.fault.ReportFault.{ReportFault}
 use Rattle.fit_files.specs.declared.repairing.FileSums.{FileSums}
 use Rattle.fit_files.specs.declared.repairing.RepairFault.{RepairFault}
@@ -73,22 +77,10 @@ PrintsNothing old new fault = IsOutputReported fault ⊎ (new ≡ old)
 abbrev pub HasPlainForm : Salvage → Type 0
 HasPlainForm salvage = (plain : FileValue) × PlainsTo (saved_file salvage) (Ok plain)
 
--- the longest row of whole items in some bytes was found, with its plain form if that was requested, and its length was printed
-abbrev pub SavesFile : Bool → Bool → Option (List ℕ) → Option (List ℕ) → Type 0
-SavesFile all plain old new =
-    (bytes : List ℕ) × (length bytes ≤ 268435456) × (salvage : Salvage)
-    × IsSalvage all bytes salvage
-    × (plain ≡ true → HasPlainForm salvage) × Appends old new (kept_text salvage ++ codes "\n")
-
 -- the file of the readable part, or its plain form
 pub record IsFormOf (plain : Bool) (salvage : Salvage) (file : FileValue) : Type 0 where
   pub as_it_is : plain ≡ false → FileOf (saved_file salvage) file
   pub plain_form : plain ≡ true → PlainsTo (saved_file salvage) (Ok file)
-
--- it is that file, with the messages that it lacks
-abbrev pub FinishesSalvage : Bool → Salvage → FinishedFile → Type 0
-FinishesSalvage plain salvage finished =
-    IsFormOf plain salvage finished.file × IsFinishing finished.file finished.finishing
 
 -- what was heard of it
 abbrev pub heard_of : Finishing → Heard
@@ -99,37 +91,52 @@ heard_of finishing =
       has_new_file_id = finishing.lacks.file_id;
     }
 
--- the longest row of whole items in some bytes was found, and its file finished; its length, and how many entries were heard and left
--- out, was printed
-abbrev pub FinishesFile : Bool → Bool → Option (List ℕ) → Option (List ℕ) → Type 0
-FinishesFile all plain old new =
-    (bytes : List ℕ) × (length bytes ≤ 268435456) × (salvage : Salvage)
-    × IsSalvage all bytes salvage
-    × (finished : FinishedFile) × FinishesSalvage plain salvage finished
-    × Appends old new (finished_lines salvage (heard_of finished.finishing))
+-- it is written in this form: as it is or as its plain form, and with the messages that it lacks if something was heard
+abbrev pub IsMade : SalvageForm → Salvage → Option Heard → Type 0
+IsMade form salvage None = (form.finish ≡ false) × (form.plain ≡ true → HasPlainForm salvage)
+IsMade form salvage (Some heard) =
+    (form.finish ≡ true) × (file : FileValue) × IsFormOf form.plain salvage file
+    × (finishing : Finishing) × IsFinishing file finishing × (heard ≡ heard_of finishing)
 
--- what is kept of some bytes by going on after their faults, as one row
-pub record IsRowOf (mended : Mended) (salvage : Salvage) : Type 0 where
-  pub frame : salvage.frame ≡ mended.looked.frame
-  pub row : salvage.row.now ≡ mended.skipped.row.items
+-- what is kept of some bytes: the longest row of whole items, or what is found by going on after their faults, after what is known
+abbrev pub IsKeptOf : SalvageForm → List ℕ → List ℕ → Kept → Type 0
+IsKeptOf form known bytes (Front salvage) = (form.skip ≡ false) × IsSalvage form.all bytes salvage
+IsKeptOf form known bytes (Pieces mended) = (form.skip ≡ true) × IsMended form.all known bytes mended
 
--- what is kept of some bytes by going on after their faults was found, and it has the form asked for; what was kept and what was left
--- out was printed
-abbrev pub SavesMended : Bool → Bool → Option (List ℕ) → Option (List ℕ) → Type 0
-SavesMended all plain old new =
-    (bytes : List ℕ) × (length bytes ≤ 268435456) × (mended : Mended)
-    × IsMended all bytes mended
-    × (salvage : Salvage) × IsRowOf mended salvage
-    × (plain ≡ true → HasPlainForm salvage) × Appends old new (mended_text mended)
+-- the name of the file whose definitions are known
+abbrev pub like_name : SalvageForm → Option (Bor (List ℕ))
+like_name form = if form.skip then form.like else None
 
--- the same, and its file finished; how many entries were heard and left out was printed too
-abbrev pub FinishesMended : Bool → Bool → Option (List ℕ) → Option (List ℕ) → Type 0
-FinishesMended all plain old new =
-    (bytes : List ℕ) × (length bytes ≤ 268435456) × (mended : Mended)
-    × IsMended all bytes mended
-    × (salvage : Salvage) × IsRowOf mended salvage
-    × (finished : FinishedFile) × FinishesSalvage plain salvage finished
-    × Appends old new (finished_mended_lines mended (heard_of finished.finishing))
+-- the definitions of the file of this name, if there is one
+abbrev pub IsLike : Option (Bor (List ℕ)) → Option Like → Type 0
+IsLike None None = Unit {0}
+IsLike (Some name) (Some like) =
+    (like.name ≡ name) × (file : List ℕ) × (length file ≤ 268435456) × IsKnownBy file like.known
+IsLike _ _ = ⊥
+
+-- their bytes, and the line with their number
+abbrev pub known_row : Option Like → List ℕ
+known_row None = []
+known_row (Some like) = like.known.row.items
+
+abbrev pub count_text : List ℕ → ℕ → List ℕ
+count_text name count =
+    codes "definitions from " ++ (shown_text name ++ (codes ": " ++ (decimal count ++ codes "\n")))
+
+abbrev pub like_text : Option Like → List ℕ
+like_text None = []
+like_text (Some like) = count_text like.name.now like.known.count
+
+-- what is kept of some bytes was found, after the definitions of a file if one was named, and it has the form asked for; what was kept,
+-- left out and heard was printed
+abbrev pub SavesFile : SalvageForm → Option (List ℕ) → Option (List ℕ) → Type 0
+SavesFile form old new =
+    (like : Option Like) × IsLike (like_name form) like
+    × (bytes : List ℕ) × (length bytes ≤ 268435456) × (kept : Kept)
+    × IsKeptOf form (known_row like) bytes kept
+    × (salvage : Salvage) × IsRowOf kept salvage
+    × (heard : Option Heard) × IsMade form salvage heard
+    × Appends old new ((kept_lines kept ++ heard_line heard) ++ like_text like)
 
 -- a line was printed for each of these files; after an Err, for the first of them, of which the last line may be cut off
 abbrev pub PrintsLines : List Part → Option (List ℕ) → Option (List ℕ)
@@ -149,11 +156,15 @@ abbrev pub AreNotTooMany : Bool → List Part → Type 0
 AreNotTooMany false parts = length parts ≤ 1000
 AreNotTooMany true parts = Unit {0}
 
--- The files of some bytes were found, and a line printed for each that was written. Else nothing is printed.
+-- no file is chained in some bytes, or with `all` none stands in them
+abbrev pub HasNoParts : Bool → Type 0
+HasNoParts all = (bytes : List ℕ) × (length bytes ≤ 268435456) × AreParts all bytes []
+
+-- The files of some bytes were found, one or more, and a line printed for each that was written. Else nothing is printed.
 abbrev pub SplitsFile : Bool → Option (List ℕ) → Option (List ℕ) → Result (Unit {0}) Fault → Type 0
 SplitsFile all old new result =
     ((bytes : List ℕ) × (length bytes ≤ 268435456) × (parts : List Part) × AreParts all bytes parts
-    × AreNotTooMany all parts × PrintsLines parts old new result)
+    × (1 ≤ length parts) × AreNotTooMany all parts × PrintsLines parts old new result)
     ⊎ (IsErr result × (new ≡ old))
 
 -- it is the plain form of a file of some bytes

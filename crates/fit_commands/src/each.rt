@@ -1,10 +1,9 @@
 // Subcommands over several files. They go on after one that is refused.
 
-ghost use Rattle.std.specs.Prelude.{◌≡◌, ◌<◌, ◌≤◌, ◌++◌, ℕ, List, String, codes, length, map, string_bytes, IfErr, IfOk, IfSome, OnOk, true, false};
+ghost use Rattle.std.specs.Prelude.{◌≡◌, ◌<◌, ◌≤◌, ◌++◌, ℕ, List, String, length, map, string_bytes, IfErr, IfOk, IfSome, OnOk, true, false};
 ghost use Rattle.fit_grammar.specs.Calls.Output.{WritesText};
 ghost use Rattle.fit_commands.specs.Each.{AddsTable, AreNamesOf, ChecksAll, ChecksEach, IsFoundLine, IsStopped, TablesAll, TablesEach, left_out_by, name_cell, named_line, refused_by};
 ghost use Rattle.fit_exports.specs.Checked.{checked_json};
-ghost use Rattle.std.specs.List.{flat_map};
 ghost use Rattle.fit_table.specs.Cells.{byte_cell};
 ghost use Rattle.fit_commands.specs.declared.fault.Fault.TheVariants.{Refused};
 ghost use Rattle.fit_commands.specs.Reading.{IsFileFault};

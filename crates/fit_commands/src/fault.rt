@@ -29,6 +29,9 @@ pub enum Fault<'a> {
     /// The bytes are not a FIT file that the program reads, or memory was refused.
     #[error("{} at {}", .0.kind, .0.place)]
     File(FileFault),
+    /// The file of this name, whose definitions were to be taken, is not a FIT file that the program reads.
+    #[error("{}: {} at {}", ShownWord(.0), .1.kind, .1.place)]
+    NotLike(&'a str, FileFault),
     /// The plain form of a file would be too long, or memory was refused.
     #[error("{} at {}", .0.kind, .0.place)]
     Plain(PlainFault),
@@ -57,6 +60,9 @@ pub enum Fault<'a> {
     /// can be done.
     #[error("cannot read activity.fit\nfitrec: activity.fit could not be read from byte {0} on, and the journal counts bytes after that; repair the file system, such as by fsck.vfat -a, or let salvage copy what is readable of activity.fit")]
     BodyNotRead(usize),
+    /// No file is chained in the file of this name, or stands in it.
+    #[error("no FIT file in {}", ShownWord(.0))]
+    NoFile(&'a str),
     /// More files are chained in a file than are written: their number.
     #[error("TooManyFiles({0})")]
     TooManyFiles(usize),

@@ -1,78 +1,155 @@
-// The subcommand `salvage`: writes the readable part of a file that has no journal to a file of its own.
+// The subcommand `salvage`: writes what is readable of a damaged file to a file of its own.
 
-ghost use Rattle.std.specs.Prelude.{◌≡◌, ◌≤◌, IfOk, IfErr, OnOk, true, vec_len};
-ghost use Rattle.fit_files.specs.Printed.Salvaged.{IsSalvage};
-ghost use Rattle.fit_commands.specs.Faults.{IsNoSalvage, IsNotMade, IsSalvageReported};
-ghost use Rattle.fit_commands.specs.Reported.{HasPlainForm, SavesFile, PrintsNothing};
+ghost use Rattle.std.specs.Prelude.{◌≤◌, ◌⊎◌, Bool, List, length, IfOk, IfErr, OnOk, vec_len};
+ghost use Rattle.fit_grammar.specs.Format.Item.{Item};
+ghost use Rattle.fit_grammar.specs.Format.Records.{Records};
+ghost use Rattle.fit_commands.specs.Faults.{IsNoFormReported, IsNoLike, IsNotMade, IsNothingKept, IsOfWhole, IsSalvageReported};
+ghost use Rattle.fit_commands.specs.Reported.{IsFormOf, IsKeptOf, IsMade, SavesFile, PrintsNothing, like_name};
 
 use crate::beside::write_whole;
 use crate::fault::Fault;
+use crate::finish::{finish_file, heard_in};
 use crate::input::{fault_of_report, print_end, read_file_front};
-use fit_files::{FrontRead, Salvage, salvage_bytes};
+use crate::like::{known_row, like_of, print_like};
+use fit_files::{FrontRead, Heard, Kept, Salvage, salvage_bytes, skip_bytes};
+use fit_grammar::{File, FileFault, read_header_front};
+use fit_words::SalvageForm;
+use std::alloc::Global;
 use std::io::Write;
 
-/// Writes the readable part of the file `name`, or with `plain` the plain form of that, to the file `to`, which may exist. Prints how
-/// many bytes were kept. Then, if the file could not be read to its end, a line on `err` says where reading ended, and if more bytes
-/// follow those looked at and the two of a checksum, one gives their number. Both may be one file.
+/// Writes what is readable of the file `name` to the file `to`, which may exist: up to the first fault, or with `skip` also after faults;
+/// with `plain` the plain form of that, and with `finish` also the messages that the activity lacks. Both may be one file. Prints how many
+/// bytes were kept and what was left out and heard. If the file could not be read to its end, a line on `err` says where reading ended, and
+/// if more bytes follow those looked at and the two of a checksum, one gives their number.
+///
+/// With `skip`, bytes of which nothing is readable are refused as a file, unless they begin with a header. The definitions in force at the
+/// end of the file `like`, if there is one, are known before the bytes, and stand first in the file `to`; a last line says how many there
+/// are.
 pub fn salvage_file<'a, O: Write, E: Write>(
     rt: &HostRuntime,
     name: &'a str,
     to: &'a str,
-    all: bool,
-    plain: bool,
+    form: &SalvageForm<'a>,
     out: &mut O,
     err: &mut E,
 ) -> Result<(), Fault<'a>>
-    ensures reported { IfErr result (IsSalvageReported plain name.entry to.entry) }
-    ensures saved { OnOk result (SavesFile all plain (O.contents out.old) (O.contents out.new)) }
+    ensures reported { IfErr result
+        (λ fault. IsNoLike (like_name form.now) fault
+        ⊎ IsSalvageReported form.now name.entry to.entry fault) }
+    ensures saved { OnOk result (SavesFile form.now (O.contents out.old) (O.contents out.new)) }
     ensures quiet { IfErr result (PrintsNothing (O.contents out.old) (O.contents out.new)) }
 {
+    let like = like_of(rt, form)?;
     let read = read_file_front(rt, name)?;
-    let salvage = salvage_read(name, &read, all)?;
-    write_salvage(rt, name, to, plain, &salvage)?;
-    match salvage.print(out) {
-        Ok(()) => {
-            let _ = print_end(name, read.unread_from(), err);
-            let _ = salvage.print_left(err);
-            Ok(())
-        }
-        Err(fault) => Err(fault_of_report(name, fault)),
+    let kept = kept_of(rt.alloc(), name, known_row(&like), &read, form)?;
+    let salvage = kept.salvage();
+    let heard = write_kept(rt, name, to, form, &salvage)?;
+    // With either, what was not read is said even if the output fails.
+    let is_always_said = form.skip || form.finish;
+    if is_always_said {
+        print_unread(name, &read, &salvage, err);
     }
+    match kept.print(heard, out) {
+        Ok(()) => {}
+        Err(fault) => return Err(fault_of_report(name, fault)),
+    }
+    if !is_always_said {
+        print_unread(name, &read, &salvage, err);
+    }
+    print_like(&like, out)
 }
 
-/// The readable part of the file `name`, of which this was read.
-pub(crate) fn salvage_read<'a, 'b>(
+// What is kept of the file `name`, of which this was read, after what is known.
+fn kept_of<'a, 'b>(
+    alloc: Global,
     name: &'a str,
+    known: &[u8],
     read: &'b FrontRead,
-    all: bool,
-) -> Result<Salvage<'b>, Fault<'a>>
-    requires { vec_len read.now.bytes ≤ 268435456 }
-    ensures found { IfOk result (IsSalvage all read.now.bytes.items) }
-    ensures reported { IfErr result (IsNoSalvage name.entry) }
+    form: &SalvageForm<'_>,
+) -> Result<Kept<'b>, Fault<'a>>
+    requires most { vec_len read.now.bytes ≤ 268435456 }
+    requires row { (items : List Item) × Records known.now items }
+    requires short { length known.now ≤ 24592 }
+    ensures kept { IfOk result (IsKeptOf form.now known.now read.now.bytes.items) }
+    ensures reported { IfErr result (IsNothingKept form.now.skip name.entry) }
+    ensures whole { IfErr result (IsOfWhole read.now.is_whole) }
 {
-    match salvage_bytes(read.bytes.as_slice(), all) {
-        Ok(salvage) => Ok(salvage),
-        Err(_) if !read.is_whole => Err(Fault::Read(name)),
-        Err(fault) => Err(Fault::File(fault)),
+    let bytes = read.bytes.as_slice();
+    if !form.skip {
+        return match salvage_bytes(bytes, form.all) {
+            Ok(salvage) => Ok(Kept::Front(salvage)),
+            Err(fault) => Err(fault_of(name, read, fault)),
+        };
+    }
+    let Ok(mended) = skip_bytes(alloc, known, bytes, form.all) else {
+        return Err(Fault::NoMemory);
+    };
+    match read_header_front(bytes) {
+        Err(fault) if mended.is_empty() => Err(fault_of(name, read, fault)),
+        _ => Ok(Kept::Pieces(mended)),
     }
 }
 
-// Writes the readable part of the file `name`, or its plain form, to the file `to`.
-pub(crate) fn write_salvage<'a>(
+// Of the file `name`, of which this was read, nothing is kept: what was read is no file.
+fn fault_of<'a>(name: &'a str, read: &FrontRead, fault: FileFault) -> Fault<'a>
+    ensures reported { (skip : Bool) → IsNothingKept skip name.entry result }
+    ensures whole { IsOfWhole read.now.is_whole result }
+{
+    if read.is_whole {
+        Fault::File(fault)
+    } else {
+        Fault::Read(name)
+    }
+}
+
+// Writes what is kept of the file `name` to the file `to`, and returns what was heard in it, if it is finished.
+fn write_kept<'a>(
     rt: &HostRuntime,
     name: &'a str,
     to: &'a str,
+    form: &SalvageForm<'_>,
+    salvage: &Salvage<'_>,
+) -> Result<Option<Heard>, Fault<'a>>
+    ensures made { IfOk result (IsMade form.now salvage.now) }
+    ensures reported { IfErr result (IsNotMade form.now to.entry) }
+{
+    if !form.plain && !form.finish {
+        write_whole(rt, to, salvage)?;
+        return Ok(None);
+    }
+    let file = form_of(rt.alloc(), name, form.plain, salvage)?;
+    if !form.finish {
+        write_whole(rt, to, &file)?;
+        return Ok(None);
+    }
+    let finished = finish_file(file)?;
+    write_whole(rt, to, &finished)?;
+    Ok(Some(heard_in(&finished.finishing)))
+}
+
+// The file of what is kept of the file `name`, or its plain form.
+fn form_of<'a>(
+    alloc: Global,
+    name: &'a str,
     plain: bool,
     salvage: &Salvage<'_>,
-) -> Result<(), Fault<'a>>
-    ensures reported { IfErr result (IsNotMade plain to.entry) }
-    ensures form { OnOk result (plain ≡ true → HasPlainForm salvage.now) }
+) -> Result<File, Fault<'a>>
+    ensures form { IfOk result (IsFormOf plain salvage.now) }
+    ensures reported { IfErr result (IsNoFormReported plain) }
 {
-    if !plain {
-        return write_whole(rt, to, salvage);
-    }
-    match salvage.plain(rt.alloc()) {
-        Ok(file) => write_whole(rt, to, &file),
+    let made = if plain {
+        salvage.plain(alloc)
+    } else {
+        salvage.file(alloc)
+    };
+    match made {
+        Ok(file) => Ok(file),
         Err(fault) => Err(fault_of_report(name, fault)),
     }
+}
+
+// Prints what was not read of the file `name`, and what was not looked at.
+fn print_unread<E: Write>(name: &str, read: &FrontRead, salvage: &Salvage<'_>, err: &mut E) {
+    let _ = print_end(name, read.unread_from(), err);
+    let _ = salvage.print_left(err);
 }

@@ -1,8 +1,10 @@
 // The subcommand `split`: writes each of the files that are chained in one, or stand in the image of a card.
 
-ghost use Rattle.std.specs.Prelude.{◌≤◌, length, IfOk, IfErr, OnOk};
+ghost use Rattle.std.specs.Prelude.{◌≡◌, ◌≤◌, ℕ, List, length, Err, IfOk, IfErr, OnOk};
+ghost use Rattle.std.specs.Borrow.{Bor};
+ghost use Rattle.fit_commands.specs.declared.fault.Fault.TheVariants.{NoFile};
 ghost use Rattle.fit_commands.specs.Faults.{IsNotFound, IsNotWritten, IsPartReported, IsSplitReported};
-ghost use Rattle.fit_commands.specs.Reported.{AreNotTooMany, AreParts, PrintsLines, SplitsFile};
+ghost use Rattle.fit_commands.specs.Reported.{AreNotTooMany, AreParts, HasNoParts, PrintsLines, SplitsFile};
 
 use crate::beside::write_whole;
 use crate::content::Content;
@@ -19,7 +21,8 @@ const MOST_FILES: usize = 1000;
 
 /// Writes each of the files that are chained in the file `name` into the folder `to`, as `1.fit`, `2.fit` and so on, which may exist. With
 /// `all` writes each whole file that stands somewhere in it, named by the place where it begins. Prints a line for each: how many bytes it
-/// has, and why it is no file, if it is none. A folder without a name is refused, and so are more than 1,000 files without `all`.
+/// has, and why it is no file, if it is none. A folder without a name is refused, and so are no file, and more than 1,000 files without
+/// `all`.
 pub fn split_file<'a, O: Write>(
     rt: &HostRuntime,
     name: &'a str,
@@ -30,12 +33,16 @@ pub fn split_file<'a, O: Write>(
     ensures reported { IfErr result (IsSplitReported name.entry to.entry all) }
     ensures lines { SplitsFile all (O.contents out.old) (O.contents out.new) result }
     ensures named { OnOk result (1 ≤ length to.now) }
+    ensures none { (file : Bor (List ℕ)) → result ≡ Err (NoFile file) → HasNoParts all }
 {
     let bytes = read_file(rt, name)?;
     if to.is_empty() {
         return Err(Fault::Open(to));
     }
     let parts = parts_of(rt.alloc(), bytes.as_slice(), all)?;
+    if parts.is_empty() {
+        return Err(Fault::NoFile(name));
+    }
     write_parts(rt, to, parts.as_slice(), out)
 }
 

@@ -1,6 +1,6 @@
 // The subcommand `table`: prints the values of a file as a table.
 
-ghost use Rattle.std.specs.Prelude.{◌≤◌, length, None, option_map};
+ghost use Rattle.std.specs.Prelude.{◌≤◌, length, None};
 ghost use Rattle.fit_exports.specs.Tabled.{ShowsHeld, ShowsTable};
 ghost use Rattle.fit_exports.specs.declared.held.Held.{Held as AnyHeld};
 ghost use Rattle.fit_commands.specs.Faults.{IsReportFault};

@@ -1,17 +1,17 @@
 -- A step of a recovery by windows: which files it leaves.
-use Rattle.std.proofs.Common.{⊎_elim, ◌≡◌, ◌≤◌, ◌+◌, ◌-◌, min, ℕ, List, [], ◌∷◌, length, take, inl, inr, refl, sym, ap, ◌∙◌, subst, arith, Result, Ok, Err}
+use Rattle.std.proofs.Common.{⊎_elim, ◌≡◌, ◌≤◌, ◌+◌, ◌-◌, min, ℕ, List, [], length, take, Option, inl, inr, refl, sym, ap, ◌∙◌, subst, arith, Result, Ok, Err}
 use Rattle.fit_activity.specs.declared.activity.Summary.{Summary}
-use Rattle.fit_device.specs.Answer.{code_of_fault, wants}
+use Rattle.fit_device.specs.Answer.{code_of_fault, wants, IsNumberOf}
 use Rattle.fit_device.specs.Planned.{Leads}
 use Rattle.fit_device.proofs.Leading.{leads_for, leads_since}
 use Rattle.fit_device.specs.Handle.{handle_story as story_in_handle}
 use Rattle.fit_device.specs.Recovering.{GoesOnWith}
-use Rattle.fit_device.specs.Windowed.{recovery_story, IsRecovery, IsTakenUp, TakesJournalWindow, TakesWindow, ReopensOn}
+use Rattle.fit_device.specs.Windowed.{recovery_story, IsRecovery, IsShort, IsTakenUp, TakesJournalWindow, TakesWindow, ReopensOn}
 use Rattle.fit_device.specs.declared.files.Files.{Files}
 use Rattle.fit_device.specs.declared.handle.Handle.{Handle}
 use Rattle.fit_device.specs.declared.plan.DevicePlan.{DevicePlan}
 use Rattle.fit_device.specs.declared.windowed.RecoveryHandle.{RecoveryHandle}
-use Rattle.fit_device.proofs.Stepping.{on_ok}
+use Rattle.fit_device.proofs.Stepping.{not_device, on_ok}
 use Rattle.fit_disk.specs.Counts.{Counts, Room, no_calls}
 use Rattle.fit_disk.specs.State.{Contents, seen_in}
 use Rattle.fit_disk.specs.Story.{Story, seen_of}
@@ -22,8 +22,11 @@ use Rattle.fit_plan.specs.Plan.{plan_story, plan_since, plan_counts, room_in, wh
 use Rattle.fit_recorder.specs.Calls.Windows.{AreAt, HasMoved, HasRoomForCalls, place_of}
 use Rattle.fit_recorder.specs.declared.recovery.windows.Recovery.{Recovery}
 use Rattle.fit_plan.specs.Carried.{which_of}
-use Rattle.std.proofs.lemmas.List.{take-take}
+use Rattle.std.proofs.lemmas.Bool.{cases_lt}
+use Rattle.std.proofs.lemmas.List.{take-take, take_all}
 use Rattle.fit_recorder.specs.Calls.FaultCode.{fault_code}
+use Rattle.fit_recorder.specs.Files.NothingRecorded.{IsNothing}
+use Rattle.fit_recorder.specs.Private.Length.{CommitsLength}
 use Rattle.fit_recorder.specs.Files.Committed.{HasCounted}
 use Rattle.fit_recorder.specs.Calls.Recovery.{RecoveryAnswers, Rebuilds, unchanged, standing}
 use Rattle.fit_recorder.specs.Calls.Resume.{IsRefusedFor}
@@ -94,10 +97,47 @@ pub counted_for : (before after earlier later : Story) → before ≡ earlier �
 counted_for before after earlier later olds news is =
     subst (λ (story : Story). HasCounted (seen_of Journal earlier) (seen_of Data story)) news (subst (λ (story : Story). HasCounted (seen_of Journal story) (seen_of Data after)) olds is)
 
+-- no fault has the number of a wish for a window
+pub never_wants : (fault : RecFault) (code : ℕ) → code ≡ code_of_fault fault → code ≡ wants → ⊥
+never_wants NotEmpty code is asked = omega (arith, is, asked)
+never_wants (Refused refusal) code is asked = omega (arith, is, asked)
+never_wants Full code is asked = omega (arith, is, asked)
+never_wants JournalFull code is asked = omega (arith, is, asked)
+never_wants Device code is asked = omega (arith, is, asked)
+never_wants Failed code is asked = omega (arith, is, asked)
+never_wants NothingRecorded code is asked = omega (arith, is, asked)
+never_wants Damaged code is asked = omega (arith, is, asked)
+
+-- ---- the numbers of faults, where an erasing may have been cut off
+
+module _ (contents : Contents) (fault : RecFault) (code : ℕ) where
+  pub number_not_zero : IsNumberOf contents fault code → code ≡ 0 → ⊥
+  number_not_zero is zero = ⊎_elim (λ erased. let no : ⊥ = omega (arith, erased.0, zero) in no) (λ usual. never_zero fault code usual.0 zero) is
+
+  pub number_not_wants : IsNumberOf contents fault code → code ≡ wants → ⊥
+  number_not_wants is asked = ⊎_elim (λ erased. let no : ⊥ = omega (arith, erased.0, asked) in no) (λ usual. never_wants fault code usual.0 asked) is
+
+  pub number_not_device : IsNumberOf contents fault code → (fault ≡ Device → ⊥) → code ≡ fault_code Device → ⊥
+  number_not_device is never device = ⊎_elim (λ erased. let no : ⊥ = omega (arith, erased.0, device) in no) (λ usual. not_device fault code usual.0 never device) is
+
+  nothing_commits : (len : ℕ) (checksum : Option ℕ) → CommitsLength contents len checksum → IsNothing contents → ⊥
+  nothing_commits len checksum commits nothing = ⊎_elim
+      (λ (empty : contents.in_data ≡ []). let no : ⊥ = omega (arith, commits.long, ap (λ (xs : List ℕ). length xs) empty) in no)
+      (λ none. let e = sym commits.counts ∙ none in absurd cc) nothing
+
+  -- where a length counts, nothing was erased
+  pub usual_number : (len : ℕ) (checksum : Option ℕ) → CommitsLength contents len checksum → (fault ≡ NothingRecorded → IsNothing contents)
+      → code ≡ code_of_fault fault → IsNumberOf contents fault code
+  usual_number len checksum commits nothing is = inr (is, λ none erased. nothing_commits len checksum commits (nothing none))
+
+-- the number of a window that is too short
+pub short_number : (contents : Contents) (code : ℕ) → code ≡ fault_code Device → IsNumberOf contents Device code
+short_number contents code is = inr (is, λ (other : Device ≡ NothingRecorded) erased. absurd cc)
+
 -- after the window of the journal
-module _ (old new : RecoveryHandle) (plan : DevicePlan) (code : ℕ) (asks : IsRecovery old) (finds : old.phase ≡ 1) (found : TakesJournalWindow old new plan code) where
+module _ (old new : RecoveryHandle) (plan : DevicePlan) (code : ℕ) (asks : IsRecovery old) (finds : old.phase ≡ 1) (full : IsShort old → ⊥) (found : TakesJournalWindow old new plan code) where
   not_zero : code ≡ 0 → ⊥
-  not_zero zero = ⊎_elim (λ wants. let no : ⊥ = omega (arith, wants, zero) in no) (λ answered. never_zero answered.0 code answered.1 zero) found.answers
+  not_zero zero = ⊎_elim (λ wants. let no : ⊥ = omega (arith, wants, zero) in no) (λ answered. number_not_zero _ answered.0 code answered.1 zero) found.answers
 
   pub goes_on : TakesWindow old new plan code
   goes_on = record {
@@ -107,7 +147,8 @@ module _ (old new : RecoveryHandle) (plan : DevicePlan) (code : ℕ) (asks : IsR
     ended = found.ended;
     same = λ _. found.same;
     answers = λ _. ⊎_elim (λ wants. inl wants) (λ answered. inr (Err answered.0, answered.1, answered.2)) found.answers;
-    device = found.device;
+    device = λ device. inr (found.device device);
+    short = λ _ short. absurd (full short);
     checked = λ zero. absurd (not_zero zero);
     any_moment = λ _. unchanged found.same;
   }
@@ -120,16 +161,17 @@ module _ (old new : RecoveryHandle) (plan : DevicePlan) (code : ℕ) (asks : IsR
     ended = found.ended;
     same = λ _. (refl, found.same);
     answers = λ _. ⊎_elim (λ wants. inl wants) (λ answered. inr (inr (answered.0, answered.1, as_a_resume (seen_in (recovery_story old).now) (recovery_story new) answered.0 answered.2))) found.answers;
-    device = found.device;
+    device = λ device. inr (found.device device);
+    short = λ _ short. absurd (full short);
     checked = λ zero. absurd (not_zero zero);
     any_moment = λ _. unchanged (sym found.planned.ends ∙ found.same);
   }
 
 -- after a ride was taken up, and a recorder of it was put into a handle
 pub reopened : (old new : RecoveryHandle) (before after : Handle) (plan : DevicePlan) (ride : FoundRide) (files : Files) → IsRecovery old
-    → IsTakenUp old new plan ride files → GoesOnWith (seen_in (recovery_story old).now) after → story_in_handle after ≡ files.notes.story
+    → (IsShort old → ⊥) → IsTakenUp old new plan ride files → GoesOnWith (seen_in (recovery_story old).now) after → story_in_handle after ≡ files.notes.story
     → ReopensOn old new before after plan 0
-reopened old new before after plan ride files asks taken goes story =
+reopened old new before after plan ride files asks full taken goes story =
     record {
       planned = (λ _. leads_for plan _ _ _ _ refl (sym story) taken.planned, λ no. absurd (no refl));
       none = λ no. absurd (no asks);
@@ -138,6 +180,7 @@ reopened old new before after plan ride files asks taken goes story =
       same = λ no. absurd (no refl);
       answers = λ _. inr (inl (refl, goes));
       device = λ device. absurd (omega (arith, device));
+      short = λ _ short. absurd (full short);
       checked = λ _. subst (λ (later : Story). HasCounted (seen_of Journal (recovery_story old)) (seen_of Data later)) (sym story) taken.checked;
       any_moment = λ _. subst (λ (later : Story). Rebuilds (seen_in (recovery_story old).now) (recovery_story old) later) taken.planned.ends taken.any_moment;
     }
@@ -158,16 +201,13 @@ refuses_quietly Full contents old new is never (standing body list recording com
 refuses_quietly JournalFull contents old new is never (standing body list recording commits run) = absurd is
 refuses_quietly Failed contents old new is never (standing body list recording commits run) = absurd is
 
--- no fault has the number of a wish for a window
-pub never_wants : (fault : RecFault) (code : ℕ) → code ≡ code_of_fault fault → code ≡ wants → ⊥
-never_wants NotEmpty code is asked = omega (arith, is, asked)
-never_wants (Refused refusal) code is asked = omega (arith, is, asked)
-never_wants Full code is asked = omega (arith, is, asked)
-never_wants JournalFull code is asked = omega (arith, is, asked)
-never_wants Device code is asked = omega (arith, is, asked)
-never_wants Failed code is asked = omega (arith, is, asked)
-never_wants NothingRecorded code is asked = omega (arith, is, asked)
-never_wants Damaged code is asked = omega (arith, is, asked)
+-- a window that is not short
+pub not_short : (handle : RecoveryHandle) → (IsShort handle → ⊥) → handle.count ≤ handle.filled
+not_short handle full =
+    elim (cases_lt handle.filled handle.count) [
+      | inl short ↦ absurd (full short)
+      | inr long ↦ long
+    ]
 
 -- a window of the body that was filled, and the next one
 pub moved : (handle : RecoveryHandle) (old new : Recovery) (given : List ℕ) (at : ℕ) → HasMoved (length given) old new → length given ≡ handle.filled
@@ -187,8 +227,10 @@ journal_front old new story asks finds filled window same =
     (subst (λ (n : ℕ). AreAt 0 (take n new.window) (seen_of Journal (recovery_story old))) (sym filled)
     (subst (λ (bytes : List ℕ). AreAt 0 (take old.filled bytes) (seen_of Journal (recovery_story old))) (sym window) front))
 
--- and shows its first byte, unless it is empty
-pub front_shows : (front seen : List ℕ) → AreAt 0 front seen → (length front ≡ 0 → length seen ≡ 0) → take 1 front ≡ take 1 seen
-front_shows [] [] are none = refl
-front_shows [] (y ∷ ys) are none = absurd (omega (arith, none refl))
-front_shows (x ∷ xs) seen are none = ap (take 1) are ∙ take-take 1 (length (x ∷ xs)) seen (omega arith)
+-- and shows its first bytes, as many as it has of them
+pub front_shows : (k : ℕ) (front seen : List ℕ) → AreAt 0 front seen → min k (length seen) ≤ length front → take k front ≡ take k seen
+front_shows k front seen are long =
+    elim (cases_lt (length front) k) [
+      | inl few ↦ ap (take k) (are ∙ take_all (length front) seen (omega (arith, few, long)))
+      | inr many ↦ ap (take k) are ∙ take-take k (length front) seen many
+    ]

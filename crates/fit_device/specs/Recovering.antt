@@ -4,7 +4,7 @@ use Rattle.fit_activity.specs.declared.activity.Summary.{Summary}
 use Rattle.fit_activity.specs.Rides.Recording.{Recorded}
 use Rattle.fit_device.specs.declared.handle.Handle.{Handle}
 use Rattle.fit_device.specs.declared.plan.DevicePlan.{DevicePlan}
-use Rattle.fit_device.specs.Answer.{code_of, code_of_fault}
+use Rattle.fit_device.specs.Answer.{IsCodeOf, IsNumberOf}
 use Rattle.fit_device.specs.Handle.{handle_story, IsRecorder, HandleStands}
 use Rattle.fit_device.specs.Planned.{carried_out, IsWellFormed}
 use Rattle.fit_disk.specs.Calls.{IsSound}
@@ -39,7 +39,7 @@ AreLent files in_data in_journal =
 pub record RecoversFiles (old : Story) (plan : DevicePlan) (code : ℕ) : Type 0 where
   pub well_formed : IsWellFormed plan old
   pub answer : Result Summary RecFault
-  pub code_is : code ≡ code_of answer
+  pub code_is : IsCodeOf (seen_in old.now) answer code
   pub decides : RecoveryAnswers (seen_in old.now) (carried_out plan old) answer
   pub checked : code ≡ 0 → HasCounted (seen_of Journal old) (seen_of Data (carried_out plan old))
   pub refused : (code ≡ 0 → ⊥) → (plan.count ≡ 0) × (carried_out plan old ≡ old)
@@ -56,7 +56,7 @@ pub record GoesOnWith (contents : Contents) (new : Handle) : Type 0 where
 -- no ride continues, for this reason
 abbrev pub IsNotContinued : Story → ℕ → Type 0
 IsNotContinued old code =
-    (fault : RecFault) × (code ≡ code_of_fault fault) × IsRefusedFor (seen_in old.now) fault
+    (fault : RecFault) × IsNumberOf (seen_in old.now) fault code × IsRefusedFor (seen_in old.now) fault
 
 -- After 0 the recorder goes on over the files after the plan. After the other answers, which are those of a resume, the handle is none of
 -- a recorder, the plan has no calls, and the files stay. The checksum and 5 are as in a recovery.

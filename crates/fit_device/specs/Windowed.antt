@@ -16,7 +16,7 @@ use Rattle.fit_recorder.specs.Calls.Ride.{MayGoOn, TakesUp}
 use Rattle.fit_recorder.specs.declared.fault.RecFault.{RecFault}
 use Rattle.fit_recorder.specs.declared.resuming.FoundRide.{FoundRide}
 use Rattle.fit_recorder.specs.declared.fault.RecFault.TheVariants.{Device}
-use Rattle.fit_device.specs.Answer.{code_of, code_of_fault, no_recorder, wants}
+use Rattle.fit_device.specs.Answer.{IsCodeOf, IsNumberOf, no_recorder, wants}
 use Rattle.fit_device.specs.Asking.{asked_numbers, finding_phase, IsAsking}
 use Rattle.fit_device.specs.Handle.{handle_story as story_in}
 use Rattle.fit_device.specs.Planned.{carried_out, IsWellFormed, Leads}
@@ -49,10 +49,14 @@ pub record AsksForBody (h : RecoveryHandle) : Type 0 where
   pub few : h.count ≤ 512
   pub inside : h.at + h.count ≤ length (seen_of Data (recovery_story h))
 
--- The next window. If the one of the body before it was filled, it begins at least 416 bytes later.
+-- its window has less than it asks for
+abbrev pub IsShort : RecoveryHandle → Type 0
+IsShort h = h.filled < h.count
+
+-- The next window. It begins at least 416 bytes after the one of the body before it.
 pub record AsksOn (old new : RecoveryHandle) : Type 0 where
   pub body : AsksForBody new
-  pub moves : (old.phase ≡ finding_phase → ⊥) → old.count ≤ old.filled → old.at + 416 ≤ new.at
+  pub moves : (old.phase ≡ finding_phase → ⊥) → old.at + 416 ≤ new.at
 
 -- the window has less than the journal
 abbrev pub LacksJournal : RecoveryHandle → Type 0
@@ -77,12 +81,14 @@ pub record TakesJournalWindow (old new : RecoveryHandle) (plan : DevicePlan)
   pub same : recovery_story new ≡ recovery_story old
   pub asks : code ≡ wants → AsksForBody new
   pub ended : (code ≡ wants → ⊥) → IsRecovery new → ⊥
-  pub answers : (code ≡ wants) ⊎ ((fault : RecFault) × (code ≡ code_of_fault fault)
+  pub answers : (code ≡ wants) ⊎ ((fault : RecFault)
+      × IsNumberOf (seen_in (recovery_story old).now) fault code
       × RecoveryAnswers (seen_in (recovery_story old).now) (recovery_story new) (Err fault))
   pub device : code ≡ fault_code Device → LacksJournal old
 
 -- A window was filled. It asks for the next, or it has ended, and answers as a recovery does. Nothing is planned unless it answers 0, and then
--- the body that was finished has the checksum that the journal states. 5 comes only where the window has less than the journal.
+-- the body that was finished has the checksum that the journal states. 5 comes where the window has less than was asked for, and else only
+-- where it has less than the journal.
 pub record TakesWindow (old new : RecoveryHandle) (plan : DevicePlan) (code : ℕ) : Type 0 where
   pub planned : Leads plan (recovery_story old) (recovery_story new)
   pub none : (IsRecovery old → ⊥) → (code ≡ no_recorder) × (new ≡ old)
@@ -90,9 +96,11 @@ pub record TakesWindow (old new : RecoveryHandle) (plan : DevicePlan) (code : �
   pub ended : (code ≡ wants → ⊥) → IsRecovery new → ⊥
   pub same : (code ≡ 0 → ⊥) → recovery_story new ≡ recovery_story old
   pub answers : IsRecovery old
-      → (code ≡ wants) ⊎ ((answer : Result Summary RecFault) × (code ≡ code_of answer)
+      → (code ≡ wants) ⊎ ((answer : Result Summary RecFault)
+      × IsCodeOf (seen_in (recovery_story old).now) answer code
       × RecoveryAnswers (seen_in (recovery_story old).now) (recovery_story new) answer)
-  pub device : code ≡ fault_code Device → LacksJournal old
+  pub device : code ≡ fault_code Device → IsShort old ⊎ LacksJournal old
+  pub short : IsRecovery old → IsShort old → code ≡ fault_code Device
   pub checked : code ≡ 0
       → HasCounted (seen_of Journal (recovery_story old)) (seen_of Data (recovery_story new))
   pub any_moment : IsRecovery old
@@ -115,9 +123,10 @@ pub record ReopensOn (old new : RecoveryHandle) (before after : Handle) (plan : 
   pub same : (code ≡ 0 → ⊥) → (after ≡ before) × (recovery_story new ≡ recovery_story old)
   pub answers : IsRecovery old
       → (code ≡ wants) ⊎ (((code ≡ 0) × GoesOnWith (seen_in (recovery_story old).now) after)
-      ⊎ ((fault : RecFault) × (code ≡ code_of_fault fault)
+      ⊎ ((fault : RecFault) × IsNumberOf (seen_in (recovery_story old).now) fault code
       × IsRefusedFor (seen_in (recovery_story old).now) fault))
-  pub device : code ≡ fault_code Device → LacksJournal old
+  pub device : code ≡ fault_code Device → IsShort old ⊎ LacksJournal old
+  pub short : IsRecovery old → IsShort old → code ≡ fault_code Device
   pub checked : code ≡ 0
       → HasCounted (seen_of Journal (recovery_story old)) (seen_of Data (story_in after))
   pub any_moment : IsRecovery old

@@ -1,10 +1,14 @@
 // What comes after a power cut, where C reads a window of a file at a time: a recovery, a reopening and an erasing.
 
-ghost use Rattle.std.specs.Prelude.{◌≡◌, length};
+ghost use Rattle.std.specs.Prelude.{◌≡◌};
 ghost use Rattle.fit_device.specs.Asking.{finding_phase};
-ghost use Rattle.fit_device.specs.Windowed.{BeginsRecovery, TakesJournalWindow, TakesWindow, ReadsRide, ReopensOn, ErasesOn, IsRecovery};
+ghost use Rattle.fit_device.specs.Windowed.{BeginsRecovery, TakesJournalWindow, TakesWindow, ReadsRide, ReopensOn, ErasesOn, IsRecovery, IsShort, recovery_story};
+ghost use Rattle.fit_device.specs.Planned.{Leads};
+ghost use Rattle.fit_disk.specs.Story.{Story};
+ghost use Rattle.fit_recorder.specs.Calls.FaultCode.{fault_code};
+ghost use Rattle.fit_recorder.specs.declared.fault.RecFault.TheVariants.{Device};
 
-use crate::answer::{NEEDS_WINDOW, NO_RECORDER, code_of_fault};
+use crate::answer::{NEEDS_WINDOW, NO_RECORDER, code_of_fault, number_of};
 use crate::files::Files;
 use crate::handle::Handle;
 use crate::plan::DevicePlan;
@@ -42,6 +46,9 @@ pub extern "C" fn fitrec_recover_next(recovery: &mut RecoveryHandle, plan: &mut 
         plan.clear();
         return NO_RECORDER;
     }
+    if recovery.is_short() {
+        return fails(recovery, plan);
+    }
     if recovery.phase == FINDS {
         find_body(recovery, plan)
     } else {
@@ -62,6 +69,9 @@ pub extern "C" fn fitrec_reopen_next(
     if !recovery.is_recovery() {
         plan.clear();
         return NO_RECORDER;
+    }
+    if recovery.is_short() {
+        return fails(recovery, plan);
     }
     if recovery.phase == FINDS {
         return find_body(recovery, plan);
@@ -85,9 +95,7 @@ pub extern "C" fn fitrec_erase_next(recovery: &mut RecoveryHandle, plan: &mut De
         return NO_RECORDER;
     }
     if recovery.lacks_front() {
-        recovery.leave();
-        plan.clear();
-        return code_of_fault(&RecFault::Device);
+        return fails(recovery, plan);
     }
     let mut files = recovery.take_files();
     match erase_known(&mut files, recovery.given()) {
@@ -102,12 +110,26 @@ pub extern "C" fn fitrec_erase_next(recovery: &mut RecoveryHandle, plan: &mut De
     }
 }
 
+// Ends with the fault of a call that failed, since the window has too little.
+fn fails(recovery: &mut RecoveryHandle, plan: &mut DevicePlan) -> u8
+    ensures code { result ≡ fault_code Device }
+    ensures ended { IsRecovery recovery.new → ⊥ }
+    ensures story { recovery_story recovery.new ≡ recovery_story recovery.old }
+    ensures none { plan.new.count ≡ 0 }
+    ensures leads { (story : Story) → Leads plan.new story story }
+{
+    recovery.leave();
+    plan.clear();
+    code_of_fault(&RecFault::Device)
+}
+
 // Finds in the journal how much is committed.
 // Not inlined, like the next: only one of them takes its stack.
 #[inline(never)]
 fn find_body(handle: &mut RecoveryHandle, plan: &mut DevicePlan) -> u8
     requires asks { IsRecovery handle.old }
     requires finds { handle.old.phase ≡ finding_phase }
+    requires full { IsShort handle.old → ⊥ }
     ensures { TakesJournalWindow handle.old handle.new plan.new result }
 {
     let mut recovery = Recovery::idle();
@@ -122,8 +144,9 @@ fn find_body(handle: &mut RecoveryHandle, plan: &mut DevicePlan) -> u8
             NEEDS_WINDOW
         }
         Err(fault) => {
+            let code = number_of(&fault, files.size, handle.given());
             handle.put_files(files, journal_size);
-            code_of_fault(&fault)
+            code
         }
     }
 }
@@ -133,6 +156,7 @@ fn find_body(handle: &mut RecoveryHandle, plan: &mut DevicePlan) -> u8
 fn read_body(handle: &mut RecoveryHandle, plan: &mut DevicePlan) -> u8
     requires asks { IsRecovery handle.old }
     requires reads { handle.old.phase ≡ finding_phase → ⊥ }
+    requires full { IsShort handle.old → ⊥ }
     ensures { TakesWindow handle.old handle.new plan.new result }
 {
     let mut recovery = Recovery::idle();
@@ -160,6 +184,7 @@ fn read_body(handle: &mut RecoveryHandle, plan: &mut DevicePlan) -> u8
 fn read_ride(handle: &mut RecoveryHandle, plan: &mut DevicePlan) -> Result<(FoundRide, Files), u8>
     requires asks { IsRecovery handle.old }
     requires reads { handle.old.phase ≡ finding_phase → ⊥ }
+    requires full { IsShort handle.old → ⊥ }
     ensures { ReadsRide handle.old handle.new plan.new result }
 {
     let mut recovery = Recovery::idle();

@@ -5,8 +5,7 @@ ghost use Rattle.fit_disk.specs.Calls.{IsSound};
 ghost use Rattle.fit_device.specs.Sealed.{IsSealed, GoesOnIn};
 ghost use Rattle.fit_disk.specs.Counts.{no_calls};
 ghost use Rattle.fit_plan.specs.Plan.{plan_story, plan_since, plan_counts, room_in, whole_room};
-ghost use Rattle.fit_recorder.specs.Calls.Frozen.{state_in, has_failed_in};
-ghost use Rattle.fit_recorder.specs.Calls.Recorder.{GoesOn, state_of, has_failed, disk_of};
+ghost use Rattle.fit_recorder.specs.Calls.Recorder.{GoesOn, has_failed};
 
 use crate::files::Files;
 use crate::plan::DevicePlan;

@@ -1,6 +1,6 @@
 // A plan in the memory of C.
 
-ghost use Rattle.std.specs.Prelude.{◌≡◌, ◌≤◌, take, length};
+ghost use Rattle.std.specs.Prelude.{◌≡◌, ◌≤◌};
 ghost use Rattle.fit_disk.specs.Story.{Story};
 ghost use Rattle.fit_plan.specs.Plan.{plan_story, plan_since};
 

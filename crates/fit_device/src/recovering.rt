@@ -7,14 +7,14 @@ ghost use Rattle.fit_disk.specs.Calls.{IsSound};
 ghost use Rattle.fit_disk.specs.State.{seen_in};
 ghost use Rattle.fit_disk.specs.Story.{Story, seen_of};
 ghost use Rattle.fit_disk.specs.declared.disk.Which.TheVariants.{Data, Journal};
-ghost use Rattle.fit_plan.specs.Plan.{plan_story, plan_since, plan_counts, room_in, whole_room, plan_log};
+ghost use Rattle.fit_plan.specs.Plan.{plan_story, plan_log};
 ghost use Rattle.fit_recorder.specs.Calls.Recovery.{InRecovery, RecoveryAnswers};
 ghost use Rattle.fit_recorder.specs.Calls.Ride.{MayGoOn, TakesUp};
 ghost use Rattle.fit_recorder.specs.Calls.Windows.{AreAt, place_of};
 ghost use Rattle.fit_recorder.specs.Files.Committed.{HasCounted};
 ghost use Rattle.fit_recorder.specs.declared.fault.RecFault.TheVariants as faults;
 
-use crate::answer::code_of_fault;
+use crate::answer::{code_of_fault, number_of};
 use crate::files::Files;
 use crate::handle::Handle;
 use crate::plan::DevicePlan;
@@ -46,7 +46,7 @@ pub extern "C" fn fitrec_recover(
         }
         Err(fault) => {
             plan.clear();
-            code_of_fault(&fault)
+            number_of(&fault, data_bytes.len() as u64, journal_bytes)
         }
     }
 }
@@ -73,7 +73,7 @@ pub extern "C" fn fitrec_reopen(
         Err(fault) => {
             handle.leave();
             plan.clear();
-            code_of_fault(&fault)
+            number_of(&fault, data_bytes.len() as u64, journal_bytes)
         }
     }
 }

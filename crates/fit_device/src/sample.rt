@@ -1,6 +1,6 @@
 // A sample in the memory of C.
 
-ghost use Rattle.std.specs.Prelude.{◌≡◌, ◌==◌, if◌then◌else◌, pos, Some, None};
+ghost use Rattle.std.specs.Prelude.{◌≡◌, ◌==◌, if◌then◌else◌, Some, None};
 ghost use Rattle.fit_device.specs.Sampled.{unless, unless_signed, sample_given};
 
 use fit_activity::Sample;

@@ -69,7 +69,7 @@ pub struct RecoveryHandle {
 }
 
 impl RecoveryHandle {
-    ghost use Rattle.fit_device.specs.Windowed.{recovery_story, asked_of, IsRecovery, AsksForBody, AsksForJournal};
+    ghost use Rattle.fit_device.specs.Windowed.{recovery_story, asked_of, IsRecovery, IsShort, AsksForBody, AsksForJournal};
     ghost use Rattle.fit_recorder.specs.Calls.Windows.{CanReadOn, ReadsBodyOn, place_of};
 
     // Whether it asks for a window.
@@ -161,9 +161,17 @@ impl RecoveryHandle {
         self.filled == 0 && self.journal_size > 0
     }
 
+    // Whether its window has less than it asks for.
+    pub(crate) fn is_short(&self) -> bool
+        ensures { IsTrue result ↔ IsShort self.now }
+    {
+        self.filled < self.count
+    }
+
     // Asks for nothing.
     pub(crate) fn leave(&mut self)
-        ensures { IsRecovery self.new → ⊥ }
+        ensures ended { IsRecovery self.new → ⊥ }
+        ensures story { recovery_story self.new ≡ recovery_story self.old }
     {
         self.mark = 0;
     }

@@ -1,6 +1,6 @@
 // The two real files of a recording.
 
-ghost use Rattle.std.specs.Prelude.{[], ◌+◌, ◌<◌, ◌≡◌, ◌≤◌, false, true, length, IfOk, IsErr, IsTrue, OnOk, OnErr};
+ghost use Rattle.std.specs.Prelude.{[], ◌+◌, ◌<◌, ◌≡◌, ◌≤◌, false, true, length, IfOk, IsTrue, OnOk, OnErr};
 ghost use Rattle.fit_disk.specs.Calls.{ReadsAt, Wrote, Shortened, Synced};
 ghost use Rattle.fit_disk.specs.Counts.{unplanned, no_calls, no_room, with_failure, CountsCall, CountsRead};
 ghost use Rattle.fit_disk.specs.Story.{seen_of};

@@ -1,7 +1,6 @@
 // An honest witness. It holds in memory what both files must hold, and checks each answer against that.
 
 ghost use Rattle.std.specs.Prelude.{◌≡◌, ◌≤◌, false, true, length, IfOk, OnOk, OnErr, IsErr};
-ghost use Rattle.fit_disk.specs.Calls.{Wrote, Shortened, Synced};
 ghost use Rattle.fit_disk.specs.Counts.{must_fail};
 ghost use Rattle.fit_disk.specs.Events.{fresh};
 ghost use Rattle.fit_disk.specs.Memory.{memory_story, memory_counts, memory_schedule};

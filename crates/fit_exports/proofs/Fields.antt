@@ -1,43 +1,89 @@
--- Which fields the messages of a file have: for `numbers_in`.
-use Rattle.std.proofs.Common.{set, eq-zero-or-pos, ◌⊎◌, ◌≡◌, ◌≢◌, ◌<◌, ◌≤◌, ℕ, zero, suc, ◌+◌, ◌-◌, ◌==◌, ◌&&◌, ◌||◌, not, if◌then◌else◌, Bool, true, false, List, [], ◌∷◌, ◌++◌, take, length, get_or, Option, refl, sym, ap, ap₂, ◌∙◌, inl, inr, length-set, arith, rules}
-use Rattle.std.proofs.lemmas.List.{get_or-set_same, get_or-set_other, get_or_past, length-append, length-take, take-append-le, take_all}
-use Rattle.std.proofs.lemmas.Bool.{cases_lt}
+-- Which fields the messages of a file have: for `numbers_in` and `Held`.
+use Rattle.std.proofs.Common.{◌≡◌, ◌≢◌, ◌<◌, ◌≤◌, ℕ, zero, suc, ◌==◌, ◌&&◌, ◌||◌, not, nat_lt, max, if◌then◌else◌, Bool, true, false, List, [], ◌∷◌, ◌++◌, map, take, length, get_or, refl, sym, ap, ap₂, ◌∙◌, arith, rules}
+use Rattle.std.specs.Option.{is_some}
+use Rattle.std.proofs.lemmas.List.{length-append, length-take, take-append-le, take_all}
+use Rattle.std.proofs.lemmas.Bool.Decides.{nat_tests}
 use Rattle.fit_grammar.specs.declared.definition.Definition.{Definition}
-use Rattle.fit_grammar.specs.Format.Item.{Defines}
-use Rattle.fit_grammar.specs.Calls.Table.{in_force_after}
-use Rattle.fit_exports.specs.Held.{AreNoted, numbers_by, or_time, others_below}
+use Rattle.fit_grammar.specs.declared.definition.FieldDefinition.{FieldDefinition}
+use Rattle.fit_grammar.specs.declared.definition.DeveloperFieldDefinition.{DeveloperFieldDefinition}
+use Rattle.fit_grammar.specs.Calls.LentItem.{LentItem, DefinesHere, DataHere}
+use Rattle.fit_base.specs.Base.{base_type}
+use Rattle.fit_columns.specs.declared.fields.FieldHere.{FieldHere}
+use Rattle.fit_columns.specs.Fields.{native_here, developer_code, developer_here, fields_here, holding, held_by, held_in, is_one_by, timed_in}
+use Rattle.fit_exports.specs.Held.{has_field, is_field, is_field_of, is_held, numbers_by, or_time, others_below}
 
--- what a message has was noted
-pub joined : (old has rest new all : Bool) → new ≡ (old || has) → (old || (has || rest)) ≡ all → (new || rest) ≡ all
-joined true has rest new all is before = ap (λ b. b || rest) is ∙ before
-joined false true rest new all is before = ap (λ b. b || rest) is ∙ before
-joined false false rest new all is before = ap (λ b. b || rest) is ∙ before
+-- ---- what is held at the number of a field
 
-same_or_not : (a b : ℕ) → (a ≡ b) ⊎ (a ≢ b)
-same_or_not a b =
-    elim (eq-zero-or-pos ((a - b) + (b - a))) [
-      | inl none ↦ inl (omega arith)
-      | inr some ↦ inr (λ e. omega (arith, some, e))
-    ]
+max_more : (a b : ℕ) → nat_lt 1 (max a b) ≡ (nat_lt 1 a || nat_lt 1 b)
+max_more a b = grind (arith, nat_tests)
 
-not_known : (known : List Bool) (k : ℕ) → get_or (set known k false) k false ≡ false
-not_known known k =
-    elim (cases_lt k (length known)) [
-      | inl lt ↦ get_or-set_same known k false false lt
-      | inr ge ↦ get_or_past (set known k false) k false (omega (arith, ge, length-set known k false))
-    ]
+or_assoc : (a b c : Bool) → ((a || b) || c) ≡ (a || (b || c))
+or_assoc true b c = refl
+or_assoc false b c = refl
 
--- after a definition its local number is not known
-pub forgotten : (definition_for : ℕ → Option Definition) (d : Definition) (held known : List Bool) (k : ℕ) → k ≡ d.local
-    → AreNoted definition_for held known → AreNoted (in_force_after (Defines d) definition_for) held (set known k false)
-forgotten definition_for d held known k place noted local found is has =
-    elim (same_or_not local k) [
-      | inl here ↦ let no : false ≡ true = sym (not_known known k) ∙ ap (λ i. get_or (set known k false) i false) (sym here) ∙ is in absurd cc
-      | inr other ↦
-          let apart : d.local ≢ local = λ e. other (sym e ∙ sym place) in
-          let no : (d.local == local) ≡ false = search rules in
-          noted local found (sym (get_or-set_other known k local false false other) ∙ is) (rw no at has)
-    ]
+or_false : (a : Bool) → (a || false) ≡ a
+or_false true = refl
+or_false false = refl
+
+if_more : (b : Bool) (n : ℕ) → nat_lt 1 (if b then n else 0) ≡ (b && nat_lt 1 n)
+if_more true n = refl
+if_more false n = refl
+
+holding_more : (empty one : Bool) → nat_lt 1 (if empty then 1 else if one then 2 else 3) ≡ not empty
+holding_more true one = refl
+holding_more false true = refl
+holding_more false false = refl
+
+native_more : (number : ℕ) (fields : List FieldDefinition) (rest : List FieldHere) →
+    nat_lt 1 (held_by number (map native_here fields ++ rest)) ≡ (is_field_of number fields || nat_lt 1 (held_by number rest))
+native_more number [] rest = refl
+native_more number (field ∷ fields) rest =
+    max_more (if field.number == number then holding (native_here field) else 0) (held_by number (map native_here fields ++ rest))
+    ∙ ap₂ (λ (a b : Bool). a || b)
+    (if_more (field.number == number) (holding (native_here field))
+    ∙ ap (λ b. (field.number == number) && b) (holding_more (field.size == 0) (is_one_by (base_type field.base) field.size)))
+    (native_more number fields rest)
+    ∙ sym (or_assoc (is_field number field) (is_field_of number fields) (nat_lt 1 (held_by number rest)))
+
+-- a developer field has no number of a byte as its code
+developer_none : (number : ℕ) (fields : List DeveloperFieldDefinition) → number < 256 → held_by number (map developer_here fields) ≡ 0
+developer_none number [] small = refl
+developer_none number (field ∷ fields) small =
+    let apart : developer_code field ≢ number = λ e. omega (arith, e, small) in
+    let no : (developer_code field == number) ≡ false = search rules in
+    rw (no, developer_none number fields small) refl
+
+field_more : (number : ℕ) (d : Definition) → number < 256 → nat_lt 1 (held_by number (fields_here d)) ≡ is_field_of number d.fields.items
+field_more number d small =
+    native_more number d.fields.items (map developer_here d.developer.items)
+    ∙ ap (λ n. is_field_of number d.fields.items || nat_lt 1 n) (developer_none number d.developer.items small)
+    ∙ or_false (is_field_of number d.fields.items)
+
+regrouped : (g f t s h r : Bool) → ((g && (f || (t && s))) || (h || (t && r))) ≡ (((g && f) || h) || (t && ((g && s) || r)))
+regrouped false f t s h r = refl
+regrouped true true t s h r = refl
+regrouped true false false s h r = refl
+regrouped true false true false h r = refl
+regrouped true false true true true r = refl
+regrouped true false true true false r = refl
+
+pub held_says : (message number : ℕ) (items : List LentItem) → number < 256 →
+    is_held message items number ≡ (nat_lt 1 (held_in message items number) || ((number == 253) && timed_in message items))
+held_says message number [] small = and_false (number == 253)
+  where
+    and_false : (b : Bool) → false ≡ (b && false)
+    and_false true = refl
+    and_false false = refl
+held_says message number (DefinesHere d ∷ items) small = held_says message number items small
+held_says message number (DataHere m ∷ items) small =
+    let g = m.definition.global == message in
+    ap (λ b. (g && has_field number m) || b) (held_says message number items small)
+    ∙ regrouped g (is_field_of number m.definition.fields.items) (number == 253) (is_some m.time) (nat_lt 1 (held_in message items number))
+    (timed_in message items)
+    ∙ ap (λ b. (b || nat_lt 1 (held_in message items number)) || ((number == 253) && ((g && is_some m.time) || timed_in message items)))
+    (ap (λ b. g && b) (sym (field_more number m.definition small)) ∙ sym (if_more g (held_by number (fields_here m.definition))))
+    ∙ ap (λ b. b || ((number == 253) && ((g && is_some m.time) || timed_in message items)))
+    (sym (max_more (if g then held_by number (fields_here m.definition) else 0) (held_in message items number)))
 
 -- one number more, where there is room, or not
 pub held_room : (numbers items : List ℕ) (number : ℕ) → items ≡ take 128 numbers → length items < 128 → items ++ number ∷ [] ≡ take 128 (numbers ++ number ∷ [])

@@ -1,6 +1,5 @@
 -- The fields that the messages of one global number have in a file.
-use Rattle.std.specs.Prelude.{◌≡◌, ℕ, zero, suc, ◌-◌, ◌<◌, Bool, true, false, not, List, [], ◌∷◌, ◌++◌, length, take, slice_index_or, Option, Some, is_some, ◌==◌, ◌&&◌, ◌||◌, if◌then◌else◌}
-use Rattle.fit_grammar.specs.declared.definition.Definition.{Definition}
+use Rattle.std.specs.Prelude.{◌≡◌, ℕ, zero, suc, ◌-◌, Bool, false, not, List, [], ◌∷◌, ◌++◌, length, take, is_some, ◌==◌, ◌&&◌, ◌||◌, if◌then◌else◌}
 use Rattle.fit_grammar.specs.declared.definition.FieldDefinition.{FieldDefinition}
 use Rattle.fit_grammar.specs.Format.Item.{Item}
 use Rattle.fit_grammar.specs.Calls.LentItem.{LentData, LentItem, DefinesHere, DataHere, items_lent}
@@ -54,10 +53,3 @@ fields_held message items = take MOST_COLUMNS (numbers_held message items)
 pub record AreHeld (numbers : List ℕ) (held : Held) : Type 0 where
   pub fields : held.fields.items ≡ take MOST_COLUMNS numbers
   pub left_out : held.left_out ≡ length numbers - MOST_COLUMNS
-
--- the fields of each definition in force that is known were noted
-abbrev pub AreNoted : (ℕ → Option Definition) → List Bool → List Bool → Type 0
-AreNoted definition_for held known =
-    (local : ℕ) (d : Definition) → slice_index_or known local false ≡ true
-    → definition_for local ≡ Some d → (number : ℕ) → number < 256
-    → is_field_of number d.fields.items ≡ true → slice_index_or held number false ≡ true

@@ -1,13 +1,12 @@
 // The fields that the messages of a file have, as the columns of a table.
 
-ghost use Rattle.std.specs.Prelude.{◌≡◌, ◌<◌, ◌^◌, ◌++◌, ◌∷◌, ◌==◌, ◌&&◌, ◌||◌, if◌then◌else◌, [], ℕ, List, Option, Some, false, is_some, length, slice_index_or};
-ghost use Rattle.fit_grammar.specs.declared.definition.Definition.{Definition};
+ghost use Rattle.std.specs.Prelude.{◌≡◌, ◌<◌, ◌^◌, ◌++◌, ◌∷◌, ◌||◌, if◌then◌else◌, [], ℕ, List, false, length, nat_lt, slice_index_or};
 ghost use Rattle.fit_grammar.specs.Calls.LentItem.{items_lent};
-ghost use Rattle.fit_exports.specs.Held.{AreHeld, AreNoted, is_field, is_field_of, is_held, numbers_held, others_below};
+ghost use Rattle.fit_exports.specs.Held.{AreHeld, is_held, numbers_held, others_below};
 
 use arrayvec::ArrayVec;
-use fit_columns::MOST_COLUMNS;
-use fit_grammar::{DataMessage, FieldDefinition, FileItem, LentFile};
+use fit_columns::{MOST_COLUMNS, find_held};
+use fit_grammar::LentFile;
 
 // The number of the field that has the time of a message.
 const TIMESTAMP: u8 = 253;
@@ -84,68 +83,18 @@ fn numbers_in(file: &LentFile<'_>, message: u16) -> [bool; 256]
     ensures { (number : ℕ) → number < 256 → slice_index_or result number false
         ≡ is_held message (items_lent file.now.items) number }
 {
+    let mut known = [0; 256];
+    let timed = find_held(file, message, &mut known);
     let mut held = [false; 256];
-    let mut known = [false; 16];
-    for item in file.items() {
-        match item {
-            FileItem::Definition(definition) => {
-                known[usize::from(definition.local())] = false;
-                continue;
-            }
-            FileItem::Data(found, time) => {
-                if found.definition.global() != message {
-                    continue;
-                }
-                note(&mut held, &mut known, &found, time);
-            }
-        }
+    for number in 0..256 {
+        held[number] = is_there(known[number], (number == usize::from(TIMESTAMP)) & timed);
     }
     held
 }
 
-// Notes the fields of a message, of which those of its definition are noted if it is known.
-fn note(
-    held: &mut [bool; 256],
-    known: &mut [bool; 16],
-    message: &DataMessage<'_>,
-    time: Option<u32>,
-)
-    requires { message.now.local < 16 }
-    ensures noted { (definition_for : ℕ → Option Definition)
-        → definition_for message.now.local ≡ Some message.now.definition
-        → AreNoted definition_for held.old known.old
-        → AreNoted definition_for held.new known.new }
-    ensures held { (definition_for : ℕ → Option Definition)
-        → definition_for message.now.local ≡ Some message.now.definition
-        → AreNoted definition_for held.old known.old
-        → (number : ℕ) → number < 256
-        → slice_index_or held.new number false
-        ≡ (slice_index_or held.old number false
-        || (is_field_of number message.now.definition.fields.items || ((number == 253) && is_some time))) }
+// 0 and 1 are no field, and one that is always of size 0.
+fn is_there(held: u8, timed: bool) -> bool
+    ensures { result ≡ (nat_lt 1 held || timed) }
 {
-    held[usize::from(TIMESTAMP)] |= time.is_some();
-    let local = usize::from(message.local);
-    if known[local] {
-        return;
-    }
-    known[local] = true;
-    note_fields(held, message.definition.read().fields.as_slice());
-}
-
-fn note_fields(held: &mut [bool; 256], fields: &[FieldDefinition])
-    ensures { (number : ℕ) → number < 256 → slice_index_or held.new number false
-        ≡ (slice_index_or held.old number false || is_field_of number fields.now) }
-{
-    for field in fields {
-        note_field(held, field);
-    }
-}
-
-fn note_field(held: &mut [bool; 256], field: &FieldDefinition)
-    ensures { (number : ℕ) → number < 256 → slice_index_or held.new number false
-        ≡ (slice_index_or held.old number false || is_field number field.now) }
-{
-    if field.size != 0 {
-        held[usize::from(field.number)] = true;
-    }
+    held > 1 || timed
 }

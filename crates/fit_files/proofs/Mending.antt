@@ -100,7 +100,7 @@ all_lines o m n text left said flushed none leaves flush =
     puts_same (puts_then (leaves_none {E = ReportFault} (tt {0}) (rw no at leaves)) flush) (append-nil text)
 
 -- the text of what is kept and left out, by the numbers that its first line has
-pub text_is : (mended : Mended) (kept parts : ℕ) (counted rest : List Piece) (said : List (Option ℕ)) → kept ≡ length mended.skipped.row.items →
+pub text_is : (mended : Mended) (kept parts : ℕ) (counted rest : List Piece) (said : List (Option ℕ)) → kept ≡ length mended.skipped.row.items - mended.skipped.known →
     counted ≡ mended.skipped.pieces.items → parts ≡ kept_count counted → rest ≡ mended.skipped.pieces.items →
     said ≡ mended.skipped.others.items →
     (kept_line kept mended.looked.looked_at parts ++ codes "\n") ++ pieces_text rest said ≡ mended_text mended

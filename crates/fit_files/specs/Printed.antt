@@ -7,6 +7,6 @@ pub mod Salvaged
 pub mod PlainFile
 pub mod Saved
 pub mod Lacking
-pub mod Finished
+pub mod Kept
 pub mod Mended
 pub mod Parts

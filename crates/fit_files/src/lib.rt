@@ -4,8 +4,8 @@
 //! `check_bytes` take its bytes, and `sum_up_input` gives the summary without printing it.
 //! `plain_input` makes the plain form of a file. `read_all` reads a whole input, and `read_front` what can be read of it. `salvage_bytes`
 //! finds the readable part of a file that has no journal; `skip_bytes` goes on after its faults, in the bytes that `look_at` finds, and
-//! `print_part` prints the line of a file that was chained with others. `print_finished` says what was heard in a file. `save_ride` makes a
-//! file from the two files of a recording, `Lack` says what they lack if nothing is recorded, and `repair` finishes the recording itself.
+//! `Kept` is what either keeps, and prints its lines. `print_part` prints the line of a file that was chained with others. `save_ride` makes
+//! a file from the two files of a recording, `Lack` says what they lack if nothing is recorded, and `repair` finishes the recording itself.
 //!
 //! Contracts use the definitions of `specs/`. `Printed` has what is printed of files. `Calls` has what is taken from an input, and the
 //! numbers of faults.
@@ -14,7 +14,7 @@
 mod checking;
 mod decoding;
 mod fault;
-mod finished;
+mod kept;
 mod lack;
 mod looking;
 mod mended;
@@ -34,7 +34,7 @@ mod summary;
 pub use checking::{check_bytes, check_input, sum_up_input};
 pub use decoding::decode_input;
 pub use fault::ReportFault;
-pub use finished::{Heard, print_finished, print_finished_mended};
+pub use kept::{Heard, Kept};
 pub use lack::Lack;
 pub use looking::{Looked, look_at};
 pub use mended::Mended;

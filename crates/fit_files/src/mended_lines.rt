@@ -20,7 +20,11 @@ pub(crate) fn put_lines<O: Write>(mended: &Mended, pen: &mut Pen<'_, O>) -> Resu
     ensures lines { Puts pen.old pen.new result (mended_text mended.now) }
 {
     let kept = KeptLine {
-        kept: mended.skipped.row.len(),
+        kept: mended
+            .skipped
+            .row
+            .len()
+            .saturating_sub(mended.skipped.known),
         of: mended.looked.looked_at,
         parts: count_kept(mended.skipped.pieces.as_slice()),
     };

@@ -31,7 +31,7 @@ impl Salvage<'_> {
     ghost use Rattle.fit_grammar.specs.Format.File.{FileOf, IsFrame};
     ghost use Rattle.fit_grammar.specs.Format.Item.{Item};
     ghost use Rattle.fit_grammar.specs.Format.Records.{Records};
-    ghost use Rattle.fit_files.specs.Printed.Salvaged.{IsSalvage, IsNoForm, DecodesSalvage, ReadsSalvage, PlainsSalvage, saved_file, kept_text, left_text};
+    ghost use Rattle.fit_files.specs.Printed.Salvaged.{IsSalvage, IsNoForm, DecodesSalvage, ReadsSalvage, PlainsSalvage, saved_file, left_text};
     ghost use Rattle.fit_files.specs.Printed.Shown.{IsOutputFault};
 
     /// Writes the row as a file of its own: a header, the row and a checksum. After an `Err` a prefix of that file is written. No
@@ -87,15 +87,6 @@ impl Salvage<'_> {
             return Err(ReportFault::Input(ReadFault::NoMemory));
         };
         decode_whole(alloc, bytes.as_slice())
-    }
-
-    /// Prints how many of the bytes looked at were kept. If the output fails, a prefix of that line is written.
-    pub fn print<O: Write>(&self, out: &mut O) -> Result<(), ReportFault>
-        ensures fault { IfErr result IsOutputFault }
-        ensures line { WritesText (O.contents out.old) (O.contents out.new) result
-            (kept_text self.now ++ codes "\n") }
-    {
-        print_line(self, out)
     }
 
     /// Prints `not_looked_at`, unless it is 0. If the output fails, a prefix of that line is written.

@@ -1,6 +1,6 @@
 // Finds the readable part of a file that has no journal.
 
-ghost use Rattle.std.specs.Prelude.{◌≡◌, ◌<◌, ◌≤◌, ◌^◌, drop, length, IfOk, IfErr};
+ghost use Rattle.std.specs.Prelude.{◌≡◌, ◌<◌, ◌≤◌, ◌^◌, length, IfOk, IfErr};
 ghost use Rattle.fit_files.specs.Printed.Salvaged.{looked_at as looked_at_of, IsSalvage, IsNotSalvaged};
 
 use crate::salvage::Salvage;

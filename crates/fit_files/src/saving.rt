@@ -1,13 +1,10 @@
 // Saves a ride from the bytes of the two files of its recording. The files themselves are not written.
 
-ghost use Rattle.std.specs.Prelude.{◌≡◌, ◌+◌, ◌≤◌, ◌<◌, ◌^◌, length, vec_len, IsErrOf, IfErr, IfOk, Err, ◌⊎◌, OnOk};
+ghost use Rattle.std.specs.Prelude.{◌≡◌, ◌+◌, ◌≤◌, ◌<◌, ◌^◌, IsErrOf, IfErr, Err, ◌⊎◌, OnOk};
 ghost use Rattle.fit_buffers.specs.Buffers.{story_in, counts_in, room_of};
 ghost use Rattle.fit_disk.specs.Counts.{no_calls};
 ghost use Rattle.fit_disk.specs.State.{seen_in};
 ghost use Rattle.fit_disk.specs.declared.disk.Which.TheVariants.{Data, Journal};
-ghost use Rattle.fit_grammar.specs.Calls.Output.{WritesText};
-ghost use Rattle.fit_grammar.specs.Format.Encoding.{encoded};
-ghost use Rattle.fit_grammar.specs.Format.File.{FileOf};
 ghost use Rattle.fit_recorder.specs.Calls.Recovery.{RecoveryAnswers, IsRecoveryFault};
 ghost use Rattle.fit_recorder.specs.Files.Committed.{HasCounted};
 ghost use Rattle.fit_recorder.specs.Files.Limits.{longest_end};

@@ -5,7 +5,7 @@ use Rattle.fit_grammar.specs.Format.Message.{Message}
 use Rattle.fit_activity.specs.declared.recording.entry.Entry.{Entry}
 use Rattle.fit_activity.specs.declared.recording.entry.Entry.TheVariants.{Sample, Lap, Pause, Resume}
 use Rattle.fit_activity.specs.declared.recording.entry.Sample.{Sample as AnySample}
-use Rattle.fit_fields.specs.Table.{sample_rows}
+use Rattle.fit_activity.specs.Rides.Fields.{sample_rows}
 use Rattle.fit_activity.specs.Rides.Table.{of_raw}
 use Rattle.fit_grammar.specs.Format.OneValue.{value_of}
 

@@ -3,14 +3,13 @@
 ghost use Rattle.std.specs.Prelude.{◌≡◌, ◌≤◌, ◌<◌, ◌^◌, IfSome, map};
 ghost use Rattle.fit_base.specs.Base.{row_of};
 ghost use Rattle.fit_grammar.specs.Format.OneValue.{value_of as value_stated};
-ghost use Rattle.fit_fields.specs.Table.{sample_rows};
+ghost use Rattle.fit_activity.specs.Rides.Fields.{sample_rows};
 ghost use Rattle.fit_activity.specs.Rides.Table.{ValuesFit};
 ghost use Rattle.fit_finishing.specs.Entries.{time_in as time_stated, sample_in as sample_stated, timer_entry, event_entry, entry_in as entry_stated};
 
 use crate::value::value_of;
-use fit_activity::{Entry, Sample};
+use fit_activity::{Entry, FIELDS, SAMPLE_FIELDS, Sample, SampleField};
 use fit_base::BaseType;
-use fit_fields::{FIELDS, FieldRow, SAMPLE_FIELDS};
 use fit_grammar::Message;
 
 // The entry of a record, a lap or an event of the timer. A stop pauses, because a ride may go on after it.
@@ -61,7 +60,7 @@ fn values_in(message: &Message) -> [Option<u32>; FIELDS]
 }
 
 // The value of a row's field.
-fn value_at(message: &Message, row: &FieldRow) -> Option<u32>
+fn value_at(message: &Message, row: &SampleField) -> Option<u32>
     requires { (row_of row.now.1).size ≤ 4 }
     ensures value { result ≡ value_stated row.now.1 row.now.0 message.now.message }
     ensures fits { IfSome result (λ n. n < 256 ^ (row_of row.now.1).size) }

@@ -1,6 +1,6 @@
 // The messages of a file, heard one after another.
 
-ghost use Rattle.std.specs.Prelude.{◌≡◌, ◌<◌, ◌+◌, ◌^◌, length};
+ghost use Rattle.std.specs.Prelude.{◌≡◌, ◌<◌, ◌+◌, ◌^◌};
 ghost use Rattle.fit_grammar.specs.Format.Message.{messages_of};
 ghost use Rattle.fit_finishing.specs.Heard.{Heard as AnyHeard, started_by, entry_heard, heard_as};
 ghost use Rattle.fit_finishing.specs.Private.Ride.{IsHearing, before_start, held};

@@ -1,9 +1,7 @@
 // A ride as it is heard, entry by entry, after its start.
 
 ghost use Rattle.std.specs.Prelude.{◌≡◌, ◌<◌, ◌+◌, ◌^◌, ◌∷◌, [], None, IsTrue, ◌↔◌, IfSome, IfNone, length};
-ghost use Rattle.fit_activity.specs.Rides.Recording.{Recorded, Started};
-ghost use Rattle.fit_activity.specs.Rides.RunningTotals.{AreTotals};
-ghost use Rattle.fit_finishing.specs.Heard.{Heard as AnyHeard, added, settled, followed_by, is_idle, start_by, starts, with_one_left_out};
+ghost use Rattle.fit_finishing.specs.Heard.{Heard as AnyHeard, added, settled, followed_by, is_idle, start_by, starts};
 ghost use Rattle.fit_finishing.specs.Private.Ride.{IsRide, HasRoom, started_after};
 
 use fit_activity::{Entry, Sport, Start, Totals};

@@ -86,6 +86,10 @@ impl<'a> Message<'a> {
         if let Some(bytes) = self.time {
             return Some(u32::from_le_bytes(bytes));
         }
+        // A time has four bytes. With fewer, a message of many empty fields is not walked.
+        if self.content.len() < 4 {
+            return None;
+        }
         stated_time(self.fields())
     }
 }

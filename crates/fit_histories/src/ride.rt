@@ -1,6 +1,6 @@
 // A recording over its disk, with a recorder that runs or without one.
 
-ghost use Rattle.std.specs.Prelude.{Bool, ◌≡◌, ◌≢◌, ◌↔◌, ◌++◌, ◌∷◌, [], true, false, None, IsTrue};
+ghost use Rattle.std.specs.Prelude.{Bool, ◌≡◌, ◌≢◌, ◌↔◌, ◌++◌, ◌∷◌, [], false, IsTrue};
 ghost use Rattle.fit_scripts.specs.declared.command.Command.TheVariants as commands;
 
 use crate::reply::Reply;
@@ -39,7 +39,6 @@ impl<D: Disk> Ride<D> {
     ghost use Rattle.fit_histories.specs.Rides.Begun.{RideBeginsForm};
     ghost use Rattle.fit_histories.specs.Rides.Moments.{LeavesAtMoments};
     ghost use Rattle.fit_histories.specs.Rides.Standing.{StandsIn, TakesStepFrom, LeavesAllowed};
-    ghost use Rattle.fit_histories.specs.Rides.Left.{LeftBy};
     ghost use Rattle.fit_recorder.specs.Files.NeverFull.{NeverFills};
 
     /// Ends the recorder that runs, if one does, and begins a recording, with a checked journal or another. If the reply is not

@@ -1,7 +1,7 @@
 -- The files that are chained in bytes, one after another.
-use Rattle.std.proofs.Common.{◌≡◌, ℕ, ◌+◌, List, [], ◌∷◌, ◌++◌, length, ◌≤◌, refl, sym, ap, subst, ◌∙◌, append_assoc, arith}
+use Rattle.std.proofs.Common.{◌≡◌, ℕ, ◌+◌, List, [], ◌∷◌, ◌++◌, length, take, drop, ◌≤◌, refl, sym, ap, subst, ◌∙◌, append_assoc, append-nil, arith}
 use Rattle.std.specs.Prelude.{flat_map, map, slice_index, slice_range}
-use Rattle.std.proofs.Math.Seq.{take-append_seam}
+use Rattle.std.proofs.Math.Seq.{drop-append_seam, take-append_seam}
 use Rattle.std.proofs.lemmas.List.{length-append}
 use Rattle.fit_base.specs.Number.{low_first}
 use Rattle.fit_grammar.specs.declared.file.frame.Frame.{Frame}
@@ -38,6 +38,20 @@ file_begins bytes file rest v e f =
     (sym (e ∙ ap (λ (l : List ℕ). l ++ rest) f.joined ∙ append_assoc (f.header ++ f.records) f.closing rest
     ∙ append_assoc f.header f.records (f.closing ++ rest)))
     (begins f.header (f.records ++ (f.closing ++ rest)) v.frame (length f.records) f.is_header)
+
+-- its records stand after the header
+pub records_at : (bytes : List ℕ) (v : FileValue) (f : FileOf bytes v) (frame : Frame) (size : ℕ) → BeginsWithHeader bytes frame size
+    → take size (drop frame.header_size bytes) ≡ f.records
+records_at bytes v f frame size begins =
+    let own = file_begins bytes bytes [] v (sym (append-nil bytes)) f in
+    let front : frame.header_size ≡ length f.header = sym begins.header_size ∙ own.header_size ∙ sym f.is_header.whole in
+    let long : size ≡ length f.records = sym begins.data_size ∙ own.data_size in
+    let joined : bytes ≡ f.header ++ (f.records ++ f.closing) = f.joined ∙ append_assoc f.header f.records f.closing in
+    let after : drop frame.header_size bytes ≡ f.records ++ f.closing =
+    ap (λ (n : ℕ). drop n bytes) front ∙ ap (λ (l : List ℕ). drop (length f.header) l) joined
+    ∙ drop-append_seam f.header (f.records ++ f.closing) in
+    ap (λ (n : ℕ). take n (drop frame.header_size bytes)) long ∙ ap (λ (l : List ℕ). take (length f.records) l) after
+    ∙ take-append_seam f.records f.closing
 
 pub file_length : (file : List ℕ) (v : FileValue) (f : FileOf file v) → length file ≡ v.frame.header_size + length f.records + 2
 file_length file v f =

@@ -3,5 +3,6 @@ pub mod Rows
 pub mod Cut
 pub mod Files
 mod Found
+mod Defined
 mod Riding
 pub mod Others

@@ -8,7 +8,7 @@ use Rattle.fit_mending.specs.declared.pieces.Piece.{Piece}
 use Rattle.fit_mending.specs.Pieces.{AreItems, ArePieces, AreWithin, piece_bytes}
 use Rattle.fit_mending.specs.Others.{AreOthers, IsOther}
 
-pub record HasSaid (bytes : List ℕ) (own : Option ℕ) (pieces rest : List Piece) (others : List (Option ℕ))
+pub record HasSaid (bytes : List ℕ) (own : Option ℕ) (known : List Item) (pieces rest : List Piece) (others : List (Option ℕ))
     (definition_for : ℕ → Option Definition) : Type 0 where
   pub before : List Item
   pub from : ℕ
@@ -16,15 +16,15 @@ pub record HasSaid (bytes : List ℕ) (own : Option ℕ) (pieces rest : List Pie
   pub items : List Item
   pub in_force_are : definition_for ≡ in_force before
   pub left : ArePieces bytes from to before rest items
-  pub said : (more : List (Option ℕ)) → AreOthers bytes own before rest more → AreOthers bytes own [] pieces (others ++ more)
+  pub said : (more : List (Option ℕ)) → AreOthers bytes own before rest more → AreOthers bytes own known pieces (others ++ more)
 
 -- one more
-pub said_more : (bytes : List ℕ) (own : Option ℕ) (pieces rest : List Piece) (piece : Piece) (others : List (Option ℕ)) (other : Option ℕ)
-    (f g : ℕ → Option Definition) → HasSaid bytes own pieces (piece ∷ rest) others f
+pub said_more : (bytes : List ℕ) (own : Option ℕ) (known : List Item) (pieces rest : List Piece) (piece : Piece) (others : List (Option ℕ)) (other : Option ℕ)
+    (f g : ℕ → Option Definition) → HasSaid bytes own known pieces (piece ∷ rest) others f
     → ((before items : List Item) → f ≡ in_force before → AreItems piece.kept before (piece_bytes bytes piece) items
     → IsOther piece.kept before own (piece_bytes bytes piece) other × (g ≡ in_force (before ++ items)))
-    → HasSaid bytes own pieces rest (others ++ other ∷ []) g
-said_more bytes own pieces rest piece others other f g has is =
+    → HasSaid bytes own known pieces rest (others ++ other ∷ []) g
+said_more bytes own known pieces rest piece others other f g has is =
     let items = has.left.0 in
     let one = is has.before items has.in_force_are has.left.3 in
     record {
@@ -35,14 +35,14 @@ said_more bytes own pieces rest piece others other f g has is =
       in_force_are = one.1;
       left = has.left.5;
       said = λ more are.
-          subst (AreOthers bytes own [] pieces) (sym (append_assoc others (other ∷ []) more))
+          subst (AreOthers bytes own known pieces) (sym (append_assoc others (other ∷ []) more))
           (has.said (other ∷ more) (other, more, items, refl, has.left.3, one.0, are));
     }
 
-pub all_said : (bytes : List ℕ) (own : Option ℕ) (pieces rest : List Piece) (others : List (Option ℕ)) (f : ℕ → Option Definition)
-    → HasSaid bytes own pieces rest others f → rest ≡ [] → AreOthers bytes own [] pieces others
-all_said bytes own pieces rest others f has none =
-    subst (AreOthers bytes own [] pieces) (append-nil others)
+pub all_said : (bytes : List ℕ) (own : Option ℕ) (known : List Item) (pieces rest : List Piece) (others : List (Option ℕ)) (f : ℕ → Option Definition)
+    → HasSaid bytes own known pieces rest others f → rest ≡ [] → AreOthers bytes own known pieces others
+all_said bytes own known pieces rest others f has none =
+    subst (AreOthers bytes own known pieces) (append-nil others)
     (has.said [] (subst (λ (l : List Piece). AreOthers bytes own has.before l []) (sym none) refl))
 
 -- the same of the first piece that is left
@@ -52,15 +52,15 @@ less pieces = take (length pieces - 1) (drop 1 pieces)
 less_is : (piece : Piece) (pieces : List Piece) → less (piece ∷ pieces) ≡ pieces
 less_is piece pieces = take_all (length (piece ∷ pieces) - 1) pieces (omega arith)
 
-pub said_first : (bytes : List ℕ) (own : Option ℕ) (pieces rest : List Piece) (others : List (Option ℕ)) (other : Option ℕ)
-    (f g : ℕ → Option Definition) (d : Piece) → 1 ≤ length rest → HasSaid bytes own pieces rest others f
+pub said_first : (bytes : List ℕ) (own : Option ℕ) (known : List Item) (pieces rest : List Piece) (others : List (Option ℕ)) (other : Option ℕ)
+    (f g : ℕ → Option Definition) (d : Piece) → 1 ≤ length rest → HasSaid bytes own known pieces rest others f
     → ((before items : List Item) → f ≡ in_force before → AreItems (get_or rest 0 d).kept before (piece_bytes bytes (get_or rest 0 d)) items
     → IsOther (get_or rest 0 d).kept before own (piece_bytes bytes (get_or rest 0 d)) other × (g ≡ in_force (before ++ items)))
-    → HasSaid bytes own pieces (less rest) (others ++ other ∷ []) g
-said_first bytes own pieces [] others other f g d some has is = absurd (omega arith)
-said_first bytes own pieces (piece ∷ rest) others other f g d some has is =
-    subst (λ (l : List Piece). HasSaid bytes own pieces l (others ++ other ∷ []) g) (sym (less_is piece rest))
-    (said_more bytes own pieces rest piece others other f g has is)
+    → HasSaid bytes own known pieces (less rest) (others ++ other ∷ []) g
+said_first bytes own known pieces [] others other f g d some has is = absurd (omega arith)
+said_first bytes own known pieces (piece ∷ rest) others other f g d some has is =
+    subst (λ (l : List Piece). HasSaid bytes own known pieces l (others ++ other ∷ []) g) (sym (less_is piece rest))
+    (said_more bytes own known pieces rest piece others other f g has is)
 
 pub less_within : (bytes : List ℕ) (rest : List Piece) → 1 ≤ length rest → AreWithin bytes rest → AreWithin bytes (less rest)
 less_within bytes [] some are = absurd (omega arith)

@@ -1,8 +1,8 @@
 -- Other rides in bytes that are left out.
-use Rattle.std.specs.Prelude.{◌≡◌, ℕ, ◌+◌, ◌-◌, ◌<◌, ◌≤◌, Bool, true, false, List, [], ◌∷◌, ◌++◌, length, drop, Option, Some, None, unwrap_or, nat_lt, ◌==◌, if◌then◌else◌}
+use Rattle.std.specs.Prelude.{◌≡◌, ℕ, ◌+◌, ◌-◌, ◌<◌, ◌≤◌, Bool, true, false, List, [], ◌∷◌, ◌++◌, length, take, drop, Option, Some, None, unwrap_or, nat_lt, ◌==◌, if◌then◌else◌}
 use Rattle.fit_grammar.specs.declared.definition.Definition.{Definition}
 use Rattle.fit_grammar.specs.Format.Item.{Item, Defines, Data}
-use Rattle.fit_grammar.specs.Format.Records.{in_force}
+use Rattle.fit_grammar.specs.Format.Records.{Records, in_force}
 use Rattle.fit_grammar.specs.Format.Message.{compressed_time, message_under}
 use Rattle.fit_grammar.specs.Calls.LentMessage.{LentMessage, lent_time}
 use Rattle.fit_grammar.specs.Calls.Step.{ItemAtFront}
@@ -25,15 +25,16 @@ followed_record so_far time =
     else if nat_lt 86400 (time - so_far.time) then None
     else Some (record { start = so_far.start; time = time; records = so_far.records + 1 })
 
--- the same with another message, which may have any time, if a record came before it
+-- the same with another message, if a record came before it, whose time is not more than a day from the last one
+abbrev pub followed_to : Followed → ℕ → Option Followed
+followed_to so_far time =
+    if nat_lt 86400 (time - so_far.time) then None
+    else if nat_lt 86400 (so_far.time - time) then None
+    else Some (record { start = so_far.start; time = time; records = so_far.records })
+
 abbrev pub followed_other : Followed → Option ℕ → Option Followed
 followed_other so_far time =
-    if so_far.records == 0 then None
-    else Some (record {
-      start = so_far.start;
-      time = unwrap_or time so_far.time;
-      records = so_far.records;
-    })
+    if so_far.records == 0 then None else followed_to so_far (unwrap_or time so_far.time)
 
 -- the same with a message that is a record or not, and has this time or none
 abbrev pub followed_at : Followed → Bool → Option ℕ → Option Followed
@@ -76,7 +77,7 @@ GoesOn most definition_for so_far bytes time =
     (items : List Item) × (length items ≤ most) × IsRideWith definition_for so_far bytes items time
 
 -- Under these definitions a ride begins at the front of the bytes: eight records or more among 24 items at most, one after another, none
--- with an earlier time than the one before it. The first message is one of them.
+-- with an earlier time than the one before it, and no time more than a day from the one before it. The first message is one of them.
 abbrev pub BeginsRide : (ℕ → Option Definition) → List ℕ → ℕ → Type 0
 BeginsRide definition_for bytes time = GoesOn 24 definition_for nothing_followed bytes time
 
@@ -88,10 +89,10 @@ IsFirstRide definition_for bytes (Some time) =
     (at : ℕ) × (at < length bytes) × BeginsRide definition_for (drop at bytes) time
     × ((earlier other : ℕ) → earlier < at → BeginsRide definition_for (drop earlier bytes) other → ⊥)
 
--- a ride that starts before one's own, by ten years at most, is another
+-- a ride that starts more than a day before one's own, and ten years at most, is another; times of one ride are not so far apart
 abbrev pub if_earlier : Option ℕ → Option ℕ → Option ℕ
 if_earlier (Some own) (Some time) =
-    if nat_lt time own then (if nat_lt 315576000 (own - time) then None else Some time) else None
+    if nat_lt 86400 (own - time) then (if nat_lt 315576000 (own - time) then None else Some time) else None
 if_earlier _ _ = None
 
 -- what is said of a piece after these items: of one that is left out, when another ride starts in it
@@ -109,8 +110,13 @@ AreOthers bytes own before (piece ∷ pieces) others =
     × IsOther piece.kept before own (piece_bytes bytes piece) other
     × AreOthers bytes own (before ++ items) pieces more
 
--- the other rides in what is left out, by the first one in the row of what is kept
-pub record FindsOthers (bytes : List ℕ) (skipped : Skipped) : Type 0 where
+-- in how many bytes of what is kept one's own ride begins
+abbrev pub own_front : ℕ
+own_front = 65536
+
+-- the other rides in what is left out, by the first one in the front of the row of what is kept, if this is known before the bytes
+pub record FindsOthers (known bytes : List ℕ) (skipped : Skipped) : Type 0 where
   pub own : Option ℕ
-  pub is_own : IsFirstRide (in_force []) skipped.row.items own
-  pub are : AreOthers bytes own [] skipped.pieces.items skipped.others.items
+  pub is_own : IsFirstRide (in_force []) (take own_front skipped.row.items) own
+  pub are : (before : List Item) → Records known before
+      → AreOthers bytes own before skipped.pieces.items skipped.others.items

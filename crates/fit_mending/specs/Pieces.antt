@@ -47,14 +47,16 @@ AreWithin bytes (piece ∷ pieces) = (piece.start ≤ piece.end) × (piece.end �
 abbrev pub kept_row : List ℕ → List Piece → List ℕ
 kept_row bytes pieces = flat_map (kept_of bytes) pieces
 
--- the pieces are the bytes from one place to another, in order and without a gap; the row of those that are kept spells these items
-pub record AreCut (bytes : List ℕ) (from to : ℕ) (items : List Item) (pieces : List Piece) : Type 0 where
-  pub are_pieces : ArePieces bytes from to [] pieces items
-  pub are_records : Records (kept_row bytes pieces) items
+-- the pieces are the bytes from one place to another, in order and without a gap; after the items `before`, the row of those that are kept
+-- spells these items
+pub record AreCut (before : List Item) (bytes : List ℕ) (from to : ℕ) (items : List Item) (pieces : List Piece) : Type 0 where
+  pub are_pieces : ArePieces bytes from to before pieces items
+  pub are_records : RecordsAfter before (kept_row bytes pieces) items
 
 -- the same of all bytes from a place on
-abbrev pub AreCutFrom : List ℕ → ℕ → List Piece → Type 0
-AreCutFrom bytes from pieces = (items : List Item) × AreCut bytes from (length bytes) items pieces
+abbrev pub AreCutFrom : List Item → List ℕ → ℕ → List Piece → Type 0
+AreCutFrom before bytes from pieces =
+    (items : List Item) × AreCut before bytes from (length bytes) items pieces
 
 -- a piece that begins at this place and is no longer than the longest row of whole items there
 pub record BeginsRow (bytes : List ℕ) (from : ℕ) (piece : Piece) : Type 0 where
@@ -66,14 +68,27 @@ abbrev pub HasFirst : List ℕ → ℕ → List Piece → Type 0
 HasFirst bytes from [] = Unit {0}
 HasFirst bytes from (piece ∷ pieces) = piece.kept ≡ true → BeginsRow bytes from piece
 
--- how all bytes from a place on are cut: if they are trusted and a row of whole items, all are kept
-pub record CutsFaults (bytes : List ℕ) (from : ℕ) (trusted : Bool) (pieces : List Piece) : Type 0 where
-  pub cut : AreCutFrom bytes from pieces
+-- how all bytes from a place on are cut after the items `before`, such as definitions that are known: if they are trusted and a row of whole
+-- items, all are kept
+pub record CutsAfter (before : List Item) (bytes : List ℕ) (from : ℕ) (trusted : Bool)
+    (pieces : List Piece) : Type 0 where
+  pub cut : AreCutFrom before bytes from pieces
   pub whole : (items : List Item) → trusted ≡ true → Records (drop from bytes) items
       → kept_row bytes pieces ≡ drop from bytes
-  pub first : HasFirst bytes from pieces
+  pub first : before ≡ [] → HasFirst bytes from pieces
 
--- the pieces of all bytes from a place on, and the row of those that are kept
-pub record IsSkipped (bytes : List ℕ) (from : ℕ) (skipped : Skipped) : Type 0 where
-  pub cut : AreCutFrom bytes from skipped.pieces.items
-  pub row_is : skipped.row.items ≡ kept_row bytes skipped.pieces.items
+-- the same, if no item is before them
+abbrev pub CutsFaults : List ℕ → ℕ → Bool → List Piece → Type 0
+CutsFaults bytes from trusted pieces = CutsAfter [] bytes from trusted pieces
+
+-- the pieces of all bytes from a place on, after the items `before`; the new row spells these items and then those of the pieces
+pub record SkipsAfter (before : List Item) (bytes : List ℕ) (from : ℕ) (trusted : Bool)
+    (skipped : Skipped) : Type 0 where
+  pub cuts : CutsAfter before bytes from trusted skipped.pieces.items
+  pub are_records : Records skipped.row.items (before ++ cuts.cut.0)
+
+-- the new row is what is known before the bytes, and then the row of the pieces that are kept
+pub record IsSkipped (known bytes : List ℕ) (from : ℕ) (trusted : Bool) (skipped : Skipped) : Type 0 where
+  pub row_is : skipped.row.items ≡ known ++ kept_row bytes skipped.pieces.items
+  pub known_is : skipped.known ≡ length known
+  pub after : (before : List Item) → Records known before → SkipsAfter before bytes from trusted skipped

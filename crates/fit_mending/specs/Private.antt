@@ -1,2 +1,4 @@
 -- What only private functions and proofs need.
 pub mod Passed
+pub mod Cut
+pub mod Adding

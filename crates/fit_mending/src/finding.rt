@@ -1,6 +1,6 @@
 // The files that stand somewhere in the bytes of a card.
 
-ghost use Rattle.std.specs.Prelude.{◌≡◌, Ok, Err, ◌↔◌, IfOk, IfErr, length, take, drop};
+ghost use Rattle.std.specs.Prelude.{◌≡◌, Ok, Err, ◌↔◌, IfOk, IfErr, take};
 ghost use Rattle.fit_mending.specs.Found.{AreFound, BeginsFile, BeginsWithFile, IsReadTo, TakesTooLong};
 ghost use Rattle.fit_mending.specs.declared.finding.FindFault.TheVariants.{TooManyHeaders};
 

@@ -3,7 +3,7 @@
 use crate::form::is_definition;
 use crate::progress::Progress;
 use crate::stray::after_stray;
-use crate::trial::{Need, follows};
+use crate::trial::{Need, follows, follows_within};
 use fit_grammar::{Latest, Step, step_after, take_over};
 
 // What has to follow an item that is no sign: no long row of others.
@@ -25,12 +25,21 @@ const AT_LEAP: Need = Need {
 };
 
 // What has to follow after a fault.
-pub(crate) const AFTER_FAULT: Need = Need {
+const AFTER_FAULT: Need = Need {
     worth: 12,
     at_end: 3,
     at_fault: i32::MAX,
     idle: 32,
     gap: 64,
+};
+
+// The same where definitions may be wrong: more, and each item next to the one before it.
+const AFTER_GUESS: Need = Need {
+    worth: 24,
+    at_end: 12,
+    at_fault: i32::MAX,
+    idle: 32,
+    gap: 0,
 };
 
 // What has to follow such an item that is of the same ride, whatever comes then.
@@ -72,13 +81,24 @@ pub(crate) fn fits_in_row<'a>(bytes: &'a [u8], latest: &Latest<'a>, progress: &P
     }
 }
 
-/// Whether items that fit follow from here on after a fault.
+/// Whether items that fit follow from here on after a fault. It adds to `looks` at how many items it looks ahead.
 pub(crate) fn fits_after_fault<'a>(
     bytes: &'a [u8],
     latest: &Latest<'a>,
     progress: &Progress,
+    looks: &mut usize,
 ) -> bool {
-    follows(bytes, latest, progress, &AFTER_FAULT) && !is_contradicted(bytes, latest, progress)
+    follows_within(bytes, latest, progress, after_fault(progress), looks)
+        && !is_contradicted(bytes, latest, progress)
+}
+
+/// What has to follow after a fault.
+pub(crate) fn after_fault(progress: &Progress) -> &'static Need {
+    if progress.is_guessed() {
+        &AFTER_GUESS
+    } else {
+        &AFTER_FAULT
+    }
 }
 
 // Whether a row of another ride begins here, such as by its definitions: what follows fits after no other items, and not after those.

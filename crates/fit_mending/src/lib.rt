@@ -2,14 +2,14 @@
 //!
 //! `cut_faults` cuts the bytes of a damaged file into pieces, one after another, into whatever takes them (`TakesPieces`); `skip_faults`
 //! into a vector, with the row of those that are kept. Each of these is a row of whole items under the definitions of the kept pieces
-//! before it and its own. The others are left out. Which bytes are kept is a judgement: `Progress` judges items by their forms,
+//! before it and its own, or under those that `known_by` finds in another file. The others are left out. Which bytes are kept is a judgement: `Progress` judges items by their forms,
 //! times and values, `follows` looks ahead, and `after_stray` finds older content. No proof says that a kept piece is no noise.
 //!
 //! `split_files` cuts bytes into the files that are chained in them, each of which begins with its header. `find_files` finds the whole
 //! files that stand somewhere in them, as in the image of a card.
 //!
-//! Contracts use the definitions of `specs/`: `Pieces` has what is kept and left out, `Others` other rides in what is left out, `Chained`
-//! where files end, `Found` which files stand in bytes.
+//! Contracts use the definitions of `specs/`: `Pieces` has what is kept and left out, `Others` other rides in what is left out, `Known`
+//! the definitions of another file, `Chained` where files end, `Found` which files stand in bytes.
 #![tactic(auto)]
 
 mod chained;
@@ -17,6 +17,7 @@ mod clock;
 mod finding;
 mod fitting;
 mod form;
+mod known;
 mod layout;
 mod pieces;
 mod progress;
@@ -30,6 +31,7 @@ mod values;
 
 pub use chained::{Part, first_file, split_files};
 pub use finding::{FindFault, find_files};
+pub use known::{Known, known_by};
 pub use pieces::{Piece, Skipped};
 pub use skipping::{cut_faults, skip_faults};
 pub use taking::TakesPieces;

@@ -14,8 +14,10 @@ pub struct Piece {
 /// What is kept of damaged bytes.
 #[derive(Drop)]
 pub struct Skipped {
-    /// The bytes of the kept pieces, one after another.
+    /// The definitions that are known before the bytes, and then the bytes of the kept pieces, one after another.
     pub row: Vec<u8>,
+    /// How many bytes of the row were known before.
+    pub known: usize,
     /// The pieces of all bytes, one after another.
     pub pieces: Vec<Piece>,
     /// Of each piece that is left out and has another ride, when that starts, in seconds since 1989-12-31 00:00 UTC.

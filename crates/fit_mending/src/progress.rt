@@ -16,6 +16,8 @@ pub(crate) struct Progress {
     values: Values,
     // How many records there were.
     records: u32,
+    // Whether definitions of another file are in force, which may be those of another device.
+    is_guessed: bool,
 }
 
 impl Progress {
@@ -25,19 +27,35 @@ impl Progress {
             clock: Clock::new(),
             values: Values::new(),
             records: 0,
+            is_guessed: false,
         }
+    }
+
+    // The same, if definitions of another file come into force.
+    pub(crate) fn guessed(&self) -> Progress {
+        let mut progress = *self;
+        progress.is_guessed = true;
+        progress
+    }
+
+    // Whether that is so.
+    pub(crate) fn is_guessed(&self) -> bool {
+        self.is_guessed
     }
 
     // What is left of it where a ride begins anew: distances and positions do, and times leap. They fall only after few records, as where
     // a clock was set, or else it is another ride.
     pub(crate) fn anew(&self) -> Progress {
-        if self.records < FEW {
-            return Progress::new();
-        }
+        let is_young = self.records < FEW;
         Progress {
-            clock: self.clock.leapt(),
+            clock: if is_young {
+                Clock::new()
+            } else {
+                self.clock.leapt()
+            },
             values: Values::new(),
-            records: self.records,
+            records: if is_young { 0 } else { self.records },
+            is_guessed: self.is_guessed,
         }
     }
 

@@ -1,15 +1,16 @@
 // Rides that begin in bytes that are left out.
 
-ghost use Rattle.std.specs.Prelude.{◌≡◌, ◌<◌, ◌≤◌, ◌+◌, ◌↔◌, ◌++◌, ℕ, List, [], None, length, IfOk, IfSome, IsTrue};
+ghost use Rattle.std.specs.Prelude.{◌≡◌, ◌<◌, ◌≤◌, ◌+◌, ◌↔◌, ◌++◌, ℕ, List, [], None, take, IfOk, IfSome, IsTrue};
 ghost use Rattle.fit_grammar.specs.Format.Item.{Item as AnyItem};
-ghost use Rattle.fit_grammar.specs.Format.Records.{in_force, RecordsAfter};
+ghost use Rattle.fit_grammar.specs.Format.Records.{in_force};
 ghost use Rattle.fit_grammar.specs.Calls.LentMessage.{message_lent};
 ghost use Rattle.fit_grammar.specs.Calls.Table.{definition_in};
 ghost use Rattle.fit_mending.specs.Pieces.{AreItems, ArePieces, AreWithin};
-ghost use Rattle.fit_mending.specs.Others.{AreOthers, BeginsRide, GoesOn, IsFirstRide, IsOther, IsRide, followed_message, followed_record, if_earlier as if_earlier_by};
+ghost use Rattle.fit_mending.specs.Others.{AreOthers, GoesOn, IsFirstRide, IsOther, IsRide, followed_message, followed_other, followed_record, if_earlier as if_earlier_by, own_front};
 
 use crate::clock::{DAY, RECORD};
 use crate::pieces::Piece;
+use crate::row::pass_row;
 use fit_grammar::{Item, Latest, Step, message_of, step_after, take_over};
 use std::alloc::{AllocError, Global};
 
@@ -26,6 +27,9 @@ const DATE: u32 = 0x1000_0000;
 
 // How many seconds another ride starts at most before one's own. Bytes that are read shifted have any times.
 const TEN_YEARS: u32 = 315_576_000;
+
+// In how many bytes of what is kept one's own ride begins. What comes before its first record is shorter.
+const FRONT: usize = 65_536;
 
 /// The messages that were followed so far.
 #[derive(Clone, Copy)]
@@ -62,13 +66,26 @@ impl Followed {
         };
         match message.time() {
             Some(time) if message.global() == RECORD => self.with_record(time),
-            _ if self.records == 0 => None,
-            time => Some(Followed {
-                start: self.start,
-                time: time.unwrap_or(self.time),
-                records: self.records,
-            }),
+            time => self.with_other(time),
         }
+    }
+
+    // The same of another message, which has this time or none.
+    fn with_other(&self, time: Option<u32>) -> Option<Followed>
+        ensures { result ≡ followed_other self.now time }
+    {
+        if self.records == 0 {
+            return None;
+        }
+        let time = time.unwrap_or(self.time);
+        if time.saturating_sub(self.time) > DAY || self.time.saturating_sub(time) > DAY {
+            return None;
+        }
+        Some(Followed {
+            start: self.start,
+            time,
+            records: self.records,
+        })
     }
 
     // The same of a record of this time.
@@ -140,41 +157,29 @@ fn first_ride<'a>(bytes: &'a [u8], latest: &Latest<'a>) -> Option<u32>
     None
 }
 
-/// When the first ride in a row of items starts.
+/// When the first ride in the front of a row of items starts.
 pub(crate) fn own_ride(row: &[u8]) -> Option<u32>
-    ensures { IsFirstRide (in_force []) row.now result }
+    ensures { IsFirstRide (in_force []) (take own_front row.now) result }
 {
-    first_ride(row, &Latest::new())
+    first_ride(&row[..row.len().min(FRONT)], &Latest::new())
 }
 
-// Passes over a row of whole items.
-fn pass_row<'a>(row: &'a [u8], latest: &mut Latest<'a>)
-    ensures { (before items : List AnyItem) → definition_in latest.old ≡ in_force before
-        → RecordsAfter before row.now items
-        → definition_in latest.new ≡ in_force (before ++ items) }
-{
-    let mut rest = row;
-    while let Step::Item(item, used) = step_after(rest, latest) {
-        take_over(latest, &item);
-        let (_, others) = rest.split_at(used);
-        rest = others;
-    }
-}
-
-/// When other rides start in the pieces that are left out, if they start before one's own.
-pub(crate) fn other_rides(
+/// When other rides start in the pieces that are left out, if they start more than a day before one's own. These definitions are known before the bytes.
+pub(crate) fn other_rides<'a>(
     alloc: Global,
-    bytes: &[u8],
+    bytes: &'a [u8],
+    known: &Latest<'a>,
     pieces: &[Piece],
     own: Option<u32>,
 ) -> Result<Vec<Option<u32>>, AllocError>
     requires { AreWithin bytes.now pieces.now }
-    ensures { IfOk result (λ others. (from to : ℕ) (items : List AnyItem)
-        → ArePieces bytes.now from to [] pieces.now items
-        → AreOthers bytes.now own [] pieces.now others.items) }
+    ensures { IfOk result (λ others. (before : List AnyItem) (from to : ℕ) (items : List AnyItem)
+        → definition_in known.now ≡ in_force before
+        → ArePieces bytes.now from to before pieces.now items
+        → AreOthers bytes.now own before pieces.now others.items) }
 {
     let mut others = Vec::new(alloc);
-    let mut latest = Latest::new();
+    let mut latest = known.again();
     let mut rest = pieces;
     while let [piece, more @ ..] = rest {
         others.push(other_in(&bytes[piece.start..piece.end], piece.kept, own, &mut latest))?;
@@ -202,12 +207,17 @@ fn other_in<'a>(
     if_earlier(own, first_ride(bytes, latest))
 }
 
-// The time of a ride that starts before one's own.
+// The time of a ride that starts more than a day before one's own.
 fn if_earlier(own: Option<u32>, first: Option<u32>) -> Option<u32>
     ensures { result ≡ if_earlier_by own first }
 {
-    match (own, first) {
-        (Some(own), Some(time)) if time < own && own - time <= TEN_YEARS => Some(time),
-        _ => None,
+    let (Some(own), Some(time)) = (own, first) else {
+        return None;
+    };
+    let earlier = own.saturating_sub(time);
+    if earlier > DAY && earlier <= TEN_YEARS {
+        Some(time)
+    } else {
+        None
     }
 }

@@ -1,6 +1,6 @@
 // Rows that do not belong where they are, such as older content of a card.
 
-use crate::fitting::AFTER_FAULT;
+use crate::fitting::after_fault;
 use crate::progress::Progress;
 use crate::trial::{Need, follows};
 use fit_grammar::{Latest, Step, step_after, take_over};
@@ -96,7 +96,7 @@ fn look_after<'a>(
 ) -> Sequel<'a> {
     for count in 0..bytes.len().min(SOON) {
         let rest = &bytes[count..];
-        if follows(rest, own, later, &AFTER_FAULT) {
+        if follows(rest, own, later, after_fault(later)) {
             return Sequel::OfRow(rest);
         }
         if follows(rest, latest, progress, &AFTER_STRAY) {

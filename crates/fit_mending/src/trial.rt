@@ -8,6 +8,9 @@ use fit_grammar::{Latest, Step, step_after, take_over};
 // How many items are looked at.
 const MOST_ITEMS: usize = 1000;
 
+// How many definitions follow one another at most: a device writes no more than one for each local number.
+const MOST_DEFINITIONS: u32 = 32;
+
 /// How much the items that follow have to be worth.
 #[derive(Clone, Copy)]
 pub(crate) struct Need {
@@ -31,6 +34,18 @@ pub(crate) fn follows<'a>(
     progress: &Progress,
     need: &Need,
 ) -> bool {
+    let mut looks = 0;
+    follows_within(bytes, latest, progress, need, &mut looks)
+}
+
+/// The same, which adds to `looks` at how many items it looks.
+pub(crate) fn follows_within<'a>(
+    bytes: &'a [u8],
+    latest: &Latest<'a>,
+    progress: &Progress,
+    need: &Need,
+    looks: &mut usize,
+) -> bool {
     if !may_begin(bytes) || is_undefined(bytes, latest) {
         return false;
     }
@@ -38,10 +53,12 @@ pub(crate) fn follows<'a>(
     let mut later = *progress;
     let mut worth: i32 = 0;
     let mut idle: u32 = 0;
+    let mut definitions: u32 = 0;
     // No gap comes before the first sign or definition.
     let mut gap = 0;
     let mut rest = bytes;
     for _ in 0..MOST_ITEMS {
+        *looks = looks.saturating_add(1);
         let (item, used) = match step_after(rest, &own) {
             Step::Item(item, used) => (item, used),
             Step::NeedMore => return worth >= need.at_end,
@@ -67,7 +84,12 @@ pub(crate) fn follows<'a>(
         } else {
             idle = idle.saturating_add(1);
         }
-        if idle > need.idle {
+        definitions = if is_definition(rest) {
+            definitions.saturating_add(1)
+        } else {
+            0
+        };
+        if idle > need.idle || definitions > MOST_DEFINITIONS {
             return false;
         }
         take_over(&mut own, &item);
@@ -101,8 +123,8 @@ fn is_sign<'a>(bytes: &'a [u8], latest: &Latest<'a>, progress: &Progress) -> boo
     later.judge(&item, &bytes[..used]) == Some(STATED)
 }
 
-// Whether the first byte is that of a data message without a definition.
-fn is_undefined<'a>(bytes: &'a [u8], latest: &Latest<'a>) -> bool {
+/// Whether the first byte is that of a data message without a definition.
+pub(crate) fn is_undefined<'a>(bytes: &'a [u8], latest: &Latest<'a>) -> bool {
     match step_after(bytes, latest) {
         Step::Refused(_) => true,
         _ => false,

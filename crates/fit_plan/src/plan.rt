@@ -1,7 +1,6 @@
 // A plan as a disk.
 
 ghost use Rattle.std.specs.Prelude.{◌≡◌, ◌+◌, ◌<◌, ◌≤◌, ◌^◌, true, length, IfOk, IsErr, OnOk, OnErr};
-ghost use Rattle.fit_disk.specs.CallSchedule.{counts_of};
 ghost use Rattle.fit_disk.specs.Calls.{ReadsAt, Wrote, Shortened, Synced, IsSound};
 ghost use Rattle.fit_disk.specs.Counts.{CountsCall, CountsRead, no_calls, with_read, with_failure, with_uncounted, last_count};
 ghost use Rattle.fit_disk.specs.Runs.{TakesRoom};

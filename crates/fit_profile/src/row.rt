@@ -1,7 +1,7 @@
 // The rows of fields.
 
-ghost use Rattle.std.specs.Prelude.{◌≡◌, ◌≤◌, true, length, option_map, IfSome};
-ghost use Rattle.fit_profile.specs.Facts.{are_short, facts_of, field_rows, row_in};
+ghost use Rattle.std.specs.Prelude.{◌≡◌, ◌≤◌, length, option_map, IfSome};
+ghost use Rattle.fit_profile.specs.Facts.{facts_of, field_rows, row_in};
 ghost use Rattle.fit_profile.specs.Known.{known_at};
 ghost use Rattle.fit_profile.specs.Row.{row_by, row_or_common};
 

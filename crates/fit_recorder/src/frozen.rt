@@ -1,7 +1,6 @@
 // A recorder as plain numbers, which C can keep between two calls.
 
-ghost use Rattle.std.specs.Prelude.{◌≡◌, ◌↔◌, true, false, IsTrue, List, map, take};
-ghost use Rattle.arrayvec.specs.ArrayVec.{ArrayVec as AnyArrayVec};
+ghost use Rattle.std.specs.Prelude.{◌≡◌, ◌↔◌, true, false, IsTrue, take};
 ghost use Rattle.fit_recorder.specs.Calls.Recorder.{IsIdle, state_of, has_failed, disk_of};
 ghost use Rattle.fit_recorder.specs.Calls.Frozen.{definition_bytes_in, definitions_in, state_in, has_failed_in, IsPossibleRecorder};
 

@@ -3,7 +3,7 @@
 use crate::failing::Failing;
 use crate::output::ONE_MESSAGE;
 use crate::reading::Pieces;
-use fit_exports::{show_json_input, table_input};
+use fit_exports::{ExportForm, export_input, table_input};
 use fit_files::ReportFault;
 use fit_table::Layout;
 use std::alloc::Global;
@@ -51,7 +51,11 @@ fn a_table_that_is_not_flushed_is_reported(rt: HostRuntime) {
 fn json_that_is_not_flushed_is_reported(rt: HostRuntime) {
     for (flushes, reported) in [(0, Err(ReportFault::Output)), (1, Ok(()))] {
         let mut out = failing_after(rt.alloc(), flushes);
-        let done = show_json_input(rt.alloc(), &mut one_message(), 100, false, false, &mut out);
+        let form = ExportForm::Json {
+            profile: false,
+            utc: false,
+        };
+        let done = export_input(rt.alloc(), &mut one_message(), 100, form, &mut out);
         assert_eq!(&rt; done, reported);
         assert_eq!(&rt; out.held.as_slice(), JSON);
     }

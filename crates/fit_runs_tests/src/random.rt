@@ -4,8 +4,8 @@ ghost use Rattle.std.specs.Prelude.{◌≤◌};
 
 use crate::direct;
 use crate::table::is_history;
+use fit_activity::{FIELDS, SAMPLE_FIELDS};
 use fit_disk::{Memory, Which};
-use fit_fields::{FIELDS, SAMPLE_FIELDS};
 use fit_histories::Answer;
 use fit_histories::world::run;
 use fit_recorder::RecFault;
@@ -121,7 +121,7 @@ impl Noise {
     // A setting of any field of a sample, sometimes with its invalid value.
     fn any_setting(&mut self, alloc: Global) -> Result<String, AllocError> {
         let place = self.below(FIELDS as u32) as usize;
-        let (_, base, _, key) = SAMPLE_FIELDS[place.min(FIELDS - 1)];
+        let (_, base, key) = SAMPLE_FIELDS[place.min(FIELDS - 1)];
         let invalid = base.invalid();
         let number = if self.one_in(6) {
             invalid

@@ -4,7 +4,7 @@ ghost use Rattle.std.specs.Prelude.{◌<◌, ◌^◌, length};
 
 use crate::equality::equal;
 use crate::failing::Failing;
-use fit_files::{Salvage, salvage_bytes};
+use fit_files::{Kept, Salvage, salvage_bytes};
 use fit_grammar::{FaultKind, FileFault, WriteFailed, encode_file};
 use std::alloc::Global;
 use std::process::Abort;
@@ -184,7 +184,7 @@ fn expect_printed(rt: &impl Abort, alloc: Global, bytes: &[u8], kept: &[u8], lef
 {
     let salvage = salvage_bytes(bytes, false).expect(rt, "a header");
     let mut out = Vec::new(alloc);
-    assert!(rt; salvage.print(&mut out).is_ok());
+    assert!(rt; Kept::Front(salvage).print(None, &mut out).is_ok());
     equal(rt, out.as_slice(), kept);
     out.clear();
     assert!(rt; salvage.print_left(&mut out).is_ok());

@@ -1,17 +1,17 @@
 -- A file as JSON in the names and the units of the Profile. Each field is named and written as its column in a table is.
 use Rattle.std.specs.Prelude.{◌≡◌, ℕ, ℤ, pos, negsuc, Bool, true, false, List, [], ◌∷◌, ◌++◌, Option, Some, None, IfSome, slice_index_or, codes, option_map, nat_le, ◌==◌, ◌&&◌, if◌then◌else◌}
 use Rattle.std.specs.Borrow.{Bor}
-use Rattle.std.specs.List.{join_by}
 use Rattle.fit_base.specs.declared.base.BaseType.{BaseType}
 use Rattle.fit_base.specs.declared.base.BaseType.TheVariants.{Byte}
 use Rattle.fit_base.specs.Number.{twos_complement}
 use Rattle.fit_base.specs.Base.{base_type, row_of, has_sign}
 use Rattle.fit_base.specs.Value.{Values, Numbers, values_of}
-use Rattle.fit_grammar.specs.Format.Message.{Message, MessageField, MessageDeveloperField, messages_of}
+use Rattle.fit_grammar.specs.Format.Message.{MessageField, MessageDeveloperField, messages_of}
 use Rattle.fit_grammar.specs.Format.File.{FileValue}
 use Rattle.fit_text.specs.Date.{date_text}
-use Rattle.fit_text.specs.Form.{lines_of}
-use Rattle.fit_text.specs.Json.{quoted, string_json, values_json, developer_key, developer_json, line_json, header_json, count_json}
+use Rattle.fit_text.specs.Form.{FileForm, lines_of}
+use Rattle.fit_text.specs.Json.{json_form, json_notation, string_json, developer_key, developer_json}
+use Rattle.fit_text.specs.Values.{number_as, quoted, values_as}
 use Rattle.fit_profile.specs.declared.scale.Scale.{Scale}
 use Rattle.fit_profile.specs.declared.scale.Scale.TheVariants.{Whole as AsItIs}
 use Rattle.fit_profile.specs.Facts.{facts_of}
@@ -75,20 +75,14 @@ number_json unit type n =
     if n == (row_of type).invalid then codes "null"
     else value_json unit (if has_sign type then twos_complement (row_of type).size n else pos n)
 
--- one number, or an array of several
-unfoldable pub numbers_json : AnyUnit → BaseType → List ℕ → List ℕ
-numbers_json unit type (n ∷ []) = number_json unit type n
-numbers_json unit type numbers =
-    codes "[" ++ join_by (number_json unit type) (codes ",") numbers ++ codes "]"
+-- a number of a type that has units in its unit; of another one as without the Profile
+abbrev pub number_in : AnyUnit → BaseType → ℕ → List ℕ
+number_in unit type n =
+    if has_units (Some type) then number_json unit type n else number_as json_notation type n
 
--- the values of a field: numbers in the unit, if the type has units; others as without the Profile
-abbrev pub some_in : Bool → AnyUnit → Option BaseType → List ℕ → List ℕ
-some_in true unit (Some type) numbers = numbers_json unit type numbers
-some_in _ unit type numbers = values_json type (Numbers numbers)
-
+-- the values of a field
 abbrev pub values_in : AnyUnit → Option BaseType → Values → List ℕ
-values_in unit type (Numbers (n ∷ numbers)) = some_in (has_units type) unit type (n ∷ numbers)
-values_in unit type values = values_json type values
+values_in unit type values = values_as json_notation (number_in unit) type values
 
 -- ---- fields and messages
 
@@ -122,16 +116,13 @@ abbrev pub developer_json_in : List Description → ℕ → MessageDeveloperFiel
 developer_json_in known number field =
     developer_json_by (described_in known number field.index field.number) field
 
--- the line of a message
-abbrev pub message_json : List Description → Bool → ℕ → Message → List ℕ
-message_json known utc number message =
-    line_json (message_named message.global) (field_json utc message.global)
-    (developer_json_in known number) number message
+-- the form, where these descriptions are known
+abbrev pub profile_form : List Description → FileForm
+profile_form known = json_form message_named field_json (developer_json_in known)
 
 -- a whole file, with times as dates in UTC, or as numbers
 unfoldable pub profile_json_of : Bool → FileValue → List ℕ
-profile_json_of utc v =
-    lines_of header_json (message_json (descriptions_of (messages_of v.items)) utc) count_json v
+profile_json_of utc v = lines_of (profile_form (descriptions_of (messages_of v.items))) utc v
 
 -- ---- what is looked up of a field
 

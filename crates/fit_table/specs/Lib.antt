@@ -4,6 +4,8 @@ pub mod Lookup
 pub mod Number
 pub mod Cells
 pub mod Named
+pub mod NamedPlans
 pub mod Table
 pub mod Tokens
+pub mod Gpx
 pub mod Json

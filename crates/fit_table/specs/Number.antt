@@ -1,5 +1,5 @@
 -- Numbers in decimal, in units.
-use Rattle.std.specs.Prelude.{ℕ, ◌≤◌, zero, suc, ◌+◌, ◌*◌, ◌^◌, ◌/◌, ◌%◌, ℤ, pos, negsuc, neg_ℤ, ◌≤ℤ◌, ◌-ℤ◌, ◌*ℤ◌, List, [], ◌∷◌, ◌++◌, Result, Ok, Err, codes, decimal, nat_le, ◌==◌, ◌&&◌, if◌then◌else◌}
+use Rattle.std.specs.Prelude.{ℕ, ◌≤◌, zero, suc, ◌+◌, ◌*◌, ◌^◌, ◌/◌, ◌%◌, ℤ, pos, negsuc, neg_ℤ, ◌≤ℤ◌, ◌-ℤ◌, ◌*ℤ◌, Bool, false, List, [], ◌∷◌, ◌++◌, Result, Ok, Err, codes, decimal, nat_le, ◌==◌, ◌&&◌, if◌then◌else◌}
 use Rattle.std.specs.Fmt.{signed_decimal}
 use Rattle.fit_text.specs.Date.{date_text}
 use Rattle.fit_table.specs.declared.unit.Unit.{Unit as AnyUnit}
@@ -58,9 +58,14 @@ stated_by scale offset =
 abbrev pub stated_parts : ℕ → ℤ → Parts
 stated_parts scale offset = stated_by (scale_or_one scale) offset
 
--- a time as a date, if it is a calendar time of 32 bits
+-- whether a time is a calendar time of 32 bits
+abbrev pub is_date : ℤ → Bool
+is_date (pos n) = nat_le 268435456 n && nat_le n 4294967295
+is_date (negsuc n) = false
+
+-- such a time as a date
 abbrev pub date_or : List ℕ → ℤ → List ℕ
-date_or empty (pos n) = if nat_le 268435456 n && nat_le n 4294967295 then date_text n else empty
+date_or empty (pos n) = if is_date (pos n) then date_text n else empty
 date_or empty (negsuc n) = empty
 
 -- numbers that are small enough for this

@@ -87,22 +87,21 @@ line_of layout known names front place m =
 abbrev pub line_if : Bool → List Token → List Token
 line_if is line = if is then line else []
 
--- the lines of messages, of which the first has this place
-abbrev pub lines_from : Layout → List Description → List (List ℕ) → List ℕ → ℕ → List Message
-    → List Token
-lines_from layout known names front place [] = []
-lines_from layout known names front place (m ∷ messages) =
-    line_if (m.global == layout.message) (line_of layout known names front place m)
-    ++ lines_from layout known names front (place + 1) messages
+-- what each message with this number gives, of messages of which the first has this place
+abbrev pub lines_by : (ℕ → Message → List Token) → ℕ → ℕ → List Message → List Token
+lines_by line number place [] = []
+lines_by line number place (m ∷ messages) =
+    line_if (m.global == number) (line place m) ++ lines_by line number (place + 1) messages
 
 abbrev pub lines_of : Layout → List ℕ → List Message → List Token
-lines_of layout front messages = lines_from layout [] [] front 0 messages
+lines_of layout front messages =
+    lines_by (line_of layout [] [] front) layout.message 0 messages
 
 -- the whole table of a file, given the descriptions of its developer fields
 abbrev pub table_with : Layout → List Description → List Message → List Token
 table_with layout known messages =
     Text (head_with layout (names_in known) [])
-    ∷ lines_from layout known (names_in known) [] 0 messages
+    ∷ lines_by (line_of layout known (names_in known) []) layout.message 0 messages
 
 abbrev pub table_of : Layout → List Message → List Token
 table_of layout messages =

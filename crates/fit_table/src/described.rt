@@ -1,16 +1,19 @@
 // What a file says of its developer fields.
 
-ghost use Rattle.std.specs.Prelude.{◌≡◌, ◌≤◌, ℕ, Option, length, sum_by};
+ghost use Rattle.std.specs.Prelude.{◌≡◌, ◌≤◌, ℕ, Option, length};
 ghost use Rattle.fit_grammar.specs.Format.Message.{fields_of, message_under, messages_of};
+ghost use Rattle.fit_grammar.specs.Format.Item.{content_size};
 ghost use Rattle.fit_columns.specs.Columns.{cell_in, found_in};
+ghost use Rattle.fit_columns.specs.Fields.{fields_here};
+ghost use Rattle.fit_columns.specs.Places.{IsPlace};
 ghost use Rattle.fit_table.specs.Lookup.{AreAscending};
 ghost use Rattle.fit_table.specs.Described.{base_in, description, descriptions_of, known_after, offset_in, scale_in, text_in, unit_stated};
 
 use crate::unit::Unit;
 use arrayvec::ArrayVec;
-use fit_base::{Arch, BaseType, FieldValue};
-use fit_columns::{Place, cell};
-use fit_grammar::{DataMessage, FieldDefinition, FileItem, LentFile};
+use fit_base::{BaseType, FieldValue};
+use fit_columns::{Place, cell, fields_here};
+use fit_grammar::{DataMessage, Definition, FileItem, LentFile};
 use std::marker::Model;
 
 /// The most descriptions of a file that are known.
@@ -94,30 +97,37 @@ fn description<'a>(place: u64, message: &DataMessage<'a>) -> Described<'a>
 {
     let _ = message.definition.content_size(); // Its contract bounds the sizes.
     let definition = message.definition.read();
-    let arch = definition.arch;
-    let fields = definition.fields.as_slice();
     Described {
         place,
-        index: number_in(fields, arch, message.content, 0),
-        number: number_in(fields, arch, message.content, 1),
-        base: base_in(number_in(fields, arch, message.content, 2)),
+        index: number_in(&definition, message.content, 0),
+        number: number_in(&definition, message.content, 1),
+        base: base_in(number_in(&definition, message.content, 2)),
         unit: unit_stated(
-            number_in(fields, arch, message.content, 6),
-            number_in(fields, arch, message.content, 7),
+            number_in(&definition, message.content, 6),
+            number_in(&definition, message.content, 7),
         ),
-        name: text_in(fields, arch, message.content, 3),
-        units: text_in(fields, arch, message.content, 8),
+        name: text_in(&definition, message.content, 3),
+        units: text_in(&definition, message.content, 8),
     }
 }
 
-// The number in the first field of this number.
-fn number_in(fields: &[FieldDefinition], arch: Arch, content: &[u8], number: u8) -> Option<i64>
-    requires sizes { sum_by (λ field. field.size) fields.now ≤ 130050 }
-    requires whole { sum_by (λ field. field.size) fields.now ≤ length content.now }
-    ensures { result ≡ cell_in number (fields_of arch fields.now content.now) }
+// The place of the first field of this number.
+fn place_in(definition: &Definition, number: u8) -> Place
+    requires { content_size definition.now ≤ 130050 }
+    ensures { IsPlace (fields_here definition.now) number result }
 {
-    let place = Place::new(fields, number);
-    cell(&place, arch, None, content)
+    Place::new(fields_here(definition).as_slice(), u32::from(number))
+}
+
+// The number in the first field of this number.
+fn number_in(definition: &Definition, content: &[u8], number: u8) -> Option<i64>
+    requires sizes { content_size definition.now ≤ 130050 }
+    requires whole { content_size definition.now ≤ length content.now }
+    ensures { result ≡ cell_in number
+        (fields_of definition.now.arch definition.now.fields.items content.now) }
+{
+    let place = place_in(definition, number);
+    cell(&place, definition.arch, None, content)
 }
 
 fn base_in(number: Option<i64>) -> u8
@@ -130,17 +140,18 @@ fn base_in(number: Option<i64>) -> u8
 }
 
 // The text of the first field of this number, if it is a string.
-fn text_in<'a>(fields: &[FieldDefinition], arch: Arch, content: &'a [u8], number: u8) -> &'a [u8]
-    requires sizes { sum_by (λ field. field.size) fields.now ≤ 130050 }
-    requires whole { sum_by (λ field. field.size) fields.now ≤ length content.now }
-    ensures { result.now ≡ text_in (found_in number (fields_of arch fields.now content.now)) }
+fn text_in<'a>(definition: &Definition, content: &'a [u8], number: u8) -> &'a [u8]
+    requires sizes { content_size definition.now ≤ 130050 }
+    requires whole { content_size definition.now ≤ length content.now }
+    ensures { result.now ≡ text_in (found_in number
+        (fields_of definition.now.arch definition.now.fields.items content.now)) }
 {
-    let place = Place::new(fields, number);
+    let place = place_in(definition, number);
     match BaseType::of(place.base) {
         Some(BaseType::String) => {
             let at = place.at as usize;
             let bytes = &content[at..at + usize::from(place.size)];
-            FieldValue::new(place.base, arch, bytes).text_bytes()
+            FieldValue::new(place.base, definition.arch, bytes).text_bytes()
         }
         _ => &[],
     }

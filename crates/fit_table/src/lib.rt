@@ -3,13 +3,14 @@
 //! A `Layout` says which messages are lines and which fields are columns. `write_table` writes the first line, which names the columns,
 //! and a line for each message. `write_head` and `write_lines` write them apart, for a table of many files. `Unit` is what a number
 //! counts; its digits come from whole numbers, and those of a float from `ryu`. `message_of_word` and `field_of_word` find what a word names.
-//! `show_profile_json` writes a whole file as JSON, each field as its column is.
+//! `show_profile_json` writes a whole file as JSON, each field as its column is, and `write_gpx` the track of its records as GPX.
 #![tactic(auto)]
 
 mod array;
 mod cell;
 mod described;
 mod float;
+mod gpx;
 mod json;
 mod layout;
 mod lookup;
@@ -19,10 +20,12 @@ mod stated;
 mod string;
 mod table;
 mod unit;
+mod walk;
 mod wide;
 mod words;
 
 pub use float::{put_float32, put_float64};
+pub use gpx::write_gpx;
 pub use json::show_profile_json;
 pub use layout::Layout;
 pub use table::{write_head, write_lines, write_table};

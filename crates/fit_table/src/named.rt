@@ -1,12 +1,15 @@
 // Columns of developer fields, each by the name that its description gives it.
 
-ghost use Rattle.std.specs.Prelude.{◌≡◌, ◌≤◌, ℕ, Option, [], not, map, length, option_map, bytes_eq};
+ghost use Rattle.std.specs.Prelude.{◌≡◌, ◌==◌, ◌+◌, ◌<◌, ◌≤◌, ℕ, List, Option, Some, None, IsSome, [], map, length, option_map, bytes_eq, slice_index_or, sum_by};
 ghost use Rattle.std.specs.List.{list_any};
-ghost use Rattle.fit_base.specs.Value.{values_of};
-ghost use Rattle.fit_grammar.specs.Format.Message.{message_under};
-ghost use Rattle.fit_grammar.specs.Calls.LentField.{developer_view};
+ghost use Rattle.fit_grammar.specs.declared.definition.Definition.{Definition as AnyDefinition};
+ghost use Rattle.fit_grammar.specs.Format.Item.{Defines};
+ghost use Rattle.fit_grammar.specs.Calls.Table.{in_force_after};
 ghost use Rattle.fit_text.specs.Pen.{Puts};
-ghost use Rattle.fit_table.specs.Named.{cells_by, is_new, named_cells, names_in, read_cell, read_in, titles, told_in, unit_if};
+ghost use Rattle.fit_table.specs.Described.{Description};
+ghost use Rattle.fit_table.specs.Lookup.{AreAscending};
+ghost use Rattle.fit_table.specs.Named.{is_new, names_in, read_cell, titles, unit_if};
+ghost use Rattle.fit_table.specs.NamedPlans.{AreNamedCells, AreNamedFor, AreNamedIn, IsNamedCell, read_at, told_by, tokens_of};
 ghost use Rattle.fit_table.specs.Tokens.{PutsTokens};
 
 use crate::cell::put_field;
@@ -16,7 +19,7 @@ use crate::string::put_string;
 use crate::unit::Unit;
 use arrayvec::ArrayVec;
 use fit_base::{Arch, BaseType, FieldValue};
-use fit_grammar::{DataMessage, WriteFailed, developer_fields_of};
+use fit_grammar::{DefinitionMessage, DeveloperFieldDefinition, WriteFailed};
 use fit_text::Pen;
 use std::io::Write;
 
@@ -77,79 +80,275 @@ pub fn put_titles<W: Write>(pen: &mut Pen<'_, W>, names: &[&[u8]]) -> Result<(),
     Ok(())
 }
 
-/// The cells of these names in the line of the message in this place, each after a comma. Numbers are those of the file if `raw`
-/// is set.
-pub fn put_named_cells<W: Write>(
-    pen: &mut Pen<'_, W>,
-    known: &Lookup<'_, '_>,
-    place: u64,
-    raw: bool,
-    names: &[&[u8]],
-    message: &DataMessage<'_>,
-) -> Result<(), WriteFailed>
-    ensures { (time : Option ℕ) → PutsTokens pen.old pen.new result
-        (named_cells raw known.now place (map (λ name. name.now) names.now)
-        (message_under message.now.definition time message.now.content.now).developer) }
-{
-    if names.is_empty() {
-        return Ok(());
-    }
-    let told = told_of(known, place, message);
-    put_cells_by(pen, told.as_slice(), raw, names, message)
+/// Where a cell is in the content of a definition's messages, and how its bytes are read. One without bytes stands for no field.
+#[derive(Clone, Copy, Debug, Default)]
+pub struct NamedCell {
+    pub at: u32,
+    pub unit: Unit,
+    pub size: u8,
+    pub base: u8,
 }
 
-// The descriptions of the message's developer fields.
+/// The cells of a definition's messages, one for each name.
+#[derive(Drop)]
+pub struct NamedPlan {
+    pub cells: ArrayVec<NamedCell, MOST_NAMES>,
+}
+
+/// For each of the sixteen local numbers the plan of its definition, or none. A plan is made when the first message of its definition is read,
+/// and again after a message that describes a developer field.
+#[derive(Drop)]
+pub struct NamedPlans {
+    pub slots: [Option<NamedPlan>; 16],
+    /// How many descriptions stand before the next message.
+    pub passed: usize,
+}
+
+impl NamedPlans {
+    /// No plans, before the first message.
+    pub fn new() -> Self
+        ensures { (known : List Description) (names : List (List ℕ))
+            (definition_for : ℕ → Option AnyDefinition)
+            → AreNamedFor known names 0 definition_for result }
+    {
+        NamedPlans {
+            slots: no_plans(),
+            passed: 0,
+        }
+    }
+
+    /// From here on the local number has another definition, and no plan yet.
+    pub fn forget(&mut self, local: u8)
+        requires { local < 16 }
+        ensures { (known : List Description) (names : List (List ℕ)) (place : ℕ)
+            (definition_for : ℕ → Option AnyDefinition) (d : AnyDefinition)
+            → d.local ≡ local
+            → AreNamedFor known names place definition_for self.old
+            → AreNamedFor known names place (in_force_after (Defines d) definition_for) self.new }
+    {
+        self.slots[usize::from(local)] = None;
+    }
+
+    /// Goes past the message in this place. If it describes a developer field, no plan is left.
+    #[inline]
+    pub fn pass(&mut self, known: &[Described<'_>], place: u64)
+        requires { AreAscending known.now }
+        ensures { (names : List (List ℕ)) (definition_for : ℕ → Option AnyDefinition)
+            → AreNamedFor known.now names place definition_for self.old
+            → AreNamedFor known.now names (place + 1) definition_for self.new }
+    {
+        if self.passed < known.len() && stands_in(&known[self.passed], place) {
+            self.passed += 1;
+            self.slots = no_plans();
+        }
+    }
+
+    /// Makes the plan of a local number that has this definition, if there is none yet.
+    #[inline]
+    pub fn settle(
+        &mut self,
+        local: u8,
+        definition: &DefinitionMessage<'_>,
+        known: &Lookup<'_, '_>,
+        place: u64,
+        names: &[&[u8]],
+    )
+        requires local { local < 16 }
+        requires few { length names.now ≤ MOST_NAMES }
+        ensures some { IsSome (slice_index_or self.new.slots local None) }
+        ensures cells { (definition_for : ℕ → Option AnyDefinition)
+            → definition_for local ≡ Some definition.now
+            → AreNamedFor known.now (map (λ name. name.now) names.now) place definition_for self.old
+            → AreNamedFor known.now (map (λ name. name.now) names.now) place definition_for self.new }
+    {
+        if self.slots[usize::from(local)].is_none() {
+            self.set(local, definition, known, place, names);
+        }
+    }
+
+    #[inline(never)]
+    fn set(
+        &mut self,
+        local: u8,
+        definition: &DefinitionMessage<'_>,
+        known: &Lookup<'_, '_>,
+        place: u64,
+        names: &[&[u8]],
+    )
+        requires local { local < 16 }
+        requires few { length names.now ≤ MOST_NAMES }
+        ensures some { IsSome (slice_index_or self.new.slots local None) }
+        ensures cells { (definition_for : ℕ → Option AnyDefinition)
+            → definition_for local ≡ Some definition.now
+            → AreNamedFor known.now (map (λ name. name.now) names.now) place definition_for self.old
+            → AreNamedFor known.now (map (λ name. name.now) names.now) place definition_for self.new }
+    {
+        let size = definition.content_size() as u32;
+        let definition = definition.read();
+        let fields = definition.developer.as_slice();
+        let start = size - size_of(fields);
+        let told = told_of(known, place, fields);
+        let plan = NamedPlan {
+            cells: cells_of(told.as_slice(), fields, names, start),
+        };
+        self.slots[usize::from(local)] = Some(plan);
+    }
+
+    /// The plan of a local number that has one.
+    #[inline]
+    pub fn get(&self, local: u8) -> &NamedPlan
+        requires { IsSome (slice_index_or self.now.slots local None) }
+        ensures { slice_index_or self.now.slots local None ≡ Some result.now }
+    {
+        match self.slots.get(usize::from(local)) {
+            Some(Some(plan)) => plan,
+            _ => unreachable!(),
+        }
+    }
+}
+
+// No plan for any local number.
+fn no_plans() -> [Option<NamedPlan>; 16]
+    ensures { (local : ℕ) → slice_index_or result local None ≡ None }
+{
+    Default::default()
+}
+
+// Whether the message of this description is in this place.
+fn stands_in(described: &Described<'_>, place: u64) -> bool
+    ensures { result ≡ (described.now.place == place) }
+{
+    described.place == place
+}
+
+// How many bytes these developer fields have.
+fn size_of(fields: &[DeveloperFieldDefinition]) -> u32
+    requires { sum_by (λ field. field.size) fields.now ≤ 130050 }
+    ensures { result ≡ sum_by (λ field. field.size) fields.now }
+{
+    let mut size: u32 = 0;
+    let mut left = fields;
+    while let [field, others @ ..] = left {
+        size += u32::from(field.size);
+        left = others;
+    }
+    size
+}
+
+// The descriptions of these developer fields in the message in this place.
 fn told_of<'k, 'a>(
     known: &Lookup<'k, 'a>,
     place: u64,
-    message: &DataMessage<'_>,
+    fields: &[DeveloperFieldDefinition],
 ) -> ArrayVec<Option<&'k Described<'a>>, 255>
-    ensures { (time : Option ℕ) → map (λ told. option_map (λ d. d.now) told) result.items
-        ≡ told_in known.now place
-        (message_under message.now.definition time message.now.content.now).developer }
+    requires { length fields.now ≤ 255 }
+    ensures { map (λ told. option_map (λ d. d.now) told) result.items
+        ≡ told_by known.now place fields.now }
 {
     let mut told = ArrayVec::new();
-    for field in developer_fields_of(message) {
+    let mut left = fields;
+    while let [field, others @ ..] = left {
         told.push(known.last(place, field.index, field.number));
+        left = others;
     }
     told
 }
 
-fn put_cells_by<W: Write>(
-    pen: &mut Pen<'_, W>,
+// The cells of these names, by the developer fields from this place of the content on.
+fn cells_of(
     told: &[Option<&Described<'_>>],
-    raw: bool,
+    fields: &[DeveloperFieldDefinition],
     names: &[&[u8]],
-    message: &DataMessage<'_>,
-) -> Result<(), WriteFailed>
-    ensures { (time : Option ℕ) → PutsTokens pen.old pen.new result
-        (cells_by raw (map (λ told. option_map (λ d. d.now) told) told.now)
-        (map (λ name. name.now) names.now)
-        (message_under message.now.definition time message.now.content.now).developer) }
+    start: u32,
+) -> ArrayVec<NamedCell, MOST_NAMES>
+    requires small { start + sum_by (λ field. field.size) fields.now ≤ 130050 }
+    requires few { length names.now ≤ MOST_NAMES }
+    ensures { AreNamedCells (map (λ told. option_map (λ d. d.now) told) told.now) fields.now start
+        (map (λ name. name.now) names.now) result.items }
 {
+    let mut cells = ArrayVec::new();
     let mut left = names;
+    while let [name, others @ ..] = left {
+        cells.push(cell_of(told, fields, name, start));
+        left = others;
+    }
+    cells
+}
+
+// The cell of a name: the first developer field whose description gives it this name.
+fn cell_of(
+    told: &[Option<&Described<'_>>],
+    fields: &[DeveloperFieldDefinition],
+    name: &[u8],
+    start: u32,
+) -> NamedCell
+    requires { start + sum_by (λ field. field.size) fields.now ≤ 130050 }
+    ensures { IsNamedCell (map (λ told. option_map (λ d. d.now) told) told.now) fields.now start
+        name.now result }
+{
+    let mut at = start;
+    let mut left = told;
+    let mut fields_left = fields;
+    while let [field, other_fields @ ..] = fields_left {
+        let [first, others @ ..] = left else {
+            break;
+        };
+        if let Some(described) = first {
+            if is_same(described.name, name) {
+                return NamedCell {
+                    at,
+                    unit: described.unit,
+                    size: field.size,
+                    base: described.base,
+                };
+            }
+        }
+        at += u32::from(field.size);
+        left = others;
+        fields_left = other_fields;
+    }
+    NamedCell {
+        at: 0,
+        unit: Unit::Whole,
+        size: 0,
+        base: 0,
+    }
+}
+
+/// Writes these cells of a content, each after a comma. Numbers are those of the file if `raw` is set.
+pub fn put_named_cells<W: Write>(
+    pen: &mut Pen<'_, W>,
+    raw: bool,
+    cells: &[NamedCell],
+    arch: Arch,
+    content: &[u8],
+) -> Result<(), WriteFailed>
+    requires { AreNamedIn (length content.now) cells.now }
+    ensures { PutsTokens pen.old pen.new result (tokens_of raw cells.now arch content.now) }
+{
+    let mut left = cells;
     while let [first, others @ ..] = left {
         pen.put(b",")?;
-        put_read(pen, told, raw, first, message)?;
+        put_named_cell(pen, raw, first, arch, content)?;
         left = others;
     }
     Ok(())
 }
 
-// The cell of a name.
-fn put_read<W: Write>(
+// A cell of a content.
+fn put_named_cell<W: Write>(
     pen: &mut Pen<'_, W>,
-    told: &[Option<&Described<'_>>],
     raw: bool,
-    name: &[u8],
-    message: &DataMessage<'_>,
+    cell: &NamedCell,
+    arch: Arch,
+    content: &[u8],
 ) -> Result<(), WriteFailed>
-    ensures { (time : Option ℕ) → PutsTokens pen.old pen.new result
-        (read_cell raw (read_in (map (λ told. option_map (λ d. d.now) told) told.now) name.now
-        (message_under message.now.definition time message.now.content.now).developer)) }
+    requires { cell.now.at + cell.now.size ≤ length content.now }
+    ensures { PutsTokens pen.old pen.new result (read_cell raw (read_at cell.now arch content.now)) }
 {
-    let (unit, field) = read_in(told, name, message);
-    put_field(pen, b"", unit_if(raw, unit), &field)
+    let at = cell.at as usize;
+    let field = FieldValue::new(cell.base, arch, &content[at..at + usize::from(cell.size)]);
+    put_field(pen, b"", unit_if(raw, cell.unit), &field)
 }
 
 // The unit, unless the numbers are those of the file.
@@ -157,33 +356,4 @@ fn unit_if(raw: bool, unit: Unit) -> Unit
     ensures { result ≡ unit_if raw unit }
 {
     if raw { Unit::Whole } else { unit }
-}
-
-// The first developer field whose description gives it this name, or one without values.
-fn read_in<'a>(
-    told: &[Option<&Described<'_>>],
-    name: &[u8],
-    message: &DataMessage<'a>,
-) -> (Unit, FieldValue<'a>)
-    ensures { (time : Option ℕ) → (record {
-      base = result.1.base;
-      unit = result.0;
-      values = values_of result.1;
-    }) ≡ read_in (map (λ told. option_map (λ d. d.now) told) told.now) name.now
-        (message_under message.now.definition time message.now.content.now).developer }
-{
-    let mut left = told;
-    for field in developer_fields_of(message) {
-        let [first, others @ ..] = left else {
-            break;
-        };
-        if let Some(described) = first {
-            if is_same(described.name, name) {
-                let value = FieldValue::new(described.base, field.arch, field.bytes);
-                return (described.unit, value);
-            }
-        }
-        left = others;
-    }
-    (Unit::Whole, FieldValue::new(0, Arch::Little, b""))
 }

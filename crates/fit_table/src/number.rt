@@ -4,7 +4,7 @@ ghost use Rattle.std.specs.Prelude.{◌≡◌, ◌≤◌, ◌++◌, codes, lengt
 ghost use Rattle.fit_text.specs.Pen.{Puts};
 ghost use Rattle.fit_columns.specs.Places.{IsSmall};
 ghost use Rattle.fit_profile.specs.Scale.{parts_of};
-ghost use Rattle.fit_table.specs.Number.{digits, places_text, date_or, unit_text, split_of, limit, IsWide, nearest, decimals_text, scaled_text, AreSmallParts};
+ghost use Rattle.fit_table.specs.Number.{digits, places_text, is_date, date_or, unit_text, split_of, limit, IsWide, nearest, decimals_text, scaled_text, AreSmallParts};
 
 use crate::stated::stated_parts;
 use crate::unit::Unit;
@@ -90,11 +90,18 @@ fn put_decimals<S: Sink>(pen: &mut Pen<'_, S>, parts: Parts, n: u64) -> Result<(
 fn put_date_or<S: Sink>(pen: &mut Pen<'_, S>, empty: &[u8], value: i64) -> Result<(), S::Fault>
     ensures { Puts pen.old pen.new result (date_or empty.now value) }
 {
-    if value >= FIRST_DATE && value <= 0xFFFF_FFFF {
+    if is_date(value) {
         put_date(pen, value as u32)
     } else {
         pen.put(empty)
     }
+}
+
+/// Whether a time is a calendar time of 32 bits.
+pub fn is_date(value: i64) -> bool
+    ensures { result ≡ is_date value }
+{
+    value >= FIRST_DATE && value <= 0xFFFF_FFFF
 }
 
 // A number without its sign.

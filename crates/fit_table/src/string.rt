@@ -5,7 +5,7 @@ ghost use Rattle.std.specs.List.{flat_map, list_any};
 ghost use Rattle.std.specs.Str.{is_utf8};
 ghost use Rattle.fit_base.specs.Value.{text_of};
 ghost use Rattle.fit_text.specs.Pen.{Puts};
-ghost use Rattle.fit_table.specs.Cells.{byte_cell, is_special, marks_of, string_cell, text_cell};
+ghost use Rattle.fit_table.specs.Cells.{byte_cell, is_special, marks_of, string_cell};
 
 use fit_base::FieldValue;
 use fit_grammar::WriteFailed;

@@ -2,25 +2,28 @@
 
 ghost use Rattle.std.specs.Prelude.{◌≡◌, ◌≤◌, ◌++◌, [], length, map, option_map, codes, decimal, IfOk};
 ghost use Rattle.fit_grammar.specs.Calls.Output.{WritesText};
-ghost use Rattle.fit_grammar.specs.Format.Message.{message_under, messages_of};
+ghost use Rattle.fit_grammar.specs.Format.Message.{messages_of};
 ghost use Rattle.fit_text.specs.Pen.{Puts};
 ghost use Rattle.fit_profile.specs.Facts.{facts_of};
 ghost use Rattle.fit_profile.specs.Row.{row_by};
 ghost use Rattle.fit_columns.specs.declared.plans.TheConstants.{MOST_COLUMNS};
-ghost use Rattle.fit_columns.specs.Places.{ArePlacesIn, IsPlanOf};
+ghost use Rattle.fit_columns.specs.Places.{ArePlacesIn};
+ghost use Rattle.fit_table.specs.declared.named.TheConstants.{MOST_NAMES};
+ghost use Rattle.fit_table.specs.Lookup.{AreAscending};
 ghost use Rattle.fit_table.specs.Unit.{AreUnits};
 ghost use Rattle.fit_table.specs.Tokens.{PutsTokens, WritesTokens};
-ghost use Rattle.fit_table.specs.Table.{column_name, name_by, names_from, head_of, head_with, cells_at, line_of, lines_from, lines_of, table_of, table_with};
+ghost use Rattle.fit_table.specs.Table.{column_name, name_by, names_from, head_of, head_with, cells_at, line_of, lines_by, lines_of, table_of, table_with};
 
 use crate::cell::put_cell;
 use crate::described::descriptions_of;
 use crate::layout::Layout;
 use crate::lookup::Lookup;
-use crate::named::{names_of, put_named_cells, put_titles};
+use crate::named::{MOST_NAMES, NamedCell, names_of, put_named_cells, put_titles};
 use crate::unit::{Unit, suffix_in, units_of};
+use crate::walk::{Line, put_lines};
 use fit_base::Arch;
-use fit_columns::{MOST_COLUMNS, Place, Plan, Plans};
-use fit_grammar::{DataMessage, FileItem, LentFile, Sink, WriteFailed};
+use fit_columns::{MOST_COLUMNS, Place, Plan};
+use fit_grammar::{DataMessage, LentFile, Sink, WriteFailed};
 use fit_profile::{FieldRow, row_by};
 use fit_text::Pen;
 use std::io::Write;
@@ -100,7 +103,8 @@ fn put_described_table<W: Write>(
     known: &Lookup<'_, '_>,
     file: &LentFile<'_>,
 ) -> Result<(), WriteFailed>
-    requires { length layout.now.fields.now ≤ MOST_COLUMNS }
+    requires few { length layout.now.fields.now ≤ MOST_COLUMNS }
+    requires ascending { AreAscending known.now }
     ensures text { PutsTokens pen.old pen.new result
         (table_with layout.now known.now (messages_of file.now.items)) }
     ensures none { IfOk result (λ _. pen.new.waiting ≡ []) }
@@ -130,13 +134,20 @@ fn put_all_lines<W: Write>(
     front: &[u8],
     file: &LentFile<'_>,
 ) -> Result<(), WriteFailed>
-    requires { length layout.now.fields.now ≤ MOST_COLUMNS }
+    requires few { length layout.now.fields.now ≤ MOST_COLUMNS }
+    requires few_names { length names.now ≤ MOST_NAMES }
+    requires ascending { AreAscending known.now }
     ensures text { PutsTokens pen.old pen.new result
-        (lines_from layout.now known.now (map (λ name. name.now) names.now) front.now 0
-        (messages_of file.now.items)) }
+        (lines_by (line_of layout.now known.now (map (λ name. name.now) names.now) front.now)
+        layout.now.message 0 (messages_of file.now.items)) }
     ensures none { IfOk result (λ _. pen.new.waiting ≡ []) }
 {
-    put_lines(pen, layout, known, names, front, file)?;
+    let row = Row {
+        layout,
+        front,
+        units: units_of(layout),
+    };
+    put_lines(pen, &row, layout.message, layout.fields, known, names, file)?;
     pen.hand_over()
 }
 
@@ -205,69 +216,42 @@ fn put_number_name<S: Sink>(pen: &mut Pen<'_, S>, number: u8) -> Result<(), S::F
     pen.put_number(u64::from(number))
 }
 
-fn put_lines<W: Write>(
-    pen: &mut Pen<'_, W>,
-    layout: &Layout<'_>,
-    known: &Lookup<'_, '_>,
-    names: &[&[u8]],
-    front: &[u8],
-    file: &LentFile<'_>,
-) -> Result<(), WriteFailed>
-    requires { length layout.now.fields.now ≤ MOST_COLUMNS }
-    ensures { PutsTokens pen.old pen.new result
-        (lines_from layout.now known.now (map (λ name. name.now) names.now) front.now 0
-        (messages_of file.now.items)) }
-{
-    let _ = file.data_size(); // Its contract bounds how many messages there are.
-    let units = units_of(layout);
-    let mut plans = Plans::new();
-    let mut next = 0;
-    for item in file.items() {
-        match item {
-            FileItem::Definition(definition) => {
-                plans.forget(definition.local());
-                continue;
-            }
-            FileItem::Data(found, time) => {
-                let place = next;
-                next += 1;
-                if found.definition.global() != layout.message {
-                    continue;
-                }
-                plans.settle(found.local, &found.definition, layout.fields);
-                let plan = plans.get(found.local);
-                put_line(
-                    pen, layout, known, names, front, &units, plan, place, time, &found,
-                )?;
-            }
-        }
-    }
-    Ok(())
+// The line of a message.
+#[derive(Drop)]
+struct Row<'a> {
+    layout: &'a Layout<'a>,
+    front: &'a [u8],
+    units: [Unit; 256],
+    ghost units_are: { AreUnits layout.now units },
 }
 
-fn put_line<W: Write>(
-    pen: &mut Pen<'_, W>,
-    layout: &Layout<'_>,
-    known: &Lookup<'_, '_>,
-    names: &[&[u8]],
-    front: &[u8],
-    units: &[Unit; 256],
-    plan: &Plan,
-    place: u64,
-    time: Option<u32>,
-    found: &DataMessage<'_>,
-) -> Result<(), WriteFailed>
-    requires units { AreUnits layout.now units.now }
-    requires plan { IsPlanOf layout.now.fields.now found.now.definition plan.now }
-    ensures { PutsTokens pen.old pen.new result
-        (line_of layout.now known.now (map (λ name. name.now) names.now) front.now place
-        (message_under found.now.definition time found.now.content.now)) }
-{
-    pen.put(front)?;
-    let places = plan.places.as_slice();
-    put_cells(pen, layout, units, places, plan.arch, time, found.content)?;
-    put_named_cells(pen, known, place, layout.raw, names, found)?;
-    pen.put(b"\r\n")
+impl<'a> Line for Row<'a> {
+    ghost fields = { λ row. row.layout.now.fields.now };
+
+    ghost tokens = { λ row known names. line_of row.layout.now known names row.front.now };
+
+    fn put<W: Write>(
+        &self,
+        pen: &mut Pen<'_, W>,
+        plan: &Plan,
+        cells: &[NamedCell],
+        time: Option<u32>,
+        found: &DataMessage<'_>,
+    ) -> Result<(), WriteFailed> {
+        pen.put(self.front)?;
+        let places = plan.places.as_slice();
+        put_cells(
+            pen,
+            self.layout,
+            &self.units,
+            places,
+            plan.arch,
+            time,
+            found.content,
+        )?;
+        put_named_cells(pen, self.layout.raw, cells, plan.arch, found.content)?;
+        pen.put(b"\r\n")
+    }
 }
 
 fn put_cells<W: Write>(

@@ -1,6 +1,6 @@
 // The numbers of messages and fields that words name.
 
-ghost use Rattle.std.specs.Prelude.{◌≡◌, ◌≤◌, ◌++◌, ℕ, IsTrue, ◌↔◌, None, IfSome, codes, decimal, option_map, if◌then◌else◌};
+ghost use Rattle.std.specs.Prelude.{◌≡◌, ◌≤◌, ◌++◌, ℕ, IsTrue, ◌↔◌, None, IfSome, decimal, option_map, if◌then◌else◌};
 ghost use Rattle.fit_profile.specs.Known.{known_named};
 ghost use Rattle.fit_profile.specs.Table.{message_named};
 ghost use Rattle.fit_table.specs.Table.{name_of, title_of};

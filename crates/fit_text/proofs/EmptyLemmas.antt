@@ -1,4 +1,4 @@
--- Fields of size 0 have no bytes, and leaving them out moves no other field: for `showing/plans` and `json/message`.
+-- Fields of size 0 have no bytes, and leaving them out moves no other field: for `form`.
 use Rattle.std.proofs.Common.{◌≡◌, ◌⊎◌, ℕ, zero, suc, ◌/◌, ◌%◌, ◌≤◌, ◌==◌, Bool, true, false, List, [], ◌∷◌, ◌++◌, length, take, drop, sum_by, refl, sym, ap, ◌∙◌, inl, inr, Option, Some, None, arith, if◌then◌else◌}
 use Rattle.std.specs.Prelude.{not}
 use Rattle.std.specs.List.{filter}
@@ -14,8 +14,8 @@ use Rattle.fit_base.specs.Value.{Values, Numbers, Raw, raw_by, size_by, numbers,
 use Rattle.fit_grammar.specs.declared.definition.FieldDefinition.{FieldDefinition}
 use Rattle.fit_grammar.specs.declared.definition.DeveloperFieldDefinition.{DeveloperFieldDefinition}
 use Rattle.fit_grammar.specs.Format.Message.{MessageField, MessageDeveloperField, fields_of, developer_of, time_field, time_fields}
-use Rattle.fit_text.specs.Json.{holds, has_bytes, has_developer_bytes}
-use Rattle.fit_text.specs.Plan.{shown_fields, shown_developer}
+use Rattle.fit_text.specs.Form.{holds, has_bytes, has_developer_bytes, shown}
+use Rattle.fit_text.specs.Plan.{has_size, has_developer_size}
 
 -- ---- sizes
 
@@ -36,12 +36,12 @@ left_sum size (x ∷ xs) =
       | inr some ↦ rw some.1 (omega (arith, rest, all, sum_by-cons size x (filter (λ x. not (size x == 0)) xs)))
     ]
 
-pub shown_size : (empty : Bool) (fields : List FieldDefinition) → sum_by (λ f. f.size) (shown_fields empty fields) ≡ sum_by (λ f. f.size) fields
+pub shown_size : (empty : Bool) (fields : List FieldDefinition) → sum_by (λ f. f.size) (shown empty has_size fields) ≡ sum_by (λ f. f.size) fields
 shown_size true fields = refl
 shown_size false fields = left_sum (λ (f : FieldDefinition). f.size) fields
 
 pub developer_shown_size : (empty : Bool) (fields : List DeveloperFieldDefinition) →
-    sum_by (λ f. f.size) (shown_developer empty fields) ≡ sum_by (λ f. f.size) fields
+    sum_by (λ f. f.size) (shown empty has_developer_size fields) ≡ sum_by (λ f. f.size) fields
 developer_shown_size true fields = refl
 developer_shown_size false fields = left_sum (λ (f : DeveloperFieldDefinition). f.size) fields
 
@@ -111,39 +111,46 @@ front_size n content fits = ap (λ k. not (k == 0)) (length-take-le n content fi
 
 -- ---- the fields of a message
 
-pub fields_shown : (arch : Arch) (fields : List FieldDefinition) (content : List ℕ) → sum_by (λ f. f.size) fields ≤ length content →
-    fields_of arch (shown_fields false fields) content ≡ filter has_bytes (fields_of arch fields content)
-fields_shown arch [] content fits = refl
-fields_shown arch (field ∷ fields) content fits =
+left_fields : (arch : Arch) (fields : List FieldDefinition) (content : List ℕ) → sum_by (λ f. f.size) fields ≤ length content →
+    fields_of arch (filter has_size fields) content ≡ filter has_bytes (fields_of arch fields content)
+left_fields arch [] content fits = refl
+left_fields arch (field ∷ fields) content fits =
     let head : MessageField = record
     { number = field.number; base = field.base; values = values_of (record { base = field.base; arch = arch; bytes = take field.size content }) } in
     let all = sum_by-cons (λ (f : FieldDefinition). f.size) field fields in
     let after = length-drop field.size content in
-    let rest = fields_shown arch fields (drop field.size content) (omega (arith, all, after, fits)) in
+    let rest = left_fields arch fields (drop field.size content) (omega (arith, all, after, fits)) in
     let has = holds_some field.base arch (take field.size content) ∙ front_size field.size content (omega (arith, all, fits)) in
     elim (none_or_some field.size) [
       | inl none ↦ rw (has, none.1, none.0) (rw none.0 at rest)
       | inr some ↦ rw (has, some.1) (ap (λ t. head ∷ t) rest)
     ]
 
-pub developer_shown : (arch : Arch) (fields : List DeveloperFieldDefinition) (content : List ℕ) →
+left_developer : (arch : Arch) (fields : List DeveloperFieldDefinition) (content : List ℕ) →
     sum_by (λ f. f.size) fields ≤ length content →
-    developer_of arch (shown_developer false fields) content ≡ filter has_developer_bytes (developer_of arch fields content)
-developer_shown arch [] content fits = refl
-developer_shown arch (field ∷ fields) content fits =
+    developer_of arch (filter has_developer_size fields) content ≡ filter has_developer_bytes (developer_of arch fields content)
+left_developer arch [] content fits = refl
+left_developer arch (field ∷ fields) content fits =
     let head : MessageDeveloperField = record { index = field.index; number = field.number; arch = arch; bytes = take field.size content } in
     let all = sum_by-cons (λ (f : DeveloperFieldDefinition). f.size) field fields in
     let after = length-drop field.size content in
-    let rest = developer_shown arch fields (drop field.size content) (omega (arith, all, after, fits)) in
+    let rest = left_developer arch fields (drop field.size content) (omega (arith, all, after, fits)) in
     let has = front_size field.size content (omega (arith, all, fits)) in
     elim (none_or_some field.size) [
       | inl none ↦ rw (has, none.1, none.0) (rw none.0 at rest)
       | inr some ↦ rw (has, some.1) (ap (λ t. head ∷ t) rest)
     ]
 
--- with the field of a compressed timestamp in front
-pub timed_shown : (time : Option ℕ) (arch : Arch) (fields : List FieldDefinition) (content : List ℕ) →
+pub developer_shown : (empty : Bool) (arch : Arch) (fields : List DeveloperFieldDefinition) (content : List ℕ) →
     sum_by (λ f. f.size) fields ≤ length content →
-    time_fields time ++ fields_of arch (shown_fields false fields) content ≡ filter has_bytes (time_fields time ++ fields_of arch fields content)
-timed_shown None arch fields content fits = fields_shown arch fields content fits
-timed_shown (Some time) arch fields content fits = ap (λ t. time_field time ∷ t) (fields_shown arch fields content fits)
+    developer_of arch (shown empty has_developer_size fields) content ≡ shown empty has_developer_bytes (developer_of arch fields content)
+developer_shown true arch fields content fits = refl
+developer_shown false arch fields content fits = left_developer arch fields content fits
+
+-- with the field of a compressed timestamp in front
+pub timed_shown : (empty : Bool) (time : Option ℕ) (arch : Arch) (fields : List FieldDefinition) (content : List ℕ) →
+    sum_by (λ f. f.size) fields ≤ length content →
+    time_fields time ++ fields_of arch (shown empty has_size fields) content ≡ shown empty has_bytes (time_fields time ++ fields_of arch fields content)
+timed_shown true time arch fields content fits = refl
+timed_shown false None arch fields content fits = left_fields arch fields content fits
+timed_shown false (Some time) arch fields content fits = ap (λ t. time_field time ∷ t) (left_fields arch fields content fits)

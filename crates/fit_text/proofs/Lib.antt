@@ -2,10 +2,7 @@
 pub mod PenLemmas
 mod DecimalLemmas
 mod PlanLemmas
-pub mod TextLemmas
-mod FieldLemmas
+pub mod ValueLemmas
 mod DateLemmas
-mod DeveloperLemmas
 mod EmptyLemmas
-mod JsonValueLemmas
-mod JsonLemmas
+mod FormLemmas

@@ -10,7 +10,7 @@ use Rattle.std.specs.Io.KnownBytes.{Appends}
 use Rattle.std.specs.List.{flat_map}
 use Rattle.std.specs.Result.{IsErr}
 use Rattle.fit_grammar.specs.Calls.Output.{AppendsBeginning, WritesText}
-use Rattle.fit_text.specs.Members.{inner}
+use Rattle.fit_text.specs.Plan.{inner}
 use Rattle.fit_text.specs.Pen.{Written, Continues, Puts, Adds, Places}
 
 -- ---- one text after another

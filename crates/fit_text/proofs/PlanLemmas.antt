@@ -1,65 +1,59 @@
--- What a plan shows is the text of a message: for `showing/plan`, `showing/plans`, `showing/column` and `showing/message`.
-use Rattle.std.proofs.lemmas.List.{get_or-set_same, get_or-set_other, get_or_past, drop-append-le, take-append-le, length-drop, drop-drop}
+-- What a plan shows is what its fields show: for `form/plan`, `form/plans` and `form/column`.
+use Rattle.std.proofs.lemmas.List.{get_or-set_same, get_or-set_other, get_or_past, drop-append-le, take-append-le, length-drop, drop-drop, take_all}
+use Rattle.std.proofs.lemmas.List.Sums.{sum_by-cons}
 use Rattle.std.specs.Array.{AllOfLen}
 use Rattle.arrayvec.specs.ArrayVec.{ArrayVec}
-use Rattle.std.specs.Prelude.{slice_range}
-use Rattle.std.proofs.lemmas.Bool.{cases_lt}
-use Rattle.fit_grammar.specs.Format.Item.{Defines}
+use Rattle.std.specs.Prelude.{slice_range, nat_le, not, ◌&&◌}
+use Rattle.std.proofs.lemmas.Bool.{cases_lt, lt-ltb, eqb-true}
+use Rattle.fit_grammar.specs.Format.Item.{Defines, fields_size}
 use Rattle.fit_grammar.specs.Calls.Table.{in_force_after}
-use Rattle.std.proofs.Common.{set, eq-zero-or-pos, ◌⊎◌, ◌≡◌, ◌≢◌, ℕ, suc, ◌+◌, ◌-◌, ◌*◌, ◌/◌, ◌%◌, ◌^◌, ◌<◌, ◌≤◌, ◌==◌, Bool, true, false, List, [], ◌∷◌, ◌++◌, length, get_or, take, drop, sum_by, append_assoc, pos, ◌-ℤ◌, refl, sym, ap, ◌∙◌, inl, inr, append-nil, eq-eqb, nat_lt, ltb, codes, decimal, Option, Some, None, IfSome, IsSome, length-append, length-set, arith, rules, if◌then◌else◌}
-use Rattle.std.proofs.lemmas.Bool.{lt-ltb}
-use Rattle.std.proofs.lemmas.Grind.{flat_map-append}
-use Rattle.std.proofs.lemmas.List.{take_all}
+use Rattle.std.proofs.Common.{set, eq-zero-or-pos, ◌⊎◌, ◌≡◌, ◌≢◌, ℕ, suc, ◌+◌, ◌-◌, ◌*◌, ◌/◌, ◌%◌, ◌^◌, ◌<◌, ◌≤◌, ◌==◌, Bool, true, false, List, [], ◌∷◌, ◌++◌, length, get_or, take, drop, sum_by, append_assoc, pos, ◌-ℤ◌, refl, sym, ap, ◌∙◌, inl, inr, append-nil, eq-eqb, nat_lt, ltb, codes, decimal, Option, Some, None, IsSome, length-append, length-set, arith, rules, if◌then◌else◌}
 use Rattle.std.specs.Fmt.{signed_decimal}
-use Rattle.std.specs.List.{list_any, flat_map}
+use Rattle.std.specs.List.{list_any}
+use Rattle.std.specs.Option.{option_and_then}
 use Rattle.fit_base.specs.declared.order.Arch.{Arch}
 use Rattle.fit_base.specs.declared.base.BaseType.{BaseType}
-use Rattle.fit_base.specs.declared.base.BaseType.TheVariants.{Sint8, Sint16, Uint16, Sint32, Uint32, Sint64, Uint64, Float32, Float64, Uint16z, Uint32z, Uint64z}
-use Rattle.std.specs.Int.{to_le_bytes, w32}
-use Rattle.std.proofs.lemmas.List.Sums.{sum_by-cons}
-use Rattle.fit_base.specs.declared.order.Arch.TheVariants.{Little}
-use Rattle.fit_base.specs.Number.{number, low_first}
-use Rattle.fit_base.specs.Base.{row_of, base_type, has_sign}
-use Rattle.fit_base.specs.Value.{Field, IsValueSize, raw_by, size_by, value_size, count_of, numbers}
-use Rattle.fit_text.specs.declared.showing.plan.Kind.{Kind}
-use Rattle.fit_text.specs.declared.showing.plan.Kind.TheVariants.{Unsigned, Signed, Other}
-use Rattle.fit_text.specs.declared.showing.plan.Column.{Column}
-use Rattle.fit_text.specs.declared.showing.plan.Plan.{Plan}
-use Rattle.fit_text.specs.declared.showing.plans.Plans.{Plans}
+use Rattle.fit_base.specs.declared.base.BaseType.TheVariants.{Enum, Sint8, Uint8, Sint16, Uint16, Sint32, Uint32, String, Float32, Float64, Uint8z, Uint16z, Uint32z, Byte, Sint64, Uint64, Uint64z}
+use Rattle.fit_base.specs.Number.{number}
+use Rattle.fit_base.specs.Base.{row_of, base_type, base_type_in, has_sign}
+use Rattle.fit_base.specs.Value.{Field, IsValueSize, raw_by, size_by, value_size, count_of, values_of, numbers}
+use Rattle.fit_text.specs.declared.form.plan.Kind.{Kind}
+use Rattle.fit_text.specs.declared.form.plan.Kind.TheVariants.{Unsigned, Signed, Date, Other}
+use Rattle.fit_text.specs.declared.form.plan.Column.{Column}
+use Rattle.fit_text.specs.declared.form.plan.Plan.{Plan}
+use Rattle.fit_text.specs.declared.form.plans.Plans.{Plans}
 use Rattle.fit_grammar.specs.declared.definition.Definition.{Definition}
 use Rattle.fit_grammar.specs.declared.definition.FieldDefinition.{FieldDefinition}
 use Rattle.fit_grammar.specs.declared.definition.DeveloperFieldDefinition.{DeveloperFieldDefinition}
-use Rattle.fit_grammar.specs.Format.Message.{fields_of, developer_of, time_field, time_fields, message_under}
-use Rattle.fit_grammar.specs.Format.Item.{fields_size}
-use Rattle.fit_text.specs.Date.{dates_of}
-use Rattle.fit_profile.specs.Facts.{FieldFacts}
-use Rattle.fit_profile.specs.Known.{known_at}
-use Rattle.fit_text.specs.Form.{plain_as, number_as, numbers_as}
-use Rattle.fit_text.specs.Json.{bytes_json, number_json, numbers_json}
-use Rattle.fit_text.specs.Plan.{field_at, shown_at, json_at, whole_of, ShowsWhole, IsKind, IsWholeOf, IsKindOf, time_field_definition, time_text, column_text, columns_text, IsColumn, AreColumns, HaveKinds, shown_fields, IsShown, IsPlanOf, IsPlanIn, IsPlanAt, ArePlansFor}
+use Rattle.fit_grammar.specs.Format.Message.{MessageField}
+use Rattle.fit_grammar.specs.Format.OneValue.{value_in}
+use Rattle.fit_grammar.proofs.OneValue.{one-of-one, one-of-other}
+use Rattle.fit_text.specs.Date.{calendar_time, date_in, date_text}
+use Rattle.fit_text.specs.Form.{shown}
+use Rattle.fit_text.specs.Notation.{Notation}
+use Rattle.fit_text.specs.Plan.{field_at, shown_at, unsigned_of, signed_of, date_of, IsKind, IsWholeOf, IsKindOf, has_size, IsColumn, AreColumns, IsShown, IsPlanOf, IsPlanIn, IsPlanAt, ArePlansFor}
+use Rattle.fit_text.specs.Text.{message_name}
+use Rattle.fit_text.specs.Values.{IsNumber, marked, plain_as, number_as, numbers_as, shown_as, values_as}
 use Rattle.fit_text.proofs.EmptyLemmas.{shown_size}
-use Rattle.fit_text.specs.Text.{hex_text, IsNumber, number_text, numbers_text, message_name, field_name, field_text, developer_text, message_text}
-use Rattle.fit_text.proofs.FieldLemmas.{number_values}
-use Rattle.fit_text.proofs.JsonValueLemmas.{number_values as json_values}
-use Rattle.fit_text.proofs.TextLemmas.{plain_whole, plain_signed, whole_unsigned, whole_signed}
+use Rattle.fit_text.proofs.ValueLemmas.{number_values, plain_whole, plain_signed, whole_unsigned, whole_signed}
 
 -- ---- one number of a type
 
-without_sign : (written : List ℕ → List ℕ) (type : BaseType) (n : ℕ) → has_sign type ≡ false → type ≢ Float32 → type ≢ Float64 →
-    decimal n ≡ plain_as written type n
-without_sign written type n e no_32 no_64 = whole_unsigned type n e ∙ plain_whole written type n no_32 no_64
+without_sign : (notation : Notation) (type : BaseType) (n : ℕ) → has_sign type ≡ false → type ≢ Float32 → type ≢ Float64 →
+    decimal n ≡ plain_as notation type n
+without_sign notation type n e no_32 no_64 = whole_unsigned type n e ∙ plain_whole notation type n no_32 no_64
 
-unsigned_shows : (type : BaseType) (invalid : ℕ) (none : List ℕ) (written : List ℕ → List ℕ) (n : ℕ) → invalid ≡ (row_of type).invalid →
-    has_sign type ≡ false → type ≢ Float32 → type ≢ Float64 → whole_of none (Unsigned invalid) n ≡ number_as none written type n
+unsigned_shows : (type : BaseType) (invalid : ℕ) (notation : Notation) (n : ℕ) → invalid ≡ (row_of type).invalid →
+    has_sign type ≡ false → type ≢ Float32 → type ≢ Float64 → unsigned_of notation.invalid invalid n ≡ number_as notation type n
 unfolding number_as
-unsigned_shows type invalid none written n is e no_32 no_64 =
-    rw is (ap (λ t. if n == (row_of type).invalid then none else t) (without_sign written type n e no_32 no_64))
+unsigned_shows type invalid notation n is e no_32 no_64 =
+    rw is (ap (λ t. if n == (row_of type).invalid then notation.invalid else t) (without_sign notation type n e no_32 no_64))
 
 -- a type without a sign, other than a float
 pub unsigned_kind : (type : BaseType) (invalid : ℕ) → invalid ≡ (row_of type).invalid → IsNumber type → has_sign type ≡ false →
     type ≢ Float32 → type ≢ Float64 → IsWholeOf type (Unsigned invalid)
 unsigned_kind type invalid is numbers e no_32 no_64 =
-    record { numbers = numbers; shows = λ none written n fits. unsigned_shows type invalid none written n is e no_32 no_64 }
+    record { numbers = numbers; shows = λ notation n held. unsigned_shows type invalid notation n is e no_32 no_64 }
 
 -- a number past half of the range is negative
 below_zero : (m n : ℕ) → n < suc m → 45 ∷ decimal (suc m - n) ≡ signed_decimal (pos n -ℤ pos (suc m))
@@ -73,21 +67,21 @@ by_sign : (b : Bool) (m n : ℕ) → n < suc m →
 by_sign true m n h = refl
 by_sign false m n h = below_zero m n h
 
-signed_shows : (type : BaseType) (none : List ℕ) (written : List ℕ → List ℕ) (n : ℕ) → has_sign type ≡ true →
-    n < 256 ^ (row_of type).size → whole_of none (Signed (row_of type).invalid) n ≡ number_as none written type n
+signed_shows : (type : BaseType) (notation : Notation) (n : ℕ) → has_sign type ≡ true →
+    n < 256 ^ (row_of type).size → signed_of notation.invalid (row_of type).invalid n ≡ number_as notation type n
 unfolding number_as
-signed_shows Sint8 none written n e h =
-    ap (λ t. if n == 127 then none else t) (by_sign (nat_lt n 128) 255 n h ∙ whole_signed Sint8 n refl ∙ plain_signed written Sint8 n refl)
-signed_shows Sint16 none written n e h =
-    ap (λ t. if n == 32767 then none else t)
-    (by_sign (nat_lt n 32768) 65535 n h ∙ whole_signed Sint16 n refl ∙ plain_signed written Sint16 n refl)
-signed_shows Sint32 none written n e h =
-    ap (λ t. if n == 2147483647 then none else t)
-    (by_sign (nat_lt n 2147483648) 4294967295 n h ∙ whole_signed Sint32 n refl ∙ plain_signed written Sint32 n refl)
-signed_shows Sint64 none written n e h =
-    ap (λ t. if n == 9223372036854775807 then none else t)
-    (by_sign (nat_lt n 9223372036854775808) 18446744073709551615 n h ∙ whole_signed Sint64 n refl ∙ plain_signed written Sint64 n refl)
-signed_shows type none written n e h = cc
+signed_shows Sint8 notation n e h =
+    ap (λ t. if n == 127 then notation.invalid else t) (by_sign (nat_lt n 128) 255 n h ∙ whole_signed Sint8 n refl ∙ plain_signed notation Sint8 n refl)
+signed_shows Sint16 notation n e h =
+    ap (λ t. if n == 32767 then notation.invalid else t)
+    (by_sign (nat_lt n 32768) 65535 n h ∙ whole_signed Sint16 n refl ∙ plain_signed notation Sint16 n refl)
+signed_shows Sint32 notation n e h =
+    ap (λ t. if n == 2147483647 then notation.invalid else t)
+    (by_sign (nat_lt n 2147483648) 4294967295 n h ∙ whole_signed Sint32 n refl ∙ plain_signed notation Sint32 n refl)
+signed_shows Sint64 notation n e h =
+    ap (λ t. if n == 9223372036854775807 then notation.invalid else t)
+    (by_sign (nat_lt n 9223372036854775808) 18446744073709551615 n h ∙ whole_signed Sint64 n refl ∙ plain_signed notation Sint64 n refl)
+signed_shows type notation n e h = cc
 
 signed_limit : (type : BaseType) → has_sign type ≡ true → 256 ^ (row_of type).size ≡ 2 * (row_of type).invalid + 2
 signed_limit Sint8 e = refl
@@ -100,7 +94,7 @@ signed_limit type e = cc
 pub signed_kind : (type : BaseType) (invalid : ℕ) → invalid ≡ (row_of type).invalid → IsNumber type → has_sign type ≡ true →
     IsWholeOf type (Signed invalid) × (256 ^ (row_of type).size ≡ 2 * invalid + 2)
 signed_kind type invalid is numbers e =
-    rw is (record { numbers = numbers; shows = λ none written n fits. signed_shows type none written n e fits }, signed_limit type e)
+    rw is (record { numbers = numbers; shows = λ notation n held. signed_shows type notation n e held }, signed_limit type e)
 
 -- ---- a field of one value
 
@@ -136,73 +130,181 @@ one_number : (type : BaseType) (arch : Arch) (bytes : List ℕ) → length bytes
 one_number type arch bytes e =
     rw (one_of_type type bytes e) (ap (λ t. number arch t ∷ []) (take_all (row_of type).size bytes (omega (arith, e))))
 
-one_text : (type : BaseType) (n : ℕ) → number_text type n ≡ numbers_text type (n ∷ [])
-unfolding numbers_as
-one_text type n = sym (append-nil (number_text type n))
+abbrev field_by : ℕ → Arch → List ℕ → Field
+field_by base arch bytes = record { base = base; arch = arch; bytes = bytes }
 
-one_json : (type : BaseType) (n : ℕ) → number_json type n ≡ numbers_json type (n ∷ [])
-unfolding numbers_json
-one_json type n = refl
-
--- the number of a field with one value that is not a date
-one_of : (base : ℕ) (arch : Arch) (bytes : List ℕ) (type : BaseType) → base_type base ≡ Some type → length bytes ≡ (row_of type).size →
-    let field : Field = record { base = base; arch = arch; bytes = bytes } in
-    (number arch bytes ∷ [] ≡ numbers arch (value_size field) (count_of field) bytes) × (count_of field ≡ 0 → ⊥)
-one_of base arch bytes type known e =
+-- the number of a field with one value
+one_value : (base : ℕ) (arch : Arch) (bytes : List ℕ) (type : BaseType) → base_type base ≡ Some type → length bytes ≡ (row_of type).size →
+    (number arch bytes ∷ [] ≡ numbers arch (value_size (field_by base arch bytes)) (count_of (field_by base arch bytes)) bytes)
+    × (count_of (field_by base arch bytes) ≡ 1)
+one_value base arch bytes type known e =
     let some : count_by (base_type base) bytes ≡ 1 = ap (λ o. count_by o bytes) known ∙ one_of_type type bytes e in (
       sym (ap (λ o. numbers arch (size_by o) (count_by o bytes) bytes) known ∙ one_number type arch bytes e),
-      λ none. omega (arith, some, none),
+      some,
     )
 
--- a field with one value that is not a date shows this value
-one_shown : (dates : List ℕ) (n base : ℕ) (arch : Arch) (bytes : List ℕ) (type : BaseType) →
-    list_any (λ date. date == n) dates ≡ false → base_type base ≡ Some type → IsNumber type → length bytes ≡ (row_of type).size →
-    number_text type (number arch bytes) ≡ shown_at dates n base arch bytes
-one_shown dates n base arch bytes type no_date known is e =
-    let field : Field = record { base = base; arch = arch; bytes = bytes } in
-    let one = one_of base arch bytes type known e in
-    rw no_date
-    (one_text type (number arch bytes) ∙ ap (numbers_text type) one.0 ∙ number_values field type known is one.1)
+one_text : (notation : Notation) (text : ℕ → List ℕ) (n : ℕ) → text n ≡ numbers_as notation text (n ∷ [])
+unfolding numbers_as
+one_text notation text n = refl
 
-one_shown_json : (dates : List ℕ) (n base : ℕ) (arch : Arch) (bytes : List ℕ) (type : BaseType) →
-    list_any (λ date. date == n) dates ≡ false → base_type base ≡ Some type → IsNumber type → length bytes ≡ (row_of type).size →
-    number_json type (number arch bytes) ≡ json_at dates n base arch bytes
-one_shown_json dates n base arch bytes type no_date known is e =
-    let field : Field = record { base = base; arch = arch; bytes = bytes } in
-    let one = one_of base arch bytes type known e in
-    rw no_date
-    (one_json type (number arch bytes) ∙ ap (numbers_json type) one.0 ∙ json_values field type known is one.1)
+-- a field with one value shows this value, if it is not a date
+one_shown : (notation : Notation) (base : ℕ) (arch : Arch) (bytes : List ℕ) (type : BaseType) →
+    base_type base ≡ Some type → IsNumber type → length bytes ≡ (row_of type).size →
+    number_as notation type (number arch bytes)
+    ≡ values_as notation (number_as notation) (base_type base) (values_of (field_by base arch bytes))
+one_shown notation base arch bytes type known is e =
+    let one = one_value base arch bytes type known e in
+    one_text notation (number_as notation type) (number arch bytes)
+    ∙ ap (numbers_as notation (number_as notation type)) one.0
+    ∙ number_values notation (number_as notation) (field_by base arch bytes) type known is (λ none. omega (arith, one.1, none))
 
--- fields of a type of whole numbers, whose size is that of one number
-pub shows_whole : (dates : List ℕ) (n base size : ℕ) (type : BaseType) (kind : Kind) →
-    list_any (λ date. date == n) dates ≡ false → base_type base ≡ Some type → size ≡ (row_of type).size → IsWholeOf type kind →
-    ShowsWhole dates n base size kind
-shows_whole dates n base size type kind no_date known e h =
-    rw e (record {
-      sized = value_size_of type;
-      shows = λ arch bytes one fits.
-          h.shows (codes "-") hex_text (number arch bytes) fits ∙ one_shown dates n base arch bytes type no_date known h.numbers one;
-      json = λ arch bytes one fits.
-          h.shows (codes "null") bytes_json (number arch bytes) fits ∙ one_shown_json dates n base arch bytes type no_date known h.numbers one;
-    })
+-- ---- dates
+
+code_by : (b : Bool) (t type : BaseType) (types : List BaseType) (code : ℕ) → ((row_of t).code == code) ≡ b →
+    (base_type_in types code ≡ Some type → (row_of type).code ≡ code) → (if b then Some t else base_type_in types code) ≡ Some type →
+    (row_of type).code ≡ code
+code_by true t type types code is rest e = let same : t ≡ type = cc in rw (← same) (eqb-true _ _ is)
+code_by false t type types code is rest e = rest e
+
+code_in : (types : List BaseType) (code : ℕ) (type : BaseType) → base_type_in types code ≡ Some type → (row_of type).code ≡ code
+code_in [] code type e = cc
+code_in (t ∷ types) code type e = code_by _ t type types code refl (code_in types code type) e
+
+-- a base type byte is the code of its type
+code_of : (code : ℕ) (type : BaseType) → base_type code ≡ Some type → (row_of type).code ≡ code
+code_of code type e =
+    code_in (Enum ∷ Sint8 ∷ Uint8 ∷ Sint16 ∷ Uint16 ∷ Sint32 ∷ Uint32 ∷ String ∷ Float32 ∷ Float64 ∷ Uint8z ∷ Uint16z ∷ Uint32z ∷ Byte ∷ Sint64 ∷ Uint64
+    ∷ Uint64z ∷ []) code type e
+
+four_bytes : (n : ℕ) → n % 4 ≡ 0 → n / 4 ≡ 1 → n ≡ 4
+four_bytes n rest whole = omega arith
+
+one_by : (n : ℕ) (even : Bool) → (n % 4 == 0) ≡ even → (if (if even then false else true) then 0 else n / 4) ≡ 1 → n ≡ 4
+one_by n true is e = four_bytes n (eqb-true _ _ is) e
+one_by n false is e = absurd (omega (arith, e))
+
+-- a field of type uint32 with one value has four bytes
+has_four : (base : ℕ) (arch : Arch) (bytes : List ℕ) → base ≡ 134 → count_of (field_by base arch bytes) ≡ 1 → length bytes ≡ 4
+has_four base arch bytes is one = one_by (length bytes) _ refl (rw is at one)
+
+none_by : (b : Bool) (dates : List ℕ) (n base : ℕ) (arch : Arch) (bytes : List ℕ) → (base == 134) ≡ b →
+    (base ≡ 134 → length bytes ≢ 4) → option_and_then calendar_time (value_in Uint32 (field_at n base arch bytes)) ≡ None
+none_by false dates n base arch bytes is other = rw is refl
+none_by true dates n base arch bytes is other =
+    let same : base ≡ 134 = eqb-true _ _ is in
+    let none = one-of-other (field_by base arch bytes) (λ one. other same (has_four base arch bytes same one)) in
+    rw (is, none) refl
+
+unless : (b : Bool) (o : Option ℕ) → (b ≡ true → o ≡ None) → (if b then o else None) ≡ None
+unless true o h = h refl
+unless false o h = refl
+
+-- a field that is no single uint32, or has none of these numbers, is no date
+no_date : (dates : List ℕ) (n base : ℕ) (arch : Arch) (bytes : List ℕ) →
+    (list_any (λ date. date == n) dates ≡ true → base ≡ 134 → length bytes ≢ 4) → date_in dates (field_at n base arch bytes) ≡ None
+no_date dates n base arch bytes other = unless _ _ (λ is. none_by _ dates n base arch bytes refl (other is))
+
+-- one that is no date shows its values
+values_shown : (notation : Notation) (dates : List ℕ) (n base : ℕ) (arch : Arch) (bytes : List ℕ) →
+    (list_any (λ date. date == n) dates ≡ true → base ≡ 134 → length bytes ≢ 4) →
+    values_as notation (number_as notation) (base_type base) (values_of (field_by base arch bytes)) ≡ shown_at notation dates n base arch bytes
+values_shown notation dates n base arch bytes other =
+    ap (λ o. shown_as notation o (field_at n base arch bytes)) (sym (no_date dates n base arch bytes other))
+
+valid_by : (last : Bool) (n : ℕ) → option_and_then calendar_time (if last then None else Some n)
+    ≡ (if last then None else if nat_le 268435456 n then Some n else None)
+valid_by true n = refl
+valid_by false n = refl
+
+date_by : (notation : Notation) (n : ℕ) (late last : Bool) (field : MessageField) (plain : List ℕ) → plain ≡ shown_as notation None field →
+    (if late && not last then marked notation (date_text n) else plain)
+    ≡ shown_as notation (if last then None else if late then Some n else None) field
+date_by notation n true true field plain is = is
+date_by notation n true false field plain is = refl
+date_by notation n false true field plain is = is
+date_by notation n false false field plain is = is
+
+-- a field of one uint32 is a date, if that is a calendar time
+date_shown : (notation : Notation) (dates : List ℕ) (n : ℕ) (arch : Arch) (bytes : List ℕ) → list_any (λ date. date == n) dates ≡ true →
+    length bytes ≡ 4 → date_of notation (number arch bytes) ≡ shown_at notation dates n 134 arch bytes
+unfolding number_as plain_as
+date_shown notation dates n arch bytes is long =
+    let one = one_value 134 arch bytes Uint32 refl long in
+    let whole : take 4 (drop 0 bytes) ≡ bytes = take_all 4 bytes (omega (arith, long)) in
+    let found = one-of-one (field_by 134 arch bytes) one.1 ∙ ap (λ t. Some (number arch t)) whole in
+    let value = number arch bytes in
+    let plain : unsigned_of notation.invalid 4294967295 value ≡ shown_as notation None (field_at n 134 arch bytes) =
+    unsigned_shows Uint32 4294967295 notation value refl refl (λ e. cc) (λ e. cc) ∙ one_shown notation 134 arch bytes Uint32 refl tt long in
+    let field = field_at n 134 arch bytes in
+    rw (is, found)
+    (date_by notation value (nat_le 268435456 value) (value == 4294967295) field (unsigned_of notation.invalid 4294967295 value) plain
+    ∙ ap (λ o. shown_as notation o field) (sym (valid_by (value == 4294967295) value)))
+
+-- ---- the kind of a field
+
+abbrev is_date : List ℕ → ℕ → Bool
+is_date dates n = list_any (λ date. date == n) dates
+
+type_of : (base : ℕ) (type : BaseType) → base_type base ≡ Some type → base ≡ 134 → type ≡ Uint32
+type_of base type known same =
+    let uint : base_type base ≡ Some Uint32 = rw same refl in
+    let is : Some type ≡ Some Uint32 = sym known ∙ uint in
+    cc
 
 -- the kind of a field follows from that of its type
 pub kind_shows : (dates : List ℕ) (n base size : ℕ) (type : BaseType) (kind : Kind) →
-    list_any (λ date. date == n) dates ≡ false → base_type base ≡ Some type → size ≡ (row_of type).size → IsKindOf type kind →
-    IsKind dates n base size kind
-kind_shows dates n base size type (Unsigned invalid) no_date known e h = shows_whole dates n base size type (Unsigned invalid) no_date known e h
-kind_shows dates n base size type (Signed invalid) no_date known e h =
-    (shows_whole dates n base size type (Signed invalid) no_date known e h.0, ap (λ s. 256 ^ s) e ∙ h.1)
-kind_shows dates n base size type Other no_date known e h = tt
+    base_type base ≡ Some type → size ≡ (row_of type).size → IsKindOf (is_date dates n) type kind → IsKind dates n base size kind
+kind_shows dates n base size type (Unsigned invalid) known e h =
+    record {
+      sized = rw e (value_size_of type);
+      shows = λ notation arch bytes long held.
+          h.0.shows notation (number arch bytes) tt ∙ one_shown notation base arch bytes type known h.0.numbers (long ∙ e)
+          ∙ values_shown notation dates n base arch bytes (λ is same. absurd (h.1 is (type_of base type known same)));
+    }
+kind_shows dates n base size type (Signed invalid) known e h =
+    record {
+      sized = (rw e (value_size_of type), ap (λ s. 256 ^ s) e ∙ h.2);
+      shows = λ notation arch bytes long held.
+          h.0.shows notation (number arch bytes) (rw e at held) ∙ one_shown notation base arch bytes type known h.0.numbers (long ∙ e)
+          ∙ values_shown notation dates n base arch bytes (λ is same. absurd (h.1 is (type_of base type known same)));
+    }
+kind_shows dates n base size type Date known e h =
+    let code : base ≡ 134 = sym (code_of base type known) ∙ ap (λ t. (row_of t).code) h.1 in
+    let four : size ≡ 4 = e ∙ ap (λ t. (row_of t).size) h.1 in
+    record {
+      sized = four;
+      shows = λ notation arch bytes long held. rw code (date_shown notation dates n arch bytes h.0 (long ∙ four));
+    }
+kind_shows dates n base size type Other known e h =
+    record {
+      sized = tt;
+      shows = λ notation arch bytes long held.
+          values_shown notation dates n base arch bytes (λ is same. absurd (h (type_of base type known same)));
+    }
+
+-- a field of another size, or of no type, shows its values
+pub other_shows : (dates : List ℕ) (n base size : ℕ) → (base ≡ 134 → size ≢ 4) → IsKind dates n base size Other
+other_shows dates n base size other = record {
+  sized = tt;
+  shows = λ notation arch bytes long held.
+      values_shown notation dates n base arch bytes (λ is same four. other same (sym long ∙ four));
+}
+
+pub no_type : (base : ℕ) → base_type base ≡ None → base ≡ 134 → ⊥
+no_type base none same = let known : base_type base ≡ Some Uint32 = rw same refl in cc
+
+pub other_size : (base size : ℕ) (type : BaseType) → base_type base ≡ Some type → (size ≡ (row_of type).size → ⊥) → base ≡ 134 → size ≢ 4
+other_size base size type known other same four =
+    other (four ∙ ap (λ t. (row_of t).size) (sym (type_of base type known same)))
 
 -- ---- columns
 
-pub columns_length : (names : List FieldFacts) (dates : List ℕ) (fields : List FieldDefinition) (columns : List Column) →
-    AreColumns names dates fields columns → length columns ≡ length fields
-columns_length names dates [] [] h = refl
-columns_length names dates [] (column ∷ columns) h = absurd h
-columns_length names dates (field ∷ fields) [] h = absurd h
-columns_length names dates (field ∷ fields) (column ∷ columns) h = ap (λ n. suc n) (columns_length names dates fields columns h.1)
+pub columns_length : (utc : Bool) (global : ℕ) (fields : List FieldDefinition) (columns : List Column) →
+    AreColumns utc global fields columns → length columns ≡ length fields
+columns_length utc global [] [] h = refl
+columns_length utc global [] (column ∷ columns) h = absurd h
+columns_length utc global (field ∷ fields) [] h = absurd h
+columns_length utc global (field ∷ fields) (column ∷ columns) h = ap (λ n. suc n) (columns_length utc global fields columns h.1)
 
 -- the fields that are left, after those that have columns
 pub left_over : (done fields : List FieldDefinition) (all : List FieldDefinition) → all ≡ done ++ fields → length fields < 1 → all ≡ done
@@ -218,61 +320,22 @@ next_field done (field ∷ fields) all d e lt =
     rw (rest, append_assoc) e
 
 -- the columns with one more field's
-pub columns_more : (names : List FieldFacts) (dates : List ℕ) (fields : List FieldDefinition) (columns : List Column) (field : FieldDefinition)
-    (column : Column) → AreColumns names dates fields columns → IsColumn names dates field column →
-    AreColumns names dates (fields ++ field ∷ []) (columns ++ column ∷ [])
-columns_more names dates [] [] field column h k = (k, tt)
-columns_more names dates [] (c ∷ columns) field column h k = absurd h
-columns_more names dates (f ∷ fields) [] field column h k = absurd h
-columns_more names dates (f ∷ fields) (c ∷ columns) field column h k =
-    (h.0, columns_more names dates fields columns field column h.1 k)
+pub columns_more : (utc : Bool) (global : ℕ) (fields : List FieldDefinition) (columns : List Column) (field : FieldDefinition)
+    (column : Column) → AreColumns utc global fields columns → IsColumn utc global field column →
+    AreColumns utc global (fields ++ field ∷ []) (columns ++ column ∷ [])
+columns_more utc global [] [] field column h k = (k, tt)
+columns_more utc global [] (c ∷ columns) field column h k = absurd h
+columns_more utc global (f ∷ fields) [] field column h k = absurd h
+columns_more utc global (f ∷ fields) (c ∷ columns) field column h k =
+    (h.0, columns_more utc global fields columns field column h.1 k)
 
--- the text of a column is that of its field
-column_shows : (names : List FieldFacts) (dates : List ℕ) (arch : Arch) (field : FieldDefinition) (column : Column) (bytes : List ℕ) →
-    IsColumn names dates field column →
-    column_text dates arch column bytes ≡ field_text names dates (field_at field.number field.base arch bytes)
-column_shows names dates arch field column bytes h =
-    ap (λ t. t ++ shown_at dates column.number column.base arch bytes) h.label
-    ∙ ap (λ n. codes " " ++ field_name names field.number ++ codes "=" ++ shown_at dates n column.base arch bytes) h.number
-    ∙ ap (λ b. codes " " ++ field_name names field.number ++ codes "=" ++ shown_at dates field.number b arch bytes) h.base
-
--- the text of a time is that of its field
-time_shown : (names : List FieldFacts) (dates : List ℕ) (column : Column) (time : Option ℕ) → IfSome time (λ time. time < 2 ^ 32) →
-    IsColumn names dates time_field_definition column → time_text dates column time ≡ flat_map (field_text names dates) (time_fields time)
-time_shown names dates column None fits h = refl
-time_shown names dates column (Some time) fits h =
-    let all : low_first (to_le_bytes w32 time) ≡ time = omega (arith, fits) in
-    column_shows names dates Little time_field_definition column (to_le_bytes w32 time) h
-    ∙ ap (λ n. field_text names dates (time_field n)) all ∙ sym (append-nil _)
-
-pub columns_show : (names : List FieldFacts) (dates : List ℕ) (arch : Arch) (fields : List FieldDefinition) (columns : List Column)
-    (content : List ℕ) → AreColumns names dates fields columns →
-    columns_text dates arch columns content ≡ flat_map (field_text names dates) (fields_of arch fields content)
-columns_show names dates arch [] [] content h = refl
-columns_show names dates arch [] (column ∷ columns) content h = absurd h
-columns_show names dates arch (field ∷ fields) [] content h = absurd h
-columns_show names dates arch (field ∷ fields) (column ∷ columns) content h =
-    let size : column.size ≡ field.size = h.0.size in
-    rw (
-      size,
-      column_shows names dates arch field column (take field.size content) h.0,
-      columns_show names dates arch fields columns (drop field.size content) h.1,
-    ) refl
-
-pub columns_kinds : (names : List FieldFacts) (dates : List ℕ) (fields : List FieldDefinition) (columns : List Column) →
-    AreColumns names dates fields columns → HaveKinds dates columns
-columns_kinds names dates [] [] h = tt
-columns_kinds names dates [] (column ∷ columns) h = absurd h
-columns_kinds names dates (field ∷ fields) [] h = absurd h
-columns_kinds names dates (field ∷ fields) (column ∷ columns) h = (h.0.kind, columns_kinds names dates fields columns h.1)
-
-pub columns_size : (names : List FieldFacts) (dates : List ℕ) (fields : List FieldDefinition) (columns : List Column) →
-    AreColumns names dates fields columns → sum_by (λ c. c.size) columns ≡ sum_by (λ f. f.size) fields
-columns_size names dates [] [] h = refl
-columns_size names dates [] (column ∷ columns) h = absurd h
-columns_size names dates (field ∷ fields) [] h = absurd h
-columns_size names dates (field ∷ fields) (column ∷ columns) h =
-    let rest = columns_size names dates fields columns h.1 in
+pub columns_size : (utc : Bool) (global : ℕ) (fields : List FieldDefinition) (columns : List Column) →
+    AreColumns utc global fields columns → sum_by (λ c. c.size) columns ≡ sum_by (λ f. f.size) fields
+columns_size utc global [] [] h = refl
+columns_size utc global [] (column ∷ columns) h = absurd h
+columns_size utc global (field ∷ fields) [] h = absurd h
+columns_size utc global (field ∷ fields) (column ∷ columns) h =
+    let rest = columns_size utc global fields columns h.1 in
     omega (arith, rest, h.0.size, sum_by-cons (λ (c : Column). c.size) column columns, sum_by-cons (λ (f : FieldDefinition). f.size) field fields)
 
 -- ---- the first of several columns, and the others
@@ -287,23 +350,11 @@ first_size (c ∷ columns) column some is =
     let rest : others (c ∷ columns) ≡ columns = take_all _ columns (omega arith) in
     rw (is, rest) (sum_by-cons (λ (c : Column). c.size) c columns)
 
-pub other_kinds : (dates : List ℕ) (columns : List Column) → 1 ≤ length columns → HaveKinds dates columns → HaveKinds dates (others columns)
-other_kinds dates [] some h = absurd (omega arith)
-other_kinds dates (c ∷ columns) some h =
-    let rest : others (c ∷ columns) ≡ columns = take_all _ columns (omega arith) in rw rest h.1
-
-pub first_text : (dates : List ℕ) (arch : Arch) (columns : List Column) (column : Column) (content bytes in_force_after : List ℕ) (n : ℕ) →
-    1 ≤ length columns → column ≡ get_or columns 0 column → bytes ≡ take n content → in_force_after ≡ drop n content → n ≡ column.size →
-    columns_text dates arch columns content ≡ column_text dates arch column bytes ++ columns_text dates arch (others columns) in_force_after
-first_text dates arch [] column content bytes in_force_after n some is front back size = absurd (omega arith)
-first_text dates arch (c ∷ columns) column content bytes in_force_after n some is front back size =
-    let rest : others (c ∷ columns) ≡ columns = take_all _ columns (omega arith) in rw (front, back, size, is, rest) refl
-
 -- the content after the first column, and after all of them
-pub first_after : (columns : List Column) (column : Column) (content in_force_after : List ℕ) (n : ℕ) → 1 ≤ length columns → column ≡ get_or columns 0 column →
-    in_force_after ≡ drop n content → n ≡ column.size →
-    drop (sum_by (λ c. c.size) (others columns)) in_force_after ≡ drop (sum_by (λ c. c.size) columns) content
-first_after columns column content in_force_after n some is back size =
+pub first_after : (columns : List Column) (column : Column) (content after : List ℕ) (n : ℕ) → 1 ≤ length columns → column ≡ get_or columns 0 column →
+    after ≡ drop n content → n ≡ column.size →
+    drop (sum_by (λ c. c.size) (others columns)) after ≡ drop (sum_by (λ c. c.size) columns) content
+first_after columns column content after n some is back size =
     ap (drop (sum_by (λ c. c.size) (others columns))) (back ∙ ap (λ k. drop k content) size)
     ∙ drop-drop (sum_by (λ c. c.size) (others columns)) column.size content
     ∙ ap (λ k. drop k content) (sym (first_size columns column some is))
@@ -312,52 +363,17 @@ pub no_after : (columns : List Column) (content : List ℕ) → length columns <
 no_after [] content none = refl
 no_after (column ∷ columns) content none = absurd (omega arith)
 
-pub no_column : (dates : List ℕ) (arch : Arch) (columns : List Column) (content : List ℕ) → length columns < 1 →
-    columns_text dates arch columns content ≡ []
-no_column dates arch [] content none = refl
-no_column dates arch (column ∷ columns) content none = absurd (omega arith)
-
--- ---- the line of a message
-
-line_parts : (number name times fields developer : List ℕ) →
-    (number ++ (codes " " ++ name)) ++ (times ++ (fields ++ (developer ++ codes "\n")))
-    ≡ number ++ codes " " ++ name ++ (times ++ fields) ++ developer ++ codes "\n"
-line_parts number name times fields developer = simp append_assoc
-
--- the parts of the line, in their order
-pub plan_text : (number : ℕ) (d : Definition) (time : Option ℕ) (content : List ℕ) (plan : Plan) (columns : List Column) →
-    (developer : List DeveloperFieldDefinition) (dates : List ℕ) → dates ≡ dates_of plan.utc plan.global → IfSome time (λ time. time < 2 ^ 32) →
-    IsPlanOf true d plan columns developer →
-    (decimal number ++ plan.name)
-    ++ (time_text dates plan.time time
-    ++ (columns_text dates plan.arch columns content
-    ++ (flat_map developer_text (developer_of plan.arch developer (drop (sum_by (λ c. c.size) columns) content)) ++ codes "\n")))
-    ≡ message_text plan.utc number (message_under d time content)
-plan_text number d time content plan columns developer dates is fits h =
-    let size = columns_size (known_at d.global) (dates_of plan.utc d.global) d.fields.items columns h.fields in
-    let in_force_after = flat_map developer_text (developer_of d.arch d.developer.items (drop (fields_size d) content)) in
-    let names = known_at d.global in
-    let shown = dates_of plan.utc d.global in
-    let texts = flat_map-append (field_text names shown) (time_fields time) (fields_of d.arch d.fields.items content) in
-    rw (is, h.global, h.arch, h.name, time_shown names shown plan.time time fits h.time, columns_show names shown d.arch d.fields.items columns content h.fields, h.developer, size)
-    (line_parts (decimal number) (message_name d.global) _ _ in_force_after
-    ∙ ap (λ t. decimal number ++ codes " " ++ message_name d.global ++ t ++ in_force_after ++ codes "\n") (sym texts))
-
-pub plan_kinds : (d : Definition) (plan : Plan) (columns : List Column) (developer : List DeveloperFieldDefinition) (dates : List ℕ) →
-    dates ≡ dates_of plan.utc plan.global → IsPlanOf true d plan columns developer → HaveKinds dates columns
-plan_kinds d plan columns developer dates is h =
-    rw (is, h.global) (columns_kinds (known_at d.global) (dates_of plan.utc d.global) d.fields.items columns h.fields)
+-- ---- plans
 
 pub plan_size : (empty : Bool) (d : Definition) (plan : Plan) (columns : List Column) (developer : List DeveloperFieldDefinition) →
     IsPlanOf empty d plan columns developer → sum_by (λ c. c.size) columns ≡ fields_size d
 plan_size empty d plan columns developer h =
-    columns_size (known_at d.global) (dates_of plan.utc d.global) (shown_fields empty d.fields.items) columns h.fields
-    ∙ shown_size empty d.fields.items
+    columns_size plan.utc d.global (shown empty has_size d.fields.items) columns h.fields ∙ shown_size empty d.fields.items
 
 -- a plan for the definition of the fields that are shown is one for the whole definition
-shown_plan : (empty : Bool) (d shown : Definition) (plan : Plan) (columns : List Column) (developer : List DeveloperFieldDefinition) →
-    IsShown empty d shown → IsPlanOf true shown plan columns developer → IsPlanOf empty d plan columns developer
-shown_plan empty d shown plan columns developer is h = record {
+shown_plan : (empty : Bool) (d own : Definition) (plan : Plan) (columns : List Column) (developer : List DeveloperFieldDefinition) →
+    IsShown empty d own → IsPlanOf true own plan columns developer → IsPlanOf empty d plan columns developer
+shown_plan empty d own plan columns developer is h = record {
   arch = h.arch ∙ is.arch;
   global = h.global ∙ is.global;
   name = h.name ∙ ap (λ g. codes " " ++ message_name g) is.global;
@@ -366,15 +382,16 @@ shown_plan empty d shown plan columns developer is h = record {
   developer = h.developer ∙ is.developer;
 }
 
-pub shown_plan_in : (empty utc : Bool) (d shown : Definition) (plan : Plan) (columns : List Column) (developer : List DeveloperFieldDefinition) →
-    IsShown empty d shown → IsPlanIn columns developer utc true shown plan → IsPlanIn columns developer utc empty d plan
-shown_plan_in empty utc d shown plan columns developer is h = record {
+pub shown_plan_in : (empty utc : Bool) (d own : Definition) (plan : Plan) (columns : List Column)
+    (developer : List DeveloperFieldDefinition) → IsShown empty d own → IsPlanIn columns developer utc true own plan →
+    IsPlanIn columns developer utc empty d plan
+shown_plan_in empty utc d own plan columns developer is h = record {
   dated = h.dated;
   order = h.order;
   inside = h.inside;
   developer_order = h.developer_order;
   developer_inside = h.developer_inside;
-  is = shown_plan empty d shown plan _ _ is h.is;
+  is = shown_plan empty d own plan _ _ is h.is;
 }
 
 -- ---- columns in the shared row

@@ -1,7 +1,9 @@
-// What the text and the JSON of a file share.
+// The lines of a file.
 
+pub(crate) mod column;
+mod developer;
 pub(crate) mod file;
 pub(crate) mod header;
-pub(crate) mod notation;
-pub(crate) mod number;
-pub(crate) mod whole;
+mod message;
+pub(crate) mod plan;
+mod plans;

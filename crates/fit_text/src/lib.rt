@@ -14,22 +14,27 @@
 //!     messages 1
 //!
 //! (The test `the_example_of_the_crate` of `fit_format_tests`.) The names of messages and fields are those that `fit_profile` marks as
-//! known. The text goes through the buffer of a `Pen` (`writing`). `show_json` writes JSON by the same walk (`form`). Contracts use the
-//! definitions in `specs/`: `Text` has the text of a file, `Json` its JSON, `Form` what both share, `Date` the dates, and `Pen` what a pen
-//! puts. `Plan` and `Members` are only for private functions and proofs.
+//! known. The text goes through the buffer of a `Pen` (`writing`).
+//!
+//! A `Form` says how messages and fields are written, and a `Notation` in which words; `write_file` is the one walk over a file, and
+//! `put_values` the one way to write the values of a field. `show_json` is a second form. Contracts use the definitions in `specs/`:
+//! `Notation` and `Values` have how values are written, `Form` the lines of a file, `Text` and `Json` the two forms, `Date` the dates, and
+//! `Pen` what a pen puts. `Plan` is only for private functions, proofs, and forms.
 #![tactic(auto)]
 
 mod form;
 mod json;
-mod showing;
+mod notation;
+mod text;
+mod value;
 mod writing;
 
 pub use form::file::{Form, ShowFault, write_file};
-pub use json::{
-    Members, put_developer_bytes, put_developer_key, put_json_count, put_json_header,
-    put_json_string, put_json_value, put_message, put_quoted_date, show_json,
-};
-pub use showing::date::put_date;
-pub use showing::plan::{Column, Plan};
-pub use showing::show;
+pub use form::plan::{Column, Plan};
+pub use json::{put_developer_bytes, put_developer_key, put_json_head, put_json_string, show_json};
+pub use notation::{Notation, json_notation};
+pub use text::show;
+pub use value::date::{put_date, put_marked_date};
+pub use value::number::Numbers;
+pub use value::put_values;
 pub use writing::Pen;

@@ -1,11 +1,10 @@
 // Text on its way to what takes it.
 
-ghost use Rattle.std.specs.Prelude.{◌≡◌, ◌+◌, ◌≤◌, [], ◌++◌, codes, length, take, decimal, IfOk};
+ghost use Rattle.std.specs.Prelude.{◌≡◌, ◌+◌, ◌≤◌, [], ◌++◌, length, take, decimal, IfOk};
 ghost use Rattle.std.specs.Fmt.{signed_decimal};
 ghost use Rattle.fit_text.specs.declared.writing.TheConstants.{SIZE, ROOM};
-ghost use Rattle.fit_text.specs.Json.{quoted};
-ghost use Rattle.fit_text.specs.Members.{separator, inner};
 ghost use Rattle.fit_text.specs.Pen.{Written, Puts, Adds, AddsBytes};
+ghost use Rattle.fit_text.specs.Plan.{member_name};
 
 mod decimal;
 mod label;
@@ -120,8 +119,7 @@ impl<'a, S: Sink> Pen<'a, S> {
     #[inline]
     pub fn add_member(&mut self, label: &Label, is_first: bool)
         requires { length self.old.waiting + 34 ≤ SIZE }
-        ensures member { Adds self.old self.new
-            (separator is_first ++ (quoted (inner label.now) ++ codes ":")) }
+        ensures member { Adds self.old self.new (member_name is_first label.now) }
         ensures short { length self.new.waiting ≤ length self.old.waiting + 34 }
     {
         self.len = place_member(&mut self.bytes, self.len, label, is_first);

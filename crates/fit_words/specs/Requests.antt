@@ -51,9 +51,10 @@ IsEachAskedBy name found _ = ⊥
 
 -- the subcommand of this name makes this request, with these words
 abbrev pub IsAskedBy : List ℕ → Found → Request → Type 0
-IsAskedBy name found (Show file utc json profile) =
+IsAskedBy name found (Show file utc json profile gpx) =
     (name ≡ codes "show") × IsWord found (codes "FILE") file × IsFlag found (codes "utc") utc
     × IsFlag found (codes "json") json × IsFlag found (codes "profile") profile
+    × IsFlag found (codes "gpx") gpx
 IsAskedBy name found (Check file) = (name ≡ codes "check") × IsWord found (codes "FILE") file
 IsAskedBy name found (CheckEach names json) = ⊥
 IsAskedBy name found (Table file form) =
@@ -72,10 +73,11 @@ IsAskedBy name found (Save folder to earlier) =
 IsAskedBy name found (Repair folder verify) =
     (name ≡ codes "repair") × IsWord found (codes "FOLDER") folder
     × IsFlag found (codes "verify") verify
-IsAskedBy name found (Salvage file to all plain skip finish) =
+IsAskedBy name found (Salvage file to form) =
     (name ≡ codes "salvage") × IsWord found (codes "IN") file × IsWord found (codes "OUT") to
-    × IsFlag found (codes "all") all × IsFlag found (codes "plain") plain
-    × IsFlag found (codes "skip") skip × IsFlag found (codes "finish") finish
+    × IsFlag found (codes "all") form.all × IsFlag found (codes "plain") form.plain
+    × IsFlag found (codes "skip") form.skip × IsFlag found (codes "finish") form.finish
+    × (option_map (λ word. word.now) form.like ≡ first_value found (codes "like"))
 IsAskedBy name found (Split file folder all) =
     (name ≡ codes "split") × IsWord found (codes "IN") file × IsWord found (codes "FOLDER") folder
     × IsFlag found (codes "all") all

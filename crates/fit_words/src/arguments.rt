@@ -12,8 +12,12 @@ pub(crate) enum Argument {
     Flag(&'static str, &'static str),
     /// An option without a value that needs the option of the third text, and may have a letter for its name.
     FlagWith(&'static str, &'static str, &'static str, Option<char>),
+    /// An option without a value that these options exclude.
+    FlagWithout(&'static str, &'static str, &'static [&'static str]),
     /// An option with a value, whose name is the third text.
     Value(&'static str, &'static str, &'static str),
+    /// An option with a value, whose name is the third text, that needs the option of the fourth.
+    ValueWith(&'static str, &'static str, &'static str, &'static str),
     /// Any number of words, which need the option of the third text.
     MoreWith(&'static str, &'static str, &'static str),
 }
@@ -38,6 +42,13 @@ pub(crate) const ALL_FILES: Argument = Argument::Flag(
 pub(crate) const SKIP: Argument = Argument::Flag(
     "skip",
     "Goes on after a fault, and says which bytes are left out",
+);
+
+pub(crate) const LIKE: Argument = Argument::ValueWith(
+    "like",
+    "Takes the definitions of this FIT file where those of IN are lost, with --skip: another ride of the same device",
+    "FILE",
+    "skip",
 );
 
 pub(crate) const VERIFY: Argument = Argument::Flag(
@@ -92,6 +103,12 @@ pub(crate) const JSON_PROFILE: Argument = Argument::FlagWith(
     "Uses the names and units of the whole public FIT Profile and of developer fields, with --json",
     "json",
     None,
+);
+
+pub(crate) const GPX: Argument = Argument::FlagWithout(
+    "gpx",
+    "Writes the track as GPX: a point for each record that has a position",
+    &["utc", "json", "profile"],
 );
 
 pub(crate) const MESSAGE: Argument = Argument::Value(
@@ -170,8 +187,15 @@ pub(crate) fn arg_of<'a>(alloc: Global, argument: Argument) -> Result<Arg<'a>, E
         Argument::FlagWith(name, help, option, Some(letter)) => {
             Ok(flag(alloc, name, help).short(letter).requires_arg(option)?)
         }
+        Argument::FlagWithout(name, help, others) => {
+            Ok(flag(alloc, name, help).conflicts_with_all(others)?)
+        }
         Argument::Value(name, help, value) => {
             Ok(word(alloc, name, help).long(name).value_name(value))
+        }
+        Argument::ValueWith(name, help, value, option) => {
+            let word = word(alloc, name, help).long(name).value_name(value);
+            Ok(word.requires_arg(option)?)
         }
         Argument::MoreWith(name, help, option) => {
             Ok(word(alloc, name, help).num_args(0..).requires_arg(option)?)

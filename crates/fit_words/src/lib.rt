@@ -16,7 +16,7 @@ mod text;
 use clap::error::ErrorKind;
 use clap::{ArgMatches, Command, Error};
 use request::request_in;
-pub use request::{Names, Request, TableForm};
+pub use request::{Names, Request, SalvageForm, TableForm};
 pub use shown::ShownWord;
 use std::alloc::{AllocError, Global};
 use std::convert::AsStr;

@@ -16,6 +16,8 @@ pub enum Request<'a> {
         json: bool,
         /// Only with `json`.
         profile: bool,
+        /// Only without the others.
+        gpx: bool,
     },
     Check {
         file: &'a str,
@@ -54,10 +56,7 @@ pub enum Request<'a> {
     Salvage {
         file: &'a str,
         to: &'a str,
-        all: bool,
-        plain: bool,
-        skip: bool,
-        finish: bool,
+        form: SalvageForm<'a>,
     },
     Split {
         file: &'a str,
@@ -94,6 +93,17 @@ pub struct TableForm<'a> {
     pub message: Option<&'a str>,
     /// The word of `--fields`, if it is there.
     pub fields: Option<&'a str>,
+}
+
+/// What is kept of a damaged file, and how it is written.
+#[derive(Clone, Copy)]
+pub struct SalvageForm<'a> {
+    pub all: bool,
+    pub plain: bool,
+    pub skip: bool,
+    /// The word of `--like`, if it is there. Only with `skip`.
+    pub like: Option<&'a str>,
+    pub finish: bool,
 }
 
 // The request that the words after the program's name make.
@@ -196,6 +206,7 @@ fn show_of<'a>(matches: &ArgMatches<'a>) -> Option<Request<'a>>
         utc: matches.get_flag("utc"),
         json: matches.get_flag("json"),
         profile: matches.get_flag("profile"),
+        gpx: matches.get_flag("gpx"),
     })
 }
 
@@ -260,10 +271,13 @@ fn salvage_of<'a>(matches: &ArgMatches<'a>) -> Option<Request<'a>>
     Some(Request::Salvage {
         file: matches.get_str("IN")?,
         to: matches.get_str("OUT")?,
-        all: matches.get_flag("all"),
-        plain: matches.get_flag("plain"),
-        skip: matches.get_flag("skip"),
-        finish: matches.get_flag("finish"),
+        form: SalvageForm {
+            all: matches.get_flag("all"),
+            plain: matches.get_flag("plain"),
+            skip: matches.get_flag("skip"),
+            like: matches.get_str("like"),
+            finish: matches.get_flag("finish"),
+        },
     })
 }
 

@@ -2,8 +2,8 @@
 
 use crate::arguments::{
     ALL, ALL_FILES, Argument, CHAINED, CHECKED, CHOICES, COMMIT, DAMAGED, EACH, EACH_JSON, EARLIER,
-    FIELDS, FILE, FINISH, FOLDER, IN, INTO, JSON, JSON_PROFILE, MESSAGE, MORE, NULL, OUT, PLAIN,
-    PROFILE, RAW, SCRIPT, SKIP, TABLE_FILE, UTC, VERIFY, arg_of,
+    FIELDS, FILE, FINISH, FOLDER, GPX, IN, INTO, JSON, JSON_PROFILE, LIKE, MESSAGE, MORE, NULL,
+    OUT, PLAIN, PROFILE, RAW, SCRIPT, SKIP, TABLE_FILE, UTC, VERIFY, arg_of,
 };
 use clap::{Command, Error};
 use std::alloc::Global;
@@ -13,7 +13,7 @@ const SUBCOMMANDS: [(&'static str, &'static str, &'static [Argument]); 12] = [
     (
         "show",
         "Shows every message of a FIT file, a line each",
-        &[UTC, JSON, JSON_PROFILE, FILE],
+        &[UTC, JSON, JSON_PROFILE, GPX, FILE],
     ),
     (
         "table",
@@ -50,7 +50,7 @@ const SUBCOMMANDS: [(&'static str, &'static str, &'static [Argument]); 12] = [
     (
         "salvage",
         "Makes a FIT file of what is readable of a damaged one that has no journal; show and check say what it holds",
-        &[ALL, SKIP, PLAIN, FINISH, DAMAGED, OUT],
+        &[ALL, SKIP, LIKE, PLAIN, FINISH, DAMAGED, OUT],
     ),
     (
         "split",

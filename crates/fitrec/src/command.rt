@@ -12,10 +12,11 @@ mod version;
 
 use clap::error::ErrorKind;
 use fit_commands::{
-    Chosen, Fault, NotChosen, check_each, check_file, finish_file, finish_skipped_file, make_plain,
-    repair_folder, salvage_file, save_folder, show_as_json, show_file, skip_file, split_file,
-    table_each, table_file, table_of_all, verify_folder,
+    Chosen, Fault, NotChosen, check_each, check_file, export_file, make_plain, repair_folder,
+    salvage_file, save_folder, show_file, split_file, table_each, table_file, table_of_all,
+    verify_folder,
 };
+use fit_exports::ExportForm;
 use fit_scripts::read_choices;
 use fit_words::{
     Names, Request, TableForm, no_choices, no_name, no_seconds, read_words, too_many_fields,
@@ -41,9 +42,19 @@ pub fn command<S: AsStr, O: Write, E: Write>(
         Ok(
             Request::Show {
                 file,
+                gpx: true,
+                utc: _,
+                json: _,
+                profile: _,
+            },
+        ) => status(export_file(rt, file, ExportForm::Gpx, out), err),
+        Ok(
+            Request::Show {
+                file,
                 utc,
                 json: false,
                 profile: _,
+                gpx: false,
             },
         ) => status(show_file(rt, file, utc, out), err),
         Ok(
@@ -52,8 +63,12 @@ pub fn command<S: AsStr, O: Write, E: Write>(
                 utc,
                 json: true,
                 profile,
+                gpx: false,
             },
-        ) => status(show_as_json(rt, file, profile, utc, out), err),
+        ) => {
+            let form = ExportForm::Json { profile, utc };
+            status(export_file(rt, file, form, out), err)
+        }
         Ok(Request::Check { file }) => status(check_file(rt, file, out), err),
         Ok(Request::CheckEach { names, json }) => status(check_each(rt, &names, json, out), err),
         Ok(Request::Table { file, form }) => table_chosen(rt, file, &form, out, err),
@@ -88,23 +103,9 @@ pub fn command<S: AsStr, O: Write, E: Write>(
                 verify: true,
             },
         ) => status(verify_folder(rt, folder, out).map(|_| ()), err),
-        Ok(
-            Request::Salvage {
-                file,
-                to,
-                all,
-                plain,
-                skip,
-                finish,
-            },
-        ) => {
-            let kept = Kept {
-                all,
-                plain,
-                skip,
-                finish,
-            };
-            salvage_chosen(rt, file, to, kept, out, err)
+        Ok(Request::Salvage { file, to, form }) => {
+            let done = salvage_file(rt, file, to, &form, out, err);
+            status(done, err)
         }
         Ok(Request::Split { file, folder, all }) => {
             status(split_file(rt, file, folder, all, out), err)
@@ -120,41 +121,6 @@ pub fn command<S: AsStr, O: Write, E: Write>(
         Ok(Request::Version) => status(print_version(out), err),
         Err(refusal) => refused(refusal, err),
     }
-}
-
-// What the words choose of a salvage.
-#[derive(Clone, Copy)]
-struct Kept {
-    all: bool,
-    plain: bool,
-    skip: bool,
-    finish: bool,
-}
-
-// Writes what is readable of a file, up to the fault or also after it, and as it is or finished.
-fn salvage_chosen<O: Write, E: Write>(
-    rt: &HostRuntime,
-    file: &str,
-    to: &str,
-    kept: Kept,
-    out: &mut O,
-    err: &mut E,
-) -> u8
-    ensures { result ≤ 2 }
-{
-    let Kept {
-        all,
-        plain,
-        skip,
-        finish,
-    } = kept;
-    let done = match (skip, finish) {
-        (false, false) => salvage_file(rt, file, to, all, plain, out, err),
-        (false, true) => finish_file(rt, file, to, all, plain, out, err),
-        (true, false) => skip_file(rt, file, to, all, plain, out, err),
-        (true, true) => finish_skipped_file(rt, file, to, all, plain, out, err),
-    };
-    status(done, err)
 }
 
 // How many seconds of the ride are between two commits of a recording, if no word gives another number.

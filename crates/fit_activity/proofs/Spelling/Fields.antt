@@ -14,7 +14,7 @@ use Rattle.fit_activity.specs.Messages.SpokenMessage.{SpokenMessage}
 use Rattle.fit_activity.specs.Messages.ProfileField.{ProfileFieldFits, OptionFits, present, field_definition, field_content, content_length}
 use Rattle.fit_activity.specs.Messages.ProfileMessage.{sample_options, sample_fields}
 use Rattle.fit_activity.specs.Messages.MessageBytes.{CanPut, HasPut}
-use Rattle.fit_fields.specs.Table.{sample_rows}
+use Rattle.fit_activity.specs.Rides.Fields.{sample_rows}
 use Rattle.fit_activity.specs.Rides.Table.{raw_values, SampleFits}
 use Rattle.fit_activity.proofs.Spelling.Rows.{rows-content, rows-fit, sample-rows-short}
 use Rattle.fit_activity.proofs.RunningTotals.Pushed.{length-filter_map-le}

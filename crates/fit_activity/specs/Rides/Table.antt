@@ -3,7 +3,7 @@ use Rattle.std.specs.Prelude.{◌≡◌, ℕ, ◌+◌, ◌<◌, ◌≤◌, ◌^�
 use Rattle.std.specs.List.{AllByRecursion}
 use Rattle.fit_base.specs.Base.{row_of}
 use Rattle.fit_base.specs.Number.{as_unsigned, twos_complement}
-use Rattle.fit_fields.specs.Table.{FieldRow, sample_rows}
+use Rattle.fit_activity.specs.Rides.Fields.{SampleField, sample_rows}
 use Rattle.fit_activity.specs.declared.recording.entry.Sample.{Sample}
 
 -- a sample's values in the order of the rows, each as the unsigned number of its bytes
@@ -42,7 +42,7 @@ of_raw time values =
     }
 
 -- each value fits into the bytes of its row's base type
-abbrev pub ValuesFit : List FieldRow → List (Option ℕ) → Type 0
+abbrev pub ValuesFit : List SampleField → List (Option ℕ) → Type 0
 ValuesFit (row ∷ rows) (value ∷ values) =
     IfSome value (λ n. n < 256 ^ (row_of row.1).size) × ValuesFit rows values
 ValuesFit _ _ = ⊤
@@ -54,10 +54,10 @@ pub record SampleFits (s : Sample) : Type 0 where
   pub back : of_raw s.time (raw_values s) ≡ s
 
 -- each base type has at most four bytes
-abbrev pub AreShort : List FieldRow → Type 0
+abbrev pub AreShort : List SampleField → Type 0
 AreShort rows = AllByRecursion (λ row. (row_of row.1).size ≤ 4) rows
 
 -- rows in ascending order of their numbers, from this one on and below that of a timestamp
-abbrev pub Ascend : ℕ → List FieldRow → Type 0
+abbrev pub Ascend : ℕ → List SampleField → Type 0
 Ascend from [] = ⊤
 Ascend from (row ∷ rows) = (from ≤ row.0) × (row.0 < 253) × Ascend (row.0 + 1) rows

@@ -4,7 +4,7 @@ use Rattle.fit_grammar.specs.declared.file.frame.Frame.{Frame}
 use Rattle.fit_grammar.specs.Format.File.{FileValue, FileOf, IsFrame}
 use Rattle.fit_grammar.specs.Calls.BeginningHeader.{BeginsWithHeader}
 use Rattle.fit_mending.specs.declared.pieces.Piece.{Piece}
-use Rattle.fit_mending.specs.Pieces.{CutsFaults, kept_row}
+use Rattle.fit_mending.specs.Pieces.{CutsFaults, IsSkipped, kept_row}
 use Rattle.fit_mending.specs.Others.{FindsOthers}
 use Rattle.fit_files.specs.declared.looking.Looked.{Looked}
 use Rattle.fit_files.specs.declared.mended.Mended.{Mended}
@@ -41,11 +41,15 @@ pub record AreMended (all : Bool) (bytes : List ℕ) (looked : Looked) (pieces :
 abbrev pub mended_row : List ℕ → Looked → List Piece → List ℕ
 mended_row bytes looked pieces = kept_row (seen_of bytes looked) pieces
 
--- both, and the other rides in what is left out
-pub record IsMended (all : Bool) (bytes : List ℕ) (mended : Mended) : Type 0 where
-  pub are : AreMended all bytes mended.looked mended.skipped.pieces.items
-  pub row_is : mended.skipped.row.items ≡ mended_row bytes mended.looked mended.skipped.pieces.items
-  pub others : FindsOthers (seen_of bytes mended.looked) mended.skipped
+-- what is kept of these bytes, after what is known before them, and the other rides in what is left out
+pub record IsMended (all : Bool) (known bytes : List ℕ) (mended : Mended) : Type 0 where
+  pub looks : LooksAt all bytes mended.looked
+  pub skipped : IsSkipped known (seen_of bytes mended.looked) mended.looked.front mended.looked.trusted mended.skipped
+  pub others : FindsOthers known (seen_of bytes mended.looked) mended.skipped
+
+-- how many bytes are kept
+abbrev pub kept_size : Mended → ℕ
+kept_size mended = length mended.skipped.row.items - mended.skipped.known
 
 -- how many pieces are kept
 abbrev pub one_if : Bool → ℕ
@@ -91,5 +95,5 @@ pieces_text (piece ∷ pieces) others =
 -- the line of what is kept, and then those of what is left out
 abbrev pub mended_text : Mended → List ℕ
 mended_text mended =
-    (kept_line (length mended.skipped.row.items) mended.looked.looked_at (kept_count mended.skipped.pieces.items) ++ codes "\n")
+    (kept_line (kept_size mended) mended.looked.looked_at (kept_count mended.skipped.pieces.items) ++ codes "\n")
     ++ pieces_text mended.skipped.pieces.items mended.skipped.others.items

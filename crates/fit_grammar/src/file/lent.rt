@@ -1,6 +1,6 @@
 // A file, lent in its bytes.
 
-ghost use Rattle.std.specs.Prelude.{◌≡◌, ◌≢◌, ℕ, map, [], IfOk, IfErr, OnErr};
+ghost use Rattle.std.specs.Prelude.{◌≡◌, ◌≢◌, map, [], IfOk, IfErr, OnErr};
 ghost use Rattle.fit_grammar.specs.Format.Records.{in_force, data_size};
 ghost use Rattle.fit_grammar.specs.Format.Message.{messages_of};
 ghost use Rattle.fit_grammar.specs.Format.File.{FileValue as AnyFile, FileOf, IsFrame};

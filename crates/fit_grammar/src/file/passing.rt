@@ -5,7 +5,7 @@ ghost use Rattle.fit_grammar.specs.Format.File.{FileValue, FileOf};
 ghost use Rattle.fit_grammar.specs.Calls.Step.{least_length_of};
 ghost use Rattle.fit_grammar.specs.Calls.Table.{definition_in};
 ghost use Rattle.fit_grammar.specs.Private.Decoding.{BeginsWith, IsRefusedBy, Reached, WindowShows, fault_of};
-ghost use Rattle.fit_grammar.specs.Private.Passing.{PassesItem, HasPassedAll, end_of};
+ghost use Rattle.fit_grammar.specs.Private.Passing.{PassesItem, HasPassedAll};
 
 use crate::definition::DefinitionMessage;
 use crate::definition::latest::Latest;

@@ -1,6 +1,6 @@
 // Making the plain form of a file, item by item.
 
-ghost use Rattle.std.specs.Prelude.{◌≡◌, ◌<◌, ◌≤◌, ◌+◌, ◌^◌, ◌⊎◌, ◌∷◌, ◌++◌, ℕ, [], Some, is_some, slice_set, true, false, IfSome, IfNone, OnOk, IfErr, length};
+ghost use Rattle.std.specs.Prelude.{◌≡◌, ◌<◌, ◌≤◌, ◌+◌, ◌^◌, ◌⊎◌, ◌∷◌, ◌++◌, [], Some, is_some, slice_set, true, false, IfSome, IfNone, OnOk, IfErr, length};
 ghost use Rattle.fit_grammar.specs.Format.File.{IsFrame};
 ghost use Rattle.fit_grammar.specs.Format.Item.{Defines, item_size};
 ghost use Rattle.fit_grammar.specs.Format.Records.{in_force, data_size};

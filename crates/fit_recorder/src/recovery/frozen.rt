@@ -59,11 +59,11 @@ impl Recovery {
             return false;
         }
         self.journal = journal;
+        self.reader.forget_window();
         self.reader.time = numbers.time;
         self.reader.at = 0; // At each moment the place is within the body.
         self.reader.len = numbers.len;
         self.reader.at = numbers.at;
-        self.reader.from = 0;
         self.reader.summed = Checksums {
             file: Crc::with_value(numbers.checksum),
             stated: Crc32::with_value(numbers.crc32),

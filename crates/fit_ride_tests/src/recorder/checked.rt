@@ -21,7 +21,7 @@ use std::test::Fail;
 fn begun_checked(alloc: Global) -> Result<Recorder<Memory>, RecFault>
     ensures { IfOk result (λ recorder. GoesOn true memory_story recorder) }
 {
-    match Recorder::start_checked(Memory::new(alloc), RUN) {
+    match Recorder::start_with(Memory::new(alloc), RUN, true) {
         Ok(recorder) => Ok(recorder),
         Err((_, fault)) => Err(fault),
     }

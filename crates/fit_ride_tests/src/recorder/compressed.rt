@@ -1,8 +1,7 @@
 // Samples soon after the last entry, which have compressed timestamps. The bytes are those that the FIT protocol gives
 // such records.
 
-ghost use Rattle.std.specs.Prelude.{◌≡◌, ◌≤◌, IfOk, true, false};
-ghost use Rattle.fit_activity.specs.Rides.Recording.{Added, is_stop};
+ghost use Rattle.std.specs.Prelude.{◌≡◌, ◌≤◌, true};
 ghost use Rattle.fit_disk.specs.Memory.{memory_story};
 ghost use Rattle.fit_recorder.specs.Calls.Recorder.{GoesOn};
 

@@ -1,6 +1,6 @@
 // Recoveries on the memory disk. The bytes and the values are those of the description of what a recorder writes.
 
-ghost use Rattle.std.specs.Prelude.{◌≡◌, ◌<◌, ◌≤◌, ◌^◌, length};
+ghost use Rattle.std.specs.Prelude.{◌≡◌, ◌<◌, ◌≤◌, ◌^◌};
 
 use super::bodies::{body_of, definition_of};
 use super::stopping::FULL;

@@ -1,7 +1,6 @@
 // Lists of what is recorded: which entry may come after a list, and what a list adds up to. Each rule is stated over the whole list.
 
-use fit_activity::{Entry, Refusal, Sample, Start, Summary};
-use fit_fields::SAMPLE_FIELDS;
+use fit_activity::{Entry, Refusal, SAMPLE_FIELDS, Sample, Start, Summary};
 
 /// The start of a recording, or an entry after it.
 #[derive(Clone, Copy, Debug, PartialEq, Eq)]

@@ -7,7 +7,7 @@ use Rattle.std.proofs.lemmas.Grind.{common_steps}
 use Rattle.std.specs.List.{cons_option, list_all, list_any}
 use Rattle.std.specs.Option.{option_or}
 use Rattle.std.specs.Str.{bytes_eq}
-use Rattle.fit_fields.specs.Table.{FieldRow}
+use Rattle.fit_activity.specs.Rides.Fields.{SampleField}
 use Rattle.fit_scripts.specs.Scripts.Script.{event_of, events_of}
 use Rattle.fit_scripts.specs.Scripts.Sample.{key_in, setting_value, is_setting, is_new_setting, has_no_repeat, are_settings, stated_value, values_stated, number_by, stands_in, with_setting}
 
@@ -94,13 +94,13 @@ stated_more of (other ∷ words) word =
     ∙ or_assoc (of (key_in word) (setting_value word)) (stated_value of words) (of (key_in other) (setting_value other))
 
 -- the numbers of words with one more word
-stated_by_more : (rows : List FieldRow) (words : List (List ℕ)) (word : List ℕ) →
+stated_by_more : (rows : List SampleField) (words : List (List ℕ)) (word : List ℕ) →
     values_stated rows (words ++ word ∷ []) ≡ with_setting rows (values_stated rows words) (key_in word) (setting_value word)
 stated_by_more [] words word = refl
 stated_by_more (row ∷ rows) words word =
     rw (stated_more (number_by row) words word, stated_by_more rows words word) refl
 
-pub stated_next : (rows : List FieldRow) (words : List (List ℕ)) (i : ℕ) → i < length words →
+pub stated_next : (rows : List SampleField) (words : List (List ℕ)) (i : ℕ) → i < length words →
     values_stated rows (take (i + 1) words) ≡ with_setting rows (values_stated rows (take i words)) (key_in (get_or words i [])) (setting_value (get_or words i []))
 stated_next rows words i within = rw (take_more words i [] within) (stated_by_more rows (take i words) (get_or words i []))
 

@@ -9,7 +9,7 @@ use Rattle.fit_base.specs.Base.{row_of}
 use Rattle.fit_base.specs.Number.{as_unsigned}
 use Rattle.fit_base.specs.declared.base.BaseType.{BaseType}
 use Rattle.fit_base.specs.declared.base.BaseType.TheVariants.{Enum, Sint8, Uint8, Sint16, Uint16, Sint32, Uint32, String, Float32, Float64, Uint8z, Uint16z, Uint32z, Byte, Sint64, Uint64, Uint64z}
-use Rattle.fit_fields.specs.Table.{FieldRow}
+use Rattle.fit_activity.specs.Rides.Fields.{SampleField}
 use Rattle.fit_activity.specs.Rides.Table.{ValuesFit}
 use Rattle.fit_scripts.specs.Scripts.Words.{decimal_number, signed_number, number_as, is_numeral}
 use Rattle.fit_scripts.specs.Scripts.Sample.{number_by, with_setting}
@@ -73,11 +73,11 @@ or-fits true None value bound f g = g
 or-fits true (Some n) value bound f g = f
 or-fits false o value bound f g = g
 
-pub setting-fits : (rows : List FieldRow) (values : List (Option ℕ)) (key word : List ℕ) → ValuesFit rows values → ValuesFit rows (with_setting rows values key word)
+pub setting-fits : (rows : List SampleField) (values : List (Option ℕ)) (key word : List ℕ) → ValuesFit rows values → ValuesFit rows (with_setting rows values key word)
 setting-fits [] values key word fits = tt
 setting-fits (row ∷ rows) [] key word fits = tt
 setting-fits (row ∷ rows) (value ∷ values) key word fits =
-    (or-fits (bytes_eq key row.3) (number_as row.1 word) value _ (as-fits row.1 word) fits.0, setting-fits rows values key word fits.1)
+    (or-fits (bytes_eq key row.2) (number_as row.1 word) value _ (as-fits row.1 word) fits.0, setting-fits rows values key word fits.1)
 
 -- an empty word is no number
 none-as : (base : BaseType) → number_as base [] ≡ None
@@ -104,6 +104,6 @@ skip true rest None is none = none
 skip true rest (Some n) is none = cc
 skip false rest o is none = none
 
-pub none-any : (rows : List FieldRow) (key : List ℕ) → list_any (λ row. is_some (number_by row key [])) rows ≡ false
+pub none-any : (rows : List SampleField) (key : List ℕ) → list_any (λ row. is_some (number_by row key [])) rows ≡ false
 none-any [] key = refl
-none-any (row ∷ rows) key = skip (bytes_eq key row.3) _ (number_as row.1 []) (none-as row.1) (none-any rows key)
+none-any (row ∷ rows) key = skip (bytes_eq key row.2) _ (number_as row.1 []) (none-as row.1) (none-any rows key)

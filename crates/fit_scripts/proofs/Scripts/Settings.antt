@@ -9,7 +9,7 @@ use Rattle.std.specs.List.{list_any, list_all, position, position_or_len}
 use Rattle.std.specs.Option.{option_or, is_some}
 use Rattle.std.specs.Str.{bytes_eq}
 use Rattle.fit_base.specs.declared.base.BaseType.TheVariants.{Sint8}
-use Rattle.fit_fields.specs.Table.{FieldRow, sample_rows}
+use Rattle.fit_activity.specs.Rides.Fields.{SampleField, sample_rows}
 use Rattle.fit_scripts.proofs.Scripts.Lines.{any_map}
 use Rattle.fit_scripts.specs.Scripts.Words.{number_as}
 use Rattle.fit_scripts.specs.declared.script.fault.ScriptFaultKind.TheVariants.{UnknownKey, RepeatedKey, BadNumber}
@@ -31,42 +31,42 @@ or_no true = refl
 or_no false = refl
 
 -- rows of other keys keep their values, and have no number
-others_keep : (rows : List FieldRow) (values : List (Option ℕ)) (key word : List ℕ) → length values ≡ length rows →
-    list_any (bytes_eq key) (map (λ row. row.3) rows) ≡ false → with_setting rows values key word ≡ values
+others_keep : (rows : List SampleField) (values : List (Option ℕ)) (key word : List ℕ) → length values ≡ length rows →
+    list_any (bytes_eq key) (map (λ row. row.2) rows) ≡ false → with_setting rows values key word ≡ values
 others_keep [] [] key word same none = refl
 others_keep [] (value ∷ values) key word same none = absurd (omega (arith, same))
 others_keep (row ∷ rows) [] key word same none = absurd (omega (arith, same))
 others_keep (row ∷ rows) (value ∷ values) key word same none =
-    let first : bytes_eq key row.3 ≡ false = left_false _ _ none in
+    let first : bytes_eq key row.2 ≡ false = left_false _ _ none in
     let rest : with_setting rows values key word ≡ values = others_keep rows values key word (omega (arith, same)) (right_false _ _ none) in
     rw (first, rest) refl
 
-others_none : (rows : List FieldRow) (key word : List ℕ) → list_any (bytes_eq key) (map (λ row. row.3) rows) ≡ false →
+others_none : (rows : List SampleField) (key word : List ℕ) → list_any (bytes_eq key) (map (λ row. row.2) rows) ≡ false →
     list_any (λ row. is_some (number_by row key word)) rows ≡ false
 others_none [] key word none = refl
 others_none (row ∷ rows) key word none =
-    let first : bytes_eq key row.3 ≡ false = left_false _ _ none in
+    let first : bytes_eq key row.2 ≡ false = left_false _ _ none in
     rw first (others_none rows key word (right_false _ _ none))
 
 -- what the row of a key has to do with a setting
-pub record Holds (rows : List FieldRow) (values : List (Option ℕ)) (key word : List ℕ) (at : ℕ) (number : Option ℕ) : Type 0 where
+pub record Holds (rows : List SampleField) (values : List (Option ℕ)) (key word : List ℕ) (at : ℕ) (number : Option ℕ) : Type 0 where
   pub set_so : with_setting rows values key word ≡ set values at (option_or number (get_or values at None))
   pub has : list_any (λ row. is_some (number_by row key word)) rows ≡ is_some number
-  pub known : list_any (λ row. bytes_eq key row.3) rows ≡ true
+  pub known : list_any (λ row. bytes_eq key row.2) rows ≡ true
 
-pub holds : (rows : List FieldRow) (values : List (Option ℕ)) (key word : List ℕ) (at : ℕ) (d : FieldRow) → length values ≡ length rows →
-    has_no_repeat (map (λ row. row.3) rows) ≡ true → at < length rows → bytes_eq key (get_or rows at d).3 ≡ true →
-    ((k : ℕ) → k < at → bytes_eq key (get_or rows k d).3 ≡ false) → Holds rows values key word at (number_as (get_or rows at d).1 word)
+pub holds : (rows : List SampleField) (values : List (Option ℕ)) (key word : List ℕ) (at : ℕ) (d : SampleField) → length values ≡ length rows →
+    has_no_repeat (map (λ row. row.2) rows) ≡ true → at < length rows → bytes_eq key (get_or rows at d).2 ≡ true →
+    ((k : ℕ) → k < at → bytes_eq key (get_or rows k d).2 ≡ false) → Holds rows values key word at (number_as (get_or rows at d).1 word)
 holds [] values key word at d same once within is before = absurd (omega (arith, within))
 holds (row ∷ rows) [] key word at d same once within is before = absurd (omega (arith, same))
 holds (row ∷ rows) (value ∷ values) key word zero d same once within is before =
-    let key_is : key ≡ row.3 = (bytes_eq-Decides key row.3).0 is in
-    let none : list_any (bytes_eq key) (map (λ row. row.3) rows) ≡ false = rw key_is (not-true _ (and_parts _ _ once).0) in
+    let key_is : key ≡ row.2 = (bytes_eq-Decides key row.2).0 is in
+    let none : list_any (bytes_eq key) (map (λ row. row.2) rows) ≡ false = rw key_is (not-true _ (and_parts _ _ once).0) in
     let keep : with_setting rows values key word ≡ values = others_keep rows values key word (omega (arith, same)) none in
     let rest : list_any (λ row. is_some (number_by row key word)) rows ≡ false = others_none rows key word none in
     record { set_so = rw (is, keep) refl; has = rw (is, rest) (or_no (is_some (number_as row.1 word))); known = rw is refl }
 holds (row ∷ rows) (value ∷ values) key word (suc at) d same once within is before =
-    let other : bytes_eq key row.3 ≡ false = before 0 (omega arith) in
+    let other : bytes_eq key row.2 ≡ false = before 0 (omega arith) in
     let rest = holds rows values key word at d (omega (arith, same)) (and_parts _ _ once).1 (omega (arith, within)) is (λ k below. before (suc k) (omega (arith, below))) in
     record { set_so = rw (other, rest.set_so) refl; has = rw other rest.has; known = rw other rest.known }
 
@@ -90,7 +90,7 @@ absent p (x ∷ xs) e =
 
 -- a setting whose key no row has is none
 pub no_setting : (key word : List ℕ) → is_key key ≡ false → list_any (λ row. is_some (number_by row key word)) sample_rows ≡ false
-no_setting key word none = others_none sample_rows key word (any_map (bytes_eq key) (λ row. row.3) sample_rows ∙ none)
+no_setting key word none = others_none sample_rows key word (any_map (bytes_eq key) (λ row. row.2) sample_rows ∙ none)
 
 -- in settings, no word has a key that no row has
 pub unknown : (words : List (List ℕ)) (key : List ℕ) → list_all is_setting words ≡ true → is_key key ≡ false → stands_in key words ≡ false
@@ -112,17 +112,17 @@ some_or (Some m) None = refl
 some_or (Some m) (Some n) = refl
 
 -- the row of a key: the first that has it
-pub record IsRowOf (key : List ℕ) (at : ℕ) (d : FieldRow) : Type 0 where
+pub record IsRowOf (key : List ℕ) (at : ℕ) (d : SampleField) : Type 0 where
   pub within : at < length sample_rows
-  pub is : bytes_eq key (get_or sample_rows at d).3 ≡ true
-  pub before : (k : ℕ) → k < at → bytes_eq key (get_or sample_rows k d).3 ≡ false
+  pub is : bytes_eq key (get_or sample_rows at d).2 ≡ true
+  pub before : (k : ℕ) → k < at → bytes_eq key (get_or sample_rows k d).2 ≡ false
 
-pub row_holds : (values : List (Option ℕ)) (key word : List ℕ) (at : ℕ) (d : FieldRow) → length values ≡ 11 → IsRowOf key at d →
+pub row_holds : (values : List (Option ℕ)) (key word : List ℕ) (at : ℕ) (d : SampleField) → length values ≡ 11 → IsRowOf key at d →
     Holds sample_rows values key word at (number_as (get_or sample_rows at d).1 word)
 row_holds values key word at d same row = holds sample_rows values key word at d same refl row.within row.is row.before
 
 -- a setting has a number for the row of a key if and only if that is its key
-own_number : (key : List ℕ) (at : ℕ) (d : FieldRow) (word : List ℕ) → IsRowOf key at d → is_setting word ≡ true →
+own_number : (key : List ℕ) (at : ℕ) (d : SampleField) (word : List ℕ) → IsRowOf key at d → is_setting word ≡ true →
     is_some (number_by (get_or sample_rows at d) (key_in word) (setting_value word)) ≡ bytes_eq (key_in word) key
 own_number key at d word row setting = by (bytes_eq (key_in word) key) refl
   where
@@ -133,11 +133,11 @@ own_number key at d word row setting = by (bytes_eq (key_in word) key) refl
         let found : IsRowOf (key_in word) at d = rw same row in
         rw (e, found.is) (sym (row_holds (values_stated sample_rows []) (key_in word) (setting_value word) at d refl found).has ∙ setting)
     by false e =
-        let key_is : key ≡ (get_or sample_rows at d).3 = (bytes_eq-Decides key _).0 row.is in
-        let other : bytes_eq (key_in word) (get_or sample_rows at d).3 ≡ false = ap (bytes_eq (key_in word)) (sym key_is) ∙ e in
+        let key_is : key ≡ (get_or sample_rows at d).2 = (bytes_eq-Decides key _).0 row.is in
+        let other : bytes_eq (key_in word) (get_or sample_rows at d).2 ≡ false = ap (bytes_eq (key_in word)) (sym key_is) ∙ e in
         rw (other, e) refl
 
-stated_there : (key : List ℕ) (at : ℕ) (d : FieldRow) (words : List (List ℕ)) → IsRowOf key at d → list_all is_setting words ≡ true →
+stated_there : (key : List ℕ) (at : ℕ) (d : SampleField) (words : List (List ℕ)) → IsRowOf key at d → list_all is_setting words ≡ true →
     is_some (stated_value (number_by (get_or sample_rows at d)) words) ≡ stands_in key words
 stated_there key at d [] row all = refl
 stated_there key at d (word ∷ words) row all =
@@ -146,23 +146,23 @@ stated_there key at d (word ∷ words) row all =
     some_or _ _ ∙ ap (λ b. b || is_some (stated_value (number_by (get_or sample_rows at d)) words)) own ∙ ap (λ b. bytes_eq (key_in word) key || b) rest
 
 -- a row has a value if and only if one of the words has its key
-pub value_stands : (key : List ℕ) (at : ℕ) (d : FieldRow) (words : List (List ℕ)) → IsRowOf key at d → are_settings words ≡ true →
+pub value_stands : (key : List ℕ) (at : ℕ) (d : SampleField) (words : List (List ℕ)) → IsRowOf key at d → are_settings words ≡ true →
     is_some (get_or (values_stated sample_rows words) at None) ≡ stands_in key words
 value_stands key at d words row are =
     ap is_some (get_or-map (λ row. stated_value (number_by row) words) sample_rows at d None row.within) ∙ stated_there key at d words row (and_parts _ _ are).0
 
 -- ---- the row that is found
 
-pub some_row : FieldRow
-some_row = (0, Sint8, [], [])
+pub some_row : SampleField
+some_row = (0, Sint8, [])
 
-pub row_found : (key : List ℕ) (at : ℕ) → position (λ row. bytes_eq key row.3) sample_rows ≡ Some at → IsRowOf key at some_row
+pub row_found : (key : List ℕ) (at : ℕ) → position (λ row. bytes_eq key row.2) sample_rows ≡ Some at → IsRowOf key at some_row
 row_found key at e =
-    let found = position-Some (λ (row : FieldRow). bytes_eq key row.3) sample_rows at some_row e in
+    let found = position-Some (λ (row : SampleField). bytes_eq key row.2) sample_rows at some_row e in
     record { within = found.0; is = found.1; before = found.2 }
 
-pub row_absent : (key : List ℕ) → position (λ row. bytes_eq key row.3) sample_rows ≡ None → is_key key ≡ false
-row_absent key e = absent (λ (row : FieldRow). bytes_eq key row.3) sample_rows e
+pub row_absent : (key : List ℕ) → position (λ row. bytes_eq key row.2) sample_rows ≡ None → is_key key ≡ false
+row_absent key e = absent (λ (row : SampleField). bytes_eq key row.2) sample_rows e
 
 -- a place among the values of the items
 length_map : {X Y : Type 0} (p : Y → Bool) (f : X → Y) (xs : List X) → position_or_len p (map f xs) ≡ position_or_len (λ x. p (f x)) xs

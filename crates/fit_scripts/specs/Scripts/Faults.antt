@@ -3,7 +3,7 @@
 use Rattle.std.specs.Prelude.{◌≡◌, ◌≢◌, ◌<◌, ◌⊎◌, ℕ, ◌+◌, Bool, List, [], ◌∷◌, ◌++◌, length, take, codes, All, Option, Some, None, ◌||◌, ◌==◌, nat_lt, if◌then◌else◌, slice_index_or}
 use Rattle.std.specs.List.{list_any, position_or_len}
 use Rattle.std.specs.Str.{bytes_eq}
-use Rattle.fit_fields.specs.Table.{sample_rows}
+use Rattle.fit_activity.specs.Rides.Fields.{sample_rows}
 use Rattle.fit_scripts.specs.declared.script.fault.ScriptFault.{ScriptFault}
 use Rattle.fit_scripts.specs.declared.script.fault.ScriptFaultKind.{ScriptFaultKind}
 use Rattle.fit_scripts.specs.declared.script.fault.ScriptFaultKind.TheVariants.{UnknownWord, MissingWord, ExtraWord, BadNumber, UnknownKey, RepeatedKey, Memory}
@@ -39,7 +39,7 @@ start_fault (time ∷ words) = judged_word (number32 time) BadNumber (serial_fau
 
 -- whether a field of a sample has this key
 abbrev pub is_key : List ℕ → Bool
-is_key key = list_any (λ row. bytes_eq key row.3) sample_rows
+is_key key = list_any (λ row. bytes_eq key row.2) sample_rows
 
 -- whether there is a `=` in the word
 abbrev pub has_equals : List ℕ → Bool

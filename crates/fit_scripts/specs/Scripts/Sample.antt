@@ -5,7 +5,7 @@ use Rattle.std.specs.Option.{is_some, option_or}
 use Rattle.std.specs.Str.{bytes_eq}
 use Rattle.fit_activity.specs.declared.recording.entry.Sample.{Sample}
 use Rattle.fit_base.specs.declared.base.BaseType.{BaseType}
-use Rattle.fit_fields.specs.Table.{FieldRow, sample_rows}
+use Rattle.fit_activity.specs.Rides.Fields.{SampleField, sample_rows}
 use Rattle.fit_activity.specs.Rides.Table.{of_raw}
 use Rattle.fit_scripts.specs.Scripts.Words.{number_as}
 
@@ -20,8 +20,8 @@ setting_value word = after_first (λ byte. byte == 61) word
 abbrev pub number_for : BaseType → List ℕ → List ℕ → List ℕ → Option ℕ
 number_for base name key value = if bytes_eq key name then number_as base value else None
 
-abbrev pub number_by : FieldRow → List ℕ → List ℕ → Option ℕ
-number_by row key value = number_for row.1 row.3 key value
+abbrev pub number_by : SampleField → List ℕ → List ℕ → Option ℕ
+number_by row key value = number_for row.1 row.2 key value
 
 -- whether this is one of the keys, with a number in the range of its field
 abbrev pub has_number : List ℕ → List ℕ → Bool
@@ -45,7 +45,7 @@ stated_value of (word ∷ words) =
     option_or (stated_value of words) (of (key_in word) (setting_value word))
 
 -- the number that the words state for each row
-abbrev pub values_stated : List FieldRow → List (List ℕ) → List (Option ℕ)
+abbrev pub values_stated : List SampleField → List (List ℕ) → List (Option ℕ)
 values_stated rows words = map (λ row. stated_value (number_by row) words) rows
 
 -- the sample that the words are settings of
@@ -63,7 +63,7 @@ abbrev pub is_new_setting : List (List ℕ) → List ℕ → Bool
 is_new_setting words word = is_setting word && not (stands_in (key_in word) words)
 
 -- the values of rows, with the number of one more setting
-abbrev pub with_setting : List FieldRow → List (Option ℕ) → List ℕ → List ℕ → List (Option ℕ)
+abbrev pub with_setting : List SampleField → List (Option ℕ) → List ℕ → List ℕ → List (Option ℕ)
 with_setting [] values key value = []
 with_setting (row ∷ rows) [] key value = []
 with_setting (row ∷ rows) (old ∷ values) key value =

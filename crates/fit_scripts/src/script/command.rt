@@ -1,9 +1,9 @@
 // The command that the words of a line state.
 
-ghost use Rattle.std.specs.Prelude.{◌≡◌, map, option_map, if◌then◌else◌, IfErr};
+ghost use Rattle.std.specs.Prelude.{◌≡◌, map, if◌then◌else◌, IfErr};
 ghost use Rattle.std.specs.Result.{result_ok};
 ghost use Rattle.fit_scripts.specs.Scripts.Faults.{only_fault, start_fault, sample_fault, arranged_fault, called_fault, timed_fault, command_fault};
-ghost use Rattle.fit_scripts.specs.Scripts.Script.{number32, count, sport_named, alone, only, start_line, sample_line, entry_of, arranged_of, called_of, timed_of, command_of};
+ghost use Rattle.fit_scripts.specs.Scripts.Script.{number32, count, sport_named, alone, only, start_line, sample_line, arranged_of, called_of, timed_of, command_of};
 ghost use Rattle.fit_scripts.specs.declared.command.Command.TheVariants as commands;
 ghost use Rattle.fit_scripts.specs.declared.script.fault.ScriptFaultKind.TheVariants as kinds;
 

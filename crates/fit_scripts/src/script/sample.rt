@@ -4,7 +4,7 @@ ghost use Rattle.std.specs.Prelude.{◌≡◌, ◌==◌, ◌<◌, ◌≤◌, ℕ
 ghost use Rattle.std.specs.List.{position, position_or_len};
 ghost use Rattle.std.specs.Result.{result_ok};
 ghost use Rattle.std.specs.Str.{bytes_eq};
-ghost use Rattle.fit_fields.specs.Table.{FieldRow as AnyRow, rows_of, sample_rows};
+ghost use Rattle.fit_activity.specs.Rides.Fields.{SampleField as AnyRow, rows_of, sample_rows};
 ghost use Rattle.fit_scripts.specs.Scripts.Faults.{has_equals, setting_fault, settings_fault};
 ghost use Rattle.fit_scripts.specs.Scripts.Sample.{key_in, setting_value, is_new_setting, are_settings, sample_at, values_stated, with_setting};
 ghost use Rattle.fit_scripts.specs.Scripts.Words.{number_as};
@@ -12,8 +12,7 @@ ghost use Rattle.fit_scripts.specs.declared.script.fault.ScriptFaultKind.TheVari
 
 use crate::script::fault::ScriptFaultKind;
 use crate::script::number::number_as;
-use fit_activity::Sample;
-use fit_fields::{FIELDS, FieldRow, SAMPLE_FIELDS};
+use fit_activity::{FIELDS, SAMPLE_FIELDS, Sample, SampleField};
 
 /// The sample at a time, in seconds since 1989-12-31T00:00:00Z, with these settings.
 pub fn sample_at(time: u32, settings: &[&[u8]]) -> Result<Sample, ScriptFaultKind>
@@ -89,23 +88,23 @@ fn equals_at(setting: &[u8]) -> Option<usize>
 }
 
 // The place of the row with this key.
-fn row_of(rows: &[FieldRow], key: &[u8]) -> Option<usize>
-    ensures place { result ≡ position (λ row. bytes_eq key.now row.3) (rows_of rows.now) }
+fn row_of(rows: &[SampleField], key: &[u8]) -> Option<usize>
+    ensures place { result ≡ position (λ row. bytes_eq key.now row.2) (rows_of rows.now) }
     ensures within { IfSome result (λ at. at < length rows.now) }
 {
     place_of(rows, key)
 }
 
 // The same, by what the rows borrow.
-fn place_of(rows: &[FieldRow], key: &[u8]) -> Option<usize>
-    ensures place { result ≡ position (λ row. bytes_eq key.now row.3.now) rows.now }
+fn place_of(rows: &[SampleField], key: &[u8]) -> Option<usize>
+    ensures place { result ≡ position (λ row. bytes_eq key.now row.2.now) rows.now }
     ensures within { IfSome result (λ at. at < length rows.now) }
 {
-    rows.iter().position(|row| key == row.3.as_bytes())
+    rows.iter().position(|row| key == row.2.as_bytes())
 }
 
 // The number that a value states for the row at this place.
-fn number_at(rows: &[FieldRow], at: usize, value: &[u8]) -> Option<u32>
+fn number_at(rows: &[SampleField], at: usize, value: &[u8]) -> Option<u32>
     requires { at < length rows.now }
     ensures { (none : AnyRow) → result
         ≡ number_as (slice_index_or (rows_of rows.now) at none).1 value.now }

@@ -1,8 +1,6 @@
 // A whole file.
 
 ghost use Rattle.fit_grammar.specs.Calls.Output.{WritesText};
-ghost use Rattle.std.specs.Prelude.{◌≡◌, false, option_map};
-ghost use Rattle.fit_text.specs.Pen.{Puts};
 ghost use Rattle.fit_table.specs.Json.{profile_json_of};
 
 use crate::described::descriptions_of;
@@ -11,10 +9,10 @@ use crate::json::known::Known;
 use crate::json::member::put_field;
 use crate::lookup::Lookup;
 use fit_base::{Arch, FieldValue};
-use fit_grammar::{DataMessage, DeveloperFieldDefinition, Frame, LentFile, Sink};
+use fit_grammar::{DeveloperFieldDefinition, LentFile, Sink};
+use fit_profile::message_name;
 use fit_text::{
-    Column, Form, Members, Pen, Plan, ShowFault, put_json_count, put_json_header, put_message,
-    write_file,
+    Column, Form, Notation, Pen, Plan, ShowFault, json_notation, put_json_head, write_file,
 };
 
 /// Writes a file as `show_json` of `fit_text` does, with the names and the units of the Profile.
@@ -43,66 +41,25 @@ struct AsProfile<'k, 'a> {
 }
 
 impl<'k, 'a> Form for AsProfile<'k, 'a> {
-    ghost use Rattle.fit_text.specs.Json.{header_json, count_json};
-    ghost use Rattle.fit_table.specs.Json.{message_json};
+    ghost use Rattle.fit_table.specs.Json.{profile_form};
 
-    ghost header = { header_json };
+    ghost form = { λ form. profile_form form.descriptions };
 
-    ghost line = { λ form. message_json form.descriptions };
-
-    ghost count = { count_json };
-
-    ghost empty = { false };
-
-    fn shows_empty() -> bool
-        ensures { result ≡ false }
-    {
-        false
+    #[inline(always)]
+    fn notation(&self) -> Notation {
+        json_notation()
     }
 
-    fn put_header<S: Sink>(pen: &mut Pen<'_, S>, frame: Frame, size: u32) -> Result<(), S::Fault>
-        ensures { Puts pen.old pen.new result (header_json frame size) }
-    {
-        put_json_header(pen, frame, size)
-    }
-
-    fn put_line<S: Sink>(
-        &mut self,
+    fn put_head<S: Sink>(
+        &self,
         pen: &mut Pen<'_, S>,
         plan: &Plan,
-        columns: &[Column],
-        developer: &[DeveloperFieldDefinition],
         number: u64,
-        message: &DataMessage<'_>,
-        time: Option<u32>,
     ) -> Result<(), S::Fault> {
-        put_message(self, pen, plan, columns, developer, number, message, time)
+        put_json_head(pen, number, plan.global, message_name(plan.global))
     }
 
-    fn put_count<S: Sink>(pen: &mut Pen<'_, S>, messages: u64) -> Result<(), S::Fault>
-        ensures { Puts pen.old pen.new result (count_json messages) }
-    {
-        put_json_count(pen, messages)
-    }
-}
-
-impl<'k, 'a> Members for AsProfile<'k, 'a> {
-    ghost use Rattle.fit_profile.specs.Table.{message_named};
-    ghost use Rattle.fit_table.specs.Json.{field_json, developer_json_in};
-
-    ghost name = { message_named };
-
-    ghost member = { field_json };
-
-    ghost developer = { λ form. developer_json_in form.descriptions };
-
-    fn message_name(global: u16) -> Option<&'static str>
-        ensures { option_map (λ name. name.now) result ≡ message_named global }
-    {
-        fit_profile::message_name(global)
-    }
-
-    fn put_member<S: Sink>(
+    fn put_field<S: Sink>(
         &mut self,
         pen: &mut Pen<'_, S>,
         plan: &Plan,
@@ -124,7 +81,7 @@ impl<'k, 'a> Members for AsProfile<'k, 'a> {
         )
     }
 
-    fn put_developer<S: Sink>(
+    fn put_developer_field<S: Sink>(
         &self,
         pen: &mut Pen<'_, S>,
         arch: Arch,

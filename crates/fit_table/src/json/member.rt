@@ -1,10 +1,9 @@
 // A field as a member of a JSON object.
 
 ghost use Rattle.std.specs.Prelude.{◌≡◌, ◌++◌, codes, option_map};
-ghost use Rattle.fit_base.specs.Base.{base_type};
 ghost use Rattle.fit_base.specs.Value.{values_of};
 ghost use Rattle.fit_grammar.specs.Format.Message.{MessageField};
-ghost use Rattle.fit_text.specs.Members.{separator};
+ghost use Rattle.fit_text.specs.Plan.{separator};
 ghost use Rattle.fit_text.specs.Pen.{Puts};
 ghost use Rattle.fit_profile.specs.Facts.{facts_of};
 ghost use Rattle.fit_table.specs.Json.{IsRowOf, field_json};
@@ -33,7 +32,7 @@ pub fn put_field<S: Sink>(
     requires { IsRowOf message number row }
     ensures { Puts pen.old pen.new result (let field : MessageField = record
         { number = number; base = value.now.base; values = values_of value.now } in
-        separator is_first ++ field_json utc message field) }
+        separator (codes ",") is_first ++ field_json utc message field) }
 {
     let unit = unit_for(utc, are_in_units(value), unit_of(row));
     pen.put(opening(is_first))?;
@@ -44,7 +43,7 @@ pub fn put_field<S: Sink>(
 
 // What is in front of a name.
 fn opening(is_first: bool) -> &'static [u8]
-    ensures { result.now ≡ separator is_first ++ codes "\"" }
+    ensures { result.now ≡ separator (codes ",") is_first ++ codes "\"" }
 {
     if is_first { b"\"" } else { b",\"" }
 }

@@ -1,19 +1,18 @@
 // The numbers of a field in a unit.
 
-ghost use Rattle.std.specs.Prelude.{◌≡◌, ◌<◌, ◌==◌, ◌++◌, if◌then◌else◌, true, [], codes};
-ghost use Rattle.std.specs.List.{join_by};
+ghost use Rattle.std.specs.Prelude.{◌≡◌, ◌<◌, true};
 ghost use Rattle.fit_base.specs.Base.{base_type};
-ghost use Rattle.fit_base.specs.Value.{count_of, value_size, unsigned_at, numbers, values_of};
+ghost use Rattle.fit_base.specs.Value.{count_of, unsigned_at, values_of};
 ghost use Rattle.fit_columns.specs.Places.{IsSmall};
 ghost use Rattle.fit_text.specs.Pen.{Puts};
-ghost use Rattle.fit_table.specs.Json.{are_in_units, date_json, has_units, number_json, numbers_json, value_json, values_in};
+ghost use Rattle.fit_table.specs.Json.{are_in_units, date_json, has_units, number_json, value_json, values_in};
 
 use crate::json::units::has_units;
 use crate::number::put_value;
 use crate::unit::Unit;
 use fit_base::{BaseType, FieldValue};
 use fit_grammar::Sink;
-use fit_text::{Pen, put_json_value, put_quoted_date};
+use fit_text::{Numbers, Pen, json_notation, put_marked_date, put_values as put_values_by};
 
 /// Whether the values of a field are written in units.
 pub fn are_in_units(value: &FieldValue<'_>) -> bool
@@ -32,71 +31,50 @@ pub fn put_values<S: Sink>(
         (values_in unit (base_type value.now.base) (values_of value.now)) }
 {
     match value.base_type() {
-        Some(base) if has_units(Some(base)) && value.count() != 0 => put_one_or_several(
-            pen, unit, base, value,
+        Some(base) if has_units(Some(base)) && value.count() == 1 => put_at(
+            pen, unit, base, value, 0,
         ),
-        _ => put_json_value(pen, value),
+        _ => put_others(pen, unit, value),
     }
 }
 
-// The number of a field of this type, or an array of several.
-fn put_one_or_several<S: Sink>(
+// Values that are not one number in a unit.
+#[inline(never)]
+fn put_others<S: Sink>(
     pen: &mut Pen<'_, S>,
     unit: Unit,
-    base: BaseType,
     value: &FieldValue<'_>,
 ) -> Result<(), S::Fault>
-    requires known { base_type value.now.base ≡ Some base }
-    requires units { has_units (Some base) ≡ true }
     ensures { Puts pen.old pen.new result
-        (numbers_json unit base
-        (numbers value.now.arch (value_size value.now) (count_of value.now) value.now.bytes)) }
+        (values_in unit (base_type value.now.base) (values_of value.now)) }
 {
-    if value.count() == 1 {
-        return put_at(pen, unit, base, value, 0);
-    }
-    pen.put(b"[")?;
-    put_all(pen, unit, base, value)?;
-    pen.put(b"]")
+    put_values_by(pen, &json_notation(), &InUnit { unit }, value)
 }
 
-// The numbers, with commas between them.
-fn put_all<S: Sink>(
-    pen: &mut Pen<'_, S>,
+// Numbers in a unit.
+#[derive(Drop)]
+struct InUnit {
     unit: Unit,
-    base: BaseType,
-    value: &FieldValue<'_>,
-) -> Result<(), S::Fault>
-    requires known { base_type value.now.base ≡ Some base }
-    requires units { has_units (Some base) ≡ true }
-    ensures { Puts pen.old pen.new result
-        (join_by (number_json unit base) (codes ",")
-        (numbers value.now.arch (value_size value.now) (count_of value.now) value.now.bytes)) }
-{
-    for i in 0..value.count() {
-        put_next(pen, unit, base, value, i)?;
-    }
-    Ok(())
 }
 
-fn put_next<S: Sink>(
-    pen: &mut Pen<'_, S>,
-    unit: Unit,
-    base: BaseType,
-    value: &FieldValue<'_>,
-    i: usize,
-) -> Result<(), S::Fault>
-    requires known { base_type value.now.base ≡ Some base }
-    requires units { has_units (Some base) ≡ true }
-    requires index { i < count_of value.now }
-    ensures { Puts pen.old pen.new result
-        ((if i == 0 then [] else codes ",") ++ number_json unit base (unsigned_at value.now i)) }
-{
-    if i == 0 {
-        return put_at(pen, unit, base, value, i);
+impl Numbers for InUnit {
+    ghost use Rattle.fit_table.specs.Json.{number_in};
+
+    ghost number = { λ n. number_in n.unit };
+
+    fn put_number<S: Sink>(
+        &self,
+        pen: &mut Pen<'_, S>,
+        base: BaseType,
+        field: &FieldValue<'_>,
+        i: usize,
+    ) -> Result<(), S::Fault> {
+        if has_units(Some(base)) {
+            put_at(pen, self.unit, base, field, i)
+        } else {
+            json_notation().put_number(pen, base, field, i)
+        }
     }
-    pen.put(b",")?;
-    put_at(pen, unit, base, value, i)
 }
 
 // The number of this index.
@@ -137,7 +115,7 @@ fn put_date_json<S: Sink>(pen: &mut Pen<'_, S>, value: i64) -> Result<(), S::Fau
     ensures { Puts pen.old pen.new result (date_json value) }
 {
     if value >= 0x1000_0000 && value <= 0xFFFF_FFFF {
-        put_quoted_date(pen, value as u32)
+        put_marked_date(pen, &json_notation(), value as u32)
     } else {
         pen.put(b"null")
     }

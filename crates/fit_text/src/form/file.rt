@@ -1,17 +1,22 @@
 // A whole file.
 
-ghost use Rattle.std.specs.Prelude.{◌≡◌, ◌<◌, ◌^◌, Bool, ℕ, List, [], length, IfOk};
-ghost use Rattle.fit_grammar.specs.declared.file.frame.Frame.{Frame as AnyFrame};
-ghost use Rattle.fit_grammar.specs.Format.Message.{Message, message_under, messages_of};
+ghost use Rattle.std.specs.Prelude.{◌≡◌, ◌<◌, ◌++◌, ◌^◌, [], codes, length, IfOk};
 ghost use Rattle.fit_grammar.specs.Calls.Output.{WritesText};
-ghost use Rattle.fit_text.specs.Form.{numbered, lines_of};
+ghost use Rattle.fit_grammar.specs.Format.Message.{messages_of};
+ghost use Rattle.fit_text.specs.Form.{FileForm, numbered, line_of, lines_of};
+ghost use Rattle.fit_text.specs.Notation.{words_of};
 ghost use Rattle.fit_text.specs.Pen.{Puts};
-ghost use Rattle.fit_text.specs.Plan.{IsPlanOf};
+ghost use Rattle.fit_text.specs.Text.{message_name};
+ghost use Rattle.fit_text.specs.Plan.{IsNamed, field_in, separator};
 
-use crate::showing::plan::{Column, Plan};
-use crate::showing::plans::Plans;
+use crate::form::header::{put_count, put_header};
+use crate::form::message::put_message;
+use crate::form::plan::{Column, Plan};
+use crate::form::plans::Plans;
+use crate::notation::Notation;
 use crate::writing::Pen;
-use fit_grammar::{DataMessage, DeveloperFieldDefinition, FileItem, Frame, LentFile, Sink};
+use fit_base::Arch;
+use fit_grammar::{DeveloperFieldDefinition, FileItem, LentFile, Sink};
 
 /// Why a file was not shown.
 #[derive(Clone, Copy, Debug, PartialEq, Eq)]
@@ -29,47 +34,62 @@ impl<F> ShowFault<F> {
     }
 }
 
-/// A form of a file: its lines.
+/// A form of a file: how its messages and fields are written.
 pub trait Form {
-    // The line of a header, for this many bytes of records.
-    ghost header: { AnyFrame → ℕ → List ℕ };
+    // The words of the form, and its messages and fields.
+    ghost form: { Self → FileForm };
 
-    // The line of a message, by its place among the messages. Times are dates or numbers.
-    ghost line: { Self → Bool → ℕ → Message → List ℕ };
+    fn notation(&self) -> Notation
+        ensures { words_of result ≡ (form self.now).notation };
 
-    // The line that says how many messages there are.
-    ghost count: { ℕ → List ℕ };
+    /// Puts how the line of the message in the place `number` begins.
+    fn put_head<S: Sink>(
+        &self,
+        pen: &mut Pen<'_, S>,
+        plan: &Plan,
+        number: u64,
+    ) -> Result<(), S::Fault>
+        requires { plan.now.name ≡ codes " " ++ message_name plan.now.global }
+        ensures { Puts pen.old pen.new result ((form self.now).head number plan.now.global) };
 
-    // Whether fields of size 0 are shown.
-    ghost empty: { Bool };
-
-    fn shows_empty() -> bool
-        ensures { result ≡ empty };
-
-    fn put_header<S: Sink>(pen: &mut Pen<'_, S>, frame: Frame, size: u32) -> Result<(), S::Fault>
-        ensures { Puts pen.old pen.new result (header frame size) };
-
-    fn put_line<S: Sink>(
+    /// Puts a field, after what separates it from the one before if it is not the first.
+    fn put_field<S: Sink>(
         &mut self,
         pen: &mut Pen<'_, S>,
         plan: &Plan,
-        columns: &[Column],
-        developer: &[DeveloperFieldDefinition],
-        number: u64,
-        message: &DataMessage<'_>,
-        time: Option<u32>,
+        column: &Column,
+        arch: Arch,
+        bytes: &[u8],
+        is_first: bool,
     ) -> Result<(), S::Fault>
-        requires { IsPlanOf empty message.now.definition plan.now columns.now developer.now }
+        requires column { IsNamed plan.now.utc plan.now.global column.now }
+        requires size { length bytes.now ≡ column.now.size }
         ensures text { Puts pen.old pen.new result
-            (line self.old plan.now.utc number
-            (message_under message.now.definition time message.now.content.now)) }
-        ensures same { line self.new ≡ line self.old };
+            (separator (form self.old).notation.between is_first
+            ++ (form self.old).field plan.now.utc plan.now.global
+            (field_in column.now arch bytes.now)) }
+        ensures same { form self.new ≡ form self.old };
 
-    fn put_count<S: Sink>(pen: &mut Pen<'_, S>, messages: u64) -> Result<(), S::Fault>
-        ensures { Puts pen.old pen.new result (count messages) };
+    /// Puts a developer field of the message in the place `number`.
+    fn put_developer_field<S: Sink>(
+        &self,
+        pen: &mut Pen<'_, S>,
+        arch: Arch,
+        number: u64,
+        field: &DeveloperFieldDefinition,
+        bytes: &[u8],
+    ) -> Result<(), S::Fault>
+        requires { length bytes.now ≡ field.now.size }
+        ensures { Puts pen.old pen.new result ((form self.now).developer number (record {
+          index =
+              field.now.index;
+          number = field.now.number;
+          arch = arch;
+          bytes = bytes.now;
+        })) };
 }
 
-/// Writes a file, in one pass and without allocation, through a buffer of its own.
+/// Writes a file in a form, in one pass and without allocation, through a buffer of its own. If `utc` is set, times are dates in UTC.
 pub fn write_file<F: Form, S: Sink>(
     form: &mut F,
     file: &LentFile<'_>,
@@ -77,7 +97,7 @@ pub fn write_file<F: Form, S: Sink>(
     out: &mut S,
 ) -> Result<(), ShowFault<S::Fault>>
     ensures { WritesText (S.held out.old) (S.held out.new) result
-        (lines_of F.header (F.line form.old utc) F.count file.now) }
+        (lines_of (F.form form.old) utc file.now) }
 {
     match put_file(form, out, utc, file) {
         Ok(()) => Ok(()),
@@ -92,7 +112,7 @@ fn put_file<F: Form, S: Sink>(
     file: &LentFile<'_>,
 ) -> Result<(), S::Fault>
     ensures { WritesText (S.held out.old) (S.held out.new) result
-        (lines_of F.header (F.line form.old utc) F.count file.now) }
+        (lines_of (F.form form.old) utc file.now) }
 {
     let mut pen = Pen::new(out);
     let done = put_all(form, &mut pen, utc, file);
@@ -107,8 +127,7 @@ fn put_all<F: Form, S: Sink>(
     utc: bool,
     file: &LentFile<'_>,
 ) -> Result<(), S::Fault>
-    ensures text { Puts pen.old pen.new result
-        (lines_of F.header (F.line form.old utc) F.count file.now) }
+    ensures text { Puts pen.old pen.new result (lines_of (F.form form.old) utc file.now) }
     ensures none { IfOk result (λ _. pen.new.waiting ≡ []) }
 {
     put_lines(form, pen, utc, file)?;
@@ -121,11 +140,12 @@ fn put_lines<F: Form, S: Sink>(
     utc: bool,
     file: &LentFile<'_>,
 ) -> Result<(), S::Fault>
-    ensures { Puts pen.old pen.new result (lines_of F.header (F.line form.old utc) F.count file.now) }
+    ensures { Puts pen.old pen.new result (lines_of (F.form form.old) utc file.now) }
 {
-    F::put_header(pen, file.frame(), file.data_size())?;
+    let notation = form.notation();
+    put_header(pen, &notation, file.frame(), file.data_size())?;
     let count = put_messages(form, pen, utc, file)?;
-    F::put_count(pen, count)
+    put_count(pen, &notation, count)
 }
 
 // The lines of the messages. Returns how many there are.
@@ -137,10 +157,10 @@ fn put_messages<F: Form, S: Sink>(
 ) -> Result<u64, S::Fault>
     requires { length (messages_of file.now.items) < 2 ^ 32 }
     ensures text { Puts pen.old pen.new result
-        (numbered (F.line form.old utc) (messages_of file.now.items)) }
+        (numbered (line_of (F.form form.old) utc) (messages_of file.now.items)) }
     ensures count { IfOk result (λ count. count ≡ length (messages_of file.now.items)) }
 {
-    let mut plans = Plans::new(utc, F::shows_empty());
+    let mut plans = Plans::new(utc, form.notation().empty);
     let mut number = 0;
     for item in file.items() {
         match item {
@@ -151,7 +171,7 @@ fn put_messages<F: Form, S: Sink>(
             FileItem::Data(message, time) => {
                 plans.settle(message.local, &message.definition);
                 let (plan, columns, developer) = plans.get(message.local);
-                form.put_line(pen, plan, columns, developer, number, &message, time)?;
+                put_message(form, pen, plan, columns, developer, number, &message, time)?;
                 number += 1;
             }
         }

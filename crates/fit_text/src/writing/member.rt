@@ -1,9 +1,8 @@
 // Names as they begin the members of a JSON object.
 
 ghost use Rattle.std.specs.Prelude.{◌<◌, ◌≤◌, ◌+◌, ◌∷◌, [], ◌++◌, codes, length};
-ghost use Rattle.fit_text.specs.Json.{quoted};
-ghost use Rattle.fit_text.specs.Members.{separator, inner};
 ghost use Rattle.fit_text.specs.Pen.{Places};
+ghost use Rattle.fit_text.specs.Plan.{inner, member_name, separator};
 
 use crate::writing::label::{LABEL, Label};
 
@@ -13,7 +12,7 @@ use crate::writing::label::{LABEL, Label};
 pub fn place_member(bytes: &mut [u8], at: usize, label: &Label, is_first: bool) -> usize
     requires { at + 34 ≤ length bytes.old }
     ensures place { Places bytes.old bytes.new at
-        (separator is_first ++ (quoted (inner label.now) ++ codes ":")) result }
+        (member_name is_first label.now) result }
     ensures short { result ≤ at + 34 }
 {
     let at = place_opening(bytes, at, is_first);
@@ -26,7 +25,7 @@ pub fn place_member(bytes: &mut [u8], at: usize, label: &Label, is_first: bool) 
 #[inline]
 fn place_opening(bytes: &mut [u8], at: usize, is_first: bool) -> usize
     requires { at + 2 ≤ length bytes.old }
-    ensures place { Places bytes.old bytes.new at (separator is_first ++ codes "\"") result }
+    ensures place { Places bytes.old bytes.new at (separator (codes ",") is_first ++ codes "\"") result }
     ensures short { result ≤ at + 2 }
 {
     if is_first {

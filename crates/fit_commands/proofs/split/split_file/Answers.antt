@@ -18,6 +18,7 @@ returns-clause-lines g c = inl (
   omega (arith, c.in_ok-bytes.ensures.most, c.in_ok-bytes.bytes.ok.0),
   c.in_ok-parts.parts.items,
   subst (λ (bytes : List ℕ). AreParts c.args.all bytes c.in_ok-parts.parts.items) c.as_slice.ensures.value c.in_ok-parts.ensures.parts,
+  search (arith, c.is_empty-2.ensures, c.if-is_empty-2.false),
   c.in_ok-parts.ensures.most,
   subst (λ (parts : List Part). PrintsLines parts (g.O.Write.contents c.args.out.now) (g.O.Write.contents c.write_parts.new.out) c.write_parts.result)
       c.as_slice-2.ensures.value c.write_parts.ensures.lines,

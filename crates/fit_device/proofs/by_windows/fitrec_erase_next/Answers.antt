@@ -1,3 +1,4 @@
+use Rattle.std.proofs.lemmas.Bool.{cases_lt}
 use Rattle.std.proofs.Common.{◌≡◌, ℕ, List, [], length, inl, inr, refl, sym, ap, subst, arith}
 use Rattle.std.specs.Prelude.{◌-◌, is_err}
 use Rattle.fit_disk.specs.Stored.{at_rest}
@@ -50,23 +51,25 @@ erase_known-requires c honest =
     let old = c.take_files-files.ensures in
     let asks = c.if-not-asks_for_journal.ensures.0 refl in
     let front = journal_front handle c.take_files-files.new.self _ asks.0 asks.1 old.window.0 old.window.1 old.story in
-    front_shows c.given.result.now _ (subst (λ (bytes : List ℕ). AreAt 0 bytes (seen_of Journal (plan_story c.take_files-files.result))) (sym c.given.ensures.bytes) front)
-    (λ none.
-    let empty : handle.filled ≡ 0 = omega (arith, none, c.given.ensures.long, old.window.0) in
-    omega (arith, c.if-lacks_front.ensures.no refl empty, handle.journal_sized, ap (λ (story : Story). length (seen_of Journal story)) old.story))
+    front_shows 1 c.given.result.now _ (subst (λ (bytes : List ℕ). AreAt 0 bytes (seen_of Journal (plan_story c.take_files-files.result))) (sym c.given.ensures.bytes) front)
+    (elim (cases_lt 0 handle.filled) [
+      | inl some ↦ omega (arith, some, c.given.ensures.long, old.window.0)
+      | inr none ↦ omega (arith, c.if-lacks_front.ensures.no refl (omega (arith, none)), handle.journal_sized, ap (λ (story : Story). length (seen_of Journal story)) old.story)
+    ])
 
 pub returns-then-lacks_front : goal.returns-then-lacks_front
 returns-then-lacks_front c =
     let handle = c.args.recovery.now in
-    let leads = c.clear-then-lacks_front.ensures.leads handle.notes.story in
-    let five = c.code_of_fault.ensures in
+    let gave_up = c.fails.ensures in
+    let leads = gave_up.leads handle.notes.story in
+    let five = gave_up.code in
     let lacks = c.if-lacks_front.ensures.yes refl in
     record {
       well_formed = leads.well_formed;
       none = λ no. absurd (no (c.if-not-asks_for_journal.ensures.0 refl));
-      known = λ _. (inr five, c.leave.ensures);
+      known = λ _. (inr five, gave_up.ended);
       ok = λ zero. absurd (omega (arith, five, zero));
-      refused = λ _. (c.clear-then-lacks_front.ensures.none, sym leads.ends);
+      refused = λ _. (gave_up.none, sym leads.ends);
       device = λ _. (lacks.0, omega (arith, lacks.1, handle.journal_sized));
       any_moment = λ _. no_erasing _ _ (sym leads.ends);
     }

@@ -1,4 +1,4 @@
-use Rattle.std.proofs.Common.{⊎_elim, ◌≡◌, inl, inr, refl, sym, ap, ◌∙◌, subst, arith, Result, Ok, Err}
+use Rattle.std.proofs.Common.{⊎_elim, ◌≡◌, ◌≤◌, inl, inr, refl, sym, ap, ◌∙◌, subst, arith, Result, Ok, Err}
 use Rattle.std.specs.Prelude.{OnOk, Some}
 use Rattle.fit_disk.specs.declared.disk.Which.TheVariants.{Data, Journal}
 use Rattle.fit_recorder.specs.Files.Committed.{HasCounted}
@@ -8,11 +8,13 @@ use Rattle.fit_recorder.specs.Calls.Windows.{TakesUpOn, MayTakeUpOn}
 use Rattle.fit_recorder.specs.declared.fault.RecFault.{RecFault}
 use Rattle.fit_recorder.specs.declared.fault.RecFault.TheVariants.{Device}
 use Rattle.fit_recorder.specs.declared.resuming.FoundRide.{FoundRide}
-use Rattle.fit_device.proofs.ByWindows.{led, rebuilds_for, refused_for, taken_for, counted_for, moved, has_room, never_wants, never_zero}
+use Rattle.fit_device.proofs.ByWindows.{led, rebuilds_for, refused_for, taken_for, counted_for, moved, not_short, has_room, never_wants, never_zero, usual_number}
 use Rattle.fit_disk.specs.State.{seen_in}
 use Rattle.fit_disk.specs.Story.{Story, seen_of}
 use Rattle.fit_recorder.specs.Calls.Ride.{TakesUp}
 use Rattle.fit_device.proofs.Leading.{leads_since}
+use Rattle.fit_device.specs.Answer.{IsNumberOf}
+use Rattle.fit_recorder.specs.Calls.Resume.{IsRefusedFor}
 use Rattle.fit_device.specs.Windowed.{recovery_story}
 use Rattle.fit_device.proofs.Stepping.{not_device}
 use Rattle.fit_device.proofs.by_windows.read_ride.Goals as goal
@@ -24,15 +26,17 @@ returns-in-None c handle =
     let left = c.after-files.ensures in
     let same = (asked.story ∙ left.story) ∙ (c.in-None.ensures.decides refl).0 ∙ old.story in
     let more = c.in-None.ensures.more in
+    let full : c.args.handle.now.count ≤ c.args.handle.now.filled = not_short c.args.handle.now c.requires.full in
     let planned = led c.args.handle.now c.ask_for_body.new.self c.after-files.new.plan c.take_reading-files.result c.take_up_on-answer.new.disk (old.since) c.take_up_on-answer.ensures.memory (asked.story ∙ left.story) left.planned in
     record {
       planned = (λ zero. absurd (omega (arith, zero)), λ _. planned);
       none = λ no. absurd (no c.requires.asks);
-      asks = λ _ _. record { body = asked.asks; moves = λ reads full. moved c.args.handle.now _ _ c.given.result.now _ more.1 (c.given.ensures.long ∙ old.window.0) old.placed asked.at full };
+      asks = λ _ _. record { body = asked.asks; moves = λ _. moved c.args.handle.now _ _ c.given.result.now _ more.1 (c.given.ensures.long ∙ old.window.0) old.placed asked.at full };
       ended = λ no. absurd (no refl);
       same = λ _. (refl, same);
       answers = λ _. inl refl;
       device = λ device. absurd (omega (arith, device));
+      short = λ _ short. absurd (c.requires.full short);
       checked = λ zero. absurd (omega (arith, zero));
       any_moment = λ _. unchanged (sym planned.ends ∙ same);
     }
@@ -70,8 +74,9 @@ returns-in-Err c handle =
       ended = λ _. put.ended;
       same = λ _. (refl, ⊎_elim (λ device. absurd (never device)) (λ same. (put.story ∙ left.story) ∙ same ∙ here) did.1);
       asks = λ _ wants. absurd (never_wants fault c.code_of_fault.result code wants);
-      answers = λ _. inr (inr (fault, code, refused_for fault _ _ here did.0));
+      answers = λ _. inr (inr (fault, subst (λ (story : Story). IsNumberOf (seen_in story.now) fault c.code_of_fault.result) here (usual_number _ _ _ _ _ old.reads.1.committed (λ none. subst (λ (other : RecFault). IsRefusedFor (seen_in (plan_story c.take_reading-files.result).now) other) none did.0) code), refused_for fault _ _ here did.0));
       device = λ device. absurd (not_device fault c.code_of_fault.result code never device);
+      short = λ _ short. absurd (c.requires.full short);
       checked = λ zero. absurd (never_zero fault c.code_of_fault.result code zero);
       any_moment = λ _. rebuilds_for _ _ _ _ here (sym (put.story ∙ left.story) ∙ planned.ends) (c.take_up_on-answer.ensures.any_moment refl);
     }

@@ -1,11 +1,10 @@
-use Rattle.std.proofs.Common.{◌≡◌, ◌∙◌, refl, sym, ap, arith, Ok, Err}
+use Rattle.std.proofs.Common.{◌≡◌, ◌∙◌, ℕ, List, length, take, refl, sym, ap, arith, Ok, Err}
 use Rattle.fit_disk.specs.State.{seen_in}
 use Rattle.fit_disk.specs.Story.{Story, seen_of}
 use Rattle.fit_disk.specs.declared.disk.Which.TheVariants.{Data, Journal}
 use Rattle.fit_plan.specs.Plan.{plan_story}
 use Rattle.fit_recorder.specs.declared.fault.RecFault.TheVariants.{Device}
-use Rattle.fit_device.proofs.ByWindows.{answers_for, counted_for, never_zero}
-use Rattle.fit_device.proofs.Stepping.{not_device}
+use Rattle.fit_device.proofs.ByWindows.{answers_for, counted_for, number_not_device, number_not_zero}
 use Rattle.fit_device.specs.Planned.{carried_out}
 use Rattle.fit_device.proofs.Leading.{leads_since}
 use Rattle.fit_device.proofs.Lending.{chosen_sound, chosen_lent, chosen_is, in_recovery, no_recovery, refusal_for}
@@ -44,14 +43,14 @@ returns-in-Err g c lent =
     let here = c.lent-files.ensures.story ∙ chosen_is g.before c.args.data_bytes.now c.args.journal_bytes.now lent in
     let leads = c.clear.ensures.leads g.before.story in
     let fault = c.in-Err.fault in
-    let is = c.code_of_fault.ensures in
+    let is = c.number_of.ensures (seen_in g.before.story.now) (ap (λ (bytes : List ℕ). length bytes) lent.0) (ap (take 3) lent.1) in
     record {
       well_formed = leads.well_formed;
       answer = Err fault;
       code_is = is;
       decides = refusal_for fault _ _ (plan_story c.recover.new.files) (carried_out c.clear.new.self g.before.story) (ap (λ (story : Story). seen_in story.now) here) c.in-Err.ensures.decides;
-      checked = λ zero. absurd (never_zero fault c.code_of_fault.result is zero);
+      checked = λ zero. absurd (number_not_zero _ fault _ is zero);
       refused = λ _. (c.clear.ensures.none, sym leads.ends);
-      no_device = not_device fault c.code_of_fault.result is (λ (device : fault ≡ Device). c.recover.ensures.no_device (c.in-Err.is ∙ ap Err device));
+      no_device = number_not_device _ fault _ is (λ (device : fault ≡ Device). c.recover.ensures.no_device (c.in-Err.is ∙ ap Err device));
       any_moment = no_recovery _ _ (sym leads.ends);
     }

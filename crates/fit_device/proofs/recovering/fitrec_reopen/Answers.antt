@@ -1,4 +1,4 @@
-use Rattle.std.proofs.Common.{◌≡◌, ◌∙◌, refl, sym, ap, subst, arith, Ok, Err}
+use Rattle.std.proofs.Common.{◌≡◌, ◌∙◌, ℕ, List, length, take, refl, sym, ap, subst, arith, Ok, Err}
 use Rattle.fit_disk.specs.State.{seen_in}
 use Rattle.fit_disk.specs.Story.{Story, seen_of}
 use Rattle.fit_disk.specs.declared.disk.Which.TheVariants.{Data, Journal}
@@ -7,10 +7,9 @@ use Rattle.fit_recorder.specs.Calls.Resume.{IsRefusedFor}
 use Rattle.fit_recorder.specs.Calls.Ride.{TakesUp}
 use Rattle.fit_recorder.specs.declared.fault.RecFault.TheVariants.{Device}
 use Rattle.fit_device.specs.Recovering.{GoesOnWith}
-use Rattle.fit_device.proofs.ByWindows.{counted_for, never_zero}
+use Rattle.fit_device.proofs.ByWindows.{counted_for, number_not_device, number_not_zero}
 use Rattle.fit_device.proofs.Leading.{leads_since}
 use Rattle.fit_device.proofs.Lending.{chosen_sound, chosen_lent, chosen_is, in_recovery, no_recovery}
-use Rattle.fit_device.proofs.Stepping.{not_device}
 use Rattle.fit_device.proofs.recovering.fitrec_reopen.Goals as goal
 
 pub lent-files-requires : goal.lent-files-requires
@@ -56,17 +55,17 @@ returns-in-Err g c lent =
     let here = c.lent-files.ensures.story ∙ chosen_is g.before c.args.data_bytes.now c.args.journal_bytes.now lent in
     let leads = c.clear.ensures.leads g.before.story in
     let fault = c.in-Err.fault in
-    let is = c.code_of_fault.ensures in
+    let is = c.number_of.ensures (seen_in g.before.story.now) (ap (λ (bytes : List ℕ). length bytes) lent.0) (ap (take 3) lent.1) in
     record {
       well_formed = leads.well_formed;
-      ok = λ zero. absurd (never_zero fault c.code_of_fault.result is zero);
-      checked = λ zero. absurd (never_zero fault c.code_of_fault.result is zero);
+      ok = λ zero. absurd (number_not_zero _ fault _ is zero);
+      checked = λ zero. absurd (number_not_zero _ fault _ is zero);
       refused = λ _. (
         (fault, is, subst (λ (story : Story). IsRefusedFor (seen_in story.now) fault) here c.in-Err.ensures.taken),
         c.leave.ensures,
         c.clear.ensures.none,
       );
       same = λ _. sym leads.ends;
-      no_device = not_device fault c.code_of_fault.result is (λ (device : fault ≡ Device). c.take_up.ensures.no_device (c.in-Err.is ∙ ap Err device));
+      no_device = number_not_device _ fault _ is (λ (device : fault ≡ Device). c.take_up.ensures.no_device (c.in-Err.is ∙ ap Err device));
       any_moment = no_recovery _ _ (sym leads.ends);
     }

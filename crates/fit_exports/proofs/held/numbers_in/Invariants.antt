@@ -1,14 +1,8 @@
-use Rattle.std.proofs.Common.{◌≡◌, ◌<◌, ◌||◌, ℕ, Option, false, get_or}
-use Rattle.fit_grammar.specs.declared.definition.Definition.{Definition}
-use Rattle.fit_grammar.specs.Calls.LentItem.{AllUnder, items_lent}
-use Rattle.fit_exports.specs.Held.{AreNoted, is_held}
+use Rattle.std.proofs.Common.{◌≡◌, ◌<◌, ◌==◌, ◌&&◌, ◌||◌, ℕ, false, nat_lt, get_or, length}
 use Rattle.fit_exports.proofs.held.numbers_in.Given as goal
 
-abbrev pub invariant-loop-item : goal.invariant-loop-item
-invariant-loop-item l =
-    (definition_for : ℕ → Option Definition) × record {
-      under : AllUnder definition_for l.item-iterator;
-      noted : AreNoted definition_for l.held l.known;
-      held : (number : ℕ) → number < 256
-          → (get_or l.held number false || is_held l.message l.item-iterator number) ≡ is_held l.message (items_lent l.file.items) number;
-    }
+abbrev pub invariant-loop-number : goal.invariant-loop-number
+invariant-loop-number l = record {
+  long : length l.held ≡ 256;
+  held : (k : ℕ) → k < l.number → get_or l.held k false ≡ (nat_lt 1 (get_or l.known k 0) || ((k == 253) && l.timed));
+}

@@ -6,7 +6,7 @@ pub invariant_of-result : goal.invariant_of-result
 invariant_of-result c = record {
   short = omega (
     arith,
-    c.requires,
+    c.requires.short,
     c.in_ok-skipped.ensures.short,
     length-take (c.look_at-looked.result.front + c.look_at-looked.result.looked_at) c.args.bytes.now,
   );

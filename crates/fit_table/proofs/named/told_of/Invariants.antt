@@ -1,11 +1,13 @@
-use Rattle.std.proofs.Common.{◌≡◌, ◌+◌, ◌≤◌, ◌++◌, ℕ, Option, length, map, option_map}
-use Rattle.fit_grammar.specs.Format.Message.{message_under}
-use Rattle.fit_table.specs.Named.{told_in}
+use Rattle.std.proofs.Common.{◌≡◌, ◌+◌, ◌≤◌, ◌++◌, length, map}
+use Rattle.fit_table.specs.NamedPlans.{told_by}
+use Rattle.fit_table.proofs.NamedLemmas.{seen}
 use Rattle.fit_table.proofs.named.told_of.Given as goal
 
-abbrev pub invariant-loop-field : goal.invariant-loop-field
-invariant-loop-field l = record {
-  told : (time : Option ℕ) → map (λ told. option_map (λ d. d.now) told) l.told.items ++ told_in l.known l.place l.field-iterator
-      ≡ told_in l.known l.place (message_under l.message.definition time l.message.content.now).developer;
-  few : length l.told.items + length l.field-iterator ≤ 255;
+abbrev pub invariant-loop-left : goal.invariant-loop-left
+invariant-loop-left l = record {
+  told : map seen l.told.items ++ told_by l.known l.place l.left ≡ told_by l.known l.place l.fields;
+  few : length l.told.items + length l.left ≤ 255;
 }
+
+abbrev pub decreases-loop-left : goal.decreases-loop-left
+decreases-loop-left l = length l.left

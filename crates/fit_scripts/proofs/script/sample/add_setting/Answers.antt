@@ -1,6 +1,6 @@
 use Rattle.std.proofs.Common.{None, sym, ap, ◌∙◌, get_or, set, arith}
 use Rattle.std.specs.Option.{is_some, option_or}
-use Rattle.fit_fields.specs.Table.{sample_rows}
+use Rattle.fit_activity.specs.Rides.Fields.{sample_rows}
 use Rattle.fit_scripts.specs.Scripts.Sample.{setting_value, with_setting}
 use Rattle.fit_scripts.proofs.Scripts.Settings.{some_row, row_found, row_absent, none_of, row_holds, value_stands, unknown_key, repeated_key, bad_number, new_setting}
 use Rattle.fit_scripts.proofs.script.sample.add_setting.Goals as goal

@@ -2,7 +2,7 @@ use Rattle.std.proofs.Common.{◌≡◌, ◌<◌, ◌+◌, ◌∙◌, ℕ, Bool,
 use Rattle.std.proofs.lemmas.List.{drop_more, take_more}
 use Rattle.std.proofs.lemmas.Result.{err_from_is_err_and}
 use Rattle.std.specs.Result.{result_ok}
-use Rattle.fit_fields.specs.Table.{sample_rows}
+use Rattle.fit_activity.specs.Rides.Fields.{sample_rows}
 use Rattle.fit_activity.specs.Rides.Table.{ValuesFit}
 use Rattle.fit_scripts.specs.Scripts.Faults.{setting_fault, settings_fault}
 use Rattle.fit_scripts.specs.declared.script.fault.ScriptFaultKind.{ScriptFaultKind}

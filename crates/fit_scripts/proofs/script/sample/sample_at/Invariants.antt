@@ -1,6 +1,6 @@
 use Rattle.std.proofs.Common.{◌≡◌, true, [], take, drop, map}
 use Rattle.fit_scripts.specs.Scripts.Faults.{settings_fault}
-use Rattle.fit_fields.specs.Table.{sample_rows}
+use Rattle.fit_activity.specs.Rides.Fields.{sample_rows}
 use Rattle.fit_activity.specs.Rides.Table.{ValuesFit}
 use Rattle.fit_scripts.specs.Scripts.Sample.{are_settings, values_stated}
 use Rattle.fit_scripts.proofs.script.sample.sample_at.Given as goal

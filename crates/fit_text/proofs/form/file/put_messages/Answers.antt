@@ -5,6 +5,7 @@ use Rattle.fit_grammar.specs.Format.Message.{messages_of}
 use Rattle.fit_grammar.specs.Format.Records.{in_force}
 use Rattle.fit_grammar.specs.Calls.LentItem.{lent_item, messages_in}
 use Rattle.fit_grammar.specs.Calls.Table.{in_force_after}
+use Rattle.fit_text.specs.Form.{line_of}
 use Rattle.fit_text.proofs.PenLemmas.{leaves_all, leaves_less, leaves_off}
 use Rattle.fit_text.proofs.PlanLemmas.{plan_at, plan_got}
 use Rattle.fit_text.proofs.form.file.put_messages.Goals as goal
@@ -19,7 +20,7 @@ loop-item-init g c =
         under = rw all c.items-item-items.ensures.under;
         plans = c.new-plans.ensures.plans (in_force []);
         utc = c.new-plans.ensures.utc;
-        empty = c.new-plans.ensures.empty ∙ c.shows_empty.ensures;
+        empty = c.new-plans.ensures.empty ∙ ap (λ notation. notation.empty) c.notation.ensures;
         same = refl;
         put = rw stated (leaves_all _ _);
         count = omega (arith, ap length stated);
@@ -66,18 +67,18 @@ get-requires g c =
     let plans = c.settle.ensures.plans definition_for under.1 c.loop-item.invariant.1.plans in
     (message.definition, plan_at definition_for _ message.local message.definition c.settle.ensures.some under.1 plans)
 
-pub put_line-requires : goal.put_line-requires
-put_line-requires g c =
+pub put_message-requires : goal.put_message-requires
+put_message-requires g c =
     let definition_for = c.loop-item.invariant.0 in
     let message = c.in-Data.message in
     let steps = c.in-Some.ensures.steps ∙ ap (λ item. lent_item item ∷ c.next.new.self) c.in-Data.is in
     let under = rw steps at c.loop-item.invariant.1.under in
     let plans = c.settle.ensures.plans definition_for under.1 c.loop-item.invariant.1.plans in
     let empty = c.settle.ensures.empty ∙ c.loop-item.invariant.1.empty in
-    rw (← empty) (plan_got definition_for _ message.local message.definition _ _ _ c.get.ensures.plan c.get.ensures.columns c.get.ensures.developer under.1 plans).0
+    rw (c.loop-item.invariant.1.same, ← empty) (plan_got definition_for _ message.local message.definition _ _ _ c.get.ensures.plan c.get.ensures.columns c.get.ensures.developer under.1 plans).0
 
-pub returns-in_err-put_line-in-Data-clause-text : goal.returns-in_err-put_line-in-Data-clause-text
-returns-in_err-put_line-in-Data-clause-text g c =
+pub returns-in_err-put_message-in-Data-clause-text : goal.returns-in_err-put_message-in-Data-clause-text
+returns-in_err-put_message-in-Data-clause-text g c =
     let definition_for = c.loop-item.invariant.0 in
     let kept = c.loop-item.invariant.1 in
     let message = c.in-Data.message in
@@ -86,8 +87,8 @@ returns-in_err-put_line-in-Data-clause-text g c =
     let plans = c.settle.ensures.plans definition_for under.1 kept.plans in
     let got = plan_got definition_for _ message.local message.definition _ _ _ c.get.ensures.plan c.get.ensures.columns c.get.ensures.developer under.1 plans in
     let utc = got.1 ∙ c.settle.ensures.utc ∙ kept.utc in
-    leaves_off _ c.from_residual.ensures.0 kept.put (rw (utc, kept.same) at c.in_err-put_line-in-Data.ensures.text)
-    (ap (λ items. flat_map (λ row. g.F.Form.line c.args.form.now c.args.utc row.0 row.1) (enumerate_from c.loop-item.number (messages_in items))) steps)
+    leaves_off _ c.from_residual.ensures.0 kept.put (rw (utc, kept.same) at c.in_err-put_message-in-Data.ensures.text)
+    (ap (λ items. flat_map (λ row. line_of (g.F.Form.form c.args.form.now) c.args.utc row.0 row.1) (enumerate_from c.loop-item.number (messages_in items))) steps)
 
 pub loop-item-preserved : goal.loop-item-preserved
 loop-item-preserved g c =
@@ -105,9 +106,9 @@ loop-item-preserved g c =
         plans = plans;
         utc = c.settle.ensures.utc ∙ kept.utc;
         empty = c.settle.ensures.empty ∙ kept.empty;
-        same = c.in_ok-put_line-in-Data.ensures.same ∙ kept.same;
-        put = leaves_less _ kept.put (rw (utc, kept.same) at c.in_ok-put_line-in-Data.ensures.text)
-            (ap (λ items. flat_map (λ row. g.F.Form.line c.args.form.now c.args.utc row.0 row.1) (enumerate_from c.loop-item.number (messages_in items))) steps);
+        same = c.in_ok-put_message-in-Data.ensures.same ∙ kept.same;
+        put = leaves_less _ kept.put (rw (utc, kept.same) at c.in_ok-put_message-in-Data.ensures.text)
+            (ap (λ items. flat_map (λ row. line_of (g.F.Form.form c.args.form.now) c.args.utc row.0 row.1) (enumerate_from c.loop-item.number (messages_in items))) steps);
         count = omega (arith, kept.count, ap (λ items. length (messages_in items)) steps);
       },
     )

@@ -4,7 +4,7 @@ use Rattle.fit_grammar.specs.declared.definition.Definition.{Definition}
 use Rattle.fit_grammar.specs.Format.Message.{messages_of}
 use Rattle.fit_grammar.specs.Calls.LentItem.{AllUnder, messages_in}
 use Rattle.fit_text.specs.Plan.{ArePlansFor}
-use Rattle.fit_text.specs.Form.{numbered}
+use Rattle.fit_text.specs.Form.{line_of, numbered}
 use Rattle.fit_text.proofs.PenLemmas.{Leaves}
 use Rattle.fit_text.proofs.form.file.put_messages.Given as goal
 
@@ -14,9 +14,9 @@ invariant-loop-item g l =
       under : AllUnder definition_for l.item-iterator;
       plans : ArePlansFor definition_for l.plans;
       utc : l.plans.utc ≡ l.utc;
-      empty : l.plans.empty ≡ g.F.Form.empty;
-      same : g.F.Form.line l.form ≡ g.F.Form.line l.initial.form;
-      put : Leaves l.initial.pen l.pen (numbered (g.F.Form.line l.initial.form l.utc) (messages_of l.file.items))
-          (flat_map (λ row. g.F.Form.line l.initial.form l.utc row.0 row.1) (enumerate_from l.number (messages_in l.item-iterator)));
+      empty : l.plans.empty ≡ (g.F.Form.form l.initial.form).notation.empty;
+      same : g.F.Form.form l.form ≡ g.F.Form.form l.initial.form;
+      put : Leaves l.initial.pen l.pen (numbered (line_of (g.F.Form.form l.initial.form) l.utc) (messages_of l.file.items))
+          (flat_map (λ row. line_of (g.F.Form.form l.initial.form) l.utc row.0 row.1) (enumerate_from l.number (messages_in l.item-iterator)));
       count : l.number + length (messages_in l.item-iterator) ≡ length (messages_of l.file.items);
     }

@@ -1,5 +1,5 @@
 use Rattle.fit_text.proofs.PenLemmas.{places_same, places_then}
-use Rattle.fit_text.proofs.JsonLemmas.{name_parts}
+use Rattle.fit_text.proofs.FormLemmas.{name_parts}
 use Rattle.fit_text.proofs.writing.member.place_member.Goals as goal
 
 pub returns-clause-place : goal.returns-clause-place

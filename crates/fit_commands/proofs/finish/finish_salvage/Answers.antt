@@ -1,7 +1,0 @@
-use Rattle.std.proofs.Common.{subst}
-use Rattle.fit_finishing.specs.Finished.{IsFinishing}
-use Rattle.fit_commands.proofs.finish.finish_salvage.Goals as goal
-
-pub returns-in-Ok-clause-finished : goal.returns-in-Ok-clause-finished
-returns-in-Ok-clause-finished c =
-    (c.in_ok-file.ensures.form, subst (λ v. IsFinishing v c.in-Ok.finishing) c.lend.ensures c.in-Ok.ensures.finishing)

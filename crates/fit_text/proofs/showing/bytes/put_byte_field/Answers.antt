@@ -1,9 +1,0 @@
-use Rattle.fit_text.proofs.PenLemmas.{puts_same}
-use Rattle.fit_text.proofs.TextLemmas.{byte_invalid, byte_valid}
-use Rattle.fit_text.proofs.showing.bytes.put_byte_field.Goals as goal
-
-pub returns-then-all_invalid : goal.returns-then-all_invalid
-returns-then-all_invalid g c = puts_same c.put.ensures (byte_invalid _ cc)
-
-pub returns-else-all_invalid : goal.returns-else-all_invalid
-returns-else-all_invalid g c = puts_same c.put_hex.ensures (byte_valid _ cc)
